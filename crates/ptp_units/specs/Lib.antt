@@ -1,0 +1,5 @@
+pub mod Moment
+pub mod Interval
+pub mod Sequence
+pub mod Exchange
+pub mod Refusal

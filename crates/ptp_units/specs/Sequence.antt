@@ -1,0 +1,17 @@
+-- Sequence numbers: 16 bits of a count that has no end (IEEE 1588-2019, 7.3.7).
+use Rattle.std.specs.Prelude.{ℕ, ◌+◌, ◌-◌, ◌%◌, ◌≤◌}
+
+-- the sequenceId of the number of this count
+abbrev pub of_count : ℕ → ℕ
+of_count count = count % 65536
+
+abbrev pub next : ℕ → ℕ
+next number = (number + 1) % 65536
+
+-- how many numbers the first is ahead of the second, on the circle of 65,536
+abbrev pub ahead : ℕ → ℕ → ℕ
+ahead number other = (number + 65536 - other) % 65536
+
+-- less than half a turn ahead, and not equal
+abbrev pub IsNewer : ℕ → ℕ → Type 0
+IsNewer number other = (1 ≤ ahead number other) × (ahead number other ≤ 32767)
