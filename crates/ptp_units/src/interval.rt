@@ -3,7 +3,7 @@ ghost use Rattle.std.specs.Prelude.{◌≡◌, ◌<◌, ◌≤◌, ◌^◌, ℕ,
 use crate::refusal::UnitRefusal;
 
 /// A correctionField: a signed number of 2^-16 ns (IEEE 1588-2019, 13.3.2.9).
-#[derive(Clone, Copy, Debug, PartialEq, Eq)]
+#[derive(Clone, Copy, Debug, PartialEq, Eq, Hash)]
 pub struct Interval(pub i64);
 
 /// The correctionField that says 'too big to be represented'.
