@@ -1,4 +1,4 @@
-ghost use Rattle.std.specs.Prelude.{◌≡◌, ◌<◌, ◌≤◌, ◌^◌, ℕ, MatchResult};
+ghost use Rattle.std.specs.Prelude.{◌≡◌, ◌<◌, ◌≤◌, ℕ, MatchResult};
 ghost use Rattle.ptp_units.specs.Moment.{bound, moment, stamp_of, fraction_of};
 
 use crate::refusal::UnitRefusal;

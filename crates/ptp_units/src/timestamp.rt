@@ -1,4 +1,4 @@
-ghost use Rattle.std.specs.Prelude.{◌≡◌, ◌<◌, ◌≤◌, ◌^◌, ◌*◌, ◌/◌, ◌%◌, ℕ, MatchResult};
+ghost use Rattle.std.specs.Prelude.{◌≡◌, ◌<◌, ◌^◌, ◌*◌, ◌/◌, ◌%◌, MatchResult};
 ghost use Rattle.ptp_units.specs.Moment.{Stamp, IsStamp, stamp};
 ghost use Rattle.ptp_units.specs.Refusal.{timestamp_refusal};
 
