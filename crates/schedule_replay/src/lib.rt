@@ -1,0 +1,8 @@
+//! Schedules and datagrams as lines of text: what is written is a stated function of what is read.
+#![tactic(auto)]
+
+mod counted;
+mod fault;
+
+pub use counted::Counted;
+pub use fault::{Fault, FaultKind};
