@@ -21,3 +21,7 @@ one_more count = min (count + 1) most_failures
 -- a call failed, as far as the count can tell
 abbrev pub HasFailed : {T : Type 0} → Counted T → Counted T → Type 0
 HasFailed old new = (failures_of old < failures_of new) ⊎ (failures_of new ≡ most_failures)
+
+-- no call failed
+abbrev pub HasNotFailed : {T : Type 0} → Counted T → Counted T → Type 0
+HasNotFailed old new = failures_of new ≡ failures_of old

@@ -1,7 +1,7 @@
 ghost use Rattle.std.specs.Prelude.{◌≡◌, MatchResult, OnOk, OnErr, ◌==◌, if◌then◌else◌};
 ghost use Rattle.std.specs.Io.{ReadsAtMost, WritesAtMost};
 ghost use Rattle.std.specs.Io.KnownBytes.{ReadConsumes, WriteAppends, Keeps, Appends};
-ghost use Rattle.schedule_replay.specs.Counted.{device_of, failures_of, one_more, HasFailed};
+ghost use Rattle.schedule_replay.specs.Counted.{device_of, failures_of, one_more, HasFailed, HasNotFailed};
 
 use std::io;
 use std::io::{ErrorKind, Read, Write};
@@ -56,7 +56,7 @@ impl<R: Read> Read for Counted<R> {
         ensures bound { ReadsAtMost result buf.new }
         ensures bytes { ReadConsumes (R.remaining (device_of self.old)) (R.remaining (device_of self.new)) result buf.new }
         ensures count { MatchResult result
-            (λ _. failures_of self.new ≡ failures_of self.old)
+            (λ _. HasNotFailed self.old self.new)
             (λ _. failures_of self.new ≡ one_more (failures_of self.old)) }
         ensures failed { OnErr result (HasFailed self.old self.new) }
     {
@@ -90,7 +90,7 @@ impl<W: Write> Write for Counted<W> {
 
     fn flush(&mut self) -> io::Result<()>
         ensures bytes { Keeps (W.contents (device_of self.old)) (W.contents (device_of self.new)) }
-        ensures count { failures_of self.new ≡ failures_of self.old }
+        ensures count { HasNotFailed self.old self.new }
     {
         self.device.flush()
     }
@@ -98,7 +98,7 @@ impl<W: Write> Write for Counted<W> {
     /// Writes all octets, and stops at the first write that fails.
     fn write_all(&mut self, buf: &[u8]) -> io::Result<()>
         ensures bytes { OnOk result (Appends (W.contents (device_of self.old)) (W.contents (device_of self.new)) buf.now) }
-        ensures count { OnOk result (failures_of self.new ≡ failures_of self.old) }
+        ensures count { OnOk result (HasNotFailed self.old self.new) }
         ensures failed { OnErr result (HasFailed self.old self.new) }
     {
         let mut rest = buf;

@@ -3,6 +3,7 @@
 
 mod counted;
 mod fault;
+mod lines;
 
 pub use counted::Counted;
 pub use fault::{Fault, FaultKind};

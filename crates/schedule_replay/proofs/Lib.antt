@@ -1,0 +1,3 @@
+pub mod KnownOctets
+pub mod Cutting
+pub mod Reading
