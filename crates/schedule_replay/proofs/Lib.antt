@@ -1,3 +1,5 @@
 pub mod KnownOctets
 pub mod Cutting
 pub mod Reading
+pub mod Printing
+pub mod Joining

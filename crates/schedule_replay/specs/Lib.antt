@@ -1,3 +1,4 @@
 pub mod Fault
 pub mod Counted
 pub mod Lines
+pub mod Shown

@@ -4,6 +4,7 @@
 mod counted;
 mod fault;
 mod lines;
+mod shown;
 
 pub use counted::Counted;
 pub use fault::{Fault, FaultKind};
