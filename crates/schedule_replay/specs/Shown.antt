@@ -96,3 +96,7 @@ pub record ShowsRefusal (octets text : List ℕ) : Type 0 where
 -- the one text that a datagram is shown by
 abbrev pub IsShownAs : List ℕ → List ℕ → Type 0
 IsShownAs octets text = ShowsMessage octets text ⊎ ShowsRefusal octets text
+
+-- the text of the datagram stands behind the old text
+abbrev pub AppendsShown : List ℕ → List ℕ → List ℕ → Type 0
+AppendsShown octets old new = (text : List ℕ) × IsShownAs octets text × (new ≡ old ++ text)

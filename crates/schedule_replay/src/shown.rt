@@ -3,9 +3,9 @@ ghost use Rattle.std.specs.String.{string_bytes};
 ghost use Rattle.hex.specs.Hex.{encode_lower, lower_digits};
 ghost use Rattle.event_codec.specs.Layout.{stamp_in};
 ghost use Rattle.event_codec.specs.Packet.{contents};
-ghost use Rattle.schedule_replay.specs.Shown.{name_of, identity_text, correction_text, stamp_text, requesting_text, header_text, message_text, refusal_text};
+ghost use Rattle.schedule_replay.specs.Shown.{name_of, identity_text, correction_text, stamp_text, requesting_text, header_text, message_text, refusal_text, AppendsShown};
 
-use event_codec::{Body, DecodeRefusal, Header, Message, PortIdentity};
+use event_codec::{Body, DecodeRefusal, Header, Message, PortIdentity, decode};
 use ptp_units::{Interval, Timestamp};
 use std::alloc::AllocError;
 use std::fmt;
@@ -102,6 +102,17 @@ fn name_of(body: &Body) -> &'static str
         Body::DelayReq { .. } => "Delay_Req",
         Body::FollowUp { .. } => "Follow_Up",
         Body::DelayResp { .. } => "Delay_Resp",
+    }
+}
+
+/// Appends the text of a datagram: the fields of the message that it begins with, or the number of
+/// the refusal.
+pub(crate) fn push_datagram(text: &mut String, octets: &[u8]) -> Result<(), AllocError>
+    ensures { OnOk result (AppendsShown octets.now (string_bytes text.old) (string_bytes text.new)) }
+{
+    match decode(octets) {
+        Ok((message, used)) => push_message(text, &message, used),
+        Err(refusal) => push_refusal(text, refusal),
     }
 }
 
