@@ -1,9 +1,10 @@
 -- How octets are cut at their first LF.
-use Rattle.std.proofs.Common.{◌≡◌, ◌≢◌, ℕ, suc, ◌+◌, ◌<◌, ◌==◌, List, [], ◌∷◌, ◌++◌, Bool, true, false, length, refl, ap, sym, ◌∙◌, arith, All, if◌then◌else◌}
+use Rattle.std.proofs.Common.{◌≡◌, ◌≢◌, ℕ, suc, ◌+◌, ◌<◌, ◌==◌, List, [], ◌∷◌, ◌++◌, Bool, true, false, length, refl, ap, sym, ◌∙◌, arith, add_comm, zero-add, All, if◌then◌else◌}
 use Rattle.std.proofs.lemmas.Bool.{ne_eqb}
 use Rattle.std.proofs.lemmas.List.Elements.{All-head, All-tail}
+use Rattle.std.proofs.lemmas.List.Sums.{sum_by-cons}
 use Rattle.std.specs.Io.BufRead.{drop_through}
-use Rattle.schedule_replay.specs.Lines.{begin_line, lines_of, after_lines}
+use Rattle.schedule_replay.specs.Lines.{begin_line, lines_of, lfs_in}
 
 -- no octet is an LF
 abbrev pub IsUnended : List ℕ → Type 0
@@ -20,6 +21,12 @@ lines_of-ended (x ∷ xs) rest h = rw (first_is x xs h, lines_of-ended xs rest (
 pub drop_through-ended : (front rest : List ℕ) → IsUnended front → drop_through 10 (front ++ 10 ∷ rest) ≡ rest
 drop_through-ended [] rest h = refl
 drop_through-ended (x ∷ xs) rest h = rw (first_is x xs h) (drop_through-ended xs rest (All-tail (λ y. y ≢ 10) x xs h))
+
+pub lfs_in-ended : (front rest : List ℕ) → IsUnended front → lfs_in (front ++ 10 ∷ rest) ≡ lfs_in rest + 1
+lfs_in-ended [] rest h = sum_by-cons (λ x. if x == 10 then 1 else 0) 10 rest ∙ add_comm 1 (lfs_in rest)
+lfs_in-ended (x ∷ xs) rest h =
+    sum_by-cons (λ x. if x == 10 then 1 else 0) x (xs ++ 10 ∷ rest)
+    ∙ rw (first_is x xs h, zero-add (lfs_in (xs ++ 10 ∷ rest))) (lfs_in-ended xs rest (All-tail (λ y. y ≢ 10) x xs h))
 
 -- octets without an LF are a line
 pub lines_of-last : (x : ℕ) (xs : List ℕ) → IsUnended (x ∷ xs) → lines_of (x ∷ xs) ≡ (x ∷ xs) ∷ []

@@ -3,3 +3,4 @@ pub mod Cutting
 pub mod Reading
 pub mod Printing
 pub mod Joining
+pub mod ShownLines

@@ -1,14 +1,14 @@
 -- What reading a line answers, over what was consumed on the way.
 use Rattle.std.proofs.Common.{◌≡◌, ◌≢◌, ℕ, suc, ◌+◌, ◌<◌, ◌≤◌, ◌==◌, nat_lt, List, [], ◌∷◌, ◌++◌, Bool, true, false, not, length, take, drop, Option, Some, None, refl, ap, sym, ◌∙◌, arith, subst, append-nil, append_assoc, length-append}
-use Rattle.std.proofs.lemmas.Bool.{le-ltb, lt-ltb}
+use Rattle.std.proofs.lemmas.Bool.{le-ltb, lt-ltb, true≢false}
 use Rattle.std.proofs.lemmas.List.{take_at, drop_at}
 use Rattle.std.proofs.Math.Dec.{eqb-suc-zero}
 use Rattle.std.specs.Io.KnownBytes.{Consumes, Keeps, IsAtEnd}
 use Rattle.std.proofs.KnownBytes.{Consumes-trans, Consumes-kept}
 use Rattle.schedule_replay.specs.declared.fault.FaultKind.TheVariants.{Read, LineTooLong, TooManyLines}
-use Rattle.schedule_replay.specs.Lines.{lines_of, after_lines, line_limit, lines_limit, reading_fault, ReadsLine, StopsReading}
+use Rattle.schedule_replay.specs.Lines.{lines_of, lfs_in, line_limit, lines_limit, reading_fault, ReadsLine, StopsReading}
 use Rattle.schedule_replay.proofs.KnownOctets.{Consumes-known}
-use Rattle.schedule_replay.proofs.Cutting.{IsUnended, lines_of-ended, drop_through-ended, lines_of-last, drop_through-last, first_line, longer_line}
+use Rattle.schedule_replay.proofs.Cutting.{IsUnended, lines_of-ended, drop_through-ended, lfs_in-ended, lines_of-last, drop_through-last, first_line, longer_line}
 
 no_fault : (count : ℕ) (line : List ℕ) → count < lines_limit → length line ≤ line_limit → reading_fault (count + 1) line ≡ None
 no_fault count line allowed fits = rw (le-ltb lines_limit (count + 1) (omega arith), le-ltb line_limit (length line) fits)
@@ -20,7 +20,7 @@ at_end (Some xs) front rest octets end left split =
     let none : rest ≡ [] = cc in (split ∙ ap (λ r. front ++ r) none ∙ append-nil front, ap Some end)
 
 pub line_ended : (a b c : Option (List ℕ)) (line : List ℕ) (count : ℕ) (octets : List ℕ) → Consumes a b line → Consumes b c (10 ∷ [])
-    → IsUnended line → length line ≤ line_limit → count < lines_limit → a ≡ Some octets → ReadsLine true (count + 1) line octets c
+    → IsUnended line → length line ≤ line_limit → count < lines_limit → a ≡ Some octets → ReadsLine true (count + 1) line false octets c
 line_ended a b c line count octets first then unended fits allowed known =
     let (rest, left, split) = Consumes-known a c _ octets (Consumes-trans a b c line (10 ∷ []) first then) known in
     let whole : octets ≡ line ++ 10 ∷ rest = split ∙ append_assoc line (10 ∷ []) rest in
@@ -28,17 +28,18 @@ line_ended a b c line count octets first then unended fits allowed known =
     rw whole (
       lines_of-ended line rest unended ∙ ap (λ r. line ∷ lines_of r) (sym behind),
       no_fault count line allowed fits,
-      left ∙ ap Some (sym behind))
+      left ∙ ap Some (sym behind),
+      λ _. lfs_in-ended line rest unended ∙ ap (λ r. lfs_in r + 1) (sym behind))
 
 line_or_none : (c : Option (List ℕ)) (line : List ℕ) (count : ℕ) → c ≡ Some [] → IsUnended line → reading_fault (count + 1) line ≡ None
-    → ReadsLine (not (length line == 0)) (count + 1) line line c
+    → ReadsLine (not (length line == 0)) (count + 1) line true line c
 line_or_none c [] count left unended fine = (refl, left)
 line_or_none c (x ∷ xs) count left unended fine =
     let behind = drop_through-last (x ∷ xs) unended in
-    rw (eqb-suc-zero (length xs)) (lines_of-last x xs unended ∙ ap (λ r. (x ∷ xs) ∷ lines_of r) (sym behind), fine, left ∙ ap Some (sym behind))
+    rw (eqb-suc-zero (length xs)) (lines_of-last x xs unended ∙ ap (λ r. (x ∷ xs) ∷ lines_of r) (sym behind), fine, left ∙ ap Some (sym behind), λ unended. absurd (true≢false unended))
 
 pub line_last : (a b c : Option (List ℕ)) (line : List ℕ) (count : ℕ) (octets : List ℕ) → Consumes a b line → Consumes b c [] → IsAtEnd c
-    → IsUnended line → length line ≤ line_limit → count < lines_limit → a ≡ Some octets → ReadsLine (not (length line == 0)) (count + 1) line octets c
+    → IsUnended line → length line ≤ line_limit → count < lines_limit → a ≡ Some octets → ReadsLine (not (length line == 0)) (count + 1) line true octets c
 line_last a b c line count octets first then end unended fits allowed known =
     let (rest, left, split) = Consumes-known a c _ octets (Consumes-trans a b c line [] first then) known in
     let (whole, nothing) = at_end c line rest octets end left (split ∙ ap (λ l. l ++ rest) (append-nil line)) in

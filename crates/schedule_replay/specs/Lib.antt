@@ -2,3 +2,4 @@ pub mod Fault
 pub mod Counted
 pub mod Lines
 pub mod Shown
+pub mod Show

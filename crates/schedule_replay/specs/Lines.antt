@@ -1,5 +1,5 @@
 -- How an input is cut into lines, and what reading one of them answers.
-use Rattle.std.specs.Prelude.{◌≡◌, ◌≢◌, ℕ, zero, suc, ◌+◌, ◌≤◌, nat_lt, List, [], ◌∷◌, length, take, drop, All, Bool, true, false, ◌==◌, if◌then◌else◌, Option, Some, None}
+use Rattle.std.specs.Prelude.{◌≡◌, ◌≢◌, ℕ, zero, suc, ◌+◌, ◌≤◌, nat_lt, List, [], ◌∷◌, length, take, drop, count_by, All, Bool, true, false, ◌==◌, if◌then◌else◌, Option, Some, None}
 use Rattle.std.specs.Io.BufRead.{drop_through, strip_last}
 use Rattle.schedule_replay.specs.declared.fault.FaultKind.{FaultKind}
 use Rattle.schedule_replay.specs.declared.fault.FaultKind.TheVariants.{Read, Write, LineTooLong, TooManyLines, Field, Memory}
@@ -13,6 +13,10 @@ begin_line x (line ∷ lines) = (x ∷ line) ∷ lines
 abbrev pub lines_of : List ℕ → List (List ℕ)
 lines_of [] = []
 lines_of (x ∷ rest) = if x == 10 then [] ∷ lines_of rest else begin_line x (lines_of rest)
+
+-- how many LFs there are
+abbrev pub lfs_in : List ℕ → ℕ
+lfs_in octets = count_by (λ x. x == 10) octets
 
 -- what is left of the octets behind this many lines and their LFs
 abbrev pub after_lines : ℕ → List ℕ → List ℕ
@@ -56,12 +60,13 @@ StopsReading kind number octets left =
     (line : List ℕ) × (others : List (List ℕ)) × (lines_of octets ≡ line ∷ others)
     × (reading_fault number line ≡ Some kind) × LeavesUnread kind octets left
 
--- a line of this number was read where there was one, and nothing at the end of the input
-abbrev pub ReadsLine : Bool → ℕ → List ℕ → List ℕ → Option (List ℕ) → Type 0
-ReadsLine true number line octets left =
+-- a line of this number was read where there was one, and nothing at the end of the input; a line behind which the
+-- end was not seen has its LF
+abbrev pub ReadsLine : Bool → ℕ → List ℕ → Bool → List ℕ → Option (List ℕ) → Type 0
+ReadsLine true number line ended octets left =
     (lines_of octets ≡ line ∷ lines_of (after_lines 1 octets)) × (reading_fault number line ≡ None)
-    × (left ≡ Some (after_lines 1 octets))
-ReadsLine false number line octets left = (octets ≡ []) × (left ≡ Some [])
+    × (left ≡ Some (after_lines 1 octets)) × (ended ≡ false → lfs_in octets ≡ lfs_in (after_lines 1 octets) + 1)
+ReadsLine false number line ended octets left = (octets ≡ []) × (left ≡ Some [])
 
 -- the kinds of fault in reading a line, of which one says that the reader failed
 abbrev pub IsFromReading : FaultKind → (failed unfailed : Type 0) → Type 0

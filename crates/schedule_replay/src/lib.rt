@@ -4,7 +4,10 @@
 mod counted;
 mod fault;
 mod lines;
+mod showing;
 mod shown;
 
 pub use counted::Counted;
 pub use fault::{Fault, FaultKind};
+pub use showing::show;
+

@@ -1,4 +1,4 @@
-ghost use Rattle.std.specs.Prelude.{◌≡◌, ℕ, List, false, ◌+◌, ◌≤◌, ◌<◌, if◌then◌else◌, [], ◌∷◌, IfOk, IfErr, MatchResult, MatchOption, length};
+ghost use Rattle.std.specs.Prelude.{◌≡◌, ℕ, List, false, IsTrue, ◌+◌, ◌≤◌, ◌<◌, if◌then◌else◌, [], ◌∷◌, IfOk, IfErr, MatchResult, MatchOption, length};
 ghost use Rattle.std.specs.Option.{ForSome};
 ghost use Rattle.std.specs.Io.KnownBytes.{Consumes, IsAtEnd, Keeps};
 ghost use Rattle.schedule_replay.specs.Counted.{device_of, HasFailed, HasNotFailed};
@@ -20,6 +20,7 @@ const LINES_LIMIT: u64 = 1_048_576;
 pub(crate) struct Lines {
     line: ArrayVec<u8, LINE_LIMIT>,
     count: u64,
+    ended: bool,
     ghost within: { count ≤ 1048576 },
 }
 
@@ -46,11 +47,13 @@ fn read_octet<R: Read>(input: &mut Counted<R>) -> Result<Option<u8>, FaultKind>
 impl Lines {
     /// No line was read yet.
     pub(crate) fn new() -> Lines
-        ensures { result.count ≡ 0 }
+        ensures count { result.count ≡ 0 }
+        ensures ended { result.ended ≡ false }
     {
         Lines {
             line: ArrayVec::new(),
             count: 0,
+            ended: false,
         }
     }
 
@@ -84,19 +87,29 @@ impl Lines {
     }
 
     /// Reads the next line, and answers whether there was one. A fault stands at that line, which
-    /// is partly read then; no more than one octet behind the limits is read.
+    /// is partly read then; no more than one octet behind the limits is read, and none behind the
+    /// end of the input.
     pub(crate) fn read_next<R: Read>(&mut self, input: &mut Counted<R>) -> Result<bool, Fault>
+        requires { IsTrue self.old.ended → IsAtEnd (R.remaining (device_of input.old)) }
         ensures next { ForSome (R.remaining (device_of input.old)) (λ octets.
             MatchResult result
-                (λ found. ReadsLine found (self.old.count + 1) self.new.line.items octets (R.remaining (device_of input.new)))
+                (λ found. ReadsLine found (self.old.count + 1) self.new.line.items self.new.ended octets
+                    (R.remaining (device_of input.new)))
                 (λ fault. StopsReading fault.what (self.old.count + 1) octets (R.remaining (device_of input.new)))) }
         ensures count { MatchResult result
             (λ found. self.new.count ≡ (if found then self.old.count + 1 else self.old.count))
             (λ fault. fault.line ≡ self.old.count + 1) }
+        ensures ended { IsTrue self.new.ended → IsAtEnd (R.remaining (device_of input.new)) }
+        ensures before_end { MatchResult result
+            (λ found. IsTrue found → self.old.ended ≡ false)
+            (λ _. self.old.ended ≡ false) }
         ensures failures { MatchResult result
             (λ _. HasNotFailed input.old input.new)
             (λ fault. IsFromReading fault.what (HasFailed input.old input.new) (HasNotFailed input.old input.new)) }
     {
+        if self.ended {
+            return Ok(false);
+        }
         let line = self.count + 1;
         if self.count == LINES_LIMIT {
             return expect_end(input).map_err(|what| Fault { line, what });
@@ -110,12 +123,15 @@ impl Lines {
 
     /// Reads octets up to an LF or the end of the input, and answers whether there was one.
     fn read_line<R: Read>(&mut self, input: &mut Counted<R>) -> Result<bool, FaultKind>
-        requires { self.old.count < lines_limit }
+        requires within { self.old.count < lines_limit }
+        requires before_end { self.old.ended ≡ false }
         ensures next { ForSome (R.remaining (device_of input.old)) (λ octets.
             MatchResult result
-                (λ found. ReadsLine found (self.old.count + 1) self.new.line.items octets (R.remaining (device_of input.new)))
+                (λ found. ReadsLine found (self.old.count + 1) self.new.line.items self.new.ended octets
+                    (R.remaining (device_of input.new)))
                 (λ kind. StopsReading kind (self.old.count + 1) octets (R.remaining (device_of input.new)))) }
         ensures count { self.new.count ≡ self.old.count }
+        ensures ended { IsTrue self.new.ended → IsAtEnd (R.remaining (device_of input.new)) }
         ensures failures { MatchResult result
             (λ _. HasNotFailed input.old input.new)
             (λ kind. IsFromReading kind (HasFailed input.old input.new) (HasNotFailed input.old input.new)) }
@@ -129,6 +145,7 @@ impl Lines {
                 return Err(FaultKind::LineTooLong);
             }
         }
+        self.ended = true;
         Ok(!self.line.is_empty())
     }
 }
@@ -137,7 +154,7 @@ impl Lines {
 fn expect_end<R: Read>(input: &mut Counted<R>) -> Result<bool, FaultKind>
     ensures next { ForSome (R.remaining (device_of input.old)) (λ octets. (line : List ℕ) →
         MatchResult result
-            (λ found. ReadsLine found (lines_limit + 1) line octets (R.remaining (device_of input.new)))
+            (λ found. ReadsLine found (lines_limit + 1) line false octets (R.remaining (device_of input.new)))
             (λ kind. StopsReading kind (lines_limit + 1) octets (R.remaining (device_of input.new)))) }
     ensures none { IfOk result (λ found. found ≡ false) }
     ensures failures { MatchResult result

@@ -12,7 +12,7 @@ returns-in_err-octet-clause-next g c =
 pub returns-then-octet-eq10-clause-next : goal.returns-then-octet-eq10-clause-next
 returns-then-octet-eq10-clause-next g c = λ octets known.
     let next = rw (c.in-Some.is, c.if-octet-eq10.true) at c.in_ok-octet.ensures.octet in
-    line_ended _ _ _ _ _ octets c.loop-octet.invariant.0 next c.loop-octet.invariant.1 c.loop-octet.invariant.4 (search rules) known
+    rw c.loop-octet.invariant.5 (line_ended _ _ _ _ _ octets c.loop-octet.invariant.0 next c.loop-octet.invariant.1 c.loop-octet.invariant.4 (search rules) known)
 
 pub returns-then-is_err-clause-next : goal.returns-then-is_err-clause-next
 returns-then-is_err-clause-next g c = λ octets known.
