@@ -3,6 +3,7 @@
 
 mod counted;
 mod fault;
+pub mod laws;
 mod lines;
 mod showing;
 mod shown;
