@@ -1,3 +1,5 @@
 pub mod Layout
 pub mod Packet
 pub mod Refusal
+pub mod Reading
+pub mod Profile
