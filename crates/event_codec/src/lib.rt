@@ -14,3 +14,6 @@ pub use message::{Body, Header, Message};
 pub use nibble::Nibble;
 pub use port::{PortConfig, PortIdentity};
 pub use refusal::{DecodeRefusal, EncodeRefusal};
+
+#[cfg(test)]
+mod tests;
