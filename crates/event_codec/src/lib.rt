@@ -7,6 +7,7 @@ mod message;
 mod message_type;
 mod nibble;
 mod port;
+mod profile;
 mod refusal;
 
 pub use decoding::decode;
