@@ -1,3 +1,4 @@
 pub mod Layout
 pub mod Packet
 pub mod Refusal
+pub mod Correction

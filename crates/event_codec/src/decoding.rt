@@ -4,7 +4,7 @@ ghost use Rattle.event_codec.specs.Layout.{number, number_of, least_length, type
 ghost use Rattle.event_codec.specs.Packet.{Contents, Packet, IsIdentityAt, IsRequesting, contents};
 ghost use Rattle.event_codec.specs.Refusal.{decode_refusal};
 
-use crate::message::{Body, Header, Message};
+use crate::message::{Body, Header, Message, VERSION};
 use crate::message_type::MessageType;
 use crate::nibble::Nibble;
 use crate::port::PortIdentity;
@@ -140,7 +140,7 @@ fn message_type_of(octets: &[u8]) -> Result<MessageType, DecodeRefusal>
     if octets.len() < HEADER_LENGTH {
         return Err(DecodeRefusal::Short);
     }
-    if octets[1] % 16 != 2 {
+    if octets[1] % 16 != VERSION {
         return Err(DecodeRefusal::Version);
     }
     let nibble = octets[0] % 16;
