@@ -2,9 +2,10 @@ ghost use Rattle.std.specs.Prelude.{◌≡◌, ◌<◌, ◌≤◌, ◌+◌, ◌*
 ghost use Rattle.std.specs.Int.{w8, w64, cast_signed};
 ghost use Rattle.event_codec.specs.Layout.{number, number_of, least_length, type_of, fields_length, stamp_in};
 ghost use Rattle.event_codec.specs.Packet.{Contents, Packet, IsIdentityAt, IsRequesting, contents};
+ghost use Rattle.event_codec.specs.Reading.{Reading, IsReading, Answers};
 ghost use Rattle.event_codec.specs.Refusal.{decode_refusal};
 
-use crate::message::{Body, Header, Message};
+use crate::message::{Body, Header, Message, VERSION};
 use crate::message_type::MessageType;
 use crate::nibble::Nibble;
 use crate::port::PortIdentity;
@@ -140,7 +141,7 @@ fn message_type_of(octets: &[u8]) -> Result<MessageType, DecodeRefusal>
     if octets.len() < HEADER_LENGTH {
         return Err(DecodeRefusal::Short);
     }
-    if octets[1] % 16 != 2 {
+    if octets[1] % 16 != VERSION {
         return Err(DecodeRefusal::Version);
     }
     let nibble = octets[0] % 16;
@@ -188,6 +189,8 @@ pub fn decode(octets: &[u8]) -> Result<(Message<'_>, usize), DecodeRefusal>
     ensures refused { MatchResult result
         (λ _. decode_refusal octets.now ≡ None)
         (λ e. decode_refusal octets.now ≡ Some e) }
+    // Whatever the octets say, that is the answer.
+    ensures reading { (said : Reading) → IsReading octets.now said → Answers result said }
 {
     message_at_front(octets)
 }

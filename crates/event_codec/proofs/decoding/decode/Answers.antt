@@ -2,7 +2,8 @@ use Rattle.std.proofs.Common.{◌≡◌, ℕ, ◌≤◌, List, length, take, Res
 use Rattle.event_codec.specs.declared.message.Message.{Message}
 use Rattle.event_codec.specs.declared.refusal.DecodeRefusal.{DecodeRefusal}
 use Rattle.event_codec.specs.Packet.{Contents, Packet, contents}
-use Rattle.event_codec.specs.Refusal.{decode_refusal}
+use Rattle.event_codec.specs.Reading.{Reading, IsReading, Answers}
+use Rattle.event_codec.specs.Refusal.{decode_refusal, message_length}
 use Rattle.event_codec.proofs.Same.{contents_same, front_length, decode_refusal-message}
 use Rattle.event_codec.proofs.decoding.decode.Goals as goal
 
@@ -17,3 +18,15 @@ only (Err e) b read refused m n fits p = let none : decode_refusal b ≡ None = 
 
 pub returns-clause-only : goal.returns-clause-only
 returns-clause-only c = only c.message_at_front.result c.args.octets.now c.message_at_front.ensures.read c.message_at_front.ensures.refused
+
+reading : (result : Result (Message × ℕ) DecodeRefusal) (b : List ℕ)
+    → IfOk result (λ r. (r.1 ≤ length b) × Packet (contents r.0) (take r.1 b))
+    → MatchResult result (λ _. decode_refusal b ≡ None) (λ e. decode_refusal b ≡ Some e)
+    → (said : Reading) → IsReading b said → Answers result said
+reading (Ok (m, used)) b read refused (Ok said) is = only (Ok (m, used)) b read refused said (message_length said) is.0 is.1
+reading (Ok (m, used)) b read refused (Err e) is = absurd cc
+reading (Err e) b read refused (Ok said) is = only (Err e) b read refused said (message_length said) is.0 is.1
+reading (Err e) b read refused (Err f) is = cc
+
+pub returns-clause-reading : goal.returns-clause-reading
+returns-clause-reading c = reading c.message_at_front.result c.args.octets.now c.message_at_front.ensures.read c.message_at_front.ensures.refused

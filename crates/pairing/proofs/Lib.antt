@@ -1,0 +1,4 @@
+mod Lists
+mod Pairs
+mod Worked
+pub mod Laws
