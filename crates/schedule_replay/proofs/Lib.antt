@@ -4,3 +4,4 @@ pub mod Reading
 pub mod Printing
 pub mod Joining
 pub mod ShownLines
+pub mod ProgramLemmas

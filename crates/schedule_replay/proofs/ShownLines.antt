@@ -1,7 +1,6 @@
 -- How far the lines of an input were shown.
 use Rattle.std.proofs.Common.{◌≡◌, ℕ, zero, suc, ◌+◌, ◌<◌, ◌≤◌, List, [], ◌∷◌, ◌++◌, Bool, true, false, length, take, drop, Option, Some, None, refl, sym, ap, ◌∙◌, subst, arith, append-nil, append_assoc, add-one, add-zero, add_comm, length-drop, length-take-le, take_all, le_refl}
 use Rattle.std.specs.Prelude.{slice_get}
-use Rattle.std.specs.Option.{option_or}
 use Rattle.std.specs.Io.BufRead.{drop_through}
 use Rattle.std.specs.Io.KnownBytes.{Appends, Keeps}
 use Rattle.schedule_replay.proofs.KnownOctets.{Keeps-known, Appends-known}
@@ -59,10 +58,14 @@ ShowsLines-push number [] line text written shown fine answer =
     (written, [], rw add-zero at fine, answer, refl, ap (λ t. t ++ written) shown ∙ sym (append-nil written))
 ShowsLines-push number (first ∷ lines) line text written shown fine answer =
     let (one, others, sound, said, rest, whole) = shown in
-    let place : (number + 1) + length lines ≡ number + suc (length lines) = omega arith in
-    (one, others ++ written, sound, said,
+    let place : (number + 1) + length lines ≡ number + suc (length lines) = omega arith in (
+      one,
+      others ++ written,
+      sound,
+      said,
       ShowsLines-push (number + 1) lines line others written rest (rw place fine) answer,
-      ap (λ t. t ++ written) whole ∙ append_assoc one others written)
+      ap (λ t. t ++ written) whole ∙ append_assoc one others written,
+    )
 
 -- ---- faults of lines
 
@@ -100,7 +103,7 @@ shown_more octets held count ended left left' now now' line written so_far (cut,
     record {
       text = so_far.text ++ written;
       shown = rw place.upto (ShowsLines-push 1 (take count (lines_of octets)) line so_far.text written so_far.shown
-        (rw (length-take-le count (lines_of octets) so_far.within, add_comm 1 count) (faultless (count + 1) line written fine answer)) answer);
+          (rw (length-take-le count (lines_of octets) so_far.within, add_comm 1 count) (faultless (count + 1) line written fine answer)) answer);
       output = now_is ∙ ap Some (is ∙ append_assoc held so_far.text written);
       input = behind ∙ ap Some (sym more);
       rest = place.behind ∙ ap lines_of (sym more);

@@ -3,3 +3,5 @@ pub mod Counted
 pub mod Lines
 pub mod Shown
 pub mod Show
+pub mod Words
+pub mod Program

@@ -5,10 +5,12 @@ mod counted;
 mod fault;
 pub mod laws;
 mod lines;
+mod program;
 mod showing;
 mod shown;
+mod words;
 
 pub use counted::Counted;
 pub use fault::{Fault, FaultKind};
+pub use program::command;
 pub use showing::show;
-

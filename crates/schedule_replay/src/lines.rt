@@ -28,9 +28,9 @@ pub(crate) struct Lines {
 fn read_octet<R: Read>(input: &mut Counted<R>) -> Result<Option<u8>, FaultKind>
     ensures octet { MatchResult result
         (λ next. MatchOption next
-            (Consumes (R.remaining (device_of input.old)) (R.remaining (device_of input.new)) []
-                × IsAtEnd (R.remaining (device_of input.new)))
-            (λ octet. Consumes (R.remaining (device_of input.old)) (R.remaining (device_of input.new)) (octet ∷ [])))
+        (Consumes (R.remaining (device_of input.old)) (R.remaining (device_of input.new)) []
+        × IsAtEnd (R.remaining (device_of input.new)))
+        (λ octet. Consumes (R.remaining (device_of input.old)) (R.remaining (device_of input.new)) (octet ∷ [])))
         (λ _. Keeps (R.remaining (device_of input.old)) (R.remaining (device_of input.new))) }
     ensures failures { MatchResult result
         (λ _. HasNotFailed input.old input.new)
@@ -93,9 +93,9 @@ impl Lines {
         requires { IsTrue self.old.ended → IsAtEnd (R.remaining (device_of input.old)) }
         ensures next { ForSome (R.remaining (device_of input.old)) (λ octets.
             MatchResult result
-                (λ found. ReadsLine found (self.old.count + 1) self.new.line.items self.new.ended octets
-                    (R.remaining (device_of input.new)))
-                (λ fault. StopsReading fault.what (self.old.count + 1) octets (R.remaining (device_of input.new)))) }
+            (λ found. ReadsLine found (self.old.count + 1) self.new.line.items self.new.ended octets
+            (R.remaining (device_of input.new)))
+            (λ fault. StopsReading fault.what (self.old.count + 1) octets (R.remaining (device_of input.new)))) }
         ensures count { MatchResult result
             (λ found. self.new.count ≡ (if found then self.old.count + 1 else self.old.count))
             (λ fault. fault.line ≡ self.old.count + 1) }
@@ -127,9 +127,9 @@ impl Lines {
         requires before_end { self.old.ended ≡ false }
         ensures next { ForSome (R.remaining (device_of input.old)) (λ octets.
             MatchResult result
-                (λ found. ReadsLine found (self.old.count + 1) self.new.line.items self.new.ended octets
-                    (R.remaining (device_of input.new)))
-                (λ kind. StopsReading kind (self.old.count + 1) octets (R.remaining (device_of input.new)))) }
+            (λ found. ReadsLine found (self.old.count + 1) self.new.line.items self.new.ended octets
+            (R.remaining (device_of input.new)))
+            (λ kind. StopsReading kind (self.old.count + 1) octets (R.remaining (device_of input.new)))) }
         ensures count { self.new.count ≡ self.old.count }
         ensures ended { IsTrue self.new.ended → IsAtEnd (R.remaining (device_of input.new)) }
         ensures failures { MatchResult result
@@ -154,8 +154,8 @@ impl Lines {
 fn expect_end<R: Read>(input: &mut Counted<R>) -> Result<bool, FaultKind>
     ensures next { ForSome (R.remaining (device_of input.old)) (λ octets. (line : List ℕ) →
         MatchResult result
-            (λ found. ReadsLine found (lines_limit + 1) line false octets (R.remaining (device_of input.new)))
-            (λ kind. StopsReading kind (lines_limit + 1) octets (R.remaining (device_of input.new)))) }
+        (λ found. ReadsLine found (lines_limit + 1) line false octets (R.remaining (device_of input.new)))
+        (λ kind. StopsReading kind (lines_limit + 1) octets (R.remaining (device_of input.new)))) }
     ensures none { IfOk result (λ found. found ≡ false) }
     ensures failures { MatchResult result
         (λ _. HasNotFailed input.old input.new)

@@ -153,9 +153,7 @@ fn push_header(text: &mut String, header: &Header, name: &str) -> Result<(), All
     write!(
         text,
         " seq={} control={} log={}",
-        header.sequence.0,
-        header.control,
-        header.log
+        header.sequence.0, header.control, header.log
     )
 }
 
