@@ -12,3 +12,6 @@ pub use counted::Counted;
 pub use fault::{Fault, FaultKind};
 pub use showing::show;
 
+
+#[cfg(test)]
+mod tests;
