@@ -14,3 +14,6 @@ pub use counted::Counted;
 pub use fault::{Fault, FaultKind};
 pub use program::command;
 pub use showing::show;
+
+#[cfg(test)]
+mod tests;
