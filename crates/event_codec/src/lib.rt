@@ -1,0 +1,25 @@
+//! Sync, Delay_Req, Follow_Up and Delay_Resp of the Precision Time Protocol as octets: one relation
+//! between a message and its octets, read and written exactly (IEEE 1588-2019, clause 13).
+#![tactic(auto)]
+
+mod correction;
+mod decoding;
+mod encoding;
+mod message;
+mod message_type;
+mod nibble;
+mod port;
+mod profile;
+mod refusal;
+
+pub use correction::patch_correction;
+pub use decoding::decode;
+pub use encoding::encode;
+pub use message::{Body, Header, Message};
+pub use nibble::Nibble;
+pub use port::{PortConfig, PortIdentity};
+pub use profile::octets_of;
+pub use refusal::{DecodeRefusal, EncodeRefusal};
+
+#[cfg(test)]
+mod tests;

@@ -1,0 +1,20 @@
+-- What reads and writes do where the octets are known.
+use Rattle.std.proofs.Common.{◌≡◌, ℕ, List, ◌++◌, Option, Some, None, refl}
+use Rattle.std.specs.Io.KnownBytes.{Consumes, Keeps, Appends}
+
+pub Consumes-known : (old new : Option (List ℕ)) (bs octets : List ℕ) → Consumes old new bs → old ≡ Some octets
+    → (rest : List ℕ) × (new ≡ Some rest) × (octets ≡ bs ++ rest)
+Consumes-known None new bs octets h e = absurd cc
+Consumes-known (Some xs) None bs octets h e = absurd h
+Consumes-known (Some xs) (Some ys) bs octets h e = (ys, refl, cc)
+
+pub Keeps-known : (old new : Option (List ℕ)) (octets : List ℕ) → Keeps old new → old ≡ Some octets → new ≡ Some octets
+Keeps-known None new octets h e = absurd cc
+Keeps-known (Some xs) None octets h e = absurd h
+Keeps-known (Some xs) (Some ys) octets h e = cc
+
+pub Appends-known : (old new : Option (List ℕ)) (bs octets : List ℕ) → Appends old new bs → old ≡ Some octets
+    → (grown : List ℕ) × (new ≡ Some grown) × (grown ≡ octets ++ bs)
+Appends-known None new bs octets h e = absurd cc
+Appends-known (Some xs) None bs octets h e = absurd h
+Appends-known (Some xs) (Some ys) bs octets h e = (ys, refl, cc)

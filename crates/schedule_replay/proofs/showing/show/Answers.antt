@@ -1,0 +1,47 @@
+use Rattle.std.proofs.Common.{rules, ◌∙◌}
+use Rattle.std.proofs.lemmas.Result.{err_from_is_err_and}
+use Rattle.schedule_replay.proofs.ShownLines.{shown_all, shown_more, stopped_reading, stopped_answering, at_line}
+use Rattle.schedule_replay.proofs.showing.show.Goals as goal
+
+pub returns-in_err-read_next-clause-shown : goal.returns-in_err-read_next-clause-shown
+returns-in_err-read_next-clause-shown g c =
+    let p = err_from_is_err_and c.from_residual.result c.from_residual.ensures.1 in
+    λ octets known held output.
+    let so_far = c.loop-text.invariant.shown octets known held output in
+    let read = c.in_err-read_next.ensures in
+    rw (p.1, p.2) (at_line octets held _ _ _ _ read.count
+    (stopped_reading octets held _ _ _ _ _ _ _ (rw read.before_end at so_far) (read.next _ so_far.input) read.failures))
+
+pub loop-text-preserved : goal.loop-text-preserved
+loop-text-preserved g c = record {
+  shown = λ octets known held output.
+      let so_far = c.loop-text.invariant.shown octets known held output in
+      let read = c.in_ok-read_next.ensures in
+      let count = rw c.if-branch.true at read.count in
+      let line = rw c.if-branch.true at (read.next _ so_far.input) in
+      rw count (shown_more octets held _ _ _ _ _ _ _ _ (rw (read.before_end c.if-branch.true) at so_far) line
+      (rw c.line.ensures.line at c.in_default.ensures.answer.0) c.in_default.ensures.answer.1);
+  reader = search rules;
+  writer = search rules;
+  ended = search rules;
+}
+
+pub returns-in-Err-clause-shown : goal.returns-in-Err-clause-shown
+returns-in-Err-clause-shown g c =
+    λ octets known held output.
+    let so_far = c.loop-text.invariant.shown octets known held output in
+    let read = c.in_ok-read_next.ensures in
+    let count = rw c.if-branch.true at read.count in
+    let line = rw c.if-branch.true at (read.next _ so_far.input) in
+    at_line octets held _ _ _ _ (c.fault.ensures.line ∙ count) (rw c.fault.ensures.what
+    (stopped_answering octets held _ _ _ _ _ _ _ _ _ _ (rw (read.before_end c.if-branch.true) at so_far) line
+    (rw c.line.ensures.line at c.in-Err.ensures.answer.0) c.in-Err.ensures.answer.1 c.in-Err.ensures.failures))
+
+pub returns-clause-shown : goal.returns-clause-shown
+returns-clause-shown g c =
+    λ octets known held output.
+    let so_far = c.loop-text.invariant.shown octets known held output in
+    let read = c.in_ok-read_next.ensures in
+    let count = rw c.if-branch.false at read.count in
+    let end = rw c.if-branch.false at (read.next _ so_far.input) in
+    rw (c.count.ensures, count) (shown_all octets held _ _ _ _ _ so_far end.0 end.1)

@@ -1,0 +1,20 @@
+-- The lines so far are shown, and no device failed.
+use Rattle.std.proofs.Common.{◌≡◌, ℕ, List, ◌-◌, Some}
+use Rattle.std.specs.Prelude.{IsTrue}
+use Rattle.std.specs.Io.KnownBytes.{IsAtEnd}
+use Rattle.schedule_replay.specs.Counted.{device_of, HasNotFailed}
+use Rattle.schedule_replay.specs.Lines.{lines_limit}
+use Rattle.schedule_replay.proofs.ShownLines.{HasShown}
+use Rattle.schedule_replay.proofs.showing.show.Given as goal
+
+abbrev pub invariant-loop-text : goal.invariant-loop-text
+invariant-loop-text g l = record {
+  shown : (octets : List ℕ) → g.R.Read.remaining (device_of l.fn.input) ≡ Some octets → (held : List ℕ) → g.W.Write.contents (device_of l.fn.output) ≡ Some held
+      → HasShown octets held l.lines.count l.lines.ended (g.R.Read.remaining (device_of l.input)) (g.W.Write.contents (device_of l.output));
+  reader : HasNotFailed l.fn.input l.input;
+  writer : HasNotFailed l.fn.output l.output;
+  ended : IsTrue l.lines.ended → IsAtEnd (g.R.Read.remaining (device_of l.input));
+}
+
+abbrev pub decreases-loop-text : goal.decreases-loop-text
+decreases-loop-text g l = lines_limit - l.lines.count

@@ -1,0 +1,7 @@
+pub mod Fault
+pub mod Counted
+pub mod Lines
+pub mod Shown
+pub mod Show
+pub mod Words
+pub mod Program

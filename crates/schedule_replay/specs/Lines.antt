@@ -1,0 +1,76 @@
+-- How an input is cut into lines, and what reading one of them answers.
+use Rattle.std.specs.Prelude.{◌≡◌, ◌≢◌, ℕ, zero, suc, ◌+◌, ◌≤◌, nat_lt, List, [], ◌∷◌, length, take, drop, count_by, All, Bool, true, false, ◌==◌, if◌then◌else◌, Option, Some, None}
+use Rattle.std.specs.Io.BufRead.{drop_through, strip_last}
+use Rattle.schedule_replay.specs.declared.fault.FaultKind.{FaultKind}
+use Rattle.schedule_replay.specs.declared.fault.FaultKind.TheVariants.{Read, Write, LineTooLong, TooManyLines, Field, Memory}
+
+-- an octet in front of the first line
+abbrev pub begin_line : ℕ → List (List ℕ) → List (List ℕ)
+begin_line x [] = (x ∷ []) ∷ []
+begin_line x (line ∷ lines) = (x ∷ line) ∷ lines
+
+-- the lines without their LFs; nothing after a last LF is a line
+abbrev pub lines_of : List ℕ → List (List ℕ)
+lines_of [] = []
+lines_of (x ∷ rest) = if x == 10 then [] ∷ lines_of rest else begin_line x (lines_of rest)
+
+-- how many LFs there are
+abbrev pub lfs_in : List ℕ → ℕ
+lfs_in octets = count_by (λ x. x == 10) octets
+
+-- what is left of the octets behind this many lines and their LFs
+abbrev pub after_lines : ℕ → List ℕ → List ℕ
+after_lines zero octets = octets
+after_lines (suc count) octets = after_lines count (drop_through 10 octets)
+
+-- a line without the CR at its end
+abbrev pub without_cr : List ℕ → List ℕ
+without_cr line = strip_last 13 line
+
+-- the most octets of a line without its LF
+abbrev pub line_limit : ℕ
+line_limit = 4096
+
+-- the most lines
+abbrev pub lines_limit : ℕ
+lines_limit = 1048576
+
+-- the fault in reading the line of this number, counted from 1: too many lines comes before too long a line
+abbrev pub reading_fault : ℕ → List ℕ → Option FaultKind
+reading_fault number line =
+    if nat_lt lines_limit number then Some TooManyLines
+    else if nat_lt line_limit (length line) then Some LineTooLong
+    else None
+
+-- What a fault leaves unread of the octets from the faulty line's first on. A reader fails within a line; the two
+-- limits are seen at the first octet behind them; each other fault comes once its line is read.
+abbrev pub LeavesUnread : FaultKind → List ℕ → Option (List ℕ) → Type 0
+LeavesUnread Read octets left =
+    (count : ℕ) × (count ≤ line_limit) × All (λ x. x ≢ 10) (take count octets) × (left ≡ Some (drop count octets))
+LeavesUnread LineTooLong octets left = left ≡ Some (drop (line_limit + 1) octets)
+LeavesUnread TooManyLines octets left = left ≡ Some (drop 1 octets)
+LeavesUnread Write octets left = left ≡ Some (after_lines 1 octets)
+LeavesUnread Field octets left = left ≡ Some (after_lines 1 octets)
+LeavesUnread Memory octets left = left ≡ Some (after_lines 1 octets)
+
+-- a fault in reading the line of this number, with which these octets begin, and what it leaves unread
+abbrev pub StopsReading : FaultKind → ℕ → List ℕ → Option (List ℕ) → Type 0
+StopsReading Read number octets left = LeavesUnread Read octets left
+StopsReading kind number octets left =
+    (line : List ℕ) × (others : List (List ℕ)) × (lines_of octets ≡ line ∷ others)
+    × (reading_fault number line ≡ Some kind) × LeavesUnread kind octets left
+
+-- a line of this number was read where there was one, and nothing at the end of the input; a line behind which the
+-- end was not seen has its LF
+abbrev pub ReadsLine : Bool → ℕ → List ℕ → Bool → List ℕ → Option (List ℕ) → Type 0
+ReadsLine true number line ended octets left =
+    (lines_of octets ≡ line ∷ lines_of (after_lines 1 octets)) × (reading_fault number line ≡ None)
+    × (left ≡ Some (after_lines 1 octets)) × (ended ≡ false → lfs_in octets ≡ lfs_in (after_lines 1 octets) + 1)
+ReadsLine false number line ended octets left = (octets ≡ []) × (left ≡ Some [])
+
+-- the kinds of fault in reading a line, of which one says that the reader failed
+abbrev pub IsFromReading : FaultKind → (failed unfailed : Type 0) → Type 0
+IsFromReading Read failed unfailed = failed
+IsFromReading LineTooLong failed unfailed = unfailed
+IsFromReading TooManyLines failed unfailed = unfailed
+IsFromReading kind failed unfailed = ⊥

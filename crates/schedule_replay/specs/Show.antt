@@ -1,0 +1,82 @@
+-- What `show` writes, as a function of the lines that it reads.
+use Rattle.std.specs.Prelude.{◌≡◌, ℕ, ◌+◌, ◌≤◌, List, [], ◌∷◌, ◌++◌, length, take, slice_get, is_ok, Option, Some, None, Ok, ⊤, if◌then◌else◌}
+use Rattle.std.specs.Option.{option_or}
+use Rattle.hex.specs.Hex.{decode_of}
+use Rattle.schedule_replay.specs.declared.fault.Fault.{Fault}
+use Rattle.schedule_replay.specs.declared.fault.FaultKind.{FaultKind}
+use Rattle.schedule_replay.specs.declared.fault.FaultKind.TheVariants.{Read, Write, Field, Memory}
+use Rattle.schedule_replay.specs.Lines.{lines_of, lfs_in, after_lines, without_cr, reading_fault, LeavesUnread}
+use Rattle.schedule_replay.specs.Shown.{IsShownAs}
+
+-- the digits are a datagram in hexadecimal, and this is its text with an LF
+pub record IsAnswer (digits written : List ℕ) : Type 0 where
+  pub datagram : List ℕ
+  pub hexadecimal : decode_of digits ≡ Ok datagram
+  pub text : List ℕ
+  pub shown : IsShownAs datagram text
+  pub ended : written ≡ text ++ 10 ∷ []
+
+-- what isn't hexadecimal is a fault
+abbrev pub digits_fault : List ℕ → Option FaultKind
+digits_fault digits = if is_ok (decode_of digits) then None else Some Field
+
+-- the fault of the line of this number, counted from 1
+abbrev pub line_fault : ℕ → List ℕ → Option FaultKind
+line_fault number line = option_or (reading_fault number line) (digits_fault (without_cr line))
+
+-- lines without a fault, of which the first has this number, are answered one after the other
+abbrev pub ShowsLines : ℕ → List (List ℕ) → List ℕ → Type 0
+ShowsLines number [] written = written ≡ []
+ShowsLines number (line ∷ lines) written =
+    (first : List ℕ) × (others : List ℕ) × (line_fault number line ≡ None) × IsAnswer (without_cr line) first
+    × ShowsLines (number + 1) lines others × (written ≡ first ++ others)
+
+-- the fault that a line itself has where this is answered at it: none where memory or the writer failed
+abbrev pub own_fault : FaultKind → Option FaultKind
+own_fault Write = None
+own_fault Memory = None
+own_fault kind = Some kind
+
+-- the line at which this is answered is there and has this fault; a reader fails before the line is there
+abbrev pub IsFaultAt : FaultKind → ℕ → Option (List ℕ) → Type 0
+IsFaultAt Read number line = ⊤
+IsFaultAt kind number None = ⊥
+IsFaultAt kind number (Some line) = line_fault number line ≡ own_fault kind
+
+-- what went out is known, but where the writer failed
+abbrev pub WentOutAs : FaultKind → Type 0 → Type 0
+WentOutAs Write known = ⊤
+WentOutAs kind known = known
+
+-- All lines of an input of these octets were shown behind what the output held, and the input is at its end.
+pub record ShowsAll (octets held : List ℕ) (lines : ℕ) (left now : Option (List ℕ)) : Type 0 where
+  pub count : lines ≡ length (lines_of octets)
+  pub text : List ℕ
+  pub shown : ShowsLines 1 (lines_of octets) text
+  pub output : now ≡ Some (held ++ text)
+  pub input : left ≡ Some []
+
+-- The lines before a fault, each with its LF, were shown behind what the output held, and nothing else. The fault is
+-- that of the next line, of which and behind which the rest is unread.
+pub record ShowsUntil (octets held : List ℕ) (stop : Fault) (left now : Option (List ℕ)) : Type 0 where
+  pub earlier : ℕ
+  pub line : stop.line ≡ earlier + 1
+  pub ended : earlier ≤ lfs_in octets
+  pub text : List ℕ
+  pub shown : ShowsLines 1 (take earlier (lines_of octets)) text
+  pub output : WentOutAs stop.what (now ≡ Some (held ++ text))
+  pub fault : IsFaultAt stop.what stop.line (slice_get (lines_of octets) earlier)
+  pub input : LeavesUnread stop.what (after_lines earlier octets) left
+
+-- which of the two devices failed where this is answered
+abbrev pub FailedAs : FaultKind → (reader_failed reader_fine writer_failed writer_fine : Type 0) → Type 0
+FailedAs Read reader_failed reader_fine writer_failed writer_fine = reader_failed × writer_fine
+FailedAs Write reader_failed reader_fine writer_failed writer_fine = reader_fine × writer_failed
+FailedAs kind reader_failed reader_fine writer_failed writer_fine = reader_fine × writer_fine
+
+-- the kinds of fault in answering a line, of which one says that the writer failed
+abbrev pub IsFromAnswering : FaultKind → (failed fine : Type 0) → Type 0
+IsFromAnswering Write failed fine = failed
+IsFromAnswering Field failed fine = fine
+IsFromAnswering Memory failed fine = fine
+IsFromAnswering kind failed fine = ⊥

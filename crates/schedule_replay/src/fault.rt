@@ -1,0 +1,64 @@
+ghost use Rattle.std.specs.Prelude.{◌≡◌};
+ghost use Rattle.schedule_replay.specs.declared.fault.FaultKind.TheVariants.{Memory};
+
+use std::alloc::AllocError;
+use thiserror::Error;
+
+/// A fault that ended the reading of lines, and where.
+#[derive(Clone, Copy, Debug, PartialEq, Eq)]
+pub struct Fault {
+    /// The number, from 1, of the line that was being read or answered; at the end of the input,
+    /// one more than the number of lines.
+    pub line: u64,
+    /// What went wrong.
+    pub what: FaultKind,
+}
+
+/// The kinds of faults. Their display text is their number.
+#[derive(Clone, Copy, Debug, PartialEq, Eq, Error)]
+pub enum FaultKind {
+    /// The reader failed.
+    #[error("801")]
+    Read,
+    /// The writer failed.
+    #[error("802")]
+    Write,
+    /// A line has more than 4,096 octets before its LF.
+    #[error("803")]
+    LineTooLong,
+    /// There is an octet after the last line that is allowed, the 1,048,576th.
+    #[error("804")]
+    TooManyLines,
+    /// A line isn't what is asked for.
+    #[error("806")]
+    Field,
+    /// Memory was refused.
+    #[error("808")]
+    Memory,
+}
+
+impl FaultKind {
+    ghost use Rattle.schedule_replay.specs.Fault.{fault_code};
+
+    /// The number of the fault.
+    pub fn code(&self) -> u16
+        ensures { result ≡ fault_code self.now }
+    {
+        match self {
+            FaultKind::Read => 801,
+            FaultKind::Write => 802,
+            FaultKind::LineTooLong => 803,
+            FaultKind::TooManyLines => 804,
+            FaultKind::Field => 806,
+            FaultKind::Memory => 808,
+        }
+    }
+}
+
+impl From<AllocError> for FaultKind {
+    ghost from_gives = { λ _ kind. kind ≡ Memory };
+
+    fn from(_refused: AllocError) -> FaultKind {
+        FaultKind::Memory
+    }
+}

@@ -1,0 +1,168 @@
+ghost use Rattle.std.specs.Prelude.{◌≡◌, ℕ, List, false, IsTrue, ◌+◌, ◌≤◌, ◌<◌, if◌then◌else◌, [], ◌∷◌, IfOk, IfErr, MatchResult, MatchOption, length};
+ghost use Rattle.std.specs.Option.{ForSome};
+ghost use Rattle.std.specs.Io.KnownBytes.{Consumes, IsAtEnd, Keeps};
+ghost use Rattle.schedule_replay.specs.Counted.{device_of, HasFailed, HasNotFailed};
+ghost use Rattle.schedule_replay.specs.Lines.{line_limit, lines_limit, without_cr, ReadsLine, IsFromReading, StopsReading};
+
+use crate::counted::Counted;
+use crate::fault::{Fault, FaultKind};
+use arrayvec::ArrayVec;
+use std::io::Read;
+
+/// The most octets of a line, without its LF.
+pub(crate) const LINE_LIMIT: usize = 4096;
+
+/// The most lines of an input.
+const LINES_LIMIT: u64 = 1_048_576;
+
+/// The line that was read last, in the one buffer that all lines share, and how many were read.
+#[derive(Drop)]
+pub(crate) struct Lines {
+    line: ArrayVec<u8, LINE_LIMIT>,
+    count: u64,
+    ended: bool,
+    ghost within: { count ≤ 1048576 },
+}
+
+/// The next octet, or None at the end of the input.
+fn read_octet<R: Read>(input: &mut Counted<R>) -> Result<Option<u8>, FaultKind>
+    ensures octet { MatchResult result
+        (λ next. MatchOption next
+        (Consumes (R.remaining (device_of input.old)) (R.remaining (device_of input.new)) []
+        × IsAtEnd (R.remaining (device_of input.new)))
+        (λ octet. Consumes (R.remaining (device_of input.old)) (R.remaining (device_of input.new)) (octet ∷ [])))
+        (λ _. Keeps (R.remaining (device_of input.old)) (R.remaining (device_of input.new))) }
+    ensures failures { MatchResult result
+        (λ _. HasNotFailed input.old input.new)
+        (λ kind. (kind ≡ FaultKind.Read) × HasFailed input.old input.new) }
+{
+    let mut octet = [0];
+    match input.read(&mut octet) {
+        Ok(0) => Ok(None),
+        Ok(_) => Ok(Some(octet[0])),
+        Err(_) => Err(FaultKind::Read),
+    }
+}
+
+impl Lines {
+    /// No line was read yet.
+    pub(crate) fn new() -> Lines
+        ensures count { result.count ≡ 0 }
+        ensures ended { result.ended ≡ false }
+    {
+        Lines {
+            line: ArrayVec::new(),
+            count: 0,
+            ended: false,
+        }
+    }
+
+    /// How many lines were read.
+    pub(crate) fn count(&self) -> u64
+        ensures { result ≡ self.now.count }
+    {
+        self.count
+    }
+
+    /// The line that was read last, without a CR at its end.
+    pub(crate) fn line(&self) -> &[u8]
+        ensures line { result.now ≡ without_cr self.now.line.items }
+        ensures within { length result.now ≤ line_limit }
+    {
+        match self.line.as_slice() {
+            [line @ .., b'\r'] => line,
+            line => line,
+        }
+    }
+
+    /// A fault in the line that was read last.
+    pub(crate) fn fault(&self, what: FaultKind) -> Fault
+        ensures line { result.line ≡ self.now.count }
+        ensures what { result.what ≡ what }
+    {
+        Fault {
+            line: self.count,
+            what,
+        }
+    }
+
+    /// Reads the next line, and answers whether there was one. A fault stands at that line, which
+    /// is partly read then; no more than one octet behind the limits is read, and none behind the
+    /// end of the input.
+    pub(crate) fn read_next<R: Read>(&mut self, input: &mut Counted<R>) -> Result<bool, Fault>
+        requires { IsTrue self.old.ended → IsAtEnd (R.remaining (device_of input.old)) }
+        ensures next { ForSome (R.remaining (device_of input.old)) (λ octets.
+            MatchResult result
+            (λ found. ReadsLine found (self.old.count + 1) self.new.line.items self.new.ended octets
+            (R.remaining (device_of input.new)))
+            (λ fault. StopsReading fault.what (self.old.count + 1) octets (R.remaining (device_of input.new)))) }
+        ensures count { MatchResult result
+            (λ found. self.new.count ≡ (if found then self.old.count + 1 else self.old.count))
+            (λ fault. fault.line ≡ self.old.count + 1) }
+        ensures ended { IsTrue self.new.ended → IsAtEnd (R.remaining (device_of input.new)) }
+        ensures before_end { MatchResult result
+            (λ found. IsTrue found → self.old.ended ≡ false)
+            (λ _. self.old.ended ≡ false) }
+        ensures failures { MatchResult result
+            (λ _. HasNotFailed input.old input.new)
+            (λ fault. IsFromReading fault.what (HasFailed input.old input.new) (HasNotFailed input.old input.new)) }
+    {
+        if self.ended {
+            return Ok(false);
+        }
+        let line = self.count + 1;
+        if self.count == LINES_LIMIT {
+            return expect_end(input).map_err(|what| Fault { line, what });
+        }
+        let found = self.read_line(input).map_err(|what| Fault { line, what })?;
+        if found {
+            self.count = line;
+        }
+        Ok(found)
+    }
+
+    /// Reads octets up to an LF or the end of the input, and answers whether there was one.
+    fn read_line<R: Read>(&mut self, input: &mut Counted<R>) -> Result<bool, FaultKind>
+        requires within { self.old.count < lines_limit }
+        requires before_end { self.old.ended ≡ false }
+        ensures next { ForSome (R.remaining (device_of input.old)) (λ octets.
+            MatchResult result
+            (λ found. ReadsLine found (self.old.count + 1) self.new.line.items self.new.ended octets
+            (R.remaining (device_of input.new)))
+            (λ kind. StopsReading kind (self.old.count + 1) octets (R.remaining (device_of input.new)))) }
+        ensures count { self.new.count ≡ self.old.count }
+        ensures ended { IsTrue self.new.ended → IsAtEnd (R.remaining (device_of input.new)) }
+        ensures failures { MatchResult result
+            (λ _. HasNotFailed input.old input.new)
+            (λ kind. IsFromReading kind (HasFailed input.old input.new) (HasNotFailed input.old input.new)) }
+    {
+        self.line.clear();
+        while let Some(octet) = read_octet(input)? {
+            if octet == b'\n' {
+                return Ok(true);
+            }
+            if self.line.try_push(octet).is_err() {
+                return Err(FaultKind::LineTooLong);
+            }
+        }
+        self.ended = true;
+        Ok(!self.line.is_empty())
+    }
+}
+
+/// Reads behind the last line that is allowed.
+fn expect_end<R: Read>(input: &mut Counted<R>) -> Result<bool, FaultKind>
+    ensures next { ForSome (R.remaining (device_of input.old)) (λ octets. (line : List ℕ) →
+        MatchResult result
+        (λ found. ReadsLine found (lines_limit + 1) line false octets (R.remaining (device_of input.new)))
+        (λ kind. StopsReading kind (lines_limit + 1) octets (R.remaining (device_of input.new)))) }
+    ensures none { IfOk result (λ found. found ≡ false) }
+    ensures failures { MatchResult result
+        (λ _. HasNotFailed input.old input.new)
+        (λ kind. IsFromReading kind (HasFailed input.old input.new) (HasNotFailed input.old input.new)) }
+{
+    match read_octet(input)? {
+        Some(_) => Err(FaultKind::TooManyLines),
+        None => Ok(false),
+    }
+}

@@ -1,0 +1,71 @@
+ghost use Rattle.std.specs.Prelude.{◌≡◌, ◌⊎◌, ℕ, Result, MatchResult, map, string_bytes};
+ghost use Rattle.std.specs.Option.{ForSome};
+ghost use Rattle.schedule_replay.specs.declared.fault.Fault.{Fault};
+ghost use Rattle.schedule_replay.specs.Program.{AsksShow, AsksNothing, status_of};
+ghost use Rattle.schedule_replay.specs.Counted.{device_of};
+ghost use Rattle.schedule_replay.specs.Show.{ShowsAll, ShowsUntil};
+ghost use Rattle.schedule_replay.specs.Words.{HasHelpFlag};
+
+use crate::counted::Counted;
+use crate::fault::{Fault, FaultKind};
+use crate::showing::show;
+use crate::words::{Invocation, Subcommand, parse};
+use std::alloc::Global;
+use std::io::{Read, Write};
+
+/// The whole program over its words, of which the first is its own name: runs the subcommand that
+/// they name, and answers the exit status. Status 0: done, or help was asked for, which goes to
+/// `output`. Status 2: the words are no command, and the reason goes to `errors`. Status 3: a
+/// fault, whose number and line go to `errors`; at line 0 stand want of memory before the
+/// subcommand ran, and a help text that can't be written. A failed write to `errors` is passed
+/// over.
+pub fn command<R: Read, W: Write, E: Write>(
+    alloc: Global,
+    words: &[String],
+    input: &mut Counted<R>,
+    output: &mut Counted<W>,
+    errors: &mut E,
+) -> u8
+    // The status and what is read and written are those of `show`, unless memory was refused before it.
+    ensures show { AsksShow (map string_bytes words.now) →
+        ((result ≡ 3) × (input.new ≡ input.old) × (output.new ≡ output.old))
+        ⊎ ((answer : Result ℕ Fault) × (result ≡ status_of answer)
+        × ForSome (R.remaining (device_of input.old)) (λ octets. ForSome (W.contents (device_of output.old)) (λ held.
+        MatchResult answer
+        (λ lines. ShowsAll octets held lines (R.remaining (device_of input.new)) (W.contents (device_of output.new)))
+        (λ fault. ShowsUntil octets held fault (R.remaining (device_of input.new)) (W.contents (device_of output.new)))))) }
+    // Help is written, or a fault is said.
+    ensures help { HasHelpFlag (map string_bytes words.now) → ((result ≡ 0) ⊎ (result ≡ 3)) × (input.new ≡ input.old) }
+    // Other words are no command.
+    ensures mistake { AsksNothing (map string_bytes words.now) →
+        ((result ≡ 2) ⊎ (result ≡ 3)) × (input.new ≡ input.old) × (output.new ≡ output.old) }
+{
+    match parse(alloc, words) {
+        Ok(Invocation::Run(Subcommand::Show)) => match show(alloc, input, output) {
+            Ok(_) => 0,
+            Err(fault) => report(errors, fault),
+        },
+        Ok(Invocation::Help(text)) => match output.write_all(text.as_bytes()) {
+            Ok(()) => 0,
+            Err(_) => report(errors, before_lines(FaultKind::Write)),
+        },
+        Ok(Invocation::Mistake(text)) => {
+            let _ = errors.write_all(text.as_bytes());
+            2
+        }
+        Err(_) => report(errors, before_lines(FaultKind::Memory)),
+    }
+}
+
+/// A fault before any line is read.
+fn before_lines(what: FaultKind) -> Fault {
+    Fault { line: 0, what }
+}
+
+/// Says a fault, and answers the exit status.
+fn report<E: Write>(errors: &mut E, fault: Fault) -> u8
+    ensures { result ≡ 3 }
+{
+    let _ = writeln!(errors, "ptpx: fault {} at line {}", fault.what, fault.line);
+    3
+}

@@ -1,0 +1,117 @@
+//! Readers and writers that fail, that never end, or that keep nothing.
+
+use std::io;
+use std::io::{Error, ErrorKind, Read, Write};
+
+/// Gives its octets and then fails.
+#[derive(Drop)]
+pub(super) struct Failing<'a> {
+    octets: &'a [u8],
+    kind: ErrorKind,
+}
+
+impl<'a> Failing<'a> {
+    pub(super) fn new(octets: &'a [u8], kind: ErrorKind) -> Self {
+        Failing { octets, kind }
+    }
+}
+
+impl Read for Failing<'_> {
+    fn read(&mut self, buf: &mut [u8]) -> io::Result<usize> {
+        if self.octets.is_empty() {
+            return Err(Error::from(self.kind));
+        }
+        self.octets.read(buf)
+    }
+}
+
+/// Gives one octet over and over, and counts how many it gave.
+#[derive(Drop)]
+pub(super) struct Endless {
+    octet: u8,
+    given: u64,
+}
+
+impl Endless {
+    pub(super) fn new(octet: u8) -> Self {
+        Endless { octet, given: 0 }
+    }
+
+    pub(super) fn given(&self) -> u64 {
+        self.given
+    }
+}
+
+impl Read for Endless {
+    fn read(&mut self, buf: &mut [u8]) -> io::Result<usize> {
+        buf.fill(self.octet);
+        self.given = self.given.saturating_add(buf.len() as u64);
+        Ok(buf.len())
+    }
+}
+
+/// Takes this many writes, and then fails or takes nothing.
+#[derive(Drop)]
+pub(super) struct Full {
+    text: Vec<u8>,
+    room: usize,
+    kind: Option<ErrorKind>,
+}
+
+impl Full {
+    pub(super) fn new(text: Vec<u8>, room: usize, kind: Option<ErrorKind>) -> Self {
+        Full { text, room, kind }
+    }
+
+    pub(super) fn text(&self) -> &[u8] {
+        self.text.as_slice()
+    }
+}
+
+impl Write for Full {
+    fn write(&mut self, buf: &[u8]) -> io::Result<usize> {
+        if self.room > 0 {
+            self.room -= 1;
+            return self.text.write(buf);
+        }
+        match self.kind {
+            Some(kind) => Err(Error::from(kind)),
+            None => Ok(0),
+        }
+    }
+
+    fn flush(&mut self) -> io::Result<()> {
+        Ok(())
+    }
+}
+
+/// Counts the writes of one text, and fails at any other.
+#[derive(Drop)]
+pub(super) struct Tally<'a> {
+    text: &'a [u8],
+    count: u64,
+}
+
+impl<'a> Tally<'a> {
+    pub(super) fn new(text: &'a [u8]) -> Self {
+        Tally { text, count: 0 }
+    }
+
+    pub(super) fn count(&self) -> u64 {
+        self.count
+    }
+}
+
+impl Write for Tally<'_> {
+    fn write(&mut self, buf: &[u8]) -> io::Result<usize> {
+        if buf != self.text {
+            return Err(Error::from(ErrorKind::InvalidData));
+        }
+        self.count = self.count.saturating_add(1);
+        Ok(buf.len())
+    }
+
+    fn flush(&mut self) -> io::Result<()> {
+        Ok(())
+    }
+}

@@ -1,0 +1,77 @@
+//! What the words of the command line ask for, as `clap` reads them.
+ghost use Rattle.std.specs.Prelude.{◌≡◌, IfOk, Some, map, string_bytes};
+ghost use Rattle.clap.specs.Matches.{subcommand_name_of};
+ghost use Rattle.clap.specs.Simple.{app_of};
+ghost use Rattle.clap.specs.Values.{kind_of};
+ghost use Rattle.schedule_replay.specs.Words.{Asks, ShowsKind, name_of, program};
+
+use clap::error::ErrorKind;
+use clap::{ArgMatches, Command, Error};
+use std::alloc::{AllocError, Global};
+
+/// A subcommand of `ptpx`.
+#[derive(Clone, Copy, Debug, PartialEq, Eq)]
+pub(crate) enum Subcommand {
+    /// Print the datagrams that standard input gives in hexadecimal.
+    Show,
+}
+
+/// What the words of the command line ask for.
+#[derive(Debug, Drop)]
+pub(crate) enum Invocation {
+    /// Run the subcommand.
+    Run(Subcommand),
+    /// Write this help to standard output, with exit status 0.
+    Help(String),
+    /// The words are no command: write this text to standard error, with exit status 2.
+    Mistake(String),
+}
+
+/// `ptpx` as `clap` has it.
+fn program<'a>(alloc: Global) -> Result<Command<'a>, AllocError>
+    ensures app { IfOk result (λ c. app_of c ≡ program) }
+{
+    let show = Command::new(alloc, "show").about(
+        "Print the datagrams that standard input gives in hexadecimal, one a line",
+    );
+    Command::new(alloc, "ptpx")
+        .bin_name("ptpx")?
+        .about("The delay request-response exchange of the Precision Time Protocol (IEEE 1588)")
+        .subcommand_required(true)
+        .subcommand(show)
+}
+
+/// Reads the words, of which the first is the program's own name. Memory fails by `AllocError`.
+pub(crate) fn parse(alloc: Global, words: &[String]) -> Result<Invocation, AllocError>
+    ensures asked { IfOk result (Asks (map string_bytes words.now)) }
+{
+    match program(alloc)?.try_get_matches_from(words) {
+        Ok(matches) => Ok(Invocation::Run(chosen(&matches))),
+        Err(error) => refusal(alloc, error),
+    }
+}
+
+/// The subcommand that was met.
+fn chosen(matches: &ArgMatches<'_>) -> Subcommand
+    requires met { (s : Subcommand) × (subcommand_name_of matches.now ≡ Some (name_of s)) }
+    ensures name { subcommand_name_of matches.now ≡ Some (name_of result) }
+{
+    match matches.subcommand_name() {
+        Some("show") => Subcommand::Show,
+        _ => unreachable!(),
+    }
+}
+
+/// The text of an error of `clap`.
+fn refusal(alloc: Global, error: Error) -> Result<Invocation, AllocError>
+    ensures kind { IfOk result (ShowsKind (kind_of error)) }
+{
+    match error.kind() {
+        ErrorKind::OutOfMemory => Err(AllocError),
+        ErrorKind::DisplayHelp => Ok(Invocation::Help(error.to_string(alloc)?)),
+        _ => Ok(Invocation::Mistake(error.to_string(alloc)?)),
+    }
+}
+
+#[cfg(test)]
+mod tests;
