@@ -179,7 +179,11 @@ fn message_at_front(octets: &[u8]) -> Result<(Message<'_>, usize), DecodeRefusal
 }
 
 /// The message that the octets begin with, and its messageLength. The octets behind that are
-/// padding. Refused with the first of 201 to 206 that applies.
+/// padding, and each value of a field that the layout doesn't limit is kept
+/// (IEEE 1588-2019, 13.3). Refused with the first of 201 to 206 that applies.
+///
+/// What [`encode`](crate::encode) wrote is read again as it was, whatever follows it: by `written`
+/// the front of its buffer is a packet of the message, and by `only` that packet is what is read.
 pub fn decode(octets: &[u8]) -> Result<(Message<'_>, usize), DecodeRefusal>
     // What is read is what the octets say.
     ensures read { IfOk result (λ r. (r.1 ≤ length octets.now) × Packet (contents r.0) (take r.1 octets.now)) }

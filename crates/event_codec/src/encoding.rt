@@ -49,6 +49,7 @@ fn put_timestamp(buffer: &mut [u8], at: usize, timestamp: Timestamp) -> usize
     put(buffer, at, &timestamp.nanos().to_be_bytes())
 }
 
+/// The header, with messageType, versionPTP and messageLength.
 fn put_header(buffer: &mut [u8], header: &Header, kind: MessageType, message_length: u16) -> usize
     requires { 34 ≤ length buffer.old }
     ensures next { result ≡ 34 }
@@ -79,6 +80,7 @@ fn put_header(buffer: &mut [u8], header: &Header, kind: MessageType, message_len
     put(buffer, at, &[header.control, header.log.cast_unsigned()])
 }
 
+/// What stands between the header and the suffix.
 fn put_body(buffer: &mut [u8], at: usize, body: &Body) -> usize
     requires start { at ≡ 34 }
     requires room { fields_length body.now ≤ length buffer.old }
@@ -97,7 +99,7 @@ fn put_body(buffer: &mut [u8], at: usize, body: &Body) -> usize
     at
 }
 
-/// The message in the front of the buffer, of this messageLength.
+/// The whole message, of this messageLength.
 fn put_message(buffer: &mut [u8], message: &Message<'_>, message_length: u16) -> usize
     requires whole { message_length ≡ fields_length message.now.body + length message.now.suffix.now }
     requires room { message_length ≤ length buffer.old }
@@ -116,8 +118,11 @@ fn put_message(buffer: &mut [u8], message: &Message<'_>, message_length: u16) ->
 }
 
 /// Writes the message into the front of the buffer, and gives its messageLength. The octets behind
-/// stay as they are, and on a refusal all do. Refused with 211 where the buffer is shorter than the
-/// message, else with 212.
+/// that stay as they are, and on a refusal all octets do. Refused with 211 where the buffer is
+/// shorter than the message, else with 212 where messageLength would pass 65,535.
+///
+/// What is written is read again by [`decode`](crate::decode) as it was, whatever follows it: by
+/// `written` it is a packet of the message, and by `only` there that packet is what is read.
 pub fn encode(message: &Message<'_>, buffer: &mut [u8]) -> Result<usize, EncodeRefusal>
     ensures written { IfOk result (λ n. (n ≤ length buffer.old)
         × Packet (contents message.now) (take n buffer.new)

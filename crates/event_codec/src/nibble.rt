@@ -43,7 +43,8 @@ impl Nibble {
         requires { low < 16 }
         ensures { result ≡ 16 * self + low }
     {
-        self.value << 4 | low
+        let Nibble { value: high } = self;
+        high << 4 | low
     }
 
     /// The value, 0 to 15.

@@ -133,6 +133,22 @@ fn reads_an_exchange(rt: HostRuntime) -> Result<(), Fail> {
     Ok(())
 }
 
+#[test]
+fn writes_an_exchange(rt: HostRuntime) -> Result<(), Fail> {
+    for (octets, header, body) in exchange(Timestamp::new(1, 0)?, Timestamp::new(2, 4_500)?) {
+        let mut buffer = [0xee; 60];
+        let message = Message {
+            header,
+            body,
+            suffix: &[],
+        };
+        assert_eq!(rt; encode(&message, &mut buffer), Ok(octets.len()));
+        assert_eq!(rt; buffer.get(..octets.len()), Some(octets));
+        assert!(rt; buffer.iter().skip(octets.len()).all(|octet| *octet == 0xee));
+    }
+    Ok(())
+}
+
 /// Octets of a Sync, how many of them are given, and what they say: minorVersionPTP, the suffix and
 /// messageLength.
 type SyncRow = ([u8; 60], usize, u8, &'static [u8], usize);
@@ -162,6 +178,23 @@ fn leaves_padding_and_keeps_the_suffix(rt: HostRuntime) {
         };
         assert_eq!(rt; octets.get(..length).map(decode), Some(Ok((message, used))));
     }
+}
+
+fn assert_written_again(rt: &impl Abort, octets: &[u8], used: usize) {
+    let mut buffer = [0xee; 60];
+    match decode(octets) {
+        Ok((message, _)) => assert_eq!(rt; encode(&message, &mut buffer), Ok(used)),
+        Err(refusal) => assert!(rt; false, "{refusal:?}"),
+    }
+    assert_eq!(rt; buffer.get(..used), octets.get(..used));
+}
+
+#[test]
+fn writes_again_what_it_read(rt: HostRuntime) {
+    let with_suffix = changed(&SYNC, &[(3, 46), (44, 0xab), (45, 0xcd)]);
+    assert_written_again(&rt, &changed(&SYNC, &[]), 44);
+    assert_written_again(&rt, &with_suffix, 46);
+    assert_written_again(&rt, &changed(&SYNC, &[(1, 0x02)]), 44);
 }
 
 #[test]
@@ -375,5 +408,81 @@ fn nibbles_end_at_15(rt: HostRuntime) {
     for value in 0..=255 {
         let expected = (value < 16).then_some(value);
         assert_eq!(rt; Nibble::new(value).map(Nibble::value), expected);
+    }
+}
+
+/// A Sync with this suffix.
+fn sync_with(suffix: &[u8]) -> Message<'_> {
+    Message {
+        header: header(0x02, 0, MASTER, 0, 0),
+        body: Body::Sync {
+            origin: Timestamp::default(),
+        },
+        suffix,
+    }
+}
+
+#[test]
+fn writes_the_longest_message(rt: HostRuntime) -> Result<(), Fail> {
+    let suffix = vec![in rt.alloc(); 0x5a; 65_491]?;
+    let mut buffer = vec![in rt.alloc(); 0xee; 65_536]?;
+    assert_eq!(rt; encode(&sync_with(&suffix), &mut buffer), Ok(65_535));
+    for (place, octet) in [
+        (2, 0xff),
+        (3, 0xff),
+        (44, 0x5a),
+        (65_534, 0x5a),
+        (65_535, 0xee),
+    ] {
+        assert_eq!(rt; buffer.get(place), Some(&octet), "octet {place}");
+    }
+    Ok(())
+}
+
+#[test]
+fn writes_nothing_that_has_no_room(rt: HostRuntime) -> Result<(), Fail> {
+    let too_long = vec![in rt.alloc(); 0x5a; 65_492]?;
+    let rows: [(&[u8], usize, EncodeRefusal, u16); 4] = [
+        (&[], 43, EncodeRefusal::NoRoom, 211),
+        (&[0xab, 0xcd], 45, EncodeRefusal::NoRoom, 211),
+        (&too_long, 65_535, EncodeRefusal::NoRoom, 211),
+        (&too_long, 65_536, EncodeRefusal::SuffixTooLong, 212),
+    ];
+    for (suffix, room, refusal, code) in rows {
+        let mut buffer = vec![in rt.alloc(); 0xee; room]?;
+        assert_eq!(rt; encode(&sync_with(suffix), &mut buffer), Err(refusal));
+        assert!(rt; buffer.iter().all(|octet| *octet == 0xee));
+        assert_eq!(rt; refusal.code(), code);
+    }
+    Ok(())
+}
+
+#[test]
+fn patches_octets_8_to_15_alone(rt: HostRuntime) {
+    let rows: [(i64, [u8; 8]); 4] = [
+        (0, [0x00; 8]),
+        (163_840, [0x00, 0x00, 0x00, 0x00, 0x00, 0x02, 0x80, 0x00]),
+        (-2, [0xff, 0xff, 0xff, 0xff, 0xff, 0xff, 0xff, 0xfe]),
+        (i64::MAX, [0x7f, 0xff, 0xff, 0xff, 0xff, 0xff, 0xff, 0xff]),
+    ];
+    let with_specific = changed(
+        &SYNC,
+        &[
+            (3, 46),
+            (7, 0x11),
+            (16, 1),
+            (17, 2),
+            (18, 3),
+            (19, 4),
+            (44, 0xab),
+            (45, 0xcd),
+        ],
+    );
+    for (correction, written) in rows {
+        let mut octets = with_specific;
+        patch_correction(&mut octets, Interval(correction));
+        assert_eq!(rt; octets[..8], with_specific[..8]);
+        assert_eq!(rt; octets[8..16], written[..]);
+        assert_eq!(rt; octets[16..], with_specific[16..]);
     }
 }
