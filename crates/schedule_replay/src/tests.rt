@@ -2,8 +2,8 @@ mod datagrams;
 mod devices;
 
 use crate::{Counted, Fault, FaultKind, show};
-use datagrams::{EXCHANGE, FIELDS, RECORDED, REFUSED};
-use devices::{Endless, Failing, Full, Tally};
+use datagrams::{EXCHANGE, FIELDS, LINES, RECORDED, REFUSED};
+use devices::{Endless, Expecting, Failing, Full, Tally};
 use std::alloc::Global;
 use std::io::ErrorKind;
 use std::process::Abort;
@@ -176,13 +176,13 @@ fn ends_at_endless_lines(rt: HostRuntime) -> Result<(), Fail> {
     Ok(())
 }
 
-const LINES: &[u8] = b"00\n\n\r\n0012\n0b\n";
+const SHORT: &[u8] = b"00\n\n\r\n0012\n0b\n";
 
 #[test]
 fn stops_where_the_reader_fails(rt: HostRuntime) -> Result<(), Fail> {
-    for given in 0..=LINES.len() {
+    for given in 0..=SHORT.len() {
         for kind in [ErrorKind::UnexpectedEof, ErrorKind::Interrupted] {
-            let octets = &LINES[..given];
+            let octets = &SHORT[..given];
             let ended = octets.iter().filter(|octet| **octet == b'\n').count();
             let mut reader = Counted::new(Failing::new(octets, kind));
             let mut writer = Counted::new(Vec::new(rt.alloc()));
@@ -204,7 +204,7 @@ fn stops_where_the_reader_fails(rt: HostRuntime) -> Result<(), Fail> {
 fn stops_where_the_writer_fails(rt: HostRuntime) -> Result<(), Fail> {
     for room in 0..=5 {
         for kind in [None, Some(ErrorKind::BrokenPipe), Some(ErrorKind::Interrupted)] {
-            let mut reader = Counted::new(LINES);
+            let mut reader = Counted::new(SHORT);
             let mut writer = Counted::new(Full::new(Vec::new(rt.alloc()), room, kind));
             let answer = show(rt.alloc(), &mut reader, &mut writer);
             let fault = (room < 5).then_some(((room as u64).saturating_add(1), FaultKind::Write));
@@ -216,6 +216,23 @@ fn stops_where_the_writer_fails(rt: HostRuntime) -> Result<(), Fail> {
         }
     }
     Ok(())
+}
+
+/// Holds also where any one allocation is refused, as by `rt try --test --fail-alloc N`.
+#[test]
+fn refused_memory_is_a_fault_at_its_line(rt: HostRuntime) {
+    let (input, text) = LINES;
+    let mut reader = Counted::new(input);
+    let mut writer = Counted::new(Expecting::new(text));
+    let answer = show(rt.alloc(), &mut reader, &mut writer);
+    assert_eq!(rt; writer.failures(), 0);
+    let written = writer.into_inner();
+    let fault = Fault {
+        line: written.lines().saturating_add(1),
+        what: FaultKind::Memory,
+    };
+    let wanted = if written.is_done() { Ok(3) } else { Err(fault) };
+    assert_eq!(rt; answer, wanted);
 }
 
 #[test]
