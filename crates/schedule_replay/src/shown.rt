@@ -1,4 +1,4 @@
-ghost use Rattle.std.specs.Prelude.{◌≡◌, ◌++◌, ◌<◌, OnOk, Some, slice_index};
+ghost use Rattle.std.specs.Prelude.{◌≡◌, ◌++◌, ◌<◌, ◌≤◌, length, OnOk, Some, slice_index};
 ghost use Rattle.std.specs.String.{string_bytes};
 ghost use Rattle.hex.specs.Hex.{encode_lower, lower_digits};
 ghost use Rattle.event_codec.specs.Layout.{stamp_in};
@@ -10,20 +10,23 @@ use ptp_units::{Interval, Timestamp};
 use std::alloc::AllocError;
 use std::fmt;
 use std::fmt::{Display, Formatter};
+use std::str;
 
-/// Octets in lower case hexadecimal.
+/// The octets of a field, at most eight, in lower case hexadecimal.
 #[derive(Clone, Copy)]
-struct Hexadecimal<'a>(&'a [u8]);
+struct Hexadecimal<'a> {
+    octets: &'a [u8],
+    ghost short: { length octets.now ≤ 8 },
+}
 
 impl Display for Hexadecimal<'_> {
-    ghost output = { λ octets. Some (encode_lower octets.0.now) };
+    ghost output = { λ field. Some (encode_lower field.octets.now) };
 
     fn fmt<W: fmt::Write>(&self, f: &mut Formatter<W>) -> fmt::Result {
-        for octet in self.0 {
-            f.write_char(digit_of(octet / 16))?;
-            f.write_char(digit_of(octet % 16))?;
-        }
-        Ok(())
+        let mut room = [0; 16];
+        let digits = &mut room[..2 * self.octets.len()];
+        hex::encode_to_slice(self.octets, digits).unwrap();
+        f.write_str(str::from_utf8(digits).unwrap())
     }
 }
 
@@ -47,7 +50,7 @@ impl Display for Identity<'_> {
     ghost output = { λ identity. Some (identity_text identity.0.now) };
 
     fn fmt<W: fmt::Write>(&self, f: &mut Formatter<W>) -> fmt::Result {
-        write!(f, "{}/{}", Hexadecimal(&self.0.clock), self.0.port)
+        write!(f, "{}/{}", Hexadecimal { octets: &self.0.clock }, self.0.port)
     }
 }
 
@@ -138,16 +141,16 @@ fn push_header(text: &mut String, header: &Header, name: &str) -> Result<(), All
         text,
         "{name} sdo={}{} version=2.{} domain={} flags={}",
         digit_of(header.major_sdo.value()),
-        Hexadecimal(&[header.minor_sdo]),
+        Hexadecimal { octets: &[header.minor_sdo] },
         header.minor_version.value(),
         header.domain,
-        Hexadecimal(&header.flags)
+        Hexadecimal { octets: &header.flags }
     )?;
     write!(
         text,
         " correction={} specific={} source={}",
         Correction(header.correction),
-        Hexadecimal(&header.specific),
+        Hexadecimal { octets: &header.specific },
         Identity(&header.source)
     )?;
     write!(

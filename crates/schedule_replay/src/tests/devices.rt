@@ -115,3 +115,42 @@ impl Write for Tally<'_> {
         Ok(())
     }
 }
+
+/// Takes whole lines of one text, and fails at any others.
+#[derive(Drop)]
+pub(super) struct Expecting<'a> {
+    rest: &'a [u8],
+    lines: u64,
+}
+
+impl<'a> Expecting<'a> {
+    pub(super) fn new(text: &'a [u8]) -> Self {
+        Expecting {
+            rest: text,
+            lines: 0,
+        }
+    }
+
+    pub(super) fn lines(&self) -> u64 {
+        self.lines
+    }
+
+    pub(super) fn is_done(&self) -> bool {
+        self.rest.is_empty()
+    }
+}
+
+impl Write for Expecting<'_> {
+    fn write(&mut self, buf: &[u8]) -> io::Result<usize> {
+        let Some(rest) = self.rest.strip_prefix(buf) else {
+            return Err(Error::from(ErrorKind::InvalidData));
+        };
+        self.rest = rest;
+        self.lines = self.lines.saturating_add(1);
+        Ok(buf.len())
+    }
+
+    fn flush(&mut self) -> io::Result<()> {
+        Ok(())
+    }
+}
