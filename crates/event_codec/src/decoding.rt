@@ -1,6 +1,6 @@
-ghost use Rattle.std.specs.Prelude.{◌≡◌, ◌<◌, ◌≤◌, ◌+◌, ◌*◌, ◌/◌, ◌%◌, ◌^◌, ℕ, length, take, slice_index, slice_range, IfOk, IfSome, MatchResult, IsOkAnd, Some, None};
+ghost use Rattle.std.specs.Prelude.{◌≡◌, ◌<◌, ◌≤◌, ◌+◌, ◌/◌, ◌%◌, ◌^◌, ℕ, length, take, slice_index, slice_range, IfOk, IfSome, MatchResult, IsOkAnd, Some, None};
 ghost use Rattle.std.specs.Int.{w8, w64, cast_signed};
-ghost use Rattle.event_codec.specs.Layout.{number, number_of, least_length, type_of, fields_length, stamp_in};
+ghost use Rattle.event_codec.specs.Layout.{number, number_of, least_length, type_of, stamp_in};
 ghost use Rattle.event_codec.specs.Packet.{Contents, Packet, IsIdentityAt, IsRequesting, contents};
 ghost use Rattle.event_codec.specs.Reading.{Reading, IsReading, Answers};
 ghost use Rattle.event_codec.specs.Refusal.{decode_refusal};

@@ -1,7 +1,7 @@
-ghost use Rattle.std.specs.Prelude.{◌≡◌, ◌<◌, ◌≤◌, ◌+◌, ◌*◌, ◌^◌, ◌++◌, ◌∷◌, [], ℕ, List, length, take, drop, slice_index, slice_range, IfOk, OnErr, MatchResult, Some, None};
-ghost use Rattle.std.specs.Int.{w8, w16, w32, w64, cast_signed, cast_unsigned, to_be_bytes};
-ghost use Rattle.event_codec.specs.Layout.{number, number_of, type_of, fields_length, stamp_in};
-ghost use Rattle.event_codec.specs.Packet.{Contents, Packet, IsIdentityAt, IsRequesting, contents};
+ghost use Rattle.std.specs.Prelude.{◌≡◌, ◌<◌, ◌≤◌, ◌+◌, ◌*◌, ◌^◌, ◌++◌, ℕ, List, length, take, drop, slice_index, slice_range, IfOk, OnErr, MatchResult, Some, None};
+ghost use Rattle.std.specs.Int.{w8, w16, w64, cast_signed, to_be_bytes};
+ghost use Rattle.event_codec.specs.Layout.{number, number_of, fields_length, stamp_in};
+ghost use Rattle.event_codec.specs.Packet.{Packet, IsIdentityAt, IsRequesting, contents};
 ghost use Rattle.event_codec.specs.Refusal.{encode_refusal};
 
 use crate::message::{Body, Header, Message, VERSION};
