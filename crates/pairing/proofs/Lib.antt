@@ -1,0 +1,3 @@
+mod Lists
+mod Pairs
+pub mod Laws

@@ -1,0 +1,11 @@
+-- What the pairs that a list keeps stand for.
+use Rattle.std.specs.Prelude.{ℕ, List, map}
+use Rattle.ptp_units.specs.declared.sequence.Seq.{Seq}
+use Rattle.pairing.specs.Marked.{Entry, Marked, entry}
+
+module _ {V : Type 0} where
+  abbrev pub entries_of : List (Seq × V) → List (Entry V)
+  entries_of pairs = map (λ p. entry p.0.0 p.1) pairs
+
+  abbrev pub marked_of : List (Seq × V) → ℕ → Marked V
+  marked_of pairs marked = record { entries = entries_of pairs; marked = marked }

@@ -1,0 +1,47 @@
+ghost use Rattle.std.specs.Prelude.{◌≡◌, ◌≤◌, ℕ, is_some, option_copied};
+ghost use Rattle.pairing.specs.Marked.{Marked, IsWithin, entry, empty, push, find, set, tick};
+
+use ptp_units::Seq;
+
+/// A table of at most [`CAPACITY`](PairTable::CAPACITY) values, each under a sequence number.
+///
+/// The default value only fills places that hold no member.
+pub trait PairTable<V: Copy + Default> {
+    /// How many values fit, 1 to 256.
+    const CAPACITY: usize;
+
+    /// The same, in contracts.
+    ghost CAPACITY: { ℕ };
+
+    /// What it holds, however it is kept.
+    ghost marked: { Self → Marked V };
+
+    /// A table that holds nothing.
+    fn empty() -> Self
+        requires some_fit { 1 ≤ CAPACITY }
+        requires few_fit { CAPACITY ≤ 256 }
+        ensures { marked result ≡ empty };
+
+    /// Adds a value, the newest. Where the table was full, the oldest goes.
+    fn push(&mut self, number: Seq, value: V)
+        ensures { marked self.new ≡ push CAPACITY (entry number.0 value) (marked self.old) };
+
+    /// The newest value of this number.
+    fn find(&self, number: Seq) -> Option<&V>
+        ensures { option_copied result ≡ find number.0 (marked self.now) };
+
+    /// Replaces the newest value of this number alone, and says whether there was one.
+    fn set(&mut self, number: Seq, value: V) -> bool
+        ensures held { result ≡ is_some (find number.0 (marked self.old)) }
+        ensures replaced { marked self.new ≡ set number.0 value (marked self.old) };
+
+    /// Drops the marked values, and marks all that are left.
+    fn tick(&mut self)
+        ensures { marked self.new ≡ tick (marked self.old) };
+
+    /// Drops every value.
+    fn clear(&mut self)
+        ensures { marked self.new ≡ empty };
+
+    ghost within: { (table : Self) → IsWithin CAPACITY (marked table) };
+}
