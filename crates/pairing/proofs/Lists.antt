@@ -1,5 +1,5 @@
 -- Lists from their end.
-use Rattle.std.proofs.Common.{◌≡◌, ◌∙◌, ◌≤◌, ◌<◌, ◌-◌, min, ℕ, zero, suc, refl, sym, ap, arith, List, [], ◌∷◌, ◌++◌, length, map, reverse, take, drop, set}
+use Rattle.std.proofs.Common.{◌≡◌, ◌∙◌, ◌<◌, ◌-◌, min, ℕ, zero, suc, refl, sym, ap, arith, List, [], ◌∷◌, ◌++◌, length, map, reverse, take, drop, set}
 use Rattle.std.proofs.lemmas.Bool.{cases_eq}
 use Rattle.std.proofs.lemmas.Grind.{elements}
 use Rattle.std.proofs.lemmas.List.{reverse-append, length-reverse, length-drop, take-append-drop, drop_at, take_at, take-append-le, take_min, take-take, same_lists, length-set, map-append}
@@ -35,7 +35,7 @@ module _ {X : Type 0} where
   pub reverse-set : (xs : List X) (i : ℕ) (x : X) → i < length xs → reverse (set xs i x) ≡ set (reverse xs) (length xs - 1 - i) x
   reverse-set xs i x within =
       let even : length (reverse (set xs i x)) ≡ length (set (reverse xs) (length xs - 1 - i) x) =
-          length-reverse (set xs i x) ∙ length-set xs i x ∙ sym (length-set (reverse xs) (length xs - 1 - i) x ∙ length-reverse xs) in
+      length-reverse (set xs i x) ∙ length-set xs i x ∙ sym (length-set (reverse xs) (length xs - 1 - i) x ∙ length-reverse xs) in
       same_lists _ _ even (λ k d h. grind (arith, elements, even, h, length-set xs i x, cases_eq k (length xs - 1 - i)))
 
   pub take-nil : (n : ℕ) → ◌≡◌ {A = List X} (take n []) []

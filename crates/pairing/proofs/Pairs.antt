@@ -1,12 +1,11 @@
 -- The last pair of a number, as the newest entry of that number.
-use Rattle.std.proofs.Common.{◌≡◌, ◌∙◌, ◌≤◌, ◌<◌, ◌+◌, ◌-◌, ℕ, zero, suc, refl, sym, ap, arith, rules, Bool, true, false, cond, not, nat_eq, nat_lt, List, [], ◌∷◌, length, map, reverse, set, get_or, drop, Option, Some, None, option_map, is_some, find as first_passing, position}
+use Rattle.std.proofs.Common.{◌≡◌, ◌∙◌, ◌≤◌, ◌<◌, ◌+◌, ◌-◌, ℕ, zero, suc, refl, sym, ap, arith, Bool, true, false, cond, not, nat_eq, nat_lt, List, [], ◌∷◌, length, reverse, set, get_or, drop, Option, Some, None, option_map, is_some, find as first_passing, position}
 use Rattle.std.specs.List.{position_or_len}
 use Rattle.std.proofs.lemmas.List.{length-reverse, length-map, get_or-reverse, reverse-reverse, drop-map}
 use Rattle.std.proofs.lemmas.List.Quantifiers.{position-Some}
 use Rattle.std.proofs.lemmas.Bool.Decides.{nat_tests}
-use Rattle.std.proofs.lemmas.Grind.{common_steps}
 use Rattle.ptp_units.specs.declared.sequence.Seq.{Seq}
-use Rattle.pairing.specs.Marked.{Entry, entry, Marked, first_value, replace_first, tick}
+use Rattle.pairing.specs.Marked.{entry, first_value, replace_first, tick}
 use Rattle.pairing.specs.Listed.{entries_of, marked_of}
 use Rattle.pairing.proofs.Lists.{map-reverse, reverse-set}
 
@@ -21,7 +20,7 @@ module _ {V : Type 0} where
     where
       at : (b : Bool) → option_map (λ q. q.1) (first_passing (is_of number) pairs) ≡ first_value number (entries_of pairs)
           → option_map (λ q. q.1) (cond b (Some p) (first_passing (is_of number) pairs))
-            ≡ option_map (λ e. e.value) (cond b (Some (entry p.0.0 p.1)) (first_passing (λ e. nat_eq e.number number) (entries_of pairs)))
+          ≡ option_map (λ e. e.value) (cond b (Some (entry p.0.0 p.1)) (first_passing (λ e. nat_eq e.number number) (entries_of pairs)))
       at true same = refl
       at false same = same
 
@@ -39,7 +38,7 @@ module _ {V : Type 0} where
   first_replaced number value (p ∷ pairs) (suc i) d within here before =
       let first : is_of number p ≡ false = before 0 (omega arith) in
       rw first (ap (λ es. entry p.0.0 p.1 ∷ es)
-          (first_replaced number value pairs i d (omega arith) here (λ k below. before (suc k) (omega arith))))
+      (first_replaced number value pairs i d (omega arith) here (λ k below. before (suc k) (omega arith))))
 
   none_first : (number : ℕ) (value : V) (pairs : List (Seq × V)) → length pairs ≤ position_or_len (is_of number) pairs
       → replace_first number value (entries_of pairs) ≡ entries_of pairs
@@ -59,7 +58,7 @@ module _ {V : Type 0} where
     where
       at : (b : Bool) → is_some (first_value number (entries_of pairs)) ≡ nat_lt (position_or_len (is_of number) pairs) (length pairs)
           → is_some (option_map (λ e. e.value) (cond b (Some (entry p.0.0 p.1)) (first_passing (λ e. nat_eq e.number number) (entries_of pairs))))
-            ≡ nat_lt (cond (not b) (1 + position_or_len (is_of number) pairs) 0) (suc (length pairs))
+          ≡ nat_lt (cond (not b) (1 + position_or_len (is_of number) pairs) 0) (suc (length pairs))
       at true same = grind (arith, nat_tests)
       at false same = grind (arith, nat_tests, same)
 
@@ -73,15 +72,15 @@ module _ {V : Type 0} where
       let even : length back ≡ length pairs = length-reverse pairs in
       let within : i < length pairs = omega (arith, even, place.0) in
       let same : get_or back behind d ≡ get_or pairs i d =
-          get_or-reverse pairs behind d (omega (arith, even, place.0)) ∙ ap (λ k. get_or pairs k d) (sym at) in
+      get_or-reverse pairs behind d (omega (arith, even, place.0)) ∙ ap (λ k. get_or pairs k d) (sym at) in
       let from_end : reverse (set pairs i ((get_or pairs i d).0, value)) ≡ set back behind ((get_or back behind d).0, value) =
-          reverse-set pairs i ((get_or pairs i d).0, value) within
-          ∙ ap (λ k. set back k ((get_or pairs i d).0, value)) (let e : length pairs - 1 - i ≡ behind = omega (arith, even, place.0) in e)
-          ∙ ap (λ q. set back behind (q.0, value)) (sym same) in
+      reverse-set pairs i ((get_or pairs i d).0, value) within
+      ∙ ap (λ k. set back k ((get_or pairs i d).0, value)) (let e : length pairs - 1 - i ≡ behind = omega (arith, even, place.0) in e)
+      ∙ ap (λ q. set back behind (q.0, value)) (sym same) in
       sym (reverse-reverse (entries_of (set pairs i ((get_or pairs i d).0, value))))
       ∙ ap reverse (sym (map-reverse (λ p. entry p.0.0 p.1) (set pairs i ((get_or pairs i d).0, value))) ∙ ap entries_of from_end
-        ∙ first_replaced number value back behind d place.0 place.1 place.2
-        ∙ ap (replace_first number value) (map-reverse (λ p. entry p.0.0 p.1) pairs))
+      ∙ first_replaced number value back behind d place.0 place.1 place.2
+      ∙ ap (replace_first number value) (map-reverse (λ p. entry p.0.0 p.1) pairs))
 
   -- there is a newest entry of the number just where there is a last pair of it
   pub last_held : (number : ℕ) (pairs : List (Seq × V)) (behind : Option ℕ) → behind ≡ position (λ p. nat_eq p.0.0 number) (reverse pairs)
@@ -101,15 +100,15 @@ module _ {V : Type 0} where
       let past : length (reverse pairs) ≤ position_or_len (is_of number) (reverse pairs) = grind (arith, nat_tests, none) in
       sym (reverse-reverse (entries_of pairs))
       ∙ ap reverse (sym (map-reverse (λ p. entry p.0.0 p.1) pairs) ∙ sym (none_first number value (reverse pairs) past)
-        ∙ ap (replace_first number value) (map-reverse (λ p. entry p.0.0 p.1) pairs))
+      ∙ ap (replace_first number value) (map-reverse (λ p. entry p.0.0 p.1) pairs))
 
   -- without the marked pairs, and all that stay marked
   pub ticked : (pairs kept : List (Seq × V)) (marked left : ℕ) → kept ≡ drop marked pairs → left ≡ length kept
       → marked_of kept left ≡ tick (marked_of pairs marked)
   ticked pairs kept marked left dropped counted =
       let same : entries_of kept ≡ drop marked (entries_of pairs) =
-          ap entries_of dropped ∙ sym (drop-map (λ p. entry p.0.0 p.1) marked pairs) in
+      ap entries_of dropped ∙ sym (drop-map (λ p. entry p.0.0 p.1) marked pairs) in
       let all : left ≡ length (drop marked (entries_of pairs)) =
-          counted ∙ sym (length-map kept (λ p. entry p.0.0 p.1)) ∙ ap length same in
+      counted ∙ sym (length-map kept (λ p. entry p.0.0 p.1)) ∙ ap length same in
       ap (λ es. record { entries = es; marked = left }) same
       ∙ ap (λ n. record { entries = drop marked (entries_of pairs); marked = n }) all

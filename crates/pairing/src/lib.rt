@@ -6,6 +6,8 @@
 
 mod list_table;
 mod pair_table;
+#[cfg(test)]
+mod tests;
 
 pub use list_table::ListTable;
 pub use pair_table::PairTable;

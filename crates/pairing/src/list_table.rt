@@ -32,10 +32,10 @@ impl<V: Copy + Default, const N: usize> PairTable<V> for ListTable<V, N> {
     ghost marked = { λ table. marked_of table.entries.items table.marked };
 
     ghost within = { λ table. record {
-        some_fit = table.some_fit;
-        few_fit = table.few_fit;
-        fits = Prim.rw length-map table.fits;
-        marked_there = Prim.rw length-map table.marked_there;
+      some_fit = table.some_fit;
+      few_fit = table.few_fit;
+      fits = Prim.rw length-map table.fits;
+      marked_there = Prim.rw length-map table.marked_there;
     } };
 
     fn empty() -> Self {
