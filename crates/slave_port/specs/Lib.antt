@@ -1,0 +1,9 @@
+pub mod History
+pub mod Window
+pub mod Usable
+pub mod Held
+pub mod Completion
+pub mod Answer
+pub mod StandsFor
+pub mod Changes
+pub mod Codes
