@@ -7,6 +7,7 @@ mod message;
 mod message_type;
 mod nibble;
 mod port;
+mod profile;
 mod refusal;
 
 pub use decoding::decode;
@@ -14,3 +15,6 @@ pub use message::{Body, Header, Message};
 pub use nibble::Nibble;
 pub use port::{PortConfig, PortIdentity};
 pub use refusal::{DecodeRefusal, EncodeRefusal};
+
+#[cfg(test)]
+mod tests;

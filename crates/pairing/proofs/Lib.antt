@@ -1,3 +1,4 @@
 mod Lists
 mod Pairs
+mod Worked
 pub mod Laws

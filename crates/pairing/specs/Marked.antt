@@ -12,12 +12,15 @@ pub record Marked (V : Type 0) : Type 0 where
   pub marked : ℕ
 
 module _ {V : Type 0} where
+  -- the value under the number
   abbrev pub entry : ℕ → V → Entry V
   entry number value = record { number = number; value = value }
 
+  -- no entry, and none marked
   abbrev pub empty : Marked V
   empty = record { entries = []; marked = 0 }
 
+  -- the entries, from the newest back to the oldest
   abbrev pub newest_first : Marked V → List (Entry V)
   newest_first table = reverse table.entries
 

@@ -24,6 +24,7 @@ fn calls<T: PairTable<u32> + Drop>(rt: &impl Abort)
     requires few_fit { T.CAPACITY ≤ 256 }
 {
     finds_the_newest::<T>(rt);
+    tells_numbers_apart::<T>(rt);
     drops_the_oldest::<T>(rt);
     drops_the_marked::<T>(rt);
     clears::<T>(rt);
@@ -59,6 +60,29 @@ fn finds_the_newest<T: PairTable<u32> + Drop>(rt: &impl Abort)
     assert!(rt; !table.set(Seq(6), 5));
     assert_eq!(rt; table.find(Seq(6)).copied(), None);
     assert_eq!(rt; table.find(Seq(5)).copied(), Some(4));
+}
+
+/// Numbers that differ by a multiple of the capacity are different numbers.
+fn tells_numbers_apart<T: PairTable<u32> + Drop>(rt: &impl Abort)
+    requires some_fit { 1 ≤ T.CAPACITY }
+    requires few_fit { T.CAPACITY ≤ 256 }
+{
+    let capacity = T::CAPACITY as u16;
+    let [first, second, third] = [Seq(1), Seq(1 + capacity), Seq(1 + 2 * capacity)];
+    let mut table = T::empty();
+    table.push(first, 1);
+    table.push(second, 2);
+    table.push(first, 3);
+    let earlier = if capacity == 1 { None } else { Some(2) };
+    assert_eq!(rt; table.find(first).copied(), Some(3));
+    assert_eq!(rt; table.find(second).copied(), earlier);
+    assert_eq!(rt; table.find(third).copied(), None);
+    table.tick();
+    table.push(third, 4);
+    table.tick();
+    assert_eq!(rt; table.find(first).copied(), None);
+    assert_eq!(rt; table.find(second).copied(), None);
+    assert_eq!(rt; table.find(third).copied(), Some(4));
 }
 
 /// All are marked when one more pushes the oldest out, so that the next tick leaves just that one.

@@ -23,7 +23,8 @@ fn departure(precise: Timestamp, c_follow: i64) -> i128
 }
 
 /// The Sync's arrival at the slave, less its corrected departure and its own correction: `a`, in
-/// units. All arguments are as read from the messages and the slave's clock.
+/// units of 2^-16 ns, strictly between -2^96 and 2^96. All arguments are as read from the messages
+/// and the slave's clock.
 pub fn sync_bracket(t2: ScaledTime, precise: Timestamp, c_follow: i64, c_sync: i64) -> i128
     ensures value { result ≡ sync_bracket t2 precise c_follow c_sync }
     ensures within { IsBracket result }
@@ -32,7 +33,7 @@ pub fn sync_bracket(t2: ScaledTime, precise: Timestamp, c_follow: i64, c_sync: i
 }
 
 /// The Delay_Req's corrected arrival at the master, less its departure from the slave: `b`, in
-/// units.
+/// units of 2^-16 ns, strictly between -2^96 and 2^96.
 pub fn delay_bracket(receive: Timestamp, c_resp: i64, t3: ScaledTime) -> i128
     ensures value { result ≡ delay_bracket receive c_resp t3 }
     ensures within { IsBracket result }
@@ -41,7 +42,7 @@ pub fn delay_bracket(receive: Timestamp, c_resp: i64, t3: ScaledTime) -> i128
     arrival - signed_units(t3)
 }
 
-/// Twice offsetFromMaster, in units (IEEE 1588-2019, 11.2).
+/// Twice offsetFromMaster, in units of 2^-16 ns, of two brackets (IEEE 1588-2019, 11.2).
 pub fn offset2(a: i128, b: i128) -> i128
     requires a_within { IsBracket a }
     requires b_within { IsBracket b }
@@ -50,7 +51,7 @@ pub fn offset2(a: i128, b: i128) -> i128
     a - b
 }
 
-/// Twice meanPathDelay, in units (IEEE 1588-2019, 11.3).
+/// Twice meanPathDelay, in units of 2^-16 ns, of two brackets (IEEE 1588-2019, 11.3).
 pub fn path2(a: i128, b: i128) -> i128
     requires a_within { IsBracket a }
     requires b_within { IsBracket b }

@@ -1,9 +1,9 @@
-ghost use Rattle.std.specs.Prelude.{◌≡◌, ◌<◌, ◌≤◌, ◌^◌, ℕ, ℤ, pos, ◌<ℤ◌, ◌≤ℤ◌, ◌-ℤ◌, MatchResult, Option};
+ghost use Rattle.std.specs.Prelude.{◌≡◌, ◌<ℤ◌, ◌≤ℤ◌, MatchResult};
 
 use crate::refusal::UnitRefusal;
 
 /// A correctionField: a signed number of 2^-16 ns (IEEE 1588-2019, 13.3.2.9).
-#[derive(Clone, Copy, Debug, PartialEq, Eq)]
+#[derive(Clone, Copy, Debug, PartialEq, Eq, Hash)]
 pub struct Interval(pub i64);
 
 /// The correctionField that says 'too big to be represented'.

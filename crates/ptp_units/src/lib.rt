@@ -5,9 +5,12 @@
 
 mod exchange;
 mod interval;
+pub mod laws;
 mod refusal;
 mod scaled_time;
 mod sequence;
+#[cfg(test)]
+mod tests;
 mod timestamp;
 
 pub use exchange::{delay_bracket, offset2, path2, sync_bracket};

@@ -1,4 +1,4 @@
-ghost use Rattle.std.specs.Prelude.{◌≡◌, ◌<◌, ◌≤◌, ◌^◌, ℕ, MatchResult};
+ghost use Rattle.std.specs.Prelude.{◌≡◌, ◌<◌, ◌≤◌, ℕ, MatchResult};
 ghost use Rattle.ptp_units.specs.Moment.{bound, moment, stamp_of, fraction_of};
 
 use crate::refusal::UnitRefusal;
@@ -9,7 +9,7 @@ use std::marker::Model;
 pub const BOUND: u128 = 18_446_744_073_709_551_616_000_000_000;
 
 /// A moment: a whole number of 2^-16 ns since the beginning of the timescale, below [`BOUND`].
-#[derive(Clone, Copy, Debug, PartialEq, Eq, PartialOrd, Ord)]
+#[derive(Clone, Copy, Debug, PartialEq, Eq, PartialOrd, Ord, Hash)]
 pub struct ScaledTime {
     units: u128,
 }

@@ -1,4 +1,4 @@
-ghost use Rattle.std.specs.Prelude.{◌≡◌, ◌↔◌, ℕ, IsTrue};
+ghost use Rattle.std.specs.Prelude.{◌≡◌, ◌↔◌, IsTrue};
 
 /// A sequenceId: the low 16 bits of a count that has no end (IEEE 1588-2019, 7.3.7).
 #[derive(Clone, Copy, Debug, Default, PartialEq, Eq, Hash)]

@@ -1,4 +1,4 @@
-ghost use Rattle.std.specs.Prelude.{◌≡◌, ◌<◌, ◌≤◌, ◌^◌, ◌*◌, ◌/◌, ◌%◌, ℕ, MatchResult};
+ghost use Rattle.std.specs.Prelude.{◌≡◌, ◌<◌, ◌^◌, ◌*◌, ◌/◌, ◌%◌, MatchResult};
 ghost use Rattle.ptp_units.specs.Moment.{Stamp, IsStamp, stamp};
 ghost use Rattle.ptp_units.specs.Refusal.{timestamp_refusal};
 
@@ -7,7 +7,7 @@ use std::marker::Model;
 
 /// A time of the protocol's timescale, in seconds below 2^48 and nanoseconds below 10^9
 /// (IEEE 1588-2019, 5.3.3).
-#[derive(Clone, Copy, Debug, PartialEq, Eq, PartialOrd, Ord)]
+#[derive(Clone, Copy, Debug, PartialEq, Eq, PartialOrd, Ord, Hash)]
 pub struct Timestamp {
     seconds: u64,
     nanos: u32,

@@ -1,0 +1,36 @@
+ghost use Rattle.std.specs.Prelude.{◌≡◌};
+ghost use Rattle.event_codec.specs.Profile.{header_of};
+
+use crate::message::Header;
+use crate::nibble::Nibble;
+use crate::port::PortConfig;
+use ptp_units::{Interval, Seq};
+
+impl PortConfig {
+    /// The header of a message that a port of this configuration writes: sdoId 0, version 2.1,
+    /// messageTypeSpecific 0, and domain and identity of the port.
+    pub fn header(
+        &self,
+        flags: [u8; 2],
+        correction: Interval,
+        sequence: Seq,
+        control: u8,
+        log: i8,
+    ) -> Header
+        ensures { result ≡ header_of self.now flags correction.0 sequence.0 control log }
+    {
+        Header {
+            major_sdo: Nibble::new(0).unwrap(),
+            minor_version: Nibble::new(1).unwrap(),
+            domain: self.domain,
+            minor_sdo: 0,
+            flags,
+            correction,
+            specific: [0; 4],
+            source: self.identity,
+            sequence,
+            control,
+            log,
+        }
+    }
+}

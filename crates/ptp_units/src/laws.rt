@@ -1,0 +1,24 @@
+//! Laws of the definitions, each the contract of a function that does nothing: a caller that needs
+//! the law in its proof calls it.
+
+ghost use Rattle.std.specs.Prelude.{◌≡◌, ◌+◌, ◌*◌, ◌^◌, ◌<◌, ℕ};
+ghost use Rattle.ptp_units.specs.Moment.{Stamp, IsStamp, bound, moment, stamp_of, fraction_of};
+ghost use Rattle.ptp_units.specs.Sequence.{of_count};
+
+/// A timestamp and a fraction of a nanosecond name exactly one moment, and each moment is named by
+/// exactly one such pair.
+pub fn one_moment()
+    ensures range { bound ≡ 2 ^ 48 * 10 ^ 9 * 2 ^ 16 }
+    ensures in_range { (s : Stamp) (fraction : ℕ) → IsStamp s → fraction < 65536
+        → moment s fraction < bound }
+    ensures named { (time : ℕ) → time < bound
+        → IsStamp (stamp_of time) × (fraction_of time < 65536)
+        × (moment (stamp_of time) (fraction_of time) ≡ time) }
+    ensures only { (s : Stamp) (fraction : ℕ) → IsStamp s → fraction < 65536
+        → (stamp_of (moment s fraction) ≡ s) × (fraction_of (moment s fraction) ≡ fraction) }
+{}
+
+/// Two numbers less than a whole turn apart that have one sequenceId are one number.
+pub fn same_number()
+    ensures { (m n : ℕ) → m < n + 65536 → n < m + 65536 → of_count m ≡ of_count n → m ≡ n }
+{}
