@@ -1,19 +1,12 @@
--- What stands in the front of a list, and the refusals of octets whose header and length are sound.
-use Rattle.std.proofs.Common.{◌≡◌, ℕ, zero, suc, ◌+◌, ◌%◌, ◌^◌, ◌≤◌, List, length, take, get_or, Some, None, IfSome, cond, ltb, refl, sym, ap, ◌∙◌, arith}
+-- The refusals of octets whose header and length are sound.
+use Rattle.std.proofs.Common.{◌≡◌, ℕ, ◌%◌, ◌^◌, ◌≤◌, List, length, take, get_or, Some, None, IfSome, cond, ltb, refl, sym, ap, ◌∙◌, arith}
 use Rattle.std.proofs.lemmas.Bool.{le-ltb, eq-eqb}
-use Rattle.std.proofs.lemmas.List.{get_or-take}
 use Rattle.event_codec.specs.declared.message_type.MessageType.{MessageType}
 use Rattle.event_codec.specs.declared.message_type.MessageType.TheVariants.{Sync, DelayReq, FollowUp, DelayResp}
 use Rattle.event_codec.specs.declared.refusal.DecodeRefusal.TheVariants.{Nanoseconds}
 use Rattle.event_codec.specs.Layout.{number, number_of, least_length}
 use Rattle.event_codec.specs.Refusal.{body_refusal, decode_refusal}
-
-pub number-take : (b : List ℕ) (n i count : ℕ) → i + count ≤ n → number (take n b) i count ≡ number b i count
-number-take b n i zero h = refl
-number-take b n i (suc count) h =
-    let front : number (take n b) i count ≡ number b i count = number-take b n i count (omega arith) in
-    let last : get_or (take n b) (i + count) 0 ≡ get_or b (i + count) 0 = get_or-take n b (i + count) 0 (omega arith) in
-    omega arith
+use Rattle.event_codec.proofs.Numbers.{number-take}
 
 -- octets with a header of a known type, and as many octets as it says
 pub record IsWhole (b : List ℕ) (least : ℕ) : Type 0 where

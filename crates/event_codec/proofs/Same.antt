@@ -12,7 +12,8 @@ use Rattle.event_codec.specs.Layout.{number, type_of, least_length, fields_lengt
 use Rattle.event_codec.specs.Packet.{Contents, Packet, IsIdentityAt, IsRequesting}
 use Rattle.event_codec.specs.Refusal.{decode_refusal}
 use Rattle.event_codec.proofs.Fields.{type_of_below, fields_length_above, least_length-type_of}
-use Rattle.event_codec.proofs.Front.{number-take, IsWhole, decode_refusal-whole}
+use Rattle.event_codec.proofs.Numbers.{number-take}
+use Rattle.event_codec.proofs.Front.{IsWhole, decode_refusal-whole}
 
 identity_same : (p q : PortIdentity) (b : List ℕ) (i : ℕ) → IsIdentityAt p b i → IsIdentityAt q b i → p ≡ q
 identity_same p q b i h k =

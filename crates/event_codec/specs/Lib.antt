@@ -3,3 +3,4 @@ pub mod Packet
 pub mod Refusal
 pub mod Reading
 pub mod Profile
+pub mod Correction

@@ -5,7 +5,7 @@ ghost use Rattle.event_codec.specs.Packet.{Contents, Packet, IsIdentityAt, IsReq
 ghost use Rattle.event_codec.specs.Reading.{Reading, IsReading, Answers};
 ghost use Rattle.event_codec.specs.Refusal.{decode_refusal};
 
-use crate::message::{Body, Header, Message};
+use crate::message::{Body, Header, Message, VERSION};
 use crate::message_type::MessageType;
 use crate::nibble::Nibble;
 use crate::port::PortIdentity;
@@ -141,7 +141,7 @@ fn message_type_of(octets: &[u8]) -> Result<MessageType, DecodeRefusal>
     if octets.len() < HEADER_LENGTH {
         return Err(DecodeRefusal::Short);
     }
-    if octets[1] % 16 != 2 {
+    if octets[1] % 16 != VERSION {
         return Err(DecodeRefusal::Version);
     }
     let nibble = octets[0] % 16;

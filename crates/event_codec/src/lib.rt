@@ -2,7 +2,9 @@
 //! between a message and its octets, read and written exactly (IEEE 1588-2019, clause 13).
 #![tactic(auto)]
 
+mod correction;
 mod decoding;
+mod encoding;
 mod message;
 mod message_type;
 mod nibble;
@@ -10,7 +12,9 @@ mod port;
 mod profile;
 mod refusal;
 
+pub use correction::patch_correction;
 pub use decoding::decode;
+pub use encoding::encode;
 pub use message::{Body, Header, Message};
 pub use nibble::Nibble;
 pub use port::{PortConfig, PortIdentity};

@@ -1,6 +1,12 @@
+ghost use Rattle.std.specs.Prelude.{◌≡◌};
+
+use crate::message_type::MessageType;
 use crate::nibble::Nibble;
 use crate::port::PortIdentity;
 use ptp_units::{Interval, Seq, Timestamp};
+
+/// versionPTP of every message.
+pub(crate) const VERSION: u8 = 2;
 
 /// The fields that all messages have in common, but for messageType, versionPTP and messageLength
 /// (IEEE 1588-2019, 13.3).
@@ -50,6 +56,33 @@ pub enum Body {
         receive: Timestamp,
         requesting: PortIdentity,
     },
+}
+
+impl Body {
+    ghost use Rattle.event_codec.specs.Layout.{number_of, type_of, stamp_in};
+
+    /// The type of a message with this body.
+    pub(crate) fn message_type(&self) -> MessageType
+        ensures { number_of result ≡ type_of self.now }
+    {
+        match self {
+            Body::Sync { .. } => MessageType::Sync,
+            Body::DelayReq { .. } => MessageType::DelayReq,
+            Body::FollowUp { .. } => MessageType::FollowUp,
+            Body::DelayResp { .. } => MessageType::DelayResp,
+        }
+    }
+
+    /// The timestamp, whatever its name.
+    pub(crate) fn timestamp(&self) -> Timestamp
+        ensures { result ≡ stamp_in self.now }
+    {
+        match self {
+            Body::Sync { origin } | Body::DelayReq { origin } => *origin,
+            Body::FollowUp { precise } => *precise,
+            Body::DelayResp { receive, .. } => *receive,
+        }
+    }
 }
 
 /// A message: its fields, and the octets of its TLVs as they stand.

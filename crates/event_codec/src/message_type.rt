@@ -1,12 +1,12 @@
-ghost use Rattle.std.specs.Prelude.{◌≡◌, ◌≤◌, MatchOption, Some, None};
+ghost use Rattle.std.specs.Prelude.{◌≡◌, ◌<◌, MatchOption, Some, None};
 
 /// The types of message that are read and written (IEEE 1588-2019, 13.3.2.3).
 #[derive(Clone, Copy)]
 pub(crate) enum MessageType {
-    Sync,
-    DelayReq,
-    FollowUp,
-    DelayResp,
+    Sync = 0,
+    DelayReq = 1,
+    FollowUp = 8,
+    DelayResp = 9,
 }
 
 impl MessageType {
@@ -25,6 +25,14 @@ impl MessageType {
             9 => Some(MessageType::DelayResp),
             _ => None,
         }
+    }
+
+    /// The number that stands in the low half of octet 0.
+    pub(crate) fn number(self) -> u8
+        ensures value { result ≡ number_of self }
+        ensures within { result < 16 }
+    {
+        self as u8
     }
 
     /// The octets of the fields of a message of this type, behind which the suffix begins.

@@ -1,4 +1,4 @@
-ghost use Rattle.std.specs.Prelude.{◌≡◌, ◌<◌, ◌/◌, ◌↔◌, ℕ, IsSome, IfSome};
+ghost use Rattle.std.specs.Prelude.{◌≡◌, ◌<◌, ◌+◌, ◌*◌, ◌/◌, ◌↔◌, ℕ, IsSome, IfSome};
 
 use std::marker::Model;
 
@@ -36,6 +36,14 @@ impl Nibble {
         ensures { result ≡ octet / 16 }
     {
         Nibble { value: octet >> 4 }
+    }
+
+    /// The octet with this high half.
+    pub(crate) fn octet_with(self, low: u8) -> u8
+        requires { low < 16 }
+        ensures { result ≡ 16 * self + low }
+    {
+        self.value << 4 | low
     }
 
     /// The value, 0 to 15.
