@@ -5,3 +5,4 @@ mod Requests
 mod Received
 mod Messages
 mod Stands
+mod Examples

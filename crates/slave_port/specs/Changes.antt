@@ -24,6 +24,7 @@ fresh completion = record { completion = completion; ticked = false }
 abbrev pub aged : {C : Type 0} → Last C → Option (Last C)
 aged last = if last.ticked then None else Some (record { completion = last.completion; ticked = true })
 
+-- after a tick
 abbrev pub ticked : Port → Port
 ticked port = record port {
   syncs = tick port.syncs;
@@ -43,6 +44,7 @@ with_request tag port = record port {
 abbrev pub left : (t3 : ℕ) → RequestValue → RequestValue
 left t3 request = record { t3 = Some t3; tag = request.tag }
 
+-- the newest request of the number has left
 abbrev pub with_departure : (number t3 : ℕ) → RequestValue → Port → Port
 with_departure number t3 request port = record port { requests = set number (left t3 request) port.requests }
 
@@ -55,6 +57,7 @@ and_completed port = (
       (option_map (λ last. last.completion) port.last_delay),
 )
 
+-- a Sync is completed, if it is
 abbrev pub with_sync_completion : Option SyncCompletion → Port → Port × Heard
 with_sync_completion None port = (port, answers.Held)
 with_sync_completion (Some completion) port = and_completed (record port { last_sync = Some (fresh completion) })
@@ -76,6 +79,7 @@ abbrev pub with_delay_completion : Option DelayCompletion → Port → Port × H
 with_delay_completion None port = (port, answers.Ignored EgressUnknown)
 with_delay_completion (Some completion) port = and_completed (record port { last_delay = Some (fresh completion) })
 
+-- a Delay_Resp is used with this request
 abbrev pub responded : ResponseValue → Option RequestValue → Port → Port × Heard
 responded response None port = (port, answers.Ignored UnknownRequest)
 responded response (Some request) port = with_delay_completion (answered response request) port

@@ -5,6 +5,7 @@ use Rattle.slave_port.specs.declared.reason.Reason.TheVariants.{Decode, WrongTyp
 use Rattle.slave_port.specs.declared.reason.SlaveRefusal.{SlaveRefusal}
 use Rattle.slave_port.specs.declared.reason.SlaveRefusal.TheVariants.{NotHeld}
 
+-- the number of a reason
 abbrev pub reason_code : Reason → ℕ
 reason_code (Decode refusal) = 501
 reason_code WrongType = 502
@@ -17,5 +18,6 @@ reason_code OtherRequester = 508
 reason_code UnknownRequest = 509
 reason_code EgressUnknown = 510
 
+-- the number of a refusal
 abbrev pub refusal_code : SlaveRefusal → ℕ
 refusal_code NotHeld = 511

@@ -85,12 +85,14 @@ requests setup (NextRequest tag ∷ earlier) =
 requests setup (RequestLeft number t3 ∷ earlier) = stamped number t3 (requests setup earlier)
 requests setup (_ ∷ earlier) = requests setup earlier
 
--- held are the last of them, as many as the port holds at most
+-- held are the last Syncs of the window, as many as the port holds at most
 abbrev pub held_syncs : Setup → List Call → List (Entry SyncValue)
 held_syncs setup history = take setup.capacities.syncs (syncs setup history 1)
 
+-- held are the last Follow_Ups of the window, as many as the port holds at most
 abbrev pub held_follows : Setup → List Call → List (Entry FollowValue)
 held_follows setup history = take setup.capacities.follows (follows setup history 1)
 
+-- held are the last requests, as many as the port holds at most
 abbrev pub held_requests : Setup → List Call → List (Entry RequestValue)
 held_requests setup history = take setup.capacities.requests (requests setup history)

@@ -16,6 +16,14 @@ pub record Setup : Type 0 where
   pub first : ℕ
   pub capacities : Capacities
 
+-- this setup
+abbrev pub setup_of : PortConfig → (first syncs follows requests : ℕ) → Setup
+setup_of config first syncs follows requests = record {
+  config = config;
+  first = first;
+  capacities = record { syncs = syncs; follows = follows; requests = requests };
+}
+
 -- a call of a slave port; what octets say stands in their place, and times are moments
 pub data Call : Type 0 where
   SetMaster : (master : PortIdentity) → Call

@@ -1,10 +1,12 @@
 -- What a slave port keeps, and the histories that this stands for.
-use Rattle.std.specs.Prelude.{◌≡◌, ℕ, ◌-◌, zero, suc, Bool, List, length, take, slice_get, if◌then◌else◌, Option, Some, None}
+use Rattle.std.specs.Prelude.{◌≡◌, ℕ, ◌-◌, zero, suc, Bool, List, ◌∷◌, length, take, slice_get, if◌then◌else◌, Option, Some, None}
 use Rattle.event_codec.specs.declared.port.PortConfig.{PortConfig}
 use Rattle.event_codec.specs.declared.port.PortIdentity.{PortIdentity}
+use Rattle.slave_port.specs.declared.heard.Heard.{Heard}
 use Rattle.pairing.specs.Marked.{Entry, Marked, newest_first}
 use Rattle.slave_port.specs.History.{Capacities, Setup, Call, present_master, next_number}
 use Rattle.slave_port.specs.Held.{SyncValue, FollowValue, RequestValue, syncs, follows, held_requests}
+use Rattle.slave_port.specs.Answer.{answer}
 use Rattle.slave_port.specs.Completion.{SyncCompletion, DelayCompletion, sync_completions, delay_completions}
 
 -- the last completion of a kind, and whether a tick came since
@@ -48,3 +50,11 @@ pub record StandsFor (setup : Setup) (port : Port) (history : List Call) : Type 
   pub sync_since_tick : last_within port.last_sync 0 ≡ slice_get (sync_completions setup history 0) 0
   pub delay_now : last_within port.last_delay 1 ≡ slice_get (delay_completions setup history 1) 0
   pub delay_since_tick : last_within port.last_delay 0 ≡ slice_get (delay_completions setup history 0) 0
+
+-- whatever history a port stood for before a call, it stands for the longer one after it
+abbrev pub StandsAfter : Call → (old new : Port) → Type 0
+StandsAfter call old new = (setup : Setup) (history : List Call) → StandsFor setup old history → StandsFor setup new (call ∷ history)
+
+-- whatever history a port stood for before a call, this is the answer
+abbrev pub IsAnswer : Call → Port → Heard → Type 0
+IsAnswer call port heard = (setup : Setup) (history : List Call) → StandsFor setup port history → heard ≡ answer setup history call

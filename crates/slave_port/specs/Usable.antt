@@ -4,7 +4,7 @@ use Rattle.std.specs.Str.{bytes_eq}
 use Rattle.ptp_units.specs.Interval.{too_big}
 use Rattle.event_codec.specs.declared.message.Header.{Header}
 use Rattle.event_codec.specs.declared.message.Body.{Body}
-use Rattle.event_codec.specs.declared.message.Body.TheVariants.{Sync, DelayReq, FollowUp, DelayResp}
+use Rattle.event_codec.specs.declared.message.Body.TheVariants.{Sync, FollowUp, DelayResp}
 use Rattle.event_codec.specs.declared.port.PortConfig.{PortConfig}
 use Rattle.event_codec.specs.declared.port.PortIdentity.{PortIdentity}
 use Rattle.event_codec.specs.Reading.{Reading}
@@ -21,38 +21,35 @@ abbrev pub first_reason : List Test → Option Reason
 first_reason [] = None
 first_reason (t ∷ tests) = if t.applies then Some t.reason else first_reason tests
 
+-- the same port of the same clock
 abbrev pub is_same_port : PortIdentity → PortIdentity → Bool
 is_same_port a b = bytes_eq a.clock b.clock && (a.port == b.port)
 
+-- a Sync
 abbrev pub is_sync : Body → Bool
 is_sync (Sync origin) = true
-is_sync (DelayReq origin) = false
-is_sync (FollowUp precise) = false
-is_sync (DelayResp receive requesting) = false
+is_sync _ = false
 
+-- a Follow_Up
 abbrev pub is_follow_up : Body → Bool
-is_follow_up (Sync origin) = false
-is_follow_up (DelayReq origin) = false
 is_follow_up (FollowUp precise) = true
-is_follow_up (DelayResp receive requesting) = false
+is_follow_up _ = false
 
+-- a Delay_Resp
 abbrev pub is_delay_resp : Body → Bool
-is_delay_resp (Sync origin) = false
-is_delay_resp (DelayReq origin) = false
-is_delay_resp (FollowUp precise) = false
 is_delay_resp (DelayResp receive requesting) = true
+is_delay_resp _ = false
 
 -- a Delay_Resp to another port than this one
 abbrev pub is_for_another : PortIdentity → Body → Bool
-is_for_another own (Sync origin) = false
-is_for_another own (DelayReq origin) = false
-is_for_another own (FollowUp precise) = false
 is_for_another own (DelayResp receive requesting) = not (is_same_port requesting own)
+is_for_another own _ = false
 
 -- twoStepFlag (IEEE 1588-2019, 13.3.2.8)
 abbrev pub is_two_step : Header → Bool
 is_two_step header = slice_index header.flags 0 / 2 % 2 == 1
 
+-- correctionField says 'too big to be represented' (13.3.2.9)
 abbrev pub is_too_big : Header → Bool
 is_too_big header = not (int_lt header.correction.0 too_big)
 

@@ -1,11 +1,11 @@
-ghost use Rattle.std.specs.Prelude.{◌≡◌, ◌≤◌, List, [], ◌∷◌, is_ok, OnErr, Some};
+ghost use Rattle.std.specs.Prelude.{◌≡◌, ◌≤◌, List, [], is_ok, OnErr, Some};
 ghost use Rattle.event_codec.specs.Packet.{contents};
 ghost use Rattle.event_codec.specs.Reading.{Reading, IsReading};
 ghost use Rattle.pairing.specs.Marked.{entry};
 ghost use Rattle.slave_port.specs.declared.reason.Reason.{Reason};
-ghost use Rattle.slave_port.specs.History.{Setup, Call, SetMaster, Tick, RequestLeft, Event, General};
-ghost use Rattle.slave_port.specs.Answer.{is_held, answer};
-ghost use Rattle.slave_port.specs.StandsFor.{StandsFor};
+ghost use Rattle.slave_port.specs.History.{Setup, Call, setup_of, SetMaster, Tick, RequestLeft, Event, General};
+ghost use Rattle.slave_port.specs.Answer.{is_held};
+ghost use Rattle.slave_port.specs.StandsFor.{StandsFor, StandsAfter, IsAnswer};
 ghost use Rattle.slave_port.specs.Changes.{with_sync, with_follow, with_sync_completion, with_response, and_completed, sync_heard, general_heard};
 
 use crate::completion::{DelayCompletion, Last, SyncCompletion, answered, pair, report_of};
@@ -18,9 +18,14 @@ use pairing::PairTable;
 use ptp_units::{ScaledTime, Seq};
 use std::marker::Model;
 
-/// A slave port, with tables for the Syncs, the Follow_Ups and the requests that it holds.
+/// A slave port, with a table each for the Syncs, the Follow_Ups and the requests that it holds.
 #[derive(Drop)]
-pub struct SlavePort<S: PairTable<HeldSync>, F: PairTable<HeldFollow>, Q: PairTable<HeldRequest>> {
+pub struct SlavePort<S, F, Q>
+where
+    S: PairTable<HeldSync>,
+    F: PairTable<HeldFollow>,
+    Q: PairTable<HeldRequest>,
+{
     config: PortConfig,
     next: Seq,
     master: Option<PortIdentity>,
@@ -31,8 +36,12 @@ pub struct SlavePort<S: PairTable<HeldSync>, F: PairTable<HeldFollow>, Q: PairTa
     last_delay: Option<Last<DelayCompletion>>,
 }
 
-impl<S: PairTable<HeldSync>, F: PairTable<HeldFollow>, Q: PairTable<HeldRequest>> Model
-    for SlavePort<S, F, Q> {
+impl<S, F, Q> Model for SlavePort<S, F, Q>
+where
+    S: PairTable<HeldSync>,
+    F: PairTable<HeldFollow>,
+    Q: PairTable<HeldRequest>,
+{
     ghost use Rattle.slave_port.specs.StandsFor.{Port};
 
     ghost Value = { Port };
@@ -50,20 +59,18 @@ impl<S: PairTable<HeldSync>, F: PairTable<HeldFollow>, Q: PairTable<HeldRequest>
     } };
 }
 
-impl<S: PairTable<HeldSync>, F: PairTable<HeldFollow>, Q: PairTable<HeldRequest>> SlavePort<
-    S,
-    F,
-    Q,
-> {
+impl<S, F, Q> SlavePort<S, F, Q>
+where
+    S: PairTable<HeldSync>,
+    F: PairTable<HeldFollow>,
+    Q: PairTable<HeldRequest>,
+{
     /// A port that has no master and holds nothing. Its requests are numbered from `first` on.
     pub fn new(config: PortConfig, first: Seq) -> Self
         requires syncs { (1 ≤ S.CAPACITY) × (S.CAPACITY ≤ 256) }
         requires follows { (1 ≤ F.CAPACITY) × (F.CAPACITY ≤ 256) }
         requires requests { (1 ≤ Q.CAPACITY) × (Q.CAPACITY ≤ 256) }
-        ensures { StandsFor
-            (record { config = config; first = first.0; capacities = record { syncs = S.CAPACITY; follows = F.CAPACITY; requests = Q.CAPACITY } })
-            result
-            [] }
+        ensures { StandsFor (setup_of config first.0 S.CAPACITY F.CAPACITY Q.CAPACITY) result [] }
     {
         SlavePort {
             config,
@@ -80,7 +87,7 @@ impl<S: PairTable<HeldSync>, F: PairTable<HeldFollow>, Q: PairTable<HeldRequest>
     /// The present master is this one from now on. All that is held is dropped, also where the
     /// master is the same.
     pub fn set_master(&mut self, master: PortIdentity)
-        ensures { (setup : Setup) (history : List Call) → StandsFor setup self.old history → StandsFor setup self.new (SetMaster master ∷ history) }
+        ensures { StandsAfter (SetMaster master) self.old self.new }
     {
         self.master = Some(master);
         self.syncs.clear();
@@ -92,7 +99,7 @@ impl<S: PairTable<HeldSync>, F: PairTable<HeldFollow>, Q: PairTable<HeldRequest>
 
     /// Of what is held beside requests, drops what came before the tick before this one.
     pub fn tick(&mut self)
-        ensures { (setup : Setup) (history : List Call) → StandsFor setup self.old history → StandsFor setup self.new (Tick ∷ history) }
+        ensures { StandsAfter Tick self.old self.new }
     {
         self.syncs.tick();
         self.follows.tick();
@@ -103,8 +110,9 @@ impl<S: PairTable<HeldSync>, F: PairTable<HeldFollow>, Q: PairTable<HeldRequest>
     /// The request of this number has left at `t3`: the newest that is held, also where it was known
     /// to have left before. Refused with 511 where none is held.
     pub fn request_left(&mut self, number: Seq, t3: ScaledTime) -> Result<(), SlaveRefusal>
-        ensures held { (setup : Setup) (history : List Call) → StandsFor setup self.old history → is_ok result ≡ is_held setup history number.0 }
-        ensures stands { (setup : Setup) (history : List Call) → StandsFor setup self.old history → StandsFor setup self.new (RequestLeft number.0 t3 ∷ history) }
+        ensures held { (setup : Setup) (history : List Call) → StandsFor setup self.old history
+            → is_ok result ≡ is_held setup history number.0 }
+        ensures stands { StandsAfter (RequestLeft number.0 t3) self.old self.new }
         ensures refused { OnErr result (self.new ≡ self.old) }
     {
         let Some(request) = self.requests.find(number).copied() else {
@@ -123,10 +131,8 @@ impl<S: PairTable<HeldSync>, F: PairTable<HeldFollow>, Q: PairTable<HeldRequest>
     /// A message arrived on the event port at `t2`. A Sync of the present master is held, and
     /// completes with the newest held Follow_Up of its number.
     pub fn sync(&mut self, octets: &[u8], t2: ScaledTime, tag: u64) -> Heard
-        ensures answer { (said : Reading) → IsReading octets.now said → (setup : Setup) (history : List Call) → StandsFor setup self.old history
-            → result ≡ answer setup history (Event said t2 tag) }
-        ensures stands { (said : Reading) → IsReading octets.now said → (setup : Setup) (history : List Call) → StandsFor setup self.old history
-            → StandsFor setup self.new (Event said t2 tag ∷ history) }
+        ensures answer { (said : Reading) → IsReading octets.now said → IsAnswer (Event said t2 tag) self.old result }
+        ensures stands { (said : Reading) → IsReading octets.now said → StandsAfter (Event said t2 tag) self.old self.new }
         ensures ignored { (reason : Reason) → result ≡ Heard.Ignored reason → self.new ≡ self.old }
     {
         match decode(octets) {
@@ -138,10 +144,8 @@ impl<S: PairTable<HeldSync>, F: PairTable<HeldFollow>, Q: PairTable<HeldRequest>
     /// A message arrived on the general port. A Follow_Up of the present master is held, and completes
     /// the newest held Sync of its number. A Delay_Resp completes the newest held request of its number.
     pub fn general(&mut self, octets: &[u8], tag: u64) -> Heard
-        ensures answer { (said : Reading) → IsReading octets.now said → (setup : Setup) (history : List Call) → StandsFor setup self.old history
-            → result ≡ answer setup history (General said tag) }
-        ensures stands { (said : Reading) → IsReading octets.now said → (setup : Setup) (history : List Call) → StandsFor setup self.old history
-            → StandsFor setup self.new (General said tag ∷ history) }
+        ensures answer { (said : Reading) → IsReading octets.now said → IsAnswer (General said tag) self.old result }
+        ensures stands { (said : Reading) → IsReading octets.now said → StandsAfter (General said tag) self.old self.new }
         ensures ignored { (reason : Reason) → result ≡ Heard.Ignored reason → self.new ≡ self.old }
     {
         match decode(octets) {
