@@ -2,5 +2,5 @@ pub mod Layout
 pub mod Packet
 pub mod Refusal
 pub mod Reading
-pub mod Profile
 pub mod Correction
+pub mod Profile

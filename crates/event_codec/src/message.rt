@@ -73,8 +73,8 @@ impl Body {
         }
     }
 
-    /// The timestamp, whatever its name.
-    pub(crate) fn timestamp(&self) -> Timestamp
+    /// The timestamp field, whatever its name in this type of message.
+    pub fn timestamp(&self) -> Timestamp
         ensures { result ≡ stamp_in self.now }
     {
         match self {

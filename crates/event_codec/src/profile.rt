@@ -1,7 +1,10 @@
-ghost use Rattle.std.specs.Prelude.{◌≡◌};
+ghost use Rattle.std.specs.Prelude.{◌≡◌, []};
+ghost use Rattle.event_codec.specs.Layout.{fields_length};
+ghost use Rattle.event_codec.specs.Packet.{Packet};
 ghost use Rattle.event_codec.specs.Profile.{header_of};
 
-use crate::message::Header;
+use crate::encoding::encode;
+use crate::message::{Body, Header, Message};
 use crate::nibble::Nibble;
 use crate::port::PortConfig;
 use ptp_units::{Interval, Seq};
@@ -33,4 +36,20 @@ impl PortConfig {
             log,
         }
     }
+}
+
+/// The octets of a message without suffix, whose fields take N of them.
+pub fn octets_of<const N: usize>(header: Header, body: Body) -> [u8; N]
+    requires { fields_length body ≡ N }
+    ensures { Packet (record { header = header; body = body; suffix = [] }) result }
+{
+    let mut octets = [0; N];
+    let message = Message {
+        header,
+        body,
+        suffix: &[],
+    };
+    let written = encode(&message, &mut octets);
+    prove!(written.is_ok());
+    octets
 }
