@@ -4,6 +4,7 @@ pub mod Usable
 pub mod Held
 pub mod Completion
 pub mod Answer
+pub mod Written
 pub mod StandsFor
 pub mod Changes
 pub mod Codes

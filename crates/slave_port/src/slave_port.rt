@@ -1,10 +1,11 @@
 ghost use Rattle.std.specs.Prelude.{◌≡◌, ◌≤◌, List, [], is_ok, OnErr, Some};
-ghost use Rattle.event_codec.specs.Packet.{contents};
+ghost use Rattle.event_codec.specs.Packet.{Packet, contents};
 ghost use Rattle.event_codec.specs.Reading.{Reading, IsReading};
 ghost use Rattle.pairing.specs.Marked.{entry};
 ghost use Rattle.slave_port.specs.declared.reason.Reason.{Reason};
-ghost use Rattle.slave_port.specs.History.{Setup, Call, setup_of, SetMaster, Tick, RequestLeft, Event, General};
+ghost use Rattle.slave_port.specs.History.{Setup, Call, setup_of, next_number, SetMaster, Tick, NextRequest, RequestLeft, Event, General};
 ghost use Rattle.slave_port.specs.Answer.{is_held};
+ghost use Rattle.slave_port.specs.Written.{delay_req};
 ghost use Rattle.slave_port.specs.StandsFor.{StandsFor, StandsAfter, IsAnswer};
 ghost use Rattle.slave_port.specs.Changes.{with_sync, with_follow, with_sync_completion, with_response, and_completed, sync_heard, general_heard};
 
@@ -13,10 +14,22 @@ use crate::heard::Heard;
 use crate::held::{HeldFollow, HeldRequest, HeldSync, Response};
 use crate::reason::{Reason, SlaveRefusal};
 use crate::usable::{usable_general, usable_sync};
-use event_codec::{Body, Message, PortConfig, PortIdentity, decode};
+use event_codec::{Body, Message, PortConfig, PortIdentity, decode, octets_of};
 use pairing::PairTable;
-use ptp_units::{ScaledTime, Seq};
+use ptp_units::{Interval, ScaledTime, Seq, Timestamp};
 use std::marker::Model;
+
+/// logMessageInterval of a Delay_Req (IEEE 1588-2019, 13.3.2.14).
+const LOG_DELAY_REQ: i8 = 0x7f;
+
+/// The octets of the Delay_Req of this number.
+fn delay_req(config: &PortConfig, number: Seq) -> [u8; 44]
+    ensures { Packet (delay_req config.now number.0) result }
+{
+    let header = config.header([0, 0], Interval(0), number, 1, LOG_DELAY_REQ);
+    let origin = Timestamp::default();
+    octets_of(header, Body::DelayReq { origin })
+}
 
 /// A slave port, with a table each for the Syncs, the Follow_Ups and the requests that it holds.
 #[derive(Drop)]
@@ -42,6 +55,7 @@ where
     F: PairTable<HeldFollow>,
     Q: PairTable<HeldRequest>,
 {
+    ghost use Rattle.slave_port.specs.Written.{delay_req};
     ghost use Rattle.slave_port.specs.StandsFor.{Port};
 
     ghost Value = { Port };
@@ -105,6 +119,21 @@ where
         self.follows.tick();
         self.last_sync = self.last_sync.and_then(Last::aged);
         self.last_delay = self.last_delay.and_then(Last::aged);
+    }
+
+    /// Draws a number: the octets of its Delay_Req, and the number. The request is held, and completes
+    /// once it is known when it left. It needs no master.
+    pub fn next_request(&mut self, tag: u64) -> ([u8; 44], Seq)
+        ensures octets { (setup : Setup) (history : List Call) → StandsFor setup self.old history
+            → Packet (delay_req setup.config (next_number setup history)) result.0 }
+        ensures number { (setup : Setup) (history : List Call) → StandsFor setup self.old history
+            → result.1.0 ≡ next_number setup history }
+        ensures stands { StandsAfter (NextRequest tag) self.old self.new }
+    {
+        let number = self.next;
+        self.next = number.next();
+        self.requests.push(number, HeldRequest { t3: None, tag });
+        (delay_req(&self.config, number), number)
     }
 
     /// The request of this number has left at `t3`: the newest that is held, also where it was known
