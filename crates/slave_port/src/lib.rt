@@ -15,3 +15,6 @@ pub use heard::{Heard, Report};
 pub use held::{HeldFollow, HeldRequest, HeldSync};
 pub use reason::{Reason, SlaveRefusal};
 pub use slave_port::SlavePort;
+
+#[cfg(test)]
+mod tests;
