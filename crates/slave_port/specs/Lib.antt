@@ -1,0 +1,10 @@
+pub mod History
+pub mod Window
+pub mod Usable
+pub mod Held
+pub mod Completion
+pub mod Answer
+pub mod Written
+pub mod StandsFor
+pub mod Changes
+pub mod Codes

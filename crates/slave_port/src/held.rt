@@ -1,0 +1,73 @@
+use ptp_units::{ScaledTime, Timestamp};
+use std::marker::Model;
+
+/// What is held of a Sync.
+#[derive(Clone, Copy, Default)]
+pub struct HeldSync {
+    pub(crate) t2: ScaledTime,
+    pub(crate) correction: i64,
+    pub(crate) tag: u64,
+}
+
+impl Model for HeldSync {
+    ghost use Rattle.slave_port.specs.Held.{SyncValue};
+
+    ghost Value = { SyncValue };
+
+    ghost view = { λ s. record { t2 = s.t2; correction = s.correction; tag = s.tag } };
+
+    ghost inverse = { λ s. record { t2 = s.t2; correction = s.correction; tag = s.tag } };
+}
+
+/// What is held of a Follow_Up.
+#[derive(Clone, Copy, Default)]
+pub struct HeldFollow {
+    pub(crate) precise: Timestamp,
+    pub(crate) correction: i64,
+    pub(crate) tag: u64,
+}
+
+impl Model for HeldFollow {
+    ghost use Rattle.slave_port.specs.Held.{FollowValue};
+
+    ghost Value = { FollowValue };
+
+    ghost view = { λ f. record { precise = f.precise; correction = f.correction; tag = f.tag } };
+
+    ghost inverse = { λ f. record { precise = f.precise; correction = f.correction; tag = f.tag } };
+}
+
+/// What is held of a Delay_Req that this port drew.
+#[derive(Clone, Copy, Default)]
+pub struct HeldRequest {
+    pub(crate) t3: Option<ScaledTime>,
+    pub(crate) tag: u64,
+}
+
+impl Model for HeldRequest {
+    ghost use Rattle.slave_port.specs.Held.{RequestValue};
+
+    ghost Value = { RequestValue };
+
+    ghost view = { λ r. record { t3 = r.t3; tag = r.tag } };
+
+    ghost inverse = { λ r. record { t3 = r.t3; tag = r.tag } };
+}
+
+/// What is used of a Delay_Resp, which isn't held.
+#[derive(Clone, Copy)]
+pub(crate) struct Response {
+    pub(crate) receive: Timestamp,
+    pub(crate) correction: i64,
+    pub(crate) tag: u64,
+}
+
+impl Model for Response {
+    ghost use Rattle.slave_port.specs.Held.{ResponseValue};
+
+    ghost Value = { ResponseValue };
+
+    ghost view = { λ r. record { receive = r.receive; correction = r.correction; tag = r.tag } };
+
+    ghost inverse = { λ r. record { receive = r.receive; correction = r.correction; tag = r.tag } };
+}

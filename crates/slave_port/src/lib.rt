@@ -1,0 +1,20 @@
+//! The slave of the delay request-response mechanism (IEEE 1588-2019, 11.3): what it hears, it holds
+//! until it pairs, and it reports twice the offset from the master and twice the mean path delay.
+//!
+//! What a port answers is a function of its history, the list of its calls (`specs/Answer.antt`).
+#![tactic(auto)]
+
+mod completion;
+mod heard;
+mod held;
+mod reason;
+mod slave_port;
+mod usable;
+
+pub use heard::{Heard, Report};
+pub use held::{HeldFollow, HeldRequest, HeldSync};
+pub use reason::{Reason, SlaveRefusal};
+pub use slave_port::SlavePort;
+
+#[cfg(test)]
+mod tests;

@@ -1,0 +1,282 @@
+ghost use Rattle.std.specs.Prelude.{◌≡◌, ◌≤◌, List, [], is_ok, OnErr, Some};
+ghost use Rattle.event_codec.specs.Packet.{Packet, contents};
+ghost use Rattle.event_codec.specs.Reading.{Reading, IsReading};
+ghost use Rattle.pairing.specs.Marked.{entry};
+ghost use Rattle.slave_port.specs.declared.reason.Reason.{Reason};
+ghost use Rattle.slave_port.specs.History.{Setup, Call, setup_of, next_number, SetMaster, Tick, NextRequest, RequestLeft, Event, General};
+ghost use Rattle.slave_port.specs.Answer.{is_held};
+ghost use Rattle.slave_port.specs.Written.{delay_req};
+ghost use Rattle.slave_port.specs.StandsFor.{StandsFor, StandsAfter, IsAnswer};
+ghost use Rattle.slave_port.specs.Changes.{with_sync, with_follow, with_sync_completion, with_response, and_completed, sync_heard, general_heard};
+
+use crate::completion::{DelayCompletion, Last, SyncCompletion, answered, pair, report_of};
+use crate::heard::Heard;
+use crate::held::{HeldFollow, HeldRequest, HeldSync, Response};
+use crate::reason::{Reason, SlaveRefusal};
+use crate::usable::{usable_general, usable_sync};
+use event_codec::{Body, Message, PortConfig, PortIdentity, decode, octets_of};
+use pairing::PairTable;
+use ptp_units::{Interval, ScaledTime, Seq, Timestamp};
+use std::marker::Model;
+
+/// logMessageInterval of a Delay_Req (IEEE 1588-2019, 13.3.2.14).
+const LOG_DELAY_REQ: i8 = 0x7f;
+
+/// The octets of the Delay_Req of this number.
+fn delay_req(config: &PortConfig, number: Seq) -> [u8; 44]
+    ensures { Packet (delay_req config.now number.0) result }
+{
+    let header = config.header([0, 0], Interval(0), number, 1, LOG_DELAY_REQ);
+    let origin = Timestamp::default();
+    octets_of(header, Body::DelayReq { origin })
+}
+
+/// A slave port, with a table each for the Syncs, the Follow_Ups and the requests that it holds.
+#[derive(Drop)]
+pub struct SlavePort<S, F, Q>
+where
+    S: PairTable<HeldSync>,
+    F: PairTable<HeldFollow>,
+    Q: PairTable<HeldRequest>,
+{
+    config: PortConfig,
+    next: Seq,
+    master: Option<PortIdentity>,
+    syncs: S,
+    follows: F,
+    requests: Q,
+    last_sync: Option<Last<SyncCompletion>>,
+    last_delay: Option<Last<DelayCompletion>>,
+}
+
+impl<S, F, Q> Model for SlavePort<S, F, Q>
+where
+    S: PairTable<HeldSync>,
+    F: PairTable<HeldFollow>,
+    Q: PairTable<HeldRequest>,
+{
+    ghost use Rattle.slave_port.specs.Written.{delay_req};
+    ghost use Rattle.slave_port.specs.StandsFor.{Port};
+
+    ghost Value = { Port };
+
+    ghost view = { λ p. record {
+      config = p.config;
+      capacities = record { syncs = S.CAPACITY; follows = F.CAPACITY; requests = Q.CAPACITY };
+      next = p.next.0;
+      master = p.master;
+      syncs = S.marked p.syncs;
+      follows = F.marked p.follows;
+      requests = Q.marked p.requests;
+      last_sync = p.last_sync;
+      last_delay = p.last_delay;
+    } };
+}
+
+impl<S, F, Q> SlavePort<S, F, Q>
+where
+    S: PairTable<HeldSync>,
+    F: PairTable<HeldFollow>,
+    Q: PairTable<HeldRequest>,
+{
+    /// A port that has no master and holds nothing. Its requests are numbered from `first` on.
+    pub fn new(config: PortConfig, first: Seq) -> Self
+        requires syncs { (1 ≤ S.CAPACITY) × (S.CAPACITY ≤ 256) }
+        requires follows { (1 ≤ F.CAPACITY) × (F.CAPACITY ≤ 256) }
+        requires requests { (1 ≤ Q.CAPACITY) × (Q.CAPACITY ≤ 256) }
+        ensures { StandsFor (setup_of config first.0 S.CAPACITY F.CAPACITY Q.CAPACITY) result [] }
+    {
+        SlavePort {
+            config,
+            next: first,
+            master: None,
+            syncs: S::empty(),
+            follows: F::empty(),
+            requests: Q::empty(),
+            last_sync: None,
+            last_delay: None,
+        }
+    }
+
+    /// The present master is this one from now on. All that is held is dropped, also where the
+    /// master is the same.
+    pub fn set_master(&mut self, master: PortIdentity)
+        ensures { StandsAfter (SetMaster master) self.old self.new }
+    {
+        self.master = Some(master);
+        self.syncs.clear();
+        self.follows.clear();
+        self.requests.clear();
+        self.last_sync = None;
+        self.last_delay = None;
+    }
+
+    /// Of what is held beside requests, drops what came before the tick before this one.
+    pub fn tick(&mut self)
+        ensures { StandsAfter Tick self.old self.new }
+    {
+        self.syncs.tick();
+        self.follows.tick();
+        self.last_sync = self.last_sync.and_then(Last::aged);
+        self.last_delay = self.last_delay.and_then(Last::aged);
+    }
+
+    /// Draws a number: the octets of its Delay_Req, and the number. The request is held, and completes
+    /// once it is known when it left. It needs no master.
+    pub fn next_request(&mut self, tag: u64) -> ([u8; 44], Seq)
+        ensures octets { (setup : Setup) (history : List Call) → StandsFor setup self.old history
+            → Packet (delay_req setup.config (next_number setup history)) result.0 }
+        ensures number { (setup : Setup) (history : List Call) → StandsFor setup self.old history
+            → result.1.0 ≡ next_number setup history }
+        ensures stands { StandsAfter (NextRequest tag) self.old self.new }
+    {
+        let number = self.next;
+        self.next = number.next();
+        self.requests.push(number, HeldRequest { t3: None, tag });
+        (delay_req(&self.config, number), number)
+    }
+
+    /// The request of this number has left at `t3`: the newest that is held, also where it was known
+    /// to have left before. Refused with 511 where none is held.
+    pub fn request_left(&mut self, number: Seq, t3: ScaledTime) -> Result<(), SlaveRefusal>
+        ensures held { (setup : Setup) (history : List Call) → StandsFor setup self.old history
+            → is_ok result ≡ is_held setup history number.0 }
+        ensures stands { StandsAfter (RequestLeft number.0 t3) self.old self.new }
+        ensures refused { OnErr result (self.new ≡ self.old) }
+    {
+        let Some(request) = self.requests.find(number).copied() else {
+            return Err(SlaveRefusal::NotHeld);
+        };
+        self.requests.set(
+            number,
+            HeldRequest {
+                t3: Some(t3),
+                tag: request.tag,
+            },
+        );
+        Ok(())
+    }
+
+    /// A message arrived on the event port at `t2`. A Sync of the present master is held, and
+    /// completes with the newest held Follow_Up of its number.
+    pub fn sync(&mut self, octets: &[u8], t2: ScaledTime, tag: u64) -> Heard
+        ensures answer { (said : Reading) → IsReading octets.now said → IsAnswer (Event said t2 tag) self.old result }
+        ensures stands { (said : Reading) → IsReading octets.now said → StandsAfter (Event said t2 tag) self.old self.new }
+        ensures ignored { (reason : Reason) → result ≡ Heard.Ignored reason → self.new ≡ self.old }
+    {
+        match decode(octets) {
+            Ok((message, _)) => self.hear_sync(&message, t2, tag),
+            Err(refusal) => Heard::Ignored(Reason::Decode(refusal)),
+        }
+    }
+
+    /// A message arrived on the general port. A Follow_Up of the present master is held, and completes
+    /// the newest held Sync of its number. A Delay_Resp completes the newest held request of its number.
+    pub fn general(&mut self, octets: &[u8], tag: u64) -> Heard
+        ensures answer { (said : Reading) → IsReading octets.now said → IsAnswer (General said tag) self.old result }
+        ensures stands { (said : Reading) → IsReading octets.now said → StandsAfter (General said tag) self.old self.new }
+        ensures ignored { (reason : Reason) → result ≡ Heard.Ignored reason → self.new ≡ self.old }
+    {
+        match decode(octets) {
+            Ok((message, _)) => self.hear_general(&message, tag),
+            Err(refusal) => Heard::Ignored(Reason::Decode(refusal)),
+        }
+    }
+
+    fn hear_sync(&mut self, message: &Message<'_>, t2: ScaledTime, tag: u64) -> Heard
+        ensures { (self.new, result) ≡ sync_heard (contents message.now) t2 tag self.old }
+    {
+        match usable_sync(&self.config, self.master, message) {
+            Ok(correction) => {
+                let sync = HeldSync {
+                    t2,
+                    correction,
+                    tag,
+                };
+                self.hold_sync(message.header.sequence, sync)
+            }
+            Err(reason) => Heard::Ignored(reason),
+        }
+    }
+
+    fn hear_general(&mut self, message: &Message<'_>, tag: u64) -> Heard
+        ensures { (self.new, result) ≡ general_heard (contents message.now) tag self.old }
+    {
+        let correction = match usable_general(&self.config, self.master, message) {
+            Ok(correction) => correction,
+            Err(reason) => return Heard::Ignored(reason),
+        };
+        let number = message.header.sequence;
+        match message.body {
+            Body::FollowUp { precise } => {
+                let follow = HeldFollow {
+                    precise,
+                    correction,
+                    tag,
+                };
+                self.hold_follow(number, follow)
+            }
+            Body::DelayResp { receive, .. } => {
+                let response = Response {
+                    receive,
+                    correction,
+                    tag,
+                };
+                self.complete_request(number, response)
+            }
+            Body::Sync { .. } | Body::DelayReq { .. } => Heard::Ignored(Reason::WrongType),
+        }
+    }
+
+    fn hold_sync(&mut self, number: Seq, sync: HeldSync) -> Heard
+        ensures { (self.new, result) ≡ with_sync (entry number.0 sync) self.old }
+    {
+        self.syncs.push(number, sync);
+        match self.follows.find(number).copied() {
+            Some(follow) => self.complete_sync(pair(sync, follow)),
+            None => Heard::Held,
+        }
+    }
+
+    fn hold_follow(&mut self, number: Seq, follow: HeldFollow) -> Heard
+        ensures { (self.new, result) ≡ with_follow (entry number.0 follow) self.old }
+    {
+        self.follows.push(number, follow);
+        match self.syncs.find(number).copied() {
+            Some(sync) => self.complete_sync(pair(sync, follow)),
+            None => Heard::Held,
+        }
+    }
+
+    fn complete_sync(&mut self, completion: SyncCompletion) -> Heard
+        ensures { (self.new, result) ≡ with_sync_completion (Some completion) self.old }
+    {
+        self.last_sync = Some(Last::new(completion));
+        self.completed()
+    }
+
+    fn complete_request(&mut self, number: Seq, response: Response) -> Heard
+        ensures { (self.new, result) ≡ with_response (entry number.0 response) self.old }
+    {
+        let Some(request) = self.requests.find(number).copied() else {
+            return Heard::Ignored(Reason::UnknownRequest);
+        };
+        let Some(completion) = answered(response, request) else {
+            return Heard::Ignored(Reason::EgressUnknown);
+        };
+        self.last_delay = Some(Last::new(completion));
+        self.completed()
+    }
+
+    /// A report, where both completions are there.
+    fn completed(&self) -> Heard
+        ensures { (self.now, result) ≡ and_completed self.now }
+    {
+        match (self.last_sync, self.last_delay) {
+            (Some(sync), Some(delay)) => {
+                Heard::Report(report_of(sync.completion(), delay.completion()))
+            }
+            _ => Heard::Completed,
+        }
+    }
+}
