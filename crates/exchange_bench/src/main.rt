@@ -1,0 +1,136 @@
+//! Exchanges through a master, one clock and a slave, or the same messages merely decoded and
+//! encoded, as often as the words say: `exchange 1000000`, or `codec 1000000` over the octets of a
+//! Sync, a Follow_Up, a Delay_Req and a Delay_Resp on standard input.
+#![tactic(auto)]
+
+use event_codec::{PortConfig, PortIdentity, decode, encode};
+use master_port::MasterPort;
+use pairing::ListTable;
+use ptp_units::{ScaledTime, Seq};
+use slave_port::{Heard, HeldFollow, HeldRequest, HeldSync, SlavePort};
+use std::io::Read;
+use std::{env, io};
+use transparent_clock::enter;
+
+type Slave = SlavePort<
+    ListTable<HeldSync, 16>,
+    ListTable<HeldFollow, 16>,
+    ListTable<HeldRequest, 16>,
+>;
+
+const MASTER: PortConfig = PortConfig {
+    identity: PortIdentity {
+        clock: [0x00, 0x11, 0x22, 0xff, 0xfe, 0x33, 0x44, 0x55],
+        port: 1,
+    },
+    domain: 0,
+    log: 0,
+};
+
+const SLAVE: PortConfig = PortConfig {
+    identity: PortIdentity {
+        clock: [0x00, 0xaa, 0xbb, 0xff, 0xfe, 0xcc, 0xdd, 0xee],
+        port: 1,
+    },
+    domain: 0,
+    log: 0,
+};
+
+/// A moment so many nanoseconds behind the beginning of a second.
+fn moment(second: u64, nanoseconds: u32) -> ScaledTime {
+    let nanoseconds = u128::from(second) * 1_000_000_000 + u128::from(nanoseconds);
+    ScaledTime::new(nanoseconds * 65_536).unwrap_or_default()
+}
+
+/// One exchange, and whether it ended in a report.
+fn exchange(master: &mut MasterPort, slave: &mut Slave, second: u64) -> bool {
+    let (mut sync, number) = master.next_sync();
+    if enter(moment(second, 500))
+        .leave(&mut sync, moment(second, 2_500))
+        .is_err()
+    {
+        return false;
+    }
+    slave.sync(&sync, moment(second, 4_000), second);
+    if let Ok(follow_up) = master.sync_left(number, moment(second, 0)) {
+        slave.general(&follow_up, second);
+    }
+
+    let (mut request, number) = slave.next_request(second);
+    if enter(moment(second, 500_000))
+        .leave(&mut request, moment(second, 503_500))
+        .is_err()
+    {
+        return false;
+    }
+    if slave.request_left(number, moment(second, 501_000)).is_err() {
+        return false;
+    }
+    match master.delay_req(&request, moment(second, 504_500)) {
+        Ok(response) => matches!(slave.general(&response, second), Heard::Report(_)),
+        Err(_) => false,
+    }
+}
+
+/// How many of so many exchanges end in a report.
+fn exchanges(rounds: u64) -> u64 {
+    let mut master = MasterPort::new(MASTER, Seq(0));
+    let mut slave = Slave::new(SLAVE, Seq(0));
+    slave.set_master(MASTER.identity);
+    let mut reports: u64 = 0;
+    for round in 0..rounds {
+        if exchange(&mut master, &mut slave, round) {
+            reports = reports.saturating_add(1);
+        }
+    }
+    reports
+}
+
+/// How many octets the messages have that stand one behind the other in `messages`, decoded and
+/// encoded so many times, each time with another sequenceId.
+fn coded(messages: &[u8], rounds: u64) -> u64 {
+    let mut octets: u64 = 0;
+    for round in 0..rounds {
+        for start in [0, 44, 88, 132] {
+            octets = octets.saturating_add(coded_length(messages, start, (round % 256) as u8));
+        }
+    }
+    octets
+}
+
+/// The length of the message that begins there, decoded and encoded with this low octet of its
+/// sequenceId.
+fn coded_length(messages: &[u8], start: usize, sequence: u8) -> u64 {
+    let mut octets = [0; 54];
+    let mut written = [0; 54];
+    let end = messages.len().min(start.saturating_add(54));
+    if end < start {
+        return 0;
+    }
+    let length = end - start;
+    octets[..length].copy_from_slice(&messages[start..end]);
+    octets[31] = sequence;
+    match decode(&octets[..length]) {
+        Ok((message, _)) => match encode(&message, &mut written) {
+            Ok(length) => length as u64,
+            Err(_) => 0,
+        },
+        Err(_) => 0,
+    }
+}
+
+fn main(rt: HostRuntime) -> io::Result<()> {
+    let words: Vec<String> = env::args(&rt)?.collect(rt.alloc())?;
+    let rounds = words
+        .get(2)
+        .and_then(|word| word.as_str().parse::<u64>().ok())
+        .unwrap_or(1);
+    match words.get(1) {
+        Some(word) if word.as_str() == "codec" => {
+            let mut messages = Vec::new(rt.alloc());
+            rt.reader().read_to_end(&mut messages)?;
+            println!(rt; "{} octets", coded(&messages, rounds))
+        }
+        _ => println!(rt; "{} reports", exchanges(rounds)),
+    }
+}

@@ -1,0 +1,130 @@
+ghost use Rattle.std.specs.Prelude.{◌≡◌, ◌≢◌, MatchResult, IsOkAnd};
+ghost use Rattle.ptp_units.specs.Sequence.{next};
+ghost use Rattle.event_codec.specs.Packet.{Contents, Packet, contents};
+ghost use Rattle.event_codec.specs.Reading.{Reading, IsReading};
+ghost use Rattle.master_port.specs.Port.{new_port};
+ghost use Rattle.master_port.specs.Written.{sync, follow_up, answer};
+
+use crate::refusal::MasterRefusal;
+use event_codec::{Body, Message, PortConfig, decode, octets_of};
+use ptp_units::{Interval, ScaledTime, Seq, Timestamp};
+use std::marker::Model;
+
+/// The twoStepFlag alone (IEEE 1588-2019, 13.3.2.8).
+const TWO_STEP: [u8; 2] = [2, 0];
+
+const NO_FLAGS: [u8; 2] = [0, 0];
+
+/// A two-step master port.
+#[derive(Debug, Drop)]
+pub struct MasterPort {
+    config: PortConfig,
+    next: Seq,
+    waiting: Option<Seq>,
+}
+
+impl Model for MasterPort {
+    ghost use Rattle.std.specs.Prelude.{option_map};
+    ghost use Rattle.master_port.specs.Port.{Port};
+
+    ghost Value = { Port };
+
+    ghost view = { λ p. record { config = p.config; next = p.next.0; waiting = option_map (λ number. number.0) p.waiting } };
+}
+
+impl MasterPort {
+    /// A port that begins its numbering at `first`; no Sync waits.
+    pub fn new(config: PortConfig, first: Seq) -> MasterPort
+        ensures { result ≡ new_port config first.0 }
+    {
+        MasterPort {
+            config,
+            next: first,
+            waiting: None,
+        }
+    }
+
+    /// Draws a number: the octets of its Sync, and the number. The Sync now waits for its departure
+    /// time, and one that waited before gets no Follow_Up any more.
+    pub fn next_sync(&mut self) -> ([u8; 44], Seq)
+        ensures octets { Packet (sync self.old.config self.old.next) result.0 }
+        ensures number { result.1.0 ≡ self.old.next }
+        ensures port { self.new ≡ record { config = self.old.config; next = next self.old.next; waiting = Some self.old.next } }
+    {
+        let number = self.next;
+        self.next = number.next();
+        self.waiting = Some(number);
+        let config = self.config;
+        let header = config.header(TWO_STEP, Interval(0), number, 0, config.log);
+        let origin = Timestamp::default();
+        (octets_of(header, Body::Sync { origin }), number)
+    }
+
+    /// The Follow_Up of the waiting Sync, which left at t1; no Sync waits then. Refused with 301
+    /// where no Sync of this number waits.
+    pub fn sync_left(&mut self, number: Seq, t1: ScaledTime) -> Result<[u8; 44], MasterRefusal>
+        ensures left { self.old.waiting ≡ Some number.0 → IsOkAnd result (λ octets.
+            Packet (follow_up self.old.config number.0 t1) octets
+            × (self.new ≡ record self.old { waiting = None })) }
+        ensures refused { self.old.waiting ≢ Some number.0 →
+            (result ≡ Err MasterRefusal.NotWaiting) × (self.new ≡ self.old) }
+    {
+        if self.waiting != Some(number) {
+            return Err(MasterRefusal::NotWaiting);
+        }
+        self.waiting = None;
+        Ok(self.follow_up(number, t1))
+    }
+
+    /// The Follow_Up of the Sync of this number, which left at t1.
+    fn follow_up(&self, number: Seq, t1: ScaledTime) -> [u8; 44]
+        ensures { Packet (follow_up self.now.config number.0 t1) result }
+    {
+        let config = self.config;
+        let (precise, fraction) = t1.split();
+        let correction = Interval(i64::from(fraction));
+        let header = config.header(NO_FLAGS, correction, number, 2, config.log);
+        octets_of(header, Body::FollowUp { precise })
+    }
+
+    /// The Delay_Resp to a Delay_Req that arrived at t4. Refused with the first of 302 to 305 that
+    /// applies.
+    #[tactic(auto, using(crate::proofs::Reading::answer_as_read))]
+    pub fn delay_req(&self, octets: &[u8], t4: ScaledTime) -> Result<[u8; 54], MasterRefusal>
+        // What the octets say decides.
+        ensures { (said : Reading) → IsReading octets.now said → MatchResult result
+            (λ written. (resp : Contents) × (answer self.now.config said t4 ≡ Ok resp) × Packet resp written)
+            (λ refusal. answer self.now.config said t4 ≡ Err refusal) }
+    {
+        match decode(octets) {
+            Ok((message, _)) => self.answer(&message, t4),
+            Err(refusal) => Err(MasterRefusal::Decode(refusal)),
+        }
+    }
+
+    /// The Delay_Resp to a message that arrived at t4.
+    fn answer(&self, request: &Message<'_>, t4: ScaledTime) -> Result<[u8; 54], MasterRefusal>
+        ensures { MatchResult result
+            (λ written. (resp : Contents) × (answer self.now.config (Ok (contents request.now)) t4 ≡ Ok resp) × Packet resp written)
+            (λ refusal. answer self.now.config (Ok (contents request.now)) t4 ≡ Err refusal) }
+    {
+        let Body::DelayReq { .. } = request.body else {
+            return Err(MasterRefusal::NotRequest);
+        };
+        let config = self.config;
+        if request.header.domain != config.domain {
+            return Err(MasterRefusal::OtherDomain);
+        }
+        let (receive, fraction) = t4.split();
+        let Ok(correction) = request.header.correction.minus_fraction(fraction) else {
+            return Err(MasterRefusal::CorrectionTooLow);
+        };
+        let sequence = request.header.sequence;
+        let header = config.header(NO_FLAGS, correction, sequence, 3, config.log);
+        let body = Body::DelayResp {
+            receive,
+            requesting: request.header.source,
+        };
+        Ok(octets_of(header, body))
+    }
+}
