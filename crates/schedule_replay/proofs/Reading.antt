@@ -1,5 +1,5 @@
 -- What reading a line answers, over what was consumed on the way.
-use Rattle.std.proofs.Common.{◌≡◌, ◌≢◌, ℕ, suc, ◌+◌, ◌<◌, ◌≤◌, ◌==◌, nat_lt, List, [], ◌∷◌, ◌++◌, Bool, true, false, not, length, take, drop, Option, Some, None, refl, ap, sym, ◌∙◌, arith, subst, append-nil, append_assoc, length-append}
+use Rattle.std.proofs.Common.{◌≡◌, ◌≢◌, ℕ, ◌+◌, ◌<◌, ◌≤◌, ◌==◌, List, [], ◌∷◌, ◌++◌, true, false, not, length, drop, Option, Some, None, refl, ap, sym, ◌∙◌, arith, append-nil, append_assoc, length-append}
 use Rattle.std.proofs.lemmas.Bool.{le-ltb, lt-ltb, true≢false}
 use Rattle.std.proofs.lemmas.List.{take_at, drop_at}
 use Rattle.std.proofs.Math.Dec.{eqb-suc-zero}
@@ -29,7 +29,8 @@ line_ended a b c line count octets first then unended fits allowed known =
       lines_of-ended line rest unended ∙ ap (λ r. line ∷ lines_of r) (sym behind),
       no_fault count line allowed fits,
       left ∙ ap Some (sym behind),
-      λ _. lfs_in-ended line rest unended ∙ ap (λ r. lfs_in r + 1) (sym behind))
+      λ _. lfs_in-ended line rest unended ∙ ap (λ r. lfs_in r + 1) (sym behind),
+    )
 
 line_or_none : (c : Option (List ℕ)) (line : List ℕ) (count : ℕ) → c ≡ Some [] → IsUnended line → reading_fault (count + 1) line ≡ None
     → ReadsLine (not (length line == 0)) (count + 1) line true line c
@@ -54,17 +55,23 @@ line_too_long a b c line x count octets first then other unended full allowed kn
     let (rest, left, split) = Consumes-known a c _ octets (Consumes-trans a b c line (x ∷ []) first then) known in
     let (longer, others, e, long) = longer_line line x rest unended other in
     let whole : octets ≡ line ++ x ∷ rest = split ∙ append_assoc line (x ∷ []) rest in
-    let passed : length (line ++ x ∷ []) ≡ 4097 = simp length-append (omega arith) in
-    (longer, others, ap lines_of whole ∙ e, too_long count longer allowed (omega arith),
-      left ∙ ap Some (sym (ap (drop 4097) split ∙ drop_at (line ++ x ∷ []) rest 4097 passed)))
+    let passed : length (line ++ x ∷ []) ≡ 4097 = simp length-append (omega arith) in (
+      longer,
+      others,
+      ap lines_of whole ∙ e,
+      too_long count longer allowed (omega arith),
+      left ∙ ap Some (sym (ap (drop 4097) split ∙ drop_at (line ++ x ∷ []) rest 4097 passed)),
+    )
 
 pub line_failed : (a b c : Option (List ℕ)) (line : List ℕ) (count : ℕ) (octets : List ℕ) → Consumes a b line → Keeps b c
     → IsUnended line → length line ≤ line_limit → a ≡ Some octets → StopsReading Read (count + 1) octets c
 line_failed a b c line count octets first kept unended fits known =
-    let (rest, left, split) = Consumes-known a c _ octets (Consumes-kept a b c line first kept) known in
-    (length line, fits,
+    let (rest, left, split) = Consumes-known a c _ octets (Consumes-kept a b c line first kept) known in (
+      length line,
+      fits,
       rw (split, take_at line rest (length line) refl) unended,
-      left ∙ ap Some (sym (ap (drop (length line)) split ∙ drop_at line rest (length line) refl)))
+      left ∙ ap Some (sym (ap (drop (length line)) split ∙ drop_at line rest (length line) refl)),
+    )
 
 pub beyond_last : (a b : Option (List ℕ)) (x : ℕ) (octets : List ℕ) → Consumes a b (x ∷ []) → a ≡ Some octets → StopsReading TooManyLines (lines_limit + 1) octets b
 beyond_last a b x octets first known =

@@ -7,8 +7,7 @@ use event_codec::decode;
 /// A datagram is shown by no two texts.
 pub fn shown_by_one_text()
     ensures { (octets one other : List ℕ) → IsShownAs octets one → IsShownAs octets other → one ≡ other }
-{
-}
+{}
 
 /// Any datagram is shown by some text.
 pub fn shown_by_some_text(octets: &[u8])

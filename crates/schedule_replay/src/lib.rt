@@ -12,6 +12,5 @@ pub use counted::Counted;
 pub use fault::{Fault, FaultKind};
 pub use showing::show;
 
-
 #[cfg(test)]
 mod tests;

@@ -128,10 +128,7 @@ pub(super) const RECORDED: [(&str, &str); 6] = [
 /// Datagrams that are refused.
 pub(super) const REFUSED: [(&str, &str); 9] = [
     // No octet, 33, and 34 of a header that says 44.
-    (
-        "",
-        "refused 201",
-    ),
+    ("", "refused 201"),
     (
         "0012002c00000200000000000000000000000000001122fffe3344550001000000",
         "refused 201",

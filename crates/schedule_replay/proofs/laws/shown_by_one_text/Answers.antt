@@ -1,6 +1,6 @@
-use Rattle.std.proofs.Common.{◌≡◌, ℕ, List, take, Some, None, inl, inr, sym, ap, ◌∙◌}
+use Rattle.std.proofs.Common.{◌≡◌, ℕ, List, take, inl, inr, sym, ◌∙◌}
 use Rattle.event_codec.proofs.Same.{contents_same, front_length, decode_refusal-message}
-use Rattle.schedule_replay.specs.Shown.{IsShownAs, ShowsMessage, ShowsRefusal, message_text, refusal_text}
+use Rattle.schedule_replay.specs.Shown.{IsShownAs, ShowsMessage, ShowsRefusal}
 use Rattle.schedule_replay.proofs.laws.shown_by_one_text.Goals as goal
 
 one_message : (octets one other : List ℕ) → ShowsMessage octets one → ShowsMessage octets other → one ≡ other

@@ -10,20 +10,20 @@ returns-in_err-read_next-clause-shown g c =
     let so_far = c.loop-text.invariant.shown octets known held output in
     let read = c.in_err-read_next.ensures in
     rw (p.1, p.2) (at_line octets held _ _ _ _ read.count
-        (stopped_reading octets held _ _ _ _ _ _ _ (rw read.before_end at so_far) (read.next _ so_far.input) read.failures))
+    (stopped_reading octets held _ _ _ _ _ _ _ (rw read.before_end at so_far) (read.next _ so_far.input) read.failures))
 
 pub loop-text-preserved : goal.loop-text-preserved
 loop-text-preserved g c = record {
-    shown = λ octets known held output.
-        let so_far = c.loop-text.invariant.shown octets known held output in
-        let read = c.in_ok-read_next.ensures in
-        let count = rw c.if-branch.true at read.count in
-        let line = rw c.if-branch.true at (read.next _ so_far.input) in
-        rw count (shown_more octets held _ _ _ _ _ _ _ _ (rw (read.before_end c.if-branch.true) at so_far) line
-            (rw c.line.ensures.line at c.in_default.ensures.answer.0) c.in_default.ensures.answer.1);
-    reader = search rules;
-    writer = search rules;
-    ended = search rules;
+  shown = λ octets known held output.
+      let so_far = c.loop-text.invariant.shown octets known held output in
+      let read = c.in_ok-read_next.ensures in
+      let count = rw c.if-branch.true at read.count in
+      let line = rw c.if-branch.true at (read.next _ so_far.input) in
+      rw count (shown_more octets held _ _ _ _ _ _ _ _ (rw (read.before_end c.if-branch.true) at so_far) line
+      (rw c.line.ensures.line at c.in_default.ensures.answer.0) c.in_default.ensures.answer.1);
+  reader = search rules;
+  writer = search rules;
+  ended = search rules;
 }
 
 pub returns-in-Err-clause-shown : goal.returns-in-Err-clause-shown
@@ -34,8 +34,8 @@ returns-in-Err-clause-shown g c =
     let count = rw c.if-branch.true at read.count in
     let line = rw c.if-branch.true at (read.next _ so_far.input) in
     at_line octets held _ _ _ _ (c.fault.ensures.line ∙ count) (rw c.fault.ensures.what
-        (stopped_answering octets held _ _ _ _ _ _ _ _ _ _ (rw (read.before_end c.if-branch.true) at so_far) line
-            (rw c.line.ensures.line at c.in-Err.ensures.answer.0) c.in-Err.ensures.answer.1 c.in-Err.ensures.failures))
+    (stopped_answering octets held _ _ _ _ _ _ _ _ _ _ (rw (read.before_end c.if-branch.true) at so_far) line
+    (rw c.line.ensures.line at c.in-Err.ensures.answer.0) c.in-Err.ensures.answer.1 c.in-Err.ensures.failures))
 
 pub returns-clause-shown : goal.returns-clause-shown
 returns-clause-shown g c =

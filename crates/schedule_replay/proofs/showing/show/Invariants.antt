@@ -1,5 +1,5 @@
 -- The lines so far are shown, and no device failed.
-use Rattle.std.proofs.Common.{◌≡◌, ℕ, List, ◌-◌, Some, true}
+use Rattle.std.proofs.Common.{◌≡◌, ℕ, List, ◌-◌, Some}
 use Rattle.std.specs.Prelude.{IsTrue}
 use Rattle.std.specs.Io.KnownBytes.{IsAtEnd}
 use Rattle.schedule_replay.specs.Counted.{device_of, HasNotFailed}

@@ -6,4 +6,4 @@ use Rattle.schedule_replay.proofs.shown.push_refusal.Goals as goal
 pub returns-in-OtherType : goal.returns-in-OtherType
 returns-in-OtherType c = IfOk-equal c.write-in-OtherType.result _ _ _ c.write-in-OtherType.ensures.bytes
     (rw (c.in_ok-write.ensures.bytes, c.code.ensures, c.in-OtherType.is)
-        (append_assoc _ (codes "refused " ++ decimal 203) (codes " type " ++ decimal c.in-OtherType.kind)))
+    (append_assoc _ (codes "refused " ++ decimal 203) (codes " type " ++ decimal c.in-OtherType.kind)))

@@ -1,6 +1,5 @@
-use Rattle.std.proofs.Common.{◌≡◌, ℕ, ◌-◌, List, ◌++◌, rules, arith, length, take, drop, sym, ap, ◌∙◌, append_assoc, take-append-drop}
+use Rattle.std.proofs.Common.{◌≡◌, ℕ, ◌-◌, List, ◌++◌, rules, length, take, drop, sym, ap, ◌∙◌, append_assoc, take-append-drop}
 use Rattle.std.proofs.lemmas.List.{take_rest}
-use Rattle.std.specs.Io.KnownBytes.{Appends}
 use Rattle.std.proofs.KnownBytes.{Appends-trans}
 use Rattle.schedule_replay.proofs.counted.CountedWrite.write_all.Goals as goal
 
@@ -12,8 +11,9 @@ moves_front all done rest n e =
 pub loop-rest-preserved : goal.loop-rest-preserved
 loop-rest-preserved g c =
     let (done, split, appended, count) = c.loop-rest.invariant in
-    let taken = c.in_ok-taken.taken in
-    (done ++ take taken c.loop-rest.rest.now,
-        moves_front _ done c.loop-rest.rest.now taken split,
-        Appends-trans _ _ _ _ _ appended c.in_ok-taken.ensures.bytes,
-        search rules)
+    let taken = c.in_ok-taken.taken in (
+      done ++ take taken c.loop-rest.rest.now,
+      moves_front _ done c.loop-rest.rest.now taken split,
+      Appends-trans _ _ _ _ _ appended c.in_ok-taken.ensures.bytes,
+      search rules,
+    )
