@@ -1,5 +1,5 @@
 -- What the formats of numbers and octets write.
-use Rattle.std.proofs.Common.{◌≡◌, ℕ, ◌+◌, ◌-◌, ◌*◌, ◌/◌, ◌%◌, ◌^◌, ◌<◌, ◌≤◌, Bool, true, false, List, [], ◌∷◌, ◌++◌, length, take, get_or, slice_index, replicate, refl, sym, ap, ◌∙◌, arith, rules, append-nil, append_assoc}
+use Rattle.std.proofs.Common.{◌≡◌, ℕ, ◌-◌, ◌^◌, Bool, true, List, [], ◌∷◌, ◌++◌, length, replicate, refl, ap, append-nil}
 use native.Mathlib.Numerals.{unary_clauses}
 use Rattle.std.specs.Fmt.{decimal, char_count, styled_decimal, padded_integral, format_spec}
 use Rattle.std.specs.Prelude.{Result, Ok, Err, MatchResult, IsOk, OnOk, IsUtf8, IsAscii, nat_lt, ◌&&◌}
@@ -7,7 +7,7 @@ use Rattle.std.proofs.lemmas.Bool.{and_parts, ltb-true}
 use Rattle.std.proofs.lemmas.Str.Ascii.{IsAscii-nil, IsAscii-cons}
 use Rattle.std.proofs.lemmas.Str.{IsUtf8-from_ascii}
 use Rattle.hex.proofs.HexLemmas.{IsAscii-encode_with}
-use Rattle.hex.specs.Hex.{encode_lower, encode_with, lower_digits}
+use Rattle.hex.specs.Hex.{encode_lower, lower_digits}
 use Rattle.schedule_replay.specs.Shown.{nine_digits}
 
 -- `{:09}`

@@ -4,6 +4,7 @@ use Rattle.std.specs.Prelude.{slice_get}
 use Rattle.std.specs.Io.BufRead.{drop_through}
 use Rattle.std.specs.Io.KnownBytes.{Appends, Keeps}
 use Rattle.schedule_replay.proofs.KnownOctets.{Keeps-known, Appends-known}
+use Rattle.schedule_replay.specs.declared.counted.Counted.{Counted}
 use Rattle.schedule_replay.specs.declared.fault.Fault.{Fault}
 use Rattle.schedule_replay.specs.declared.fault.FaultKind.{FaultKind}
 use Rattle.schedule_replay.specs.declared.fault.FaultKind.TheVariants.{Read, Write, LineTooLong, TooManyLines, Field, Memory}
@@ -82,7 +83,7 @@ at_answering number line what read own = rw read own
 -- ---- the loop
 
 pub shown_all : (octets held : List ℕ) (count : ℕ) (ended : Bool) (left left' now : Option (List ℕ)) → HasShown octets held count ended left now
-    → after_lines count octets ≡ [] → left' ≡ Some [] → ShowsAll octets held count left' now
+    → after_lines count octets ≡ [] → left' ≡ Some [] → ShowsAll octets held left' now count
 shown_all octets held count ended left left' now so_far none end =
     let all = within_list count (lines_of octets) (so_far.rest ∙ ap lines_of none) so_far.within in
     record {
@@ -113,7 +114,7 @@ shown_more octets held count ended left left' now now' line written so_far (cut,
 
 until : (octets held : List ℕ) (count : ℕ) (left left' now now' : Option (List ℕ)) (what : FaultKind) → (so_far : HasShown octets held count false left now)
     → WentOutAs what (now' ≡ Some (held ++ so_far.text)) → IsFaultAt what (count + 1) (slice_get (lines_of octets) count)
-    → LeavesUnread what (after_lines count octets) left' → ShowsUntil octets held (record { line = count + 1; what = what }) left' now'
+    → LeavesUnread what (after_lines count octets) left' → ShowsUntil octets held left' now' (record { line = count + 1; what = what })
 until octets held count left left' now now' what so_far out fault unread = record {
   earlier = count;
   line = refl;
@@ -125,39 +126,39 @@ until octets held count left left' now now' what so_far out fault unread = recor
   input = unread;
 }
 
-pub stopped_reading : (octets held : List ℕ) (count : ℕ) (left left' now : Option (List ℕ)) (what : FaultKind) (failed unfailed : Type 0)
-    → HasShown octets held count false left now → StopsReading what (count + 1) (after_lines count octets) left' → IsFromReading what failed unfailed
-    → ShowsUntil octets held (record { line = count + 1; what = what }) left' now
-stopped_reading octets held count left left' now Read failed unfailed so_far stops allowed =
+pub stopped_reading : (octets held : List ℕ) (count : ℕ) (left left' now : Option (List ℕ)) (what : FaultKind) {R : Type 0} (input input' : Counted R)
+    → HasShown octets held count false left now → StopsReading what (count + 1) (after_lines count octets) left' → IsFromReading what input input'
+    → ShowsUntil octets held left' now (record { line = count + 1; what = what })
+stopped_reading octets held count left left' now Read input input' so_far stops allowed =
     until octets held count left left' now now Read so_far so_far.output tt stops
-stopped_reading octets held count left left' now LineTooLong failed unfailed so_far (line, others, cut, fault, unread) allowed =
+stopped_reading octets held count left left' now LineTooLong input input' so_far (line, others, cut, fault, unread) allowed =
     let place = is_at count (lines_of octets) line others (so_far.rest ∙ cut) in
     until octets held count left left' now now LineTooLong so_far so_far.output (rw place.at (at_reading (count + 1) line LineTooLong fault)) unread
-stopped_reading octets held count left left' now TooManyLines failed unfailed so_far (line, others, cut, fault, unread) allowed =
+stopped_reading octets held count left left' now TooManyLines input input' so_far (line, others, cut, fault, unread) allowed =
     let place = is_at count (lines_of octets) line others (so_far.rest ∙ cut) in
     until octets held count left left' now now TooManyLines so_far so_far.output (rw place.at (at_reading (count + 1) line TooManyLines fault)) unread
-stopped_reading octets held count left left' now Write failed unfailed so_far stops allowed = absurd allowed
-stopped_reading octets held count left left' now Field failed unfailed so_far stops allowed = absurd allowed
-stopped_reading octets held count left left' now Memory failed unfailed so_far stops allowed = absurd allowed
+stopped_reading octets held count left left' now Write input input' so_far stops allowed = absurd allowed
+stopped_reading octets held count left left' now Field input input' so_far stops allowed = absurd allowed
+stopped_reading octets held count left left' now Memory input input' so_far stops allowed = absurd allowed
 
-pub stopped_answering : (octets held : List ℕ) (count : ℕ) (ended : Bool) (left left' now now' : Option (List ℕ)) (line : List ℕ) (what : FaultKind) (failed fine : Type 0)
+pub stopped_answering : (octets held : List ℕ) (count : ℕ) (ended : Bool) (left left' now now' : Option (List ℕ)) (line : List ℕ) (what : FaultKind) {W : Type 0} (output output' : Counted W)
     → HasShown octets held count false left now → ReadsLine true (count + 1) line ended (after_lines count octets) left'
-    → digits_fault (without_cr line) ≡ own_fault what → WentOutAs what (Keeps now now') → IsFromAnswering what failed fine
-    → ShowsUntil octets held (record { line = count + 1; what = what }) left' now'
-stopped_answering octets held count ended left left' now now' line Write failed fine so_far (cut, read, behind, lf) own out allowed =
+    → digits_fault (without_cr line) ≡ own_fault what → WentOutAs what (Keeps now now') → IsFromAnswering what output output'
+    → ShowsUntil octets held left' now' (record { line = count + 1; what = what })
+stopped_answering octets held count ended left left' now now' line Write output output' so_far (cut, read, behind, lf) own out allowed =
     let place = is_at count (lines_of octets) line _ (so_far.rest ∙ cut) in
     until octets held count left left' now now' Write so_far tt (rw place.at (at_answering (count + 1) line Write read own)) behind
-stopped_answering octets held count ended left left' now now' line Field failed fine so_far (cut, read, behind, lf) own out allowed =
+stopped_answering octets held count ended left left' now now' line Field output output' so_far (cut, read, behind, lf) own out allowed =
     let place = is_at count (lines_of octets) line _ (so_far.rest ∙ cut) in
     until octets held count left left' now now' Field so_far (Keeps-known now now' _ out so_far.output) (rw place.at (at_answering (count + 1) line Field read own)) behind
-stopped_answering octets held count ended left left' now now' line Memory failed fine so_far (cut, read, behind, lf) own out allowed =
+stopped_answering octets held count ended left left' now now' line Memory output output' so_far (cut, read, behind, lf) own out allowed =
     let place = is_at count (lines_of octets) line _ (so_far.rest ∙ cut) in
     until octets held count left left' now now' Memory so_far (Keeps-known now now' _ out so_far.output) (rw place.at (at_answering (count + 1) line Memory read own)) behind
-stopped_answering octets held count ended left left' now now' line Read failed fine so_far read own out allowed = absurd allowed
-stopped_answering octets held count ended left left' now now' line LineTooLong failed fine so_far read own out allowed = absurd allowed
-stopped_answering octets held count ended left left' now now' line TooManyLines failed fine so_far read own out allowed = absurd allowed
+stopped_answering octets held count ended left left' now now' line Read output output' so_far read own out allowed = absurd allowed
+stopped_answering octets held count ended left left' now now' line LineTooLong output output' so_far read own out allowed = absurd allowed
+stopped_answering octets held count ended left left' now now' line TooManyLines output output' so_far read own out allowed = absurd allowed
 
 -- the fault is at that line
 pub at_line : (octets held : List ℕ) (stop : Fault) (number : ℕ) (left now : Option (List ℕ)) → stop.line ≡ number
-    → ShowsUntil octets held (record { line = number; what = stop.what }) left now → ShowsUntil octets held stop left now
-at_line octets held stop number left now e h = subst (λ n. ShowsUntil octets held (record { line = n; what = stop.what }) left now) (sym e) h
+    → ShowsUntil octets held left now (record { line = number; what = stop.what }) → ShowsUntil octets held left now stop
+at_line octets held stop number left now e h = subst (λ n. ShowsUntil octets held left now (record { line = n; what = stop.what })) (sym e) h

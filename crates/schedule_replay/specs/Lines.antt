@@ -1,8 +1,10 @@
 -- How an input is cut into lines, and what reading one of them answers.
 use Rattle.std.specs.Prelude.{◌≡◌, ◌≢◌, ℕ, zero, suc, ◌+◌, ◌≤◌, nat_lt, List, [], ◌∷◌, length, take, drop, count_by, All, Bool, true, false, ◌==◌, if◌then◌else◌, Option, Some, None}
 use Rattle.std.specs.Io.BufRead.{drop_through, strip_last}
+use Rattle.schedule_replay.specs.declared.counted.Counted.{Counted}
 use Rattle.schedule_replay.specs.declared.fault.FaultKind.{FaultKind}
 use Rattle.schedule_replay.specs.declared.fault.FaultKind.TheVariants.{Read, Write, LineTooLong, TooManyLines, Field, Memory}
+use Rattle.schedule_replay.specs.Counted.{HasFailed, HasNotFailed}
 
 -- an octet in front of the first line
 abbrev pub begin_line : ℕ → List (List ℕ) → List (List ℕ)
@@ -69,8 +71,8 @@ ReadsLine true number line ended octets left =
 ReadsLine false number line ended octets left = (octets ≡ []) × (left ≡ Some [])
 
 -- the kinds of fault in reading a line, of which one says that the reader failed
-abbrev pub IsFromReading : FaultKind → (failed unfailed : Type 0) → Type 0
-IsFromReading Read failed unfailed = failed
-IsFromReading LineTooLong failed unfailed = unfailed
-IsFromReading TooManyLines failed unfailed = unfailed
-IsFromReading kind failed unfailed = ⊥
+abbrev pub IsFromReading : {R : Type 0} → FaultKind → Counted R → Counted R → Type 0
+IsFromReading Read old new = HasFailed old new
+IsFromReading LineTooLong old new = HasNotFailed old new
+IsFromReading TooManyLines old new = HasNotFailed old new
+IsFromReading kind old new = ⊥

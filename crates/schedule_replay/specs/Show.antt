@@ -2,9 +2,11 @@
 use Rattle.std.specs.Prelude.{◌≡◌, ℕ, ◌+◌, ◌≤◌, List, [], ◌∷◌, ◌++◌, length, take, slice_get, is_ok, Option, Some, None, Ok, ⊤, if◌then◌else◌}
 use Rattle.std.specs.Option.{option_or}
 use Rattle.hex.specs.Hex.{decode_of}
+use Rattle.schedule_replay.specs.declared.counted.Counted.{Counted}
 use Rattle.schedule_replay.specs.declared.fault.Fault.{Fault}
 use Rattle.schedule_replay.specs.declared.fault.FaultKind.{FaultKind}
 use Rattle.schedule_replay.specs.declared.fault.FaultKind.TheVariants.{Read, Write, Field, Memory}
+use Rattle.schedule_replay.specs.Counted.{HasFailed, HasNotFailed}
 use Rattle.schedule_replay.specs.Lines.{lines_of, lfs_in, after_lines, without_cr, reading_fault, LeavesUnread}
 use Rattle.schedule_replay.specs.Shown.{IsShownAs}
 
@@ -48,8 +50,8 @@ abbrev pub WentOutAs : FaultKind → Type 0 → Type 0
 WentOutAs Write known = ⊤
 WentOutAs kind known = known
 
--- All lines of an input of these octets were shown behind what the output held, and the input is at its end.
-pub record ShowsAll (octets held : List ℕ) (lines : ℕ) (left now : Option (List ℕ)) : Type 0 where
+-- all lines of an input of these octets were shown behind what the output held, and the input is at its end
+pub record ShowsAll (octets held : List ℕ) (left now : Option (List ℕ)) (lines : ℕ) : Type 0 where
   pub count : lines ≡ length (lines_of octets)
   pub text : List ℕ
   pub shown : ShowsLines 1 (lines_of octets) text
@@ -58,7 +60,7 @@ pub record ShowsAll (octets held : List ℕ) (lines : ℕ) (left now : Option (L
 
 -- The lines before a fault, each with its LF, were shown behind what the output held, and nothing else. The fault is
 -- that of the next line, of which and behind which the rest is unread.
-pub record ShowsUntil (octets held : List ℕ) (stop : Fault) (left now : Option (List ℕ)) : Type 0 where
+pub record ShowsUntil (octets held : List ℕ) (left now : Option (List ℕ)) (stop : Fault) : Type 0 where
   pub earlier : ℕ
   pub line : stop.line ≡ earlier + 1
   pub ended : earlier ≤ lfs_in octets
@@ -69,14 +71,14 @@ pub record ShowsUntil (octets held : List ℕ) (stop : Fault) (left now : Option
   pub input : LeavesUnread stop.what (after_lines earlier octets) left
 
 -- which of the two devices failed where this is answered
-abbrev pub FailedAs : FaultKind → (reader_failed reader_fine writer_failed writer_fine : Type 0) → Type 0
-FailedAs Read reader_failed reader_fine writer_failed writer_fine = reader_failed × writer_fine
-FailedAs Write reader_failed reader_fine writer_failed writer_fine = reader_fine × writer_failed
-FailedAs kind reader_failed reader_fine writer_failed writer_fine = reader_fine × writer_fine
+abbrev pub FailedAs : {R W : Type 0} → FaultKind → (input input' : Counted R) (output output' : Counted W) → Type 0
+FailedAs Read input input' output output' = HasFailed input input' × HasNotFailed output output'
+FailedAs Write input input' output output' = HasNotFailed input input' × HasFailed output output'
+FailedAs kind input input' output output' = HasNotFailed input input' × HasNotFailed output output'
 
 -- the kinds of fault in answering a line, of which one says that the writer failed
-abbrev pub IsFromAnswering : FaultKind → (failed fine : Type 0) → Type 0
-IsFromAnswering Write failed fine = failed
-IsFromAnswering Field failed fine = fine
-IsFromAnswering Memory failed fine = fine
-IsFromAnswering kind failed fine = ⊥
+abbrev pub IsFromAnswering : {W : Type 0} → FaultKind → Counted W → Counted W → Type 0
+IsFromAnswering Write old new = HasFailed old new
+IsFromAnswering Field old new = HasNotFailed old new
+IsFromAnswering Memory old new = HasNotFailed old new
+IsFromAnswering kind old new = ⊥

@@ -26,12 +26,13 @@ pub(crate) struct Lines {
 
 /// The next octet, or None at the end of the input.
 fn read_octet<R: Read>(input: &mut Counted<R>) -> Result<Option<u8>, FaultKind>
-    ensures octet { MatchResult result
+    ensures octet { let before = R.remaining (device_of input.old) in
+        let after = R.remaining (device_of input.new) in
+        MatchResult result
         (λ next. MatchOption next
-        (Consumes (R.remaining (device_of input.old)) (R.remaining (device_of input.new)) []
-        × IsAtEnd (R.remaining (device_of input.new)))
-        (λ octet. Consumes (R.remaining (device_of input.old)) (R.remaining (device_of input.new)) (octet ∷ [])))
-        (λ _. Keeps (R.remaining (device_of input.old)) (R.remaining (device_of input.new))) }
+        (Consumes before after [] × IsAtEnd after)
+        (λ octet. Consumes before after (octet ∷ [])))
+        (λ _. Keeps before after) }
     ensures failures { MatchResult result
         (λ _. HasNotFailed input.old input.new)
         (λ kind. (kind ≡ FaultKind.Read) × HasFailed input.old input.new) }
@@ -92,10 +93,10 @@ impl Lines {
     pub(crate) fn read_next<R: Read>(&mut self, input: &mut Counted<R>) -> Result<bool, Fault>
         requires { IsTrue self.old.ended → IsAtEnd (R.remaining (device_of input.old)) }
         ensures next { ForSome (R.remaining (device_of input.old)) (λ octets.
+            let left = R.remaining (device_of input.new) in
             MatchResult result
-            (λ found. ReadsLine found (self.old.count + 1) self.new.line.items self.new.ended octets
-            (R.remaining (device_of input.new)))
-            (λ fault. StopsReading fault.what (self.old.count + 1) octets (R.remaining (device_of input.new)))) }
+            (λ found. ReadsLine found (self.old.count + 1) self.new.line.items self.new.ended octets left)
+            (λ fault. StopsReading fault.what (self.old.count + 1) octets left)) }
         ensures count { MatchResult result
             (λ found. self.new.count ≡ (if found then self.old.count + 1 else self.old.count))
             (λ fault. fault.line ≡ self.old.count + 1) }
@@ -105,7 +106,7 @@ impl Lines {
             (λ _. self.old.ended ≡ false) }
         ensures failures { MatchResult result
             (λ _. HasNotFailed input.old input.new)
-            (λ fault. IsFromReading fault.what (HasFailed input.old input.new) (HasNotFailed input.old input.new)) }
+            (λ fault. IsFromReading fault.what input.old input.new) }
     {
         if self.ended {
             return Ok(false);
@@ -126,15 +127,15 @@ impl Lines {
         requires within { self.old.count < lines_limit }
         requires before_end { self.old.ended ≡ false }
         ensures next { ForSome (R.remaining (device_of input.old)) (λ octets.
+            let left = R.remaining (device_of input.new) in
             MatchResult result
-            (λ found. ReadsLine found (self.old.count + 1) self.new.line.items self.new.ended octets
-            (R.remaining (device_of input.new)))
-            (λ kind. StopsReading kind (self.old.count + 1) octets (R.remaining (device_of input.new)))) }
+            (λ found. ReadsLine found (self.old.count + 1) self.new.line.items self.new.ended octets left)
+            (λ kind. StopsReading kind (self.old.count + 1) octets left)) }
         ensures count { self.new.count ≡ self.old.count }
         ensures ended { IsTrue self.new.ended → IsAtEnd (R.remaining (device_of input.new)) }
         ensures failures { MatchResult result
             (λ _. HasNotFailed input.old input.new)
-            (λ kind. IsFromReading kind (HasFailed input.old input.new) (HasNotFailed input.old input.new)) }
+            (λ kind. IsFromReading kind input.old input.new) }
     {
         self.line.clear();
         while let Some(octet) = read_octet(input)? {
@@ -153,13 +154,14 @@ impl Lines {
 /// Reads behind the last line that is allowed.
 fn expect_end<R: Read>(input: &mut Counted<R>) -> Result<bool, FaultKind>
     ensures next { ForSome (R.remaining (device_of input.old)) (λ octets. (line : List ℕ) →
+        let left = R.remaining (device_of input.new) in
         MatchResult result
-        (λ found. ReadsLine found (lines_limit + 1) line false octets (R.remaining (device_of input.new)))
-        (λ kind. StopsReading kind (lines_limit + 1) octets (R.remaining (device_of input.new)))) }
+        (λ found. ReadsLine found (lines_limit + 1) line false octets left)
+        (λ kind. StopsReading kind (lines_limit + 1) octets left)) }
     ensures none { IfOk result (λ found. found ≡ false) }
     ensures failures { MatchResult result
         (λ _. HasNotFailed input.old input.new)
-        (λ kind. IsFromReading kind (HasFailed input.old input.new) (HasNotFailed input.old input.new)) }
+        (λ kind. IsFromReading kind input.old input.new) }
 {
     match read_octet(input)? {
         Some(_) => Err(FaultKind::TooManyLines),

@@ -41,14 +41,14 @@ fn show_line<W: Write>(
     output: &mut Counted<W>,
 ) -> Result<(), FaultKind>
     requires { length digits.now ≤ line_limit }
-    ensures answer { MatchResult result
-        (λ _. IsAnswer digits.now (string_bytes text.new)
-        × Appends (W.contents (device_of output.old)) (W.contents (device_of output.new)) (string_bytes text.new))
-        (λ kind. (digits_fault digits.now ≡ own_fault kind)
-        × WentOutAs kind (Keeps (W.contents (device_of output.old)) (W.contents (device_of output.new)))) }
+    ensures answer { let before = W.contents (device_of output.old) in
+        let after = W.contents (device_of output.new) in
+        MatchResult result
+        (λ _. IsAnswer digits.now (string_bytes text.new) × Appends before after (string_bytes text.new))
+        (λ kind. (digits_fault digits.now ≡ own_fault kind) × WentOutAs kind (Keeps before after)) }
     ensures failures { MatchResult result
         (λ _. HasNotFailed output.old output.new)
-        (λ kind. IsFromAnswering kind (HasFailed output.old output.new) (HasNotFailed output.old output.new)) }
+        (λ kind. IsFromAnswering kind output.old output.new) }
 {
     make_answer(text, digits)?;
     match output.write_all(text.as_bytes()) {
@@ -68,14 +68,14 @@ pub fn show<R: Read, W: Write>(
     input: &mut Counted<R>,
     output: &mut Counted<W>,
 ) -> Result<u64, Fault>
-    ensures shown { ForSome (R.remaining (device_of input.old)) (λ octets. ForSome (W.contents (device_of output.old)) (λ held.
-        MatchResult result
-        (λ lines. ShowsAll octets held lines (R.remaining (device_of input.new)) (W.contents (device_of output.new)))
-        (λ fault. ShowsUntil octets held fault (R.remaining (device_of input.new)) (W.contents (device_of output.new))))) }
+    ensures shown { ForSome (R.remaining (device_of input.old)) (λ octets.
+        ForSome (W.contents (device_of output.old)) (λ held.
+        let left = R.remaining (device_of input.new) in
+        let now = W.contents (device_of output.new) in
+        MatchResult result (ShowsAll octets held left now) (ShowsUntil octets held left now))) }
     ensures failures { MatchResult result
         (λ _. HasNotFailed input.old input.new × HasNotFailed output.old output.new)
-        (λ fault. FailedAs fault.what (HasFailed input.old input.new) (HasNotFailed input.old input.new)
-        (HasFailed output.old output.new) (HasNotFailed output.old output.new)) }
+        (λ fault. FailedAs fault.what input.old input.new output.old output.new) }
 {
     let mut lines = Lines::new();
     let mut text = String::new(alloc);

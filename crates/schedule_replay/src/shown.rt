@@ -8,9 +8,8 @@ ghost use Rattle.schedule_replay.specs.Shown.{name_of, identity_text, correction
 use event_codec::{Body, DecodeRefusal, Header, Message, PortIdentity, decode};
 use ptp_units::{Interval, Timestamp};
 use std::alloc::AllocError;
-use std::fmt;
 use std::fmt::{Display, Formatter};
-use std::str;
+use std::{fmt, str};
 
 /// The octets of a field, at most eight, in lower case hexadecimal.
 #[derive(Clone, Copy)]
@@ -50,7 +49,14 @@ impl Display for Identity<'_> {
     ghost output = { λ identity. Some (identity_text identity.0.now) };
 
     fn fmt<W: fmt::Write>(&self, f: &mut Formatter<W>) -> fmt::Result {
-        write!(f, "{}/{}", Hexadecimal { octets: &self.0.clock }, self.0.port)
+        write!(
+            f,
+            "{}/{}",
+            Hexadecimal {
+                octets: &self.0.clock
+            },
+            self.0.port
+        )
     }
 }
 
@@ -141,16 +147,22 @@ fn push_header(text: &mut String, header: &Header, name: &str) -> Result<(), All
         text,
         "{name} sdo={}{} version=2.{} domain={} flags={}",
         digit_of(header.major_sdo.value()),
-        Hexadecimal { octets: &[header.minor_sdo] },
+        Hexadecimal {
+            octets: &[header.minor_sdo]
+        },
         header.minor_version.value(),
         header.domain,
-        Hexadecimal { octets: &header.flags }
+        Hexadecimal {
+            octets: &header.flags
+        }
     )?;
     write!(
         text,
         " correction={} specific={} source={}",
         Correction(header.correction),
-        Hexadecimal { octets: &header.specific },
+        Hexadecimal {
+            octets: &header.specific
+        },
         Identity(&header.source)
     )?;
     write!(

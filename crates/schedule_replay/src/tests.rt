@@ -21,7 +21,11 @@ fn assert_shown(rt: &(impl Abort + AllocGlobal), datagram: &str, text: &str) -> 
     let line = format!(in rt.alloc(); "{datagram}\n")?;
     let (answer, written, unread) = shown(rt.alloc(), line.as_bytes());
     assert_eq!(rt; answer, Ok(1), "{datagram}");
-    assert_eq!(rt; written.as_slice(), format!(in rt.alloc(); "{text}\n")?.as_bytes(), "{datagram}");
+    assert_eq!(rt;
+        written.as_slice(),
+        format!(in rt.alloc(); "{text}\n")?.as_bytes(),
+        "{datagram}"
+    );
     assert_eq!(rt; unread.len(), 0, "{datagram}");
     Ok(())
 }
@@ -130,13 +134,76 @@ fn leaves_the_lines_behind_a_fault(rt: HostRuntime) -> Result<(), Fail> {
 /// So many times an octet, and these behind it: what is answered, how many lines were, and how many
 /// octets are unread.
 const LENGTHS: [(u8, usize, &[u8], Result<u64, Fault>, usize); 9] = [
-    (b'x', 4096, b"\n", Err(Fault { line: 1, what: FaultKind::Field }), 0),
-    (b'x', 4097, b"\n", Err(Fault { line: 1, what: FaultKind::LineTooLong }), 1),
-    (b'x', 4097, b"", Err(Fault { line: 1, what: FaultKind::LineTooLong }), 0),
-    (b'x', 5000, b"\n\n", Err(Fault { line: 1, what: FaultKind::LineTooLong }), 905),
-    (b'x', 4096, b"\r\n", Err(Fault { line: 1, what: FaultKind::LineTooLong }), 1),
-    (b'0', 4096, b"\r\n", Err(Fault { line: 1, what: FaultKind::LineTooLong }), 1),
-    (b'0', 4095, b"\r\n", Err(Fault { line: 1, what: FaultKind::Field }), 0),
+    (
+        b'x',
+        4096,
+        b"\n",
+        Err(Fault {
+            line: 1,
+            what: FaultKind::Field,
+        }),
+        0,
+    ),
+    (
+        b'x',
+        4097,
+        b"\n",
+        Err(Fault {
+            line: 1,
+            what: FaultKind::LineTooLong,
+        }),
+        1,
+    ),
+    (
+        b'x',
+        4097,
+        b"",
+        Err(Fault {
+            line: 1,
+            what: FaultKind::LineTooLong,
+        }),
+        0,
+    ),
+    (
+        b'x',
+        5000,
+        b"\n\n",
+        Err(Fault {
+            line: 1,
+            what: FaultKind::LineTooLong,
+        }),
+        905,
+    ),
+    (
+        b'x',
+        4096,
+        b"\r\n",
+        Err(Fault {
+            line: 1,
+            what: FaultKind::LineTooLong,
+        }),
+        1,
+    ),
+    (
+        b'0',
+        4096,
+        b"\r\n",
+        Err(Fault {
+            line: 1,
+            what: FaultKind::LineTooLong,
+        }),
+        1,
+    ),
+    (
+        b'0',
+        4095,
+        b"\r\n",
+        Err(Fault {
+            line: 1,
+            what: FaultKind::Field,
+        }),
+        0,
+    ),
     (b'0', 4094, b"\r\n", Ok(1), 0),
     (b'0', 4096, b"", Ok(1), 0),
 ];
@@ -150,7 +217,11 @@ fn lines_have_at_most_4096_octets(rt: HostRuntime) -> Result<(), Fail> {
         assert_eq!(rt; answer, wanted, "{count}");
         assert_eq!(rt; unread.len(), left, "{count}");
         // A datagram of zeros has versionPTP 0.
-        let text: &[u8] = if wanted.is_ok() { b"refused 202\n" } else { b"" };
+        let text: &[u8] = if wanted.is_ok() {
+            b"refused 202\n"
+        } else {
+            b""
+        };
         assert_eq!(rt; written.as_slice(), text, "{count}");
     }
     Ok(())
@@ -169,7 +240,10 @@ fn ends_at_endless_lines(rt: HostRuntime) -> Result<(), Fail> {
     let mut reader = Counted::new(Endless::new(b'\n'));
     let mut writer = Counted::new(Tally::new(b"refused 201\n"));
     let answer = show(rt.alloc(), &mut reader, &mut writer);
-    assert_eq!(rt; answer, outcome_of(0, Some((1_048_577, FaultKind::TooManyLines))));
+    assert_eq!(rt;
+        answer,
+        outcome_of(0, Some((1_048_577, FaultKind::TooManyLines)))
+    );
     assert_eq!(rt; reader.into_inner().given(), 1_048_577);
     assert_eq!(rt; writer.failures(), 0);
     assert_eq!(rt; writer.into_inner().count(), 1_048_576);
@@ -194,7 +268,11 @@ fn stops_where_the_reader_fails(rt: HostRuntime) -> Result<(), Fail> {
             assert_eq!(rt; answer, Err(fault), "{given}");
             assert_eq!(rt; reader.failures(), 1, "{given}");
             assert_eq!(rt; writer.failures(), 0, "{given}");
-            assert_eq!(rt; writer.into_inner(), short_answers(rt.alloc(), ended)?, "{given}");
+            assert_eq!(rt;
+                writer.into_inner(),
+                short_answers(rt.alloc(), ended)?,
+                "{given}"
+            );
         }
     }
     Ok(())
@@ -203,7 +281,11 @@ fn stops_where_the_reader_fails(rt: HostRuntime) -> Result<(), Fail> {
 #[test]
 fn stops_where_the_writer_fails(rt: HostRuntime) -> Result<(), Fail> {
     for room in 0..=5 {
-        for kind in [None, Some(ErrorKind::BrokenPipe), Some(ErrorKind::Interrupted)] {
+        for kind in [
+            None,
+            Some(ErrorKind::BrokenPipe),
+            Some(ErrorKind::Interrupted),
+        ] {
             let mut reader = Counted::new(SHORT);
             let mut writer = Counted::new(Full::new(Vec::new(rt.alloc()), room, kind));
             let answer = show(rt.alloc(), &mut reader, &mut writer);
@@ -212,7 +294,11 @@ fn stops_where_the_writer_fails(rt: HostRuntime) -> Result<(), Fail> {
             assert_eq!(rt; reader.failures(), 0, "{room}");
             assert_eq!(rt; writer.failures(), u64::from(room < 5), "{room}");
             let written = writer.into_inner();
-            assert_eq!(rt; written.text(), short_answers(rt.alloc(), room)?.as_slice(), "{room}");
+            assert_eq!(rt;
+                written.text(),
+                short_answers(rt.alloc(), room)?.as_slice(),
+                "{room}"
+            );
         }
     }
     Ok(())
