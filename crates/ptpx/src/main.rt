@@ -2,10 +2,9 @@
 #![tactic(auto)]
 
 use schedule_replay::{Counted, command};
-use std::env;
-use std::io;
 use std::io::{BufReader, ErrorKind};
 use std::process::ExitCode;
+use std::{env, io};
 
 /// Words that can't be read as text are no command.
 const NOT_WORDS: u8 = 2;
@@ -30,7 +29,13 @@ fn run(rt: &HostRuntime) -> u8 {
     };
     let mut input = Counted::new(reader);
     let mut output = Counted::new(rt.stdout());
-    command(alloc, words.as_slice(), &mut input, &mut output, &mut rt.stderr())
+    command(
+        alloc,
+        words.as_slice(),
+        &mut input,
+        &mut output,
+        &mut rt.stderr(),
+    )
 }
 
 fn not_words(rt: &HostRuntime) -> u8 {

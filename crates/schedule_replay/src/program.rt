@@ -30,11 +30,11 @@ pub fn command<R: Read, W: Write, E: Write>(
     ensures show { AsksShow (map string_bytes words.now) →
         ((result ≡ 3) × (input.new ≡ input.old) × (output.new ≡ output.old))
         ⊎ ((answer : Result ℕ Fault) × (result ≡ status_of answer)
-            × ForSome (R.remaining (device_of input.old)) (λ octets.
-            ForSome (W.contents (device_of output.old)) (λ held.
-            let left = R.remaining (device_of input.new) in
-            let now = W.contents (device_of output.new) in
-            MatchResult answer (ShowsAll octets held left now) (ShowsUntil octets held left now)))) }
+        × ForSome (R.remaining (device_of input.old)) (λ octets.
+        ForSome (W.contents (device_of output.old)) (λ held.
+        let left = R.remaining (device_of input.new) in
+        let now = W.contents (device_of output.new) in
+        MatchResult answer (ShowsAll octets held left now) (ShowsUntil octets held left now)))) }
     // Help is written, or a fault is said.
     ensures help { HasHelpFlag (map string_bytes words.now) → ((result ≡ 0) ⊎ (result ≡ 3)) × (input.new ≡ input.old) }
     // Other words are no command.
