@@ -250,6 +250,8 @@ fn a_change_of_master_drops_what_is_held(rt: HostRuntime) {
 #[test]
 fn a_request_is_answered_once_it_left(rt: HostRuntime) {
     let mut slave = slave_of(Some(MASTER));
+    let left = slave.request_left(Seq(0), moment(&rt, 1, 0, 0));
+    assert_eq!(rt; left, Err(SlaveRefusal::NotHeld));
     let (_, number) = slave.next_request(1);
     assert_eq!(rt; code(slave.general(&plain_delay_resp(0), 3)), Some(510));
     assert_eq!(rt; slave.request_left(number, moment(&rt, 1, 0, 0)), Ok(()));

@@ -1,5 +1,5 @@
 -- What a decoder answers, forwarded by a clock.
-use Rattle.std.proofs.Common.{◌≡◌, ℕ, ◌-◌, ◌≤◌, ℤ, List, length, take, Ok, Err, ap, sym, subst, ◌∙◌}
+use Rattle.std.proofs.Common.{◌≡◌, ℕ, ◌≤◌, ℤ, List, length, take, Ok, Err, ap, sym, subst, ◌∙◌}
 use Rattle.ptp_units.specs.declared.interval.Interval.{Interval}
 use Rattle.ptp_units.specs.Interval.{with_residence}
 use Rattle.event_codec.specs.declared.message.Message.{Message}
@@ -9,7 +9,7 @@ use Rattle.event_codec.specs.Refusal.{message_length}
 use Rattle.event_codec.specs.Correction.{corrected, with_correction}
 use Rattle.transparent_clock.specs.Forwarding.{forwarded}
 
--- as the octets say
+-- what octets say is forwarded as the message read from them
 pub forwarded_as_read : (m : Message) (used : ℕ) (said : Reading) (entered left : ℕ) → Answers (Ok (m, used)) said
     → forwarded said entered left ≡ forwarded (Ok (contents m)) entered left
 forwarded_as_read m used (Ok read) entered left h = ap (λ (x : Contents). forwarded (Ok x) entered left) (sym h.0)
