@@ -1,0 +1,17 @@
+pub mod Name
+pub mod Network
+pub mod Clash
+pub mod Index
+pub mod Refusal
+pub mod Run
+pub mod Clock
+pub mod Numbering
+pub mod Journey
+pub mod Truth
+pub mod SlaveHistory
+pub mod Outcome
+pub mod Premises
+pub mod Exact
+pub mod Headline
+pub mod Level
+pub mod TrueTime

@@ -1,0 +1,88 @@
+use crate::name::Name;
+use ptp_units::ScaledTime;
+
+/// What happens at a node. A moment is in units of 2^-16 ns and is the true one, from which the
+/// node's own reading differs by what its last [`Event::StepClock`] set.
+///
+/// An event's tag is its place among the events that happened, from 0. A message that an event
+/// made is called by that event's tag: its copies may go into any number of later events.
+#[derive(Clone, Copy, Debug, PartialEq, Eq)]
+pub enum Event {
+    /// A master sends a Sync.
+    Sync {
+        /// The master.
+        node: Name,
+        /// When the Sync departs.
+        at: ScaledTime,
+    },
+    /// A master sends the Follow_Up of its last Sync.
+    Follow {
+        /// The master.
+        node: Name,
+    },
+    /// A copy of a message enters a transparent clock.
+    Enter {
+        /// The transparent clock.
+        node: Name,
+        /// The tag of the event that made the copy.
+        copy: u64,
+        /// When the copy enters.
+        at: ScaledTime,
+    },
+    /// A message leaves the transparent clock that it entered, with its residence time added.
+    Leave {
+        /// The transparent clock.
+        node: Name,
+        /// The tag of the event by which the message entered.
+        transit: u64,
+        /// When the message leaves.
+        at: ScaledTime,
+    },
+    /// A copy of an event message arrives at a master or at a slave, which stamps its arrival.
+    Arrive {
+        /// The master or the slave.
+        node: Name,
+        /// The tag of the event that made the copy.
+        copy: u64,
+        /// When the copy arrives.
+        at: ScaledTime,
+    },
+    /// A slave is handed a copy of a general message.
+    Hear {
+        /// The slave.
+        node: Name,
+        /// The tag of the event that made the copy.
+        copy: u64,
+    },
+    /// A slave sends a Delay_Req.
+    Request {
+        /// The slave.
+        node: Name,
+        /// When the Delay_Req departs.
+        at: ScaledTime,
+    },
+    /// A slave learns when its last Delay_Req departed.
+    Stamped {
+        /// The slave.
+        node: Name,
+    },
+    /// A slave's hold timer runs out once.
+    Tick {
+        /// The slave.
+        node: Name,
+    },
+    /// A slave is told its present master.
+    SetMaster {
+        /// The slave.
+        node: Name,
+        /// The master that it follows from now on.
+        master: Name,
+    },
+    /// The clock of a node is set.
+    StepClock {
+        /// The node, of any kind.
+        node: Name,
+        /// Its readings less the true moments from now on, in units of 2^-16 ns.
+        diff: i128,
+    },
+}

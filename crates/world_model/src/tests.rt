@@ -1,0 +1,214 @@
+//! Worked networks, and what no contract says: that a call succeeds where memory is there.
+
+use crate::{Name, NodeKind, NodeSpec, Nodes, WorldRefusal};
+use event_codec::{PortConfig, PortIdentity};
+use ptp_units::Seq;
+use std::alloc::Global;
+use std::test::Fail;
+
+const MASTER: PortIdentity = PortIdentity {
+    clock: [0x00, 0x11, 0x22, 0xff, 0xfe, 0x33, 0x44, 0x55],
+    port: 1,
+};
+
+const SLAVE: PortIdentity = PortIdentity {
+    clock: [0x00, 0xaa, 0xbb, 0xff, 0xfe, 0xcc, 0xdd, 0xee],
+    port: 1,
+};
+
+fn name(text: &str) -> Result<Name, Fail> {
+    Ok(Name::new(text).ok_or("no name")?)
+}
+
+fn config(identity: PortIdentity, domain: u8) -> PortConfig {
+    PortConfig {
+        identity,
+        domain,
+        log: 0,
+    }
+}
+
+fn master(text: &str, identity: PortIdentity, domain: u8) -> Result<NodeSpec, Fail> {
+    Ok(NodeSpec {
+        name: name(text)?,
+        kind: NodeKind::Master {
+            config: config(identity, domain),
+            first: Seq(0),
+        },
+    })
+}
+
+fn slave(text: &str, identity: PortIdentity, domain: u8) -> Result<NodeSpec, Fail> {
+    Ok(NodeSpec {
+        name: name(text)?,
+        kind: NodeKind::Slave {
+            config: config(identity, domain),
+            first: Seq(0),
+        },
+    })
+}
+
+fn clock(text: &str) -> Result<NodeSpec, Fail> {
+    Ok(NodeSpec {
+        name: name(text)?,
+        kind: NodeKind::Clock,
+    })
+}
+
+#[test]
+fn codes(rt: HostRuntime) {
+    let cases = [
+        (WorldRefusal::SameName, 601),
+        (WorldRefusal::SameIdentity, 602),
+        (WorldRefusal::NoNode, 603),
+        (WorldRefusal::WrongKind, 604),
+        (WorldRefusal::NoCopy, 605),
+        (WorldRefusal::NoTransit, 606),
+        (WorldRefusal::ReadingOutOfRange, 607),
+        (WorldRefusal::NothingWaiting, 608),
+        (WorldRefusal::Memory, 609),
+    ];
+    for (refusal, code) in cases {
+        assert_eq!(rt; refusal.code(), code);
+    }
+}
+
+#[test]
+fn names(rt: HostRuntime) -> Result<(), Fail> {
+    for text in ["M", "0", "_", "-", "azAZ09_-", "sixteen-octets-x"] {
+        assert_eq!(rt; name(text)?.text(), text);
+    }
+    Ok(())
+}
+
+#[test]
+fn texts_that_name_no_node(rt: HostRuntime) {
+    let texts = [
+        "",
+        "seventeen-octets-",
+        "a b",
+        " ",
+        "a.b",
+        "a/",
+        "a:",
+        "@",
+        "[",
+        "`",
+        "{",
+        "é",
+        "a\0",
+        "名",
+    ];
+    for text in texts {
+        assert_eq!(rt; Name::new(text), None, "{text:?}");
+    }
+}
+
+/// The number of nodes of a network, or why there is none.
+fn size(alloc: Global, nodes: &[NodeSpec]) -> Result<usize, WorldRefusal> {
+    Ok(Nodes::new(alloc, nodes)?.len())
+}
+
+#[test]
+fn networks(rt: HostRuntime) -> Result<(), Fail> {
+    let m = master("M", MASTER, 0)?;
+    let s = slave("S", SLAVE, 0)?;
+    let t = clock("T")?;
+    assert_eq!(rt; size(rt.alloc(), &[]), Ok(0));
+    assert_eq!(rt; size(rt.alloc(), &[m, s, t]), Ok(3));
+    assert_eq!(rt; size(rt.alloc(), &[t, clock("U")?, clock("V")?]), Ok(3));
+    assert_eq!(rt;
+        size(rt.alloc(), &[clock("port")?, clock("porT")?, clock("por")?]),
+        Ok(3)
+    );
+    Ok(())
+}
+
+#[test]
+fn names_that_clash(rt: HostRuntime) -> Result<(), Fail> {
+    let nodes = [master("M", MASTER, 0)?, master("M", MASTER, 0)?];
+    assert_eq!(rt; size(rt.alloc(), &nodes), Err(WorldRefusal::SameName));
+    let nodes = [
+        master("M", MASTER, 0)?,
+        slave("S", SLAVE, 0)?,
+        slave("S", MASTER, 0)?,
+    ];
+    assert_eq!(rt; size(rt.alloc(), &nodes), Err(WorldRefusal::SameName));
+    let nodes = [
+        clock("T")?,
+        master("M", MASTER, 0)?,
+        clock("T")?,
+        slave("S", MASTER, 0)?,
+    ];
+    assert_eq!(rt; size(rt.alloc(), &nodes), Err(WorldRefusal::SameName));
+    Ok(())
+}
+
+#[test]
+fn identities_that_clash(rt: HostRuntime) -> Result<(), Fail> {
+    let nodes = [master("M", MASTER, 0)?, master("N", MASTER, 0)?];
+    assert_eq!(rt; size(rt.alloc(), &nodes), Err(WorldRefusal::SameIdentity));
+    let nodes = [
+        master("M", MASTER, 0)?,
+        clock("T")?,
+        slave("S", MASTER, 255)?,
+    ];
+    assert_eq!(rt; size(rt.alloc(), &nodes), Err(WorldRefusal::SameIdentity));
+    let nodes = [
+        slave("S", SLAVE, 7)?,
+        slave("Z", SLAVE, 8)?,
+        slave("S", MASTER, 0)?,
+    ];
+    assert_eq!(rt; size(rt.alloc(), &nodes), Err(WorldRefusal::SameIdentity));
+    Ok(())
+}
+
+#[test]
+fn nodes_by_name(rt: HostRuntime) -> Result<(), Fail> {
+    let x = clock("sixteen-octets-x")?;
+    let y = clock("sixteen-octets-y")?;
+    let s = slave("S", SLAVE, 3)?;
+    let network = Nodes::new(rt.alloc(), &[x, s, y])?;
+    for node in [x, s, y] {
+        assert_eq!(rt; network.get(&node.name).copied(), Some(node));
+    }
+    for text in ["sixteen-octets-", "sixteen-octets-z", "s", "M"] {
+        assert_eq!(rt; network.get(&name(text)?).copied(), None, "{text}");
+    }
+    assert!(rt; !network.is_empty());
+    assert!(rt; Nodes::new(rt.alloc(), &[])?.is_empty());
+    Ok(())
+}
+
+/// For runs in which one growth after the other is refused: each answer is that of ample memory,
+/// or that memory was refused.
+#[test]
+fn networks_whatever_memory_there_is(rt: HostRuntime) -> Result<(), Fail> {
+    let fine = [
+        master("M", MASTER, 0)?,
+        slave("S", SLAVE, 0)?,
+        clock("T")?,
+        clock("U")?,
+        clock("V")?,
+    ];
+    let found = size(rt.alloc(), &fine);
+    assert!(rt;
+        found == Ok(5) || found == Err(WorldRefusal::Memory),
+        "{found:?}"
+    );
+
+    let clashing = [
+        clock("T")?,
+        clock("U")?,
+        slave("S", SLAVE, 0)?,
+        clock("V")?,
+        slave("Z", SLAVE, 1)?,
+        clock("T")?,
+    ];
+    let found = size(rt.alloc(), &clashing);
+    assert!(rt;
+        found == Err(WorldRefusal::SameIdentity) || found == Err(WorldRefusal::Memory),
+        "{found:?}"
+    );
+    Ok(())
+}
