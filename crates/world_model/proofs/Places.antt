@@ -3,7 +3,7 @@ use Rattle.std.proofs.Common.{◌≡◌, ℕ, ◌<◌, [], ◌∷◌, length, So
 use Rattle.std.proofs.lemmas.Bool.Decides.{nat_tests}
 use Rattle.world_model.specs.declared.event.Event.{Event}
 use Rattle.world_model.specs.Network.{Network}
-use Rattle.world_model.specs.Run.{Run, Place, place, place_at, tag_of}
+use Rattle.world_model.specs.Run.{Run, Place, place_at, tag_of}
 use Rattle.world_model.specs.Outcome.{outcome_of, IsRun}
 
 -- the event of a tag has this tag
