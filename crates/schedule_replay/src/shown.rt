@@ -1,7 +1,6 @@
 ghost use Rattle.std.specs.Prelude.{◌≡◌, ◌++◌, ◌<◌, ◌≤◌, length, OnOk, Some, slice_index};
 ghost use Rattle.std.specs.String.{string_bytes};
 ghost use Rattle.hex.specs.Hex.{encode_lower, lower_digits};
-ghost use Rattle.event_codec.specs.Layout.{stamp_in};
 ghost use Rattle.event_codec.specs.Packet.{contents};
 ghost use Rattle.schedule_replay.specs.Shown.{name_of, identity_text, correction_text, stamp_text, requesting_text, header_text, message_text, refusal_text, AppendsShown};
 
@@ -133,7 +132,7 @@ fn push_message(text: &mut String, message: &Message<'_>, used: usize) -> Result
     write!(
         text,
         " stamp={}{} suffix={} used={used}",
-        Stamp(timestamp_in(&message.body)),
+        Stamp(message.body.timestamp()),
         Requesting(&message.body),
         message.suffix.len()
     )
@@ -170,17 +169,6 @@ fn push_header(text: &mut String, header: &Header, name: &str) -> Result<(), All
         " seq={} control={} log={}",
         header.sequence.0, header.control, header.log
     )
-}
-
-/// The timestamp field.
-fn timestamp_in(body: &Body) -> Timestamp
-    ensures { result ≡ stamp_in body.now }
-{
-    match body {
-        Body::Sync { origin } | Body::DelayReq { origin } => *origin,
-        Body::FollowUp { precise } => *precise,
-        Body::DelayResp { receive, .. } => *receive,
-    }
 }
 
 /// Appends the number of a refusal, and the type of a message that isn't one of the four.

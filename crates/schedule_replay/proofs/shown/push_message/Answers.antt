@@ -5,4 +5,4 @@ use Rattle.schedule_replay.proofs.shown.push_message.Goals as goal
 
 pub returns : goal.returns
 returns c = IfOk-equal c.write.result _ _ _ c.write.ensures.bytes
-    (rw (c.in_ok-push_header.ensures, c.name_of.ensures, c.timestamp_in.ensures) (message_joined _ (contents c.args.message.now) _))
+    (rw (c.in_ok-push_header.ensures, c.name_of.ensures, c.timestamp.ensures) (message_joined _ (contents c.args.message.now) _))
