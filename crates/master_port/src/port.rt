@@ -44,8 +44,8 @@ impl MasterPort {
         }
     }
 
-    /// Draws a number: the octets of its Sync, and the number. The Sync now waits for its departure
-    /// time, and one that waited before gets no Follow_Up any more.
+    /// Draws a number: the octets of its Sync, and the number. From now on that Sync is the one that
+    /// waits to be told when it departed; one that was waiting is given up.
     pub fn next_sync(&mut self) -> ([u8; 44], Seq)
         ensures octets { Packet (sync self.old.config self.old.next) result.0 }
         ensures number { result.1.0 ≡ self.old.next }

@@ -7,8 +7,8 @@ use thiserror::Error;
 /// A fault that ended the reading of lines, and where.
 #[derive(Clone, Copy, Debug, PartialEq, Eq)]
 pub struct Fault {
-    /// The number, from 1, of the line that was being read or answered; at the end of the input,
-    /// one more than the number of lines.
+    /// The line that was being read or answered, counted from 1. Behind the last line this is the
+    /// number that the next one would have.
     pub line: u64,
     /// What went wrong.
     pub what: FaultKind,

@@ -2,8 +2,8 @@ ghost use Rattle.std.specs.Prelude.{◌≡◌, ◌⊎◌, ℕ, Result, MatchResu
 ghost use Rattle.std.specs.Option.{ForSome};
 ghost use Rattle.schedule_replay.specs.declared.fault.Fault.{Fault};
 ghost use Rattle.schedule_replay.specs.Program.{AsksShow, AsksNothing, status_of};
-ghost use Rattle.schedule_replay.specs.Counted.{device_of};
-ghost use Rattle.schedule_replay.specs.Show.{ShowsAll, ShowsUntil};
+ghost use Rattle.schedule_replay.specs.Counted.{device_of, HasNotFailed};
+ghost use Rattle.schedule_replay.specs.Show.{FailedAs, ShowsAll, ShowsUntil};
 ghost use Rattle.schedule_replay.specs.Words.{HasHelpFlag};
 
 use crate::counted::Counted;
@@ -30,6 +30,9 @@ pub fn command<R: Read, W: Write, E: Write>(
     ensures show { AsksShow (map string_bytes words.now) →
         ((result ≡ 3) × (input.new ≡ input.old) × (output.new ≡ output.old))
         ⊎ ((answer : Result ℕ Fault) × (result ≡ status_of answer)
+        × MatchResult answer
+        (λ _. HasNotFailed input.old input.new × HasNotFailed output.old output.new)
+        (λ fault. FailedAs fault.what input.old input.new output.old output.new)
         × ForSome (R.remaining (device_of input.old)) (λ octets.
         ForSome (W.contents (device_of output.old)) (λ held.
         let left = R.remaining (device_of input.new) in

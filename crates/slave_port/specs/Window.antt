@@ -1,4 +1,4 @@
--- The window: the calls after the last set_master and, where there were two ticks or more, after the last tick but one.
+-- The window: what no change of master cuts off, nor the tick before the last one.
 use Rattle.std.specs.Prelude.{ℕ, zero, suc, List, [], ◌++◌, Option}
 use Rattle.std.specs.Option.{option_to_list}
 use Rattle.slave_port.specs.History.{Call, SetMaster, Tick}

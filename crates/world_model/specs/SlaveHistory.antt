@@ -1,4 +1,4 @@
--- The history of a slave in a run: the calls that the slave's events make, in order, each with its event's tag.
+-- What a slave was told and heard in a run: the call that each of its events makes, newest first, under the event's tag.
 use Rattle.std.specs.Prelude.{ℕ, List, [], ◌∷◌, ◌++◌, length, if◌then◌else◌, Option, Some, None, Ok, option_map, option_to_list}
 use Rattle.ptp_units.specs.Sequence.{of_count}
 use Rattle.slave_port.specs.History as calls
