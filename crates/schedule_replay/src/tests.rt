@@ -5,7 +5,7 @@ use crate::{Counted, Fault, FaultKind, show};
 use datagrams::{EXCHANGE, FIELDS, LINES, RECORDED, REFUSED};
 use devices::{Endless, Expecting, Failing, Full, Tally};
 use std::alloc::Global;
-use std::io::ErrorKind;
+use std::io::{ErrorKind, Read, Write};
 use std::process::Abort;
 use std::test::Fail;
 
@@ -27,6 +27,33 @@ fn assert_shown(rt: &(impl Abort + AllocGlobal), datagram: &str, text: &str) -> 
         "{datagram}"
     );
     assert_eq!(rt; unread.len(), 0, "{datagram}");
+    Ok(())
+}
+
+#[test]
+fn devices_count_their_failures(rt: HostRuntime) -> Result<(), Fail> {
+    let mut octets = [0; 3];
+    let mut reader = Counted::new(Failing::new(b"ab", ErrorKind::UnexpectedEof));
+    assert_eq!(rt; reader.read(&mut octets)?, 2);
+    assert_eq!(rt; octets, *b"ab\0");
+    assert_eq!(rt; reader.failures(), 0);
+    assert!(rt; reader.read(&mut octets).is_err());
+    assert!(rt; reader.read_exact(&mut octets).is_err());
+    assert_eq!(rt; reader.failures(), 2);
+
+    // An error, and a write that takes nothing; a flush isn't counted.
+    for kind in [Some(ErrorKind::BrokenPipe), None] {
+        let mut writer = Counted::new(Full::new(Vec::new(rt.alloc()), 1, kind));
+        assert_eq!(rt; writer.write(b"ab")?, 2);
+        assert_eq!(rt; writer.failures(), 0);
+        assert_eq!(rt; writer.write(b"cd").is_err(), kind.is_some());
+        assert_eq!(rt; writer.failures(), 1);
+        assert!(rt; writer.write_all(b"cd").is_err());
+        assert_eq!(rt; writer.failures(), 2);
+        assert_eq!(rt; writer.flush().is_err(), kind.is_some());
+        assert_eq!(rt; writer.failures(), 2);
+        assert_eq!(rt; writer.into_inner().text(), b"ab".as_slice());
+    }
     Ok(())
 }
 

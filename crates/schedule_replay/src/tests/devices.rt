@@ -66,6 +66,13 @@ impl Full {
     pub(super) fn text(&self) -> &[u8] {
         self.text.as_slice()
     }
+
+    fn failure(&self) -> io::Result<()> {
+        match self.kind {
+            Some(kind) => Err(Error::from(kind)),
+            None => Ok(()),
+        }
+    }
 }
 
 impl Write for Full {
@@ -74,14 +81,11 @@ impl Write for Full {
             self.room -= 1;
             return self.text.write(buf);
         }
-        match self.kind {
-            Some(kind) => Err(Error::from(kind)),
-            None => Ok(0),
-        }
+        self.failure().map(|()| 0)
     }
 
     fn flush(&mut self) -> io::Result<()> {
-        Ok(())
+        self.failure()
     }
 }
 
