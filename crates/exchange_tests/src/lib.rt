@@ -1,0 +1,2 @@
+//! Tests by the public calls of all crates: worked values and exchanges, and datagrams from outside.
+#![tactic(auto)]

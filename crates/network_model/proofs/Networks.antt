@@ -1,0 +1,86 @@
+-- Nodes in an index, and the clashes of a network.
+use Rattle.std.proofs.Common.{◌≡◌, ◌∙◌, false, cond, List, [], ◌∷◌, ◌++◌, Option, Some, None, Decides, is_some, refl, sym, ap, subst, arith}
+use Rattle.std.specs.List.{IsDistinct, filter_map}
+use Rattle.std.specs.Map.{keys_of, values_of, lookup}
+use Rattle.std.specs.Option.{option_to_list}
+use Rattle.std.specs.Str.{bytes_eq}
+use Rattle.std.proofs.lemmas.Bool.Decides.{Decides-eqb}
+use Rattle.std.proofs.lemmas.List.Elements.{filter_map-append}
+use Rattle.std.proofs.lemmas.Map.Made.{AllPairs-from_IsDistinct}
+use Rattle.std.proofs.lemmas.Slice.Eq.{bytes_eq-Decides}
+use Rattle.event_codec.specs.declared.port.PortIdentity.{PortIdentity}
+use Rattle.indexmap.specs.IndexMap.{IndexMap, get, insert_entry}
+use Rattle.indexmap.proofs.CallerLemmas.{insert_entry-new}
+use Rattle.network_model.specs.declared.node.NodeSpec.{NodeSpec}
+use Rattle.network_model.specs.Network.{Network, NodeName, AllDiffer, node_of, names, identities, identity_of}
+use Rattle.network_model.specs.Clash.{is_identity, has_name}
+use Rattle.network_model.specs.Index.{Entries, IsIndex, entries_of}
+
+pub lookup-entries_of : (nodes : Network) (name : NodeName) → lookup (bytes_eq name) (entries_of nodes) ≡ node_of nodes name
+lookup-entries_of [] name = refl
+lookup-entries_of (node ∷ others) name = ap (λ rest. cond (bytes_eq name node.name) (Some node) rest) (lookup-entries_of others name)
+
+keys_of-entries_of : (nodes : Network) → keys_of (entries_of nodes) ≡ names nodes
+keys_of-entries_of [] = refl
+keys_of-entries_of (node ∷ others) = ap (λ rest. node.name ∷ rest) (keys_of-entries_of others)
+
+values_of-entries_of : (nodes : Network) → values_of (entries_of nodes) ≡ nodes
+values_of-entries_of [] = refl
+values_of-entries_of (node ∷ others) = ap (λ rest. node ∷ rest) (values_of-entries_of others)
+
+entries_of-push : (nodes : Network) (node : NodeSpec) → entries_of (nodes ++ node ∷ []) ≡ entries_of nodes ++ (node.name, node) ∷ []
+entries_of-push [] node = refl
+entries_of-push (first ∷ others) node = ap (λ rest. (first.name, first) ∷ rest) (entries_of-push others node)
+
+-- the identities of one more node's ports come last
+identities-push : (nodes : Network) (node : NodeSpec) → identities (nodes ++ node ∷ []) ≡ identities nodes ++ option_to_list (identity_of node.kind)
+identities-push nodes node = filter_map-append (λ (n : NodeSpec). identity_of n.kind) nodes (node ∷ []) ∙ ap (λ xs. identities nodes ++ xs) (one (identity_of node.kind))
+  where
+    one : (o : Option PortIdentity) → filter_map (λ (i : Option PortIdentity). i) (o ∷ []) ≡ option_to_list o
+    one None = refl
+    one (Some x) = refl
+
+is_identity-Decides : (a b : PortIdentity) → Decides (is_identity a b) (a ≡ b)
+is_identity-Decides a b = grind (arith, bytes_eq-Decides, Decides-eqb)
+
+-- identities that `==` tells apart differ
+pub AllDiffer-identities : (taken : List PortIdentity) → IsDistinct is_identity taken → AllDiffer taken
+AllDiffer-identities = AllPairs-from_IsDistinct is_identity-Decides
+
+None-from_is_some : {X : Type 0} (o : Option X) → is_some o ≡ false → o ≡ None
+None-from_is_some None h = refl
+None-from_is_some (Some x) h = cc
+
+-- what `admit` leaves: entries with a node of a new name put into those of the nodes before it
+module _ {S : Type 0} (m : IndexMap NodeName NodeSpec S) (earlier : Network) (node : NodeSpec) (entries : Entries)
+    (index : IsIndex m.entries) (is_earlier : values_of m.entries ≡ earlier) (fresh : has_name earlier node.name ≡ false)
+    (put : entries ≡ insert_entry bytes_eq m.entries node.name node) where
+  at_names : entries ≡ entries_of (earlier ++ node ∷ [])
+  at_names =
+      let at : m.entries ≡ entries_of earlier = index.at_names ∙ ap entries_of is_earlier in
+      let none : get bytes_eq m node.name ≡ None = ap (lookup (bytes_eq node.name)) at ∙ lookup-entries_of earlier node.name ∙ None-from_is_some (node_of earlier node.name) fresh in
+      put ∙ insert_entry-new bytes_eq m node.name node none ∙ ap (λ es. es ++ (node.name, node) ∷ []) at ∙ sym (entries_of-push earlier node)
+
+  -- the nodes, with the new one last
+  pub values_of-admitted : values_of entries ≡ earlier ++ node ∷ []
+  values_of-admitted = ap values_of at_names ∙ values_of-entries_of (earlier ++ node ∷ [])
+
+  module _ (before taken : List PortIdentity) (known : before ≡ identities earlier) (claimed : taken ≡ before ++ option_to_list (identity_of node.kind)) where
+    -- the identities that are taken, as `admit` needs them for the next node
+    pub identities-admitted : taken ≡ identities (values_of entries)
+    identities-admitted =
+        claimed ∙ ap (λ xs. xs ++ option_to_list (identity_of node.kind)) known ∙ sym (identities-push earlier node) ∙ sym (ap identities values_of-admitted)
+
+    -- distinct keys and distinct identities make the index of a network
+    pub IsIndex-admitted : IsDistinct bytes_eq (keys_of entries) → (AllDiffer before → AllDiffer taken) → IsIndex entries
+    IsIndex-admitted distinct apart =
+        let keys : keys_of entries ≡ names (values_of entries) =
+        ap keys_of at_names ∙ keys_of-entries_of (earlier ++ node ∷ []) ∙ sym (ap names values_of-admitted) in
+        let before_apart : AllDiffer before = subst AllDiffer (ap identities is_earlier ∙ sym known) index.network.identities in
+        record {
+          at_names = at_names ∙ sym (ap entries_of values_of-admitted);
+          network = record {
+            names = subst AllDiffer keys (AllPairs-from_IsDistinct bytes_eq-Decides (keys_of entries) distinct);
+            identities = subst AllDiffer identities-admitted (apart before_apart);
+          };
+        }

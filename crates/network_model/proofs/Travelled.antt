@@ -1,0 +1,48 @@
+-- A copy of an event message is as it was drawn, but for its residence.
+use Rattle.std.proofs.Common.{◌≡◌, ◌∙◌, ℕ, [], ◌∷◌, Option, Some, None, refl, sym, ap, option_map, option_and_then, arith}
+use Rattle.std.proofs.lemmas.Bool.Decides.{nat_tests}
+use Rattle.ptp_units.specs.Sequence.{of_count}
+use Rattle.event_codec.specs.Packet.{Contents}
+use Rattle.master_port.specs.Written.{sync}
+use Rattle.slave_port.specs.Written.{delay_req}
+use Rattle.network_model.specs.declared.event.Event.{Event}
+use Rattle.network_model.specs.declared.event.Event.TheVariants.{Sync, Request, Leave}
+use Rattle.network_model.specs.Network.{Network, NodeName, PortSetup}
+use Rattle.network_model.specs.Run.{Run}
+use Rattle.network_model.specs.Numbering.{next_sync_number, next_request_number}
+use Rattle.network_model.specs.Journey.{Journey, journey_made, journey_of}
+use Rattle.network_model.specs.Truth.{drawn, with_whole_residence, travelled, copy_made, copy_of, master_at, slave_at}
+
+-- what no residence was added to is as it was
+as_drawn : (make : PortSetup → Contents) → ((port : PortSetup) → with_whole_residence 0 (make port) ≡ make port)
+    → (port : Option PortSetup) → option_map (with_whole_residence 0) (option_map make port) ≡ option_map make port
+as_drawn make same None = refl
+as_drawn make same (Some port) = ap Some (same port)
+
+sync_as_drawn : (network : Network) (node : NodeName) (at : ℕ) (earlier : Run)
+    → option_map (with_whole_residence 0) (drawn network (Sync node at) earlier) ≡ drawn network (Sync node at) earlier
+sync_as_drawn network node at earlier =
+    as_drawn (λ port. sync port.config (of_count (next_sync_number port node earlier))) (λ port. refl) (master_at network node)
+
+request_as_drawn : (network : Network) (node : NodeName) (at : ℕ) (earlier : Run)
+    → option_map (with_whole_residence 0) (drawn network (Request node at) earlier) ≡ drawn network (Request node at) earlier
+request_as_drawn network node at earlier =
+    as_drawn (λ port. delay_req port.config (of_count (next_request_number port node earlier))) (λ port. refl) (slave_at network node)
+
+the_journey : {first second : Journey} → Some first ≡ Some second → first ≡ second
+the_journey same = cc
+
+copy_made-travelled : (network : Network) (event : Event) (earlier : Run) (journey : Journey)
+    → journey_made event earlier (journey_of earlier) ≡ Some journey
+    → copy_made network event earlier (copy_of network earlier) ≡ travelled network journey
+copy_made-travelled network (Sync node at) earlier journey made = sym (sync_as_drawn network node at earlier) ∙ ap (travelled network) (the_journey made)
+copy_made-travelled network (Request node at) earlier journey made = sym (request_as_drawn network node at earlier) ∙ ap (travelled network) (the_journey made)
+copy_made-travelled network (Leave node transit at) earlier journey made = ap (option_and_then (travelled network)) made
+copy_made-travelled network _ earlier journey made = grind arith
+
+-- a copy that has a journey is the message that made this journey
+pub copy_of-travelled : (network : Network) (run : Run) (tag : ℕ) (journey : Journey)
+    → journey_of run tag ≡ Some journey → copy_of network run tag ≡ travelled network journey
+copy_of-travelled network [] tag journey made = grind arith
+copy_of-travelled network (event ∷ earlier) tag journey made =
+    grind (arith, nat_tests, copy_made-travelled network event earlier journey, copy_of-travelled network earlier tag journey)
