@@ -5,6 +5,7 @@
 mod correction;
 mod decoding;
 mod encoding;
+pub mod laws;
 mod message;
 mod message_type;
 mod nibble;

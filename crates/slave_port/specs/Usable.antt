@@ -1,12 +1,12 @@
 -- Which messages a slave port uses, and the first reason for which it ignores another.
-use Rattle.std.specs.Prelude.{◌/◌, ◌%◌, Bool, true, false, not, ◌&&◌, ◌||◌, List, [], ◌∷◌, ◌++◌, slice_index, ◌==◌, int_lt, is_none, if◌then◌else◌, Option, Some, None, Ok, Err}
-use Rattle.std.specs.Str.{bytes_eq}
+use Rattle.std.specs.Prelude.{◌/◌, ◌%◌, Bool, true, false, not, ◌||◌, List, [], ◌∷◌, ◌++◌, slice_index, ◌==◌, int_lt, is_none, if◌then◌else◌, Option, Some, None, Ok, Err}
 use Rattle.ptp_units.specs.Interval.{too_big}
 use Rattle.event_codec.specs.declared.message.Header.{Header}
 use Rattle.event_codec.specs.declared.message.Body.{Body}
 use Rattle.event_codec.specs.declared.message.Body.TheVariants.{Sync, FollowUp, DelayResp}
 use Rattle.event_codec.specs.declared.port.PortConfig.{PortConfig}
 use Rattle.event_codec.specs.declared.port.PortIdentity.{PortIdentity}
+use Rattle.event_codec.specs.Port.{is_same_port}
 use Rattle.event_codec.specs.Reading.{Reading}
 use Rattle.slave_port.specs.declared.reason.Reason.{Reason}
 use Rattle.slave_port.specs.declared.reason.Reason.TheVariants as reasons
@@ -20,10 +20,6 @@ pub record Test : Type 0 where
 abbrev pub first_reason : List Test → Option Reason
 first_reason [] = None
 first_reason (t ∷ tests) = if t.applies then Some t.reason else first_reason tests
-
--- the same port of the same clock
-abbrev pub is_same_port : PortIdentity → PortIdentity → Bool
-is_same_port a b = bytes_eq a.clock b.clock && (a.port == b.port)
 
 -- a Sync
 abbrev pub is_sync : Body → Bool
