@@ -21,6 +21,3 @@ pub use nibble::Nibble;
 pub use port::{PortConfig, PortIdentity};
 pub use profile::octets_of;
 pub use refusal::{DecodeRefusal, EncodeRefusal};
-
-#[cfg(test)]
-mod tests;

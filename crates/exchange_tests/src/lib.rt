@@ -1,2 +1,9 @@
 //! Tests by the public calls of all crates: worked values and exchanges, and datagrams from outside.
 #![tactic(auto)]
+
+#[cfg(test)]
+mod clock;
+#[cfg(test)]
+mod codec;
+#[cfg(test)]
+mod units;
