@@ -2,6 +2,12 @@
 #![tactic(auto)]
 
 #[cfg(test)]
+mod clock;
+#[cfg(test)]
+mod codec;
+#[cfg(test)]
 mod master;
 #[cfg(test)]
 mod slave;
+#[cfg(test)]
+mod units;

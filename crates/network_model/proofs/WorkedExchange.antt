@@ -8,6 +8,7 @@ use Rattle.std.proofs.lemmas.Slice.Eq.{bytes_eq-Decides}
 use Rattle.ptp_units.specs.Moment.{stamp}
 use Rattle.event_codec.specs.declared.message.Body.TheVariants.{DelayResp}
 use Rattle.event_codec.specs.Correction.{with_correction}
+use Rattle.event_codec.specs.Port.{is_same_port}
 use Rattle.event_codec.specs.Profile.{header_of}
 use Rattle.master_port.specs.Written.{sync, follow_up}
 use Rattle.slave_port.specs.Written.{delay_req}
@@ -17,7 +18,6 @@ use Rattle.network_model.specs.declared.event.Event.{Event}
 use Rattle.network_model.specs.declared.event.Event.TheVariants.{Sync, Follow, Enter, Leave, Arrive, Hear, Request, Stamped, SetMaster, StepClock}
 use Rattle.network_model.specs.declared.stepped.Outcome.TheVariants.{Done, Made, Entered, Heard}
 use Rattle.network_model.specs.Network.{names, identities}
-use Rattle.network_model.specs.Clash.{is_identity}
 use Rattle.network_model.specs.Run.{Run, Place, place}
 use Rattle.network_model.specs.Journey.{Journey}
 use Rattle.network_model.specs.Truth.{copy_of}
@@ -99,7 +99,7 @@ names_differ : IsDistinct bytes_eq (names small_network)
 unfolding IsDistinct
 names_differ = ((refl, (refl, tt)), ((refl, tt), (tt, tt)))
 
-identities_differ : IsDistinct is_identity (identities small_network)
+identities_differ : IsDistinct is_same_port (identities small_network)
 unfolding IsDistinct
 identities_differ = ((refl, tt), (tt, tt))
 

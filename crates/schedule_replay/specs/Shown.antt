@@ -12,7 +12,7 @@ use Rattle.event_codec.specs.declared.refusal.DecodeRefusal.{DecodeRefusal}
 use Rattle.event_codec.specs.declared.refusal.DecodeRefusal.TheVariants.{OtherType}
 use Rattle.event_codec.specs.Layout.{stamp_in}
 use Rattle.event_codec.specs.Packet.{Contents, Packet}
-use Rattle.event_codec.specs.Refusal.{decode_code, decode_refusal}
+use Rattle.event_codec.specs.Refusal.{code_of, decode_refusal}
 
 abbrev pub name_of : Body → List ℕ
 name_of (Sync origin) = codes "Sync"
@@ -77,7 +77,7 @@ other_type_text refusal = []
 
 -- the number of a refusal, and the type that is refused
 abbrev pub refusal_text : DecodeRefusal → List ℕ
-refusal_text refusal = codes "refused " ++ decimal (decode_code refusal) ++ other_type_text refusal
+refusal_text refusal = codes "refused " ++ decimal (code_of refusal) ++ other_type_text refusal
 
 -- the datagram begins with a message, and this is its text
 pub record ShowsMessage (octets text : List ℕ) : Type 0 where

@@ -1,6 +1,11 @@
+//! Messages octet for octet, worked by hand from their layout.
+
 ghost use Rattle.std.specs.Prelude.{◌≤◌, length};
 
-use super::*;
+use event_codec::{
+    Body, DecodeRefusal, EncodeRefusal, Header, Message, Nibble, PortIdentity, decode, encode,
+    patch_correction,
+};
 use ptp_units::{Interval, Seq, Timestamp};
 use std::process::Abort;
 use std::test::Fail;
@@ -70,8 +75,8 @@ fn changed(octets: &[u8], changes: &[(usize, u8)]) -> [u8; 60]
 /// A header as the ports of the exchange write it.
 fn header(flags: u8, correction: i64, source: PortIdentity, control: u8, log: i8) -> Header {
     Header {
-        major_sdo: Nibble::high(0x00),
-        minor_version: Nibble::high(0x10),
+        major_sdo: Nibble::new(0).unwrap(),
+        minor_version: Nibble::new(1).unwrap(),
         domain: 0,
         minor_sdo: 0,
         flags: [flags, 0],
@@ -154,7 +159,7 @@ fn writes_an_exchange(rt: HostRuntime) -> Result<(), Fail> {
 type SyncRow = ([u8; 60], usize, u8, &'static [u8], usize);
 
 #[test]
-fn leaves_padding_and_keeps_the_suffix(rt: HostRuntime) {
+fn leaves_padding_and_keeps_the_suffix(rt: HostRuntime) -> Result<(), Fail> {
     let sync = changed(&SYNC, &[]);
     let with_suffix = changed(&SYNC, &[(3, 46), (44, 0xab), (45, 0xcd)]);
     let rows: [SyncRow; 6] = [
@@ -167,7 +172,7 @@ fn leaves_padding_and_keeps_the_suffix(rt: HostRuntime) {
     ];
     for (octets, length, minor_version, suffix, used) in rows {
         let mut header = header(0x02, 0, MASTER, 0, 0);
-        header.minor_version = Nibble::high(minor_version << 4);
+        header.minor_version = Nibble::new(minor_version).ok_or("a nibble")?;
         let body = Body::Sync {
             origin: Timestamp::default(),
         };
@@ -178,6 +183,7 @@ fn leaves_padding_and_keeps_the_suffix(rt: HostRuntime) {
         };
         assert_eq!(rt; octets.get(..length).map(decode), Some(Ok((message, used))));
     }
+    Ok(())
 }
 
 fn assert_written_again(rt: &impl Abort, octets: &[u8], used: usize) {

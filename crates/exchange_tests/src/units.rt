@@ -1,6 +1,6 @@
 //! Worked values, computed by hand from the standard's formulas.
 
-use crate::{
+use ptp_units::{
     BOUND, Interval, ScaledTime, Seq, TOO_BIG, Timestamp, UnitRefusal, delay_bracket, offset2,
     path2, sync_bracket,
 };

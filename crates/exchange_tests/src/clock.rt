@@ -2,10 +2,10 @@
 
 ghost use Rattle.std.specs.Prelude.{◌≤◌};
 
-use super::{ClockRefusal, enter};
 use event_codec::DecodeRefusal;
 use ptp_units::{ScaledTime, Timestamp, UnitRefusal};
 use std::test::Fail;
+use transparent_clock::{ClockRefusal, enter};
 
 const SYNC: [u8; 44] = [
     0x00, 0x12, 0x00, 0x2c, 0x00, 0x00, 0x02, 0x00, 0x00, 0x00, 0x00, 0x00, 0x00, 0x00, 0x00, 0x00,
