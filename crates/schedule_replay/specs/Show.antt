@@ -68,7 +68,7 @@ pub record ShowsUntil (octets held : List ℕ) (left now : Option (List ℕ)) (s
   pub shown : ShowsLines 1 (take earlier (lines_of octets)) text
   pub output : WentOutAs stop.what (now ≡ Some (held ++ text))
   pub fault : IsFaultAt stop.what stop.line (slice_get (lines_of octets) earlier)
-  pub input : LeavesUnread stop.what (after_lines earlier octets) left
+  pub input : LeavesUnread stop.what stop.line (after_lines earlier octets) left
 
 -- which of the two devices failed where this is answered
 abbrev pub FailedAs : {R W : Type 0} → FaultKind → (input input' : Counted R) (output output' : Counted W) → Type 0

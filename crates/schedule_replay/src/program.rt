@@ -1,7 +1,8 @@
-ghost use Rattle.std.specs.Prelude.{◌≡◌, ◌⊎◌, ℕ, Result, MatchResult, map, string_bytes};
+ghost use Rattle.std.specs.Prelude.{◌≡◌, ◌≢◌, ◌⊎◌, ℕ, Result, MatchResult, map, string_bytes};
 ghost use Rattle.std.specs.Option.{ForSome};
 ghost use Rattle.schedule_replay.specs.declared.fault.Fault.{Fault};
-ghost use Rattle.schedule_replay.specs.Program.{AsksShow, AsksNothing, status_of};
+ghost use Rattle.schedule_replay.specs.Program.{AsksShow, AsksNothing, EndsUnread, status_of};
+ghost use Rattle.schedule_replay.specs.Lines.{input_limit, ReadsWithin};
 ghost use Rattle.schedule_replay.specs.Counted.{device_of, HasNotFailed};
 ghost use Rattle.schedule_replay.specs.Show.{FailedAs, ShowsAll, ShowsUntil};
 ghost use Rattle.schedule_replay.specs.Words.{HasHelpFlag};
@@ -38,9 +39,15 @@ pub fn command<R: Read, W: Write, E: Write>(
         let left = R.remaining (device_of input.new) in
         let now = W.contents (device_of output.new) in
         MatchResult answer (ShowsAll octets held left now) (ShowsUntil octets held left now)))) }
-    // Help is written, or a fault is said.
-    ensures help { HasHelpFlag (map string_bytes words.now) → ((result ≡ 0) ⊎ (result ≡ 3)) × (input.new ≡ input.old) }
-    // Other words are no command.
+    // Whatever the words are, only so much is read of a reader that tells its octets.
+    ensures bounded { ForSome (R.remaining (device_of input.old)) (λ octets.
+        ReadsWithin input_limit octets (R.remaining (device_of input.new))) }
+    // Other words read nothing. Which text help is, and what comes of words that begin with `help`, is clap's.
+    ensures unread { (AsksShow (map string_bytes words.now) → ⊥) →
+        (input.new ≡ input.old) × EndsUnread W.contents result output.old output.new }
+    // A flag for help is no mistake.
+    ensures help { HasHelpFlag (map string_bytes words.now) → (input.new ≡ input.old) × (result ≢ 2) }
+    // Words that ask for nothing are no command.
     ensures mistake { AsksNothing (map string_bytes words.now) →
         ((result ≡ 2) ⊎ (result ≡ 3)) × (input.new ≡ input.old) × (output.new ≡ output.old) }
 {
