@@ -5,4 +5,8 @@ pub mod Bounds
 pub mod Printing
 pub mod Joining
 pub mod ShownLines
-pub mod ProgramLemmas
+pub mod ErrorKinds
+pub mod FlagWords
+pub mod SubcommandNames
+pub mod CommandLines
+pub mod Invocations

@@ -1,7 +1,7 @@
 use Rattle.std.proofs.Common.{map, inl}
 use Rattle.std.specs.Prelude.{string_bytes}
 use Rattle.schedule_replay.specs.declared.words.Subcommand.TheVariants.{Show}
-use Rattle.schedule_replay.proofs.ProgramLemmas.{named_asks_no_help}
+use Rattle.schedule_replay.proofs.Invocations.{named_asks_no_help}
 use Rattle.schedule_replay.proofs.program.command.Goals as goal
 
 pub returns-in-Ok-clause-help : goal.returns-in-Ok-clause-help
