@@ -1,2 +1,13 @@
 //! Tests by the public calls of all crates: worked values and exchanges, and datagrams from outside.
 #![tactic(auto)]
+
+#[cfg(test)]
+mod counted;
+#[cfg(test)]
+mod datagrams;
+#[cfg(test)]
+mod devices;
+#[cfg(test)]
+mod program;
+#[cfg(test)]
+mod show;

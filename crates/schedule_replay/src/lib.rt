@@ -16,6 +16,3 @@ pub use fault::{Fault, FaultKind};
 pub use octet_reader::OctetReader;
 pub use program::command;
 pub use showing::show;
-
-#[cfg(test)]
-mod tests;

@@ -78,6 +78,3 @@ fn report<E: Write>(errors: &mut E, fault: Fault) -> u8
     let _ = writeln!(errors, "ptpx: fault {} at line {}", fault.what, fault.line);
     3
 }
-
-#[cfg(test)]
-mod tests;
