@@ -6,7 +6,17 @@ mod clock;
 #[cfg(test)]
 mod codec;
 #[cfg(test)]
+mod counted;
+#[cfg(test)]
+mod datagrams;
+#[cfg(test)]
+mod devices;
+#[cfg(test)]
 mod master;
+#[cfg(test)]
+mod program;
+#[cfg(test)]
+mod show;
 #[cfg(test)]
 mod slave;
 #[cfg(test)]

@@ -114,7 +114,7 @@ shown_more octets held count ended left left' now now' line written so_far (cut,
 
 until : (octets held : List ℕ) (count : ℕ) (left left' now now' : Option (List ℕ)) (what : FaultKind) → (so_far : HasShown octets held count false left now)
     → WentOutAs what (now' ≡ Some (held ++ so_far.text)) → IsFaultAt what (count + 1) (slice_get (lines_of octets) count)
-    → LeavesUnread what (after_lines count octets) left' → ShowsUntil octets held left' now' (record { line = count + 1; what = what })
+    → LeavesUnread what (count + 1) (after_lines count octets) left' → ShowsUntil octets held left' now' (record { line = count + 1; what = what })
 until octets held count left left' now now' what so_far out fault unread = record {
   earlier = count;
   line = refl;

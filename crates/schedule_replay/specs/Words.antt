@@ -1,5 +1,5 @@
 -- What the words of the command line of `ptpx` ask for.
-use Rattle.std.specs.Prelude.{◌≡◌, ◌≢◌, ◌⊎◌, ◌++◌, ℕ, true, List, [], ◌∷◌, Some, codes, drop, slice_get}
+use Rattle.std.specs.Prelude.{◌≡◌, ◌≢◌, ◌⊎◌, ◌++◌, ℕ, true, List, [], ◌∷◌, Some, codes, drop, fold, slice_get}
 use Rattle.std.specs.Str.{chars}
 use Rattle.clap.specs.Simple.{App, new_app, new_shape, on_top, with_subcommand}
 use Rattle.clap.specs.declared.error.kind.ErrorKind.{ErrorKind}
@@ -9,14 +9,18 @@ use Rattle.schedule_replay.specs.declared.words.Invocation.TheVariants.{Run, Hel
 use Rattle.schedule_replay.specs.declared.words.Subcommand.{Subcommand}
 use Rattle.schedule_replay.specs.declared.words.Subcommand.TheVariants.{Show}
 
--- the program as clap's specifications have one: a subcommand is required, and there is no other argument
-abbrev pub program : App
-program = with_subcommand (on_top (λ s. record s { subcommand_required = true }) (new_app (codes "ptpx")))
-    (new_shape (codes "show"))
-
 -- the word that names a subcommand
 abbrev pub name_of : Subcommand → List ℕ
 name_of Show = codes "show"
+
+-- the subcommands, in the order of the text of help
+abbrev pub subcommands : List Subcommand
+subcommands = Show ∷ []
+
+-- the program as clap's specifications have one: a subcommand is required, and there is no other argument
+abbrev pub program : App
+program = fold (λ app s. with_subcommand app (new_shape (name_of s)))
+    (on_top (λ top. record top { subcommand_required = true }) (new_app (codes "ptpx"))) subcommands
 
 -- behind the program's own name stands the subcommand's name, alone or with `--` behind it
 abbrev pub Names : List (List ℕ) → Subcommand → Type 0

@@ -38,11 +38,11 @@ pub enum FaultKind {
 }
 
 impl FaultKind {
-    ghost use Rattle.schedule_replay.specs.Fault.{fault_code};
+    ghost use Rattle.schedule_replay.specs.Fault.{code_of};
 
     /// The number of the fault.
     pub fn code(&self) -> u16
-        ensures { result ≡ fault_code self.now }
+        ensures { result ≡ code_of self.now }
     {
         match self {
             FaultKind::Read => 801,

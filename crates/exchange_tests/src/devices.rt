@@ -1,17 +1,17 @@
-//! Readers and writers that fail, that never end, or that keep nothing.
+//! Readers and writers that fail, that never end, that give little at once, or that keep nothing.
 
 use std::io;
 use std::io::{Error, ErrorKind, Read, Write};
 
 /// Gives its octets and then fails.
 #[derive(Drop)]
-pub(super) struct Failing<'a> {
+pub(crate) struct Failing<'a> {
     octets: &'a [u8],
     kind: ErrorKind,
 }
 
 impl<'a> Failing<'a> {
-    pub(super) fn new(octets: &'a [u8], kind: ErrorKind) -> Self {
+    pub(crate) fn new(octets: &'a [u8], kind: ErrorKind) -> Self {
         Failing { octets, kind }
     }
 }
@@ -25,19 +25,49 @@ impl Read for Failing<'_> {
     }
 }
 
+/// Gives its octets in pieces, and counts how often it was asked.
+#[derive(Drop)]
+pub(crate) struct Pieces<'a> {
+    octets: &'a [u8],
+    most: usize,
+    asked: u64,
+}
+
+impl<'a> Pieces<'a> {
+    pub(crate) fn new(octets: &'a [u8], most: usize) -> Self {
+        Pieces {
+            octets,
+            most,
+            asked: 0,
+        }
+    }
+
+    pub(crate) fn asked(&self) -> u64 {
+        self.asked
+    }
+}
+
+impl Read for Pieces<'_> {
+    fn read(&mut self, buf: &mut [u8]) -> io::Result<usize> {
+        self.asked = self.asked.saturating_add(1);
+        let most = buf.len().min(self.most);
+        self.octets.read(&mut buf[..most])
+    }
+}
+
 /// Gives one octet over and over, and counts how many it gave.
 #[derive(Drop)]
-pub(super) struct Endless {
+pub(crate) struct Endless {
     octet: u8,
     given: u64,
 }
 
 impl Endless {
-    pub(super) fn new(octet: u8) -> Self {
+    pub(crate) fn new(octet: u8) -> Self {
         Endless { octet, given: 0 }
     }
 
-    pub(super) fn given(&self) -> u64 {
+    pub(crate) fn given(&self) -> u64 {
         self.given
     }
 }
@@ -52,18 +82,18 @@ impl Read for Endless {
 
 /// Takes this many writes, and then fails or takes nothing.
 #[derive(Drop)]
-pub(super) struct Full {
+pub(crate) struct Full {
     text: Vec<u8>,
     room: usize,
     kind: Option<ErrorKind>,
 }
 
 impl Full {
-    pub(super) fn new(text: Vec<u8>, room: usize, kind: Option<ErrorKind>) -> Self {
+    pub(crate) fn new(text: Vec<u8>, room: usize, kind: Option<ErrorKind>) -> Self {
         Full { text, room, kind }
     }
 
-    pub(super) fn text(&self) -> &[u8] {
+    pub(crate) fn text(&self) -> &[u8] {
         self.text.as_slice()
     }
 
@@ -91,17 +121,17 @@ impl Write for Full {
 
 /// Counts the writes of one text, and fails at any other.
 #[derive(Drop)]
-pub(super) struct Tally<'a> {
+pub(crate) struct Tally<'a> {
     text: &'a [u8],
     count: u64,
 }
 
 impl<'a> Tally<'a> {
-    pub(super) fn new(text: &'a [u8]) -> Self {
+    pub(crate) fn new(text: &'a [u8]) -> Self {
         Tally { text, count: 0 }
     }
 
-    pub(super) fn count(&self) -> u64 {
+    pub(crate) fn count(&self) -> u64 {
         self.count
     }
 }
@@ -122,24 +152,24 @@ impl Write for Tally<'_> {
 
 /// Takes whole lines of one text, and fails at any others.
 #[derive(Drop)]
-pub(super) struct Expecting<'a> {
+pub(crate) struct Expecting<'a> {
     rest: &'a [u8],
     lines: u64,
 }
 
 impl<'a> Expecting<'a> {
-    pub(super) fn new(text: &'a [u8]) -> Self {
+    pub(crate) fn new(text: &'a [u8]) -> Self {
         Expecting {
             rest: text,
             lines: 0,
         }
     }
 
-    pub(super) fn lines(&self) -> u64 {
+    pub(crate) fn lines(&self) -> u64 {
         self.lines
     }
 
-    pub(super) fn is_done(&self) -> bool {
+    pub(crate) fn is_done(&self) -> bool {
         self.rest.is_empty()
     }
 }

@@ -1,11 +1,10 @@
-mod datagrams;
-mod devices;
+//! `show` over lines and devices of all kinds.
 
-use crate::{Counted, Fault, FaultKind, show};
-use datagrams::{EXCHANGE, FIELDS, LINES, RECORDED, REFUSED};
-use devices::{Endless, Expecting, Failing, Full, Tally};
+use crate::datagrams::{EXCHANGE, FIELDS, LINES, RECORDED, REFUSED};
+use crate::devices::{Endless, Expecting, Failing, Full, Tally};
+use schedule_replay::{Counted, Fault, FaultKind, OctetReader, show};
 use std::alloc::Global;
-use std::io::{ErrorKind, Read, Write};
+use std::io::{ErrorKind, Read};
 use std::process::Abort;
 use std::test::Fail;
 
@@ -27,33 +26,6 @@ fn assert_shown(rt: &(impl Abort + AllocGlobal), datagram: &str, text: &str) -> 
         "{datagram}"
     );
     assert_eq!(rt; unread.len(), 0, "{datagram}");
-    Ok(())
-}
-
-#[test]
-fn devices_count_their_failures(rt: HostRuntime) -> Result<(), Fail> {
-    let mut octets = [0; 3];
-    let mut reader = Counted::new(Failing::new(b"ab", ErrorKind::UnexpectedEof));
-    assert_eq!(rt; reader.read(&mut octets)?, 2);
-    assert_eq!(rt; octets, *b"ab\0");
-    assert_eq!(rt; reader.failures(), 0);
-    assert!(rt; reader.read(&mut octets).is_err());
-    assert!(rt; reader.read_exact(&mut octets).is_err());
-    assert_eq!(rt; reader.failures(), 2);
-
-    // An error, and a write that takes nothing; a flush isn't counted.
-    for kind in [Some(ErrorKind::BrokenPipe), None] {
-        let mut writer = Counted::new(Full::new(Vec::new(rt.alloc()), 1, kind));
-        assert_eq!(rt; writer.write(b"ab")?, 2);
-        assert_eq!(rt; writer.failures(), 0);
-        assert_eq!(rt; writer.write(b"cd").is_err(), kind.is_some());
-        assert_eq!(rt; writer.failures(), 1);
-        assert!(rt; writer.write_all(b"cd").is_err());
-        assert_eq!(rt; writer.failures(), 2);
-        assert_eq!(rt; writer.flush().is_err(), kind.is_some());
-        assert_eq!(rt; writer.failures(), 2);
-        assert_eq!(rt; writer.into_inner().text(), b"ab".as_slice());
-    }
     Ok(())
 }
 
@@ -279,27 +251,38 @@ fn ends_at_endless_lines(rt: HostRuntime) -> Result<(), Fail> {
 
 const SHORT: &[u8] = b"00\n\n\r\n0012\n0b\n";
 
+/// A reader that gives these octets and then fails is told as fault 801, after the lines that ended.
+fn assert_stops<R: Read + Drop>(
+    rt: &(impl Abort + AllocGlobal),
+    octets: &[u8],
+    reader: R,
+) -> Result<(), Fail> {
+    let ended = octets.iter().filter(|octet| **octet == b'\n').count();
+    let mut reader = Counted::new(reader);
+    let mut writer = Counted::new(Vec::new(rt.alloc()));
+    let answer = show(rt.alloc(), &mut reader, &mut writer);
+    let fault = Fault {
+        line: (ended as u64).saturating_add(1),
+        what: FaultKind::Read,
+    };
+    assert_eq!(rt; answer, Err(fault), "{octets:?}");
+    assert_eq!(rt; reader.failures(), 1, "{octets:?}");
+    assert_eq!(rt; writer.failures(), 0, "{octets:?}");
+    assert_eq!(rt;
+        writer.into_inner(),
+        short_answers(rt.alloc(), ended)?,
+        "{octets:?}"
+    );
+    Ok(())
+}
+
 #[test]
 fn stops_where_the_reader_fails(rt: HostRuntime) -> Result<(), Fail> {
     for given in 0..=SHORT.len() {
         for kind in [ErrorKind::UnexpectedEof, ErrorKind::Interrupted] {
             let octets = &SHORT[..given];
-            let ended = octets.iter().filter(|octet| **octet == b'\n').count();
-            let mut reader = Counted::new(Failing::new(octets, kind));
-            let mut writer = Counted::new(Vec::new(rt.alloc()));
-            let answer = show(rt.alloc(), &mut reader, &mut writer);
-            let fault = Fault {
-                line: (ended as u64).saturating_add(1),
-                what: FaultKind::Read,
-            };
-            assert_eq!(rt; answer, Err(fault), "{given}");
-            assert_eq!(rt; reader.failures(), 1, "{given}");
-            assert_eq!(rt; writer.failures(), 0, "{given}");
-            assert_eq!(rt;
-                writer.into_inner(),
-                short_answers(rt.alloc(), ended)?,
-                "{given}"
-            );
+            assert_stops(&rt, octets, Failing::new(octets, kind))?;
+            assert_stops(&rt, octets, OctetReader::new(Failing::new(octets, kind)))?;
         }
     }
     Ok(())
@@ -346,20 +329,4 @@ fn refused_memory_is_a_fault_at_its_line(rt: HostRuntime) {
     };
     let wanted = if written.is_done() { Ok(3) } else { Err(fault) };
     assert_eq!(rt; answer, wanted);
-}
-
-#[test]
-fn faults_print_their_number(rt: HostRuntime) -> Result<(), Fail> {
-    for (kind, number, text) in [
-        (FaultKind::Read, 801, "801"),
-        (FaultKind::Write, 802, "802"),
-        (FaultKind::LineTooLong, 803, "803"),
-        (FaultKind::TooManyLines, 804, "804"),
-        (FaultKind::Field, 806, "806"),
-        (FaultKind::Memory, 808, "808"),
-    ] {
-        assert_eq!(rt; kind.code(), number);
-        assert_eq!(rt; kind.to_string(rt.alloc())?.as_str(), text);
-    }
-    Ok(())
 }

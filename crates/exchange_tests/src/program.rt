@@ -1,7 +1,10 @@
-use crate::{Counted, command};
+//! The whole program: statuses, and where its texts go.
+
+use schedule_replay::{Counted, command};
 use std::alloc::Global;
 use std::io;
 use std::io::{Error, ErrorKind, Read, Write};
+use std::str;
 use std::test::Fail;
 
 /// A Sync whose fields are 0, but for messageLength, versionPTP and twoStepFlag.
@@ -63,10 +66,12 @@ fn run(alloc: Global, line: &str, input: &[u8]) -> Result<Ended, Fail> {
 
 #[test]
 fn shows_with_status_0(rt: HostRuntime) -> Result<(), Fail> {
-    let ended = run(rt.alloc(), "ptpx show", SYNC)?;
-    assert_eq!(rt; ended.status, 0);
-    assert_eq!(rt; ended.output.as_slice(), SHOWN);
-    assert_eq!(rt; ended.errors.len(), 0);
+    for line in ["ptpx show", "/usr/bin/other show", "ptpx show --"] {
+        let ended = run(rt.alloc(), line, SYNC)?;
+        assert_eq!(rt; ended.status, 0, "{line}");
+        assert_eq!(rt; ended.output.as_slice(), SHOWN, "{line}");
+        assert_eq!(rt; ended.errors.len(), 0, "{line}");
+    }
     Ok(())
 }
 
@@ -166,36 +171,81 @@ fn says_which_device_failed(rt: HostRuntime) -> Result<(), Fail> {
     Ok(())
 }
 
+/// What stands in the help of the program, and of `show`.
+const WHOLE_HELP: &str = "Usage: ptpx <COMMAND>\n\nCommands:\n  show  Print the datagrams";
+const SHOW_HELP: &str = "one a line\n\nUsage: ptpx show\n";
+
+/// Words that ask for help, and what stands in the text.
+const HELPS: [(&str, &str); 9] = [
+    ("ptpx --help", WHOLE_HELP),
+    ("ptpx -h", WHOLE_HELP),
+    ("ptpx help", WHOLE_HELP),
+    ("other help", WHOLE_HELP),
+    ("ptpx --help nothing", WHOLE_HELP),
+    ("ptpx help show", SHOW_HELP),
+    ("ptpx show --help", SHOW_HELP),
+    ("other show -h", SHOW_HELP),
+    ("ptpx help help", "Usage: ptpx help [COMMAND]..."),
+];
+
 #[test]
 fn writes_help_with_status_0(rt: HostRuntime) -> Result<(), Fail> {
-    for line in [
-        "ptpx help",
-        "ptpx --help",
-        "ptpx help show",
-        "ptpx show --help",
-    ] {
+    for (line, part) in HELPS {
         let ended = run(rt.alloc(), line, SYNC)?;
         assert_eq!(rt; ended.status, 0, "{line}");
-        assert!(rt; !ended.output.is_empty(), "{line}");
+        assert!(rt; str::from_utf8(ended.output.as_slice())?.contains(part), "{line}");
         assert_eq!(rt; ended.errors.len(), 0, "{line}");
     }
     Ok(())
 }
 
+/// Words that are no command, and what stands in the text.
+const MISTAKES: [(&str, &str); 15] = [
+    (
+        "ptpx",
+        "'ptpx' requires a subcommand but one was not provided\n  [subcommands: show, help]\n\nUsage: ptpx <COMMAND>\n",
+    ),
+    ("ptpx --", "'ptpx' requires a subcommand"),
+    (
+        "ptpx nothing",
+        "unrecognized subcommand 'nothing'\n\nUsage: ptpx <COMMAND>\n",
+    ),
+    ("ptpx shwo", "tip: a similar subcommand exists: 'show'"),
+    ("ptpx Show", "unrecognized subcommand 'Show'"),
+    ("ptpx help nothing", "unrecognized subcommand 'nothing'"),
+    (
+        "ptpx --version",
+        "unexpected argument '--version' found\n\nUsage: ptpx <COMMAND>\n",
+    ),
+    ("ptpx -V", "unexpected argument '-V' found"),
+    ("ptpx -- show", "unexpected argument 'show' found"),
+    (
+        "ptpx show extra",
+        "unexpected argument 'extra' found\n\nUsage: ptpx show\n",
+    ),
+    ("ptpx show -- extra", "unexpected argument 'extra' found"),
+    ("ptpx show -", "unexpected argument '-' found"),
+    ("ptpx show ", "unexpected argument '' found"),
+    (
+        "ptpx show --version",
+        "unexpected argument '--version' found",
+    ),
+    (
+        "ptpx --help=yes",
+        "unexpected value 'yes' for '--help' found",
+    ),
+];
+
 #[test]
 fn refuses_other_words_with_status_2(rt: HostRuntime) -> Result<(), Fail> {
-    for line in [
-        "ptpx",
-        "ptpx nothing",
-        "ptpx show extra",
-        "ptpx --version",
-        "ptpx replay",
-        "ptpx check",
-    ] {
+    for (line, part) in MISTAKES {
         let ended = run(rt.alloc(), line, SYNC)?;
+        let said = str::from_utf8(ended.errors.as_slice())?;
         assert_eq!(rt; ended.status, 2, "{line}");
         assert_eq!(rt; ended.output.len(), 0, "{line}");
-        assert!(rt; ended.errors.as_slice().starts_with(b"error: "), "{line}");
+        assert!(rt; said.starts_with("error: "), "{line}");
+        assert!(rt; said.contains(part), "{line}");
+        assert!(rt; said.ends_with("\n\nFor more information, try '--help'.\n"), "{line}");
     }
     let mut errors = Vec::new(rt.alloc());
     let status = command(

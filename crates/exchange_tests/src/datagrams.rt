@@ -2,7 +2,7 @@
 //! clause 13).
 
 /// The fields of a Sync and of others, and how each is printed.
-pub(super) const FIELDS: [(&str, &str); 13] = [
+pub(crate) const FIELDS: [(&str, &str); 13] = [
     // A plain Sync.
     (
         "0012002c00000200000000000000000000000000001122fffe33445500010000000000000000000000000000",
@@ -66,7 +66,7 @@ pub(super) const FIELDS: [(&str, &str); 13] = [
 ];
 
 /// The datagrams of one exchange through a transparent clock.
-pub(super) const EXCHANGE: [(&str, &str); 6] = [
+pub(crate) const EXCHANGE: [(&str, &str); 6] = [
     // Sync, before and after a transparent clock.
     (
         "0012002c00000200000000000000000000000000001122fffe33445500010000000000000000000000000000",
@@ -98,7 +98,7 @@ pub(super) const EXCHANGE: [(&str, &str); 6] = [
 ];
 
 /// Datagrams between a master and a slave of linuxptp 3.1.1, as tshark 4.0.17 dissects them.
-pub(super) const RECORDED: [(&str, &str); 6] = [
+pub(crate) const RECORDED: [(&str, &str); 6] = [
     (
         "0b02004000000000000000000000000000000000020000fffe1122330001000005ff0000000000000000000000250001f8feffff80020000fffe1122330000a0",
         "refused 203 type 11",
@@ -126,7 +126,7 @@ pub(super) const RECORDED: [(&str, &str); 6] = [
 ];
 
 /// Datagrams that are refused.
-pub(super) const REFUSED: [(&str, &str); 9] = [
+pub(crate) const REFUSED: [(&str, &str); 9] = [
     // No octet, 33, and 34 of a header that says 44.
     ("", "refused 201"),
     (
@@ -168,7 +168,7 @@ pub(super) const REFUSED: [(&str, &str); 9] = [
 ];
 
 /// Lines of an input, and what is written for them.
-pub(super) const LINES: (&[u8], &[u8]) = (
+pub(crate) const LINES: (&[u8], &[u8]) = (
     b"0112002c0000000000000000000000000000000000aabbfffeccddee00010000017f00000000000000000000\n\
     \n\
     0912003600000000000000000dac000000000000001122fffe3344550001000003000000000000020000119400aabbfffeccddee0001\n",
