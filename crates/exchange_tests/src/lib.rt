@@ -14,6 +14,8 @@ mod devices;
 #[cfg(test)]
 mod master;
 #[cfg(test)]
+mod nodes;
+#[cfg(test)]
 mod program;
 #[cfg(test)]
 mod show;

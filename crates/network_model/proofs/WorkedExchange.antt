@@ -1,14 +1,9 @@
 -- One exchange through a clock: the slave is 1,000 ns ahead, two cables take 500 ns each way, the Sync is in the clock
 -- for 2,000 ns and the Delay_Req for 3,500.25 ns.
-use Rattle.std.proofs.Common.{◌≡◌, ℕ, ℤ, pos, negsuc, refl, arith, List, [], ◌∷◌, reverse, take, Some, Ok}
-use Rattle.std.specs.List.{IsDistinct}
-use Rattle.std.specs.Str.{bytes_eq}
-use Rattle.std.proofs.lemmas.Map.Made.{AllPairs-from_IsDistinct}
-use Rattle.std.proofs.lemmas.Slice.Eq.{bytes_eq-Decides}
+use Rattle.std.proofs.Common.{◌≡◌, ℕ, ℤ, pos, negsuc, refl, arith, List, [], ◌∷◌, reverse, take, inr, Some, Ok}
 use Rattle.ptp_units.specs.Moment.{stamp}
 use Rattle.event_codec.specs.declared.message.Body.TheVariants.{DelayResp}
 use Rattle.event_codec.specs.Correction.{with_correction}
-use Rattle.event_codec.specs.Port.{is_same_port}
 use Rattle.event_codec.specs.Profile.{header_of}
 use Rattle.master_port.specs.Written.{sync, follow_up}
 use Rattle.slave_port.specs.Written.{delay_req}
@@ -17,16 +12,16 @@ use Rattle.slave_port.specs.declared.heard.Report.{Report}
 use Rattle.network_model.specs.declared.event.Event.{Event}
 use Rattle.network_model.specs.declared.event.Event.TheVariants.{Sync, Follow, Enter, Leave, Arrive, Hear, Request, Stamped, SetMaster, StepClock}
 use Rattle.network_model.specs.declared.stepped.Outcome.TheVariants.{Done, Made, Entered, Heard}
-use Rattle.network_model.specs.Network.{names, identities}
+use Rattle.network_model.specs.Network.{IsNetwork}
 use Rattle.network_model.specs.Run.{Run, Place, place}
 use Rattle.network_model.specs.Journey.{Journey}
 use Rattle.network_model.specs.Truth.{copy_of}
 use Rattle.network_model.specs.Outcome.{outcome_of, IsRun}
-use Rattle.network_model.specs.Premises.{IsFresh, MeetsPremises}
-use Rattle.network_model.specs.Exact.{OfPresentMaster, IsTwice}
-use Rattle.network_model.specs.Headline.{IsOfOneSync, IsOfOneRequest}
-use Rattle.network_model.proofs.Networks.{AllDiffer-identities}
-use Rattle.network_model.proofs.Ticks.{IsTicked-short}
+use Rattle.network_model.specs.Premises.{exact_limits, ordered_limits, IsFreshAndTicked, IsWithinTurn}
+use Rattle.network_model.specs.Exact.{OfPresentMaster, IsOfOneSync, IsOfOneRequest, IsMeasurement}
+use Rattle.network_model.specs.Evidence.{HasEvidence}
+use Rattle.network_model.proofs.Accepted.{IsNetwork-test, IsRun-test}
+use Rattle.network_model.proofs.Short.{IsFresh-short, IsTicked-short, IsWithinOneTurn-short}
 use Rattle.network_model.proofs.Worked.{small_network, m_config, s_config, m, s, t, at, answers_after}
 
 -- all but the last event, for a slave that is so far ahead and a Sync that arrives at this moment
@@ -46,9 +41,15 @@ after n = reverse (take n exchange)
 abbrev pub whole : Run
 whole = Hear s 11 ∷ after 13
 
-abbrev report : ℤ → ℤ → ℕ → Report
-report offset2 path2 response_tag =
-    record { offset2 = offset2; path2 = path2; sync_tag = 5; follow_tag = 7; request_tag = 8; response_tag = response_tag }
+abbrev pub report : ℤ → ℤ → ℕ → Report
+report offset2 path2 response_tag = record {
+  offset2 = offset2;
+  path2 = path2;
+  sync_tag = 5;
+  follow_tag = Some 7;
+  request_tag = 8;
+  response_tag = response_tag;
+}
 
 outcomes : answers_after small_network [] exchange
     ≡ Ok Done ∷ Ok Done ∷ Ok Made ∷ Ok Entered ∷ Ok Made ∷ Ok (Heard answers.Held) ∷ Ok Made ∷ Ok (Heard answers.Completed)
@@ -58,10 +59,6 @@ outcomes = refl
 -- the slave reports 2,000 ns twice, since it is 1,000 ns ahead and each way takes 1,000 ns, and at it the Delay_Resp is heard last
 reports : outcome_of small_network (after 13) (Hear s 11) ≡ Ok (Heard (answers.Report (report (pos 131072000) (pos 131072000) 13)))
 reports = refl
-
-every_event_is_accepted : IsRun small_network whole
-every_event_is_accepted =
-    (refl, (refl, (refl, (refl, (refl, (refl, (refl, (refl, (refl, (refl, (refl, (refl, (refl, (refl, tt))))))))))))))
 
 -- the Sync that left the clock
 forwarded_sync : copy_of small_network whole 4 ≡ Some (with_correction (sync m_config 0) (record { 0 = pos 131072000 }))
@@ -87,33 +84,33 @@ odd_unit_is_told : answers_after small_network (reverse (exchange_with (negsuc 0
     ≡ Ok (Heard (answers.Report (report (negsuc 0) (pos 131072001) 13))) ∷ []
 odd_unit_is_told = refl
 
--- the same Delay_Req on another way, 200 ns longer, is answered once more
-repeat_reports : answers_after small_network whole (Enter t 8 (at 2 500 0) ∷ Leave t 14 (at 2 9000 0) ∷ Arrive m 15 (at 2 9700 0) ∷ Hear s 16 ∷ [])
-    ≡ Ok Entered ∷ Ok Made ∷ Ok Made ∷ Ok (Heard (answers.Report (report (pos 117964800) (pos 144179200) 17))) ∷ []
-repeat_reports = refl
+is_network : IsNetwork small_network
+is_network = IsNetwork-test small_network refl refl
 
-fresh : IsFresh small_network whole
-fresh = (λ _. omega arith, (λ _. tt, (λ _. omega arith, (λ _. tt, (λ _. tt, (λ _. tt, (λ _. omega arith, (λ _. tt, (λ _. omega arith, (λ _. tt, (λ _. tt, (λ _. tt, (λ _. tt, (λ _. tt, tt))))))))))))))
-
-names_differ : IsDistinct bytes_eq (names small_network)
-unfolding IsDistinct
-names_differ = ((refl, (refl, tt)), ((refl, tt), (tt, tt)))
-
-identities_differ : IsDistinct is_same_port (identities small_network)
-unfolding IsDistinct
-identities_differ = ((refl, tt), (tt, tt))
+is_run : IsRun small_network whole
+is_run = IsRun-test small_network whole refl
 
 -- there are runs that meet the premises
-meets_premises : MeetsPremises small_network whole
-meets_premises = record {
-  apart = record {
-    names = AllPairs-from_IsDistinct bytes_eq-Decides (names small_network) names_differ;
-    identities = AllDiffer-identities (identities small_network) identities_differ;
-  };
-  accepted = every_event_is_accepted;
-  fresh = fresh;
-  ticked = IsTicked-short whole (omega arith);
+fresh_and_ticked : IsFreshAndTicked exact_limits small_network whole
+fresh_and_ticked = record {
+  apart = is_network;
+  accepted = is_run;
+  fresh = IsFresh-short 32768 small_network whole (omega arith);
+  ticked = IsTicked-short 16384 whole (omega arith);
 }
+
+-- within the limits of reports that don't go back too
+ordered : IsFreshAndTicked ordered_limits small_network whole
+ordered = record {
+  apart = is_network;
+  accepted = is_run;
+  fresh = IsFresh-short 16384 small_network whole (omega arith);
+  ticked = IsTicked-short 8192 whole (omega arith);
+}
+
+-- and within one turn of the numbers
+within_turn : IsWithinTurn small_network whole
+within_turn = record { apart = is_network; accepted = is_run; one_turn = IsWithinOneTurn-short whole (omega arith) }
 
 -- the Sync's arrival and way, and those of the Delay_Req
 abbrev sync_arrival : Place
@@ -143,7 +140,7 @@ present_master = record {
   later = record { sync = omega arith; follow = omega arith; request = omega arith; response = omega arith };
 }
 
-of_one_sync : IsOfOneSync whole s (report (pos 131072000) (pos 131072000) 13)
+abbrev of_one_sync : IsOfOneSync whole s (report (pos 131072000) (pos 131072000) 13)
 of_one_sync = record {
   master = m;
   arrival = sync_arrival;
@@ -151,15 +148,17 @@ of_one_sync = record {
   present = present_master;
   sync = record {
     arrives = record { copy = 4; moment = at 1 3000 0; there = refl; event = refl; travelled = refl };
-    drawn = refl;
-    follow = place (Follow m) (after 6);
-    hears = record { hearing = place (Hear s 6) (after 7); copy = 6; there = refl; event = refl; made_by = refl };
-    follows = refl;
-    followed = refl;
+    departure = record {
+      drawn = refl;
+      follow = place (Follow m) (after 6);
+      hears = record { hearing = place (Hear s 6) (after 7); copy = 6; there = refl; event = refl; made_by = refl };
+      follows = refl;
+      followed = refl;
+    };
   };
 }
 
-of_one_request : IsOfOneRequest whole s (report (pos 131072000) (pos 131072000) 13)
+abbrev of_one_request : IsOfOneRequest whole s (report (pos 131072000) (pos 131072000) 13)
 of_one_request = record {
   master = m;
   arrival = request_arrival;
@@ -173,18 +172,59 @@ of_one_request = record {
   };
 }
 
-exact : IsTwice sync_arrival sync_journey request_arrival request_journey (report (pos 131072000) (pos 131072000) 13)
-exact = record {
-  a = pos 131072000;
-  b = pos 0;
-  of_sync = record { arrived = pos (at 1 4000 0); left = pos (at 1 0 0); arrival_shown = refl; departure_shown = refl; value = refl };
-  of_request = record {
-    arrived = pos (at 2 4500 16384);
-    left = pos (at 2 1000 0);
-    arrival_shown = refl;
-    departure_shown = refl;
-    value = refl;
+abbrev measurement : IsMeasurement whole s (report (pos 131072000) (pos 131072000) 13)
+measurement = record {
+  one_sync = of_one_sync;
+  one_request = of_one_request;
+  exact = record {
+    a = pos 131072000;
+    b = pos 0;
+    of_sync = record { arrived = pos (at 1 4000 0); left = pos (at 1 0 0); arrival_shown = refl; departure_shown = refl; value = refl };
+    of_request = record {
+      arrived = pos (at 2 4500 16384);
+      left = pos (at 2 1000 0);
+      arrival_shown = refl;
+      departure_shown = refl;
+      value = refl;
+    };
+    offset = refl;
+    path = refl;
   };
-  offset = refl;
-  path = refl;
+}
+
+-- the events of its tags were used, in their order
+evidence : HasEvidence small_network (place (Hear s 11) (after 13)) s (report (pos 131072000) (pos 131072000) 13) measurement
+evidence = record {
+  order = record {
+    sync = omega arith;
+    follow = omega arith;
+    response = omega arith;
+    heard_now = inr (inr refl);
+    request = omega arith;
+  };
+  sync_used = record { p = sync_arrival; there = refl; outcome = refl };
+  follow_used = record { p = place (Hear s 6) (after 7); there = refl; outcome = refl };
+  response_completes = record { p = place (Hear s 11) (after 13); there = refl; outcome = refl };
+  stamped = record {
+    stamped = place (Stamped s) (after 12);
+    there = refl;
+    event = refl;
+    done = refl;
+    after_request = omega arith;
+    before_response = omega arith;
+    no_other = refl;
+  };
+  domain = record {
+    own = record { config = s_config; first = 0 };
+    other = record { config = m_config; first = 0 };
+    slave_port = refl;
+    master_port = refl;
+    domain = refl;
+  };
+  sync_small = record { message = with_correction (sync m_config 0) (record { 0 = pos 131072000 }); arrived = refl; small = refl };
+  request_small = record {
+    message = with_correction (delay_req s_config 0) (record { 0 = pos 229392384 });
+    arrived = refl;
+    small = refl;
+  };
 }

@@ -2,9 +2,9 @@
 use Rattle.std.proofs.Common.{◌≡◌, refl, List, [], ◌∷◌, reverse, Some, Ok, Err}
 use Rattle.master_port.specs.Written.{sync}
 use Rattle.slave_port.specs.declared.heard.Heard.TheVariants as answers
-use Rattle.slave_port.specs.declared.reason.Reason.TheVariants.{OtherMaster, UnknownRequest, EgressUnknown}
+use Rattle.slave_port.specs.declared.reason.Reason.TheVariants.{OtherMaster, UnknownRequest, EgressUnknown, NotNewer}
 use Rattle.network_model.specs.declared.event.Event.{Event}
-use Rattle.network_model.specs.declared.event.Event.TheVariants.{Sync, Follow, Arrive, Hear, Request, Stamped, SetMaster}
+use Rattle.network_model.specs.declared.event.Event.TheVariants.{Sync, Follow, Arrive, Hear, Request, Stamped, Tick, SetMaster}
 use Rattle.network_model.specs.declared.refusal.WorldRefusal.TheVariants.{NothingWaiting}
 use Rattle.network_model.specs.declared.stepped.Outcome.TheVariants.{Done, Made, Heard, Refused}
 use Rattle.network_model.specs.Truth.{copy_of}
@@ -12,23 +12,37 @@ use Rattle.network_model.specs.Outcome.{outcome_of}
 use Rattle.network_model.proofs.Worked.{master, slave, small_network, two_masters, m_config, a, b, m, s, at, answers_after}
 
 -- two Follow_Ups come before their Syncs
-follow_ups_wait : answers_after small_network []
-    (SetMaster s m ∷ Sync m (at 1 0 0) ∷ Follow m ∷ Sync m (at 2 0 0) ∷ Follow m ∷ Hear s 2 ∷ Hear s 4
-    ∷ Arrive s 3 (at 2 100 0) ∷ Arrive s 1 (at 2 200 0) ∷ [])
-    ≡ Ok Done ∷ Ok Made ∷ Ok Made ∷ Ok Made ∷ Ok Made ∷ Ok (Heard answers.Held) ∷ Ok (Heard answers.Held)
-    ∷ Ok (Heard answers.Completed) ∷ Ok (Heard answers.Completed) ∷ []
-follow_ups_wait = refl
+abbrev follow_ups_first : List Event
+follow_ups_first =
+    SetMaster s m ∷ Sync m (at 1 0 0) ∷ Follow m ∷ Sync m (at 2 0 0) ∷ Follow m ∷ Hear s 2 ∷ Hear s 4 ∷ []
+
+follow_ups_are_held : answers_after small_network [] follow_ups_first
+    ≡ Ok Done ∷ Ok Made ∷ Ok Made ∷ Ok Made ∷ Ok Made ∷ Ok (Heard answers.Held) ∷ Ok (Heard answers.Held) ∷ []
+follow_ups_are_held = refl
+
+-- after the later Sync has completed, the earlier one isn't newer, until two ticks have passed; a repeat completes again
+older_sync_is_ignored : answers_after small_network (reverse follow_ups_first)
+    (Arrive s 3 (at 2 100 0) ∷ Arrive s 1 (at 2 200 0) ∷ Arrive s 3 (at 2 300 0) ∷ Tick s ∷ Tick s ∷ Arrive s 1 (at 2 400 0) ∷ Hear s 2 ∷ [])
+    ≡ Ok (Heard answers.Completed) ∷ Ok (Heard (answers.Ignored NotNewer)) ∷ Ok (Heard answers.Completed) ∷ Ok Done ∷ Ok Done
+    ∷ Ok (Heard answers.Held) ∷ Ok (Heard answers.Completed) ∷ []
+older_sync_is_ignored = refl
+
+syncs_in_order_complete : answers_after small_network (reverse follow_ups_first) (Arrive s 1 (at 2 100 0) ∷ Arrive s 3 (at 2 200 0) ∷ [])
+    ≡ Ok (Heard answers.Completed) ∷ Ok (Heard answers.Completed) ∷ []
+syncs_in_order_complete = refl
 
 -- the last number and the first one
 abbrev wrapping : List Event
 wrapping =
-    SetMaster s a ∷ Sync a (at 1 0 0) ∷ Follow a ∷ Sync a (at 2 0 0) ∷ Follow a ∷ Arrive s 1 (at 1 100 0)
-    ∷ Arrive s 3 (at 2 100 0) ∷ Hear s 4 ∷ Hear s 2 ∷ []
+    SetMaster s a ∷ Sync a (at 1 0 0) ∷ Follow a ∷ Sync a (at 2 0 0) ∷ Follow a ∷ Arrive s 1 (at 1 100 0) ∷ Arrive s 3 (at 2 100 0) ∷ []
 
-pairs_where_numbers_wrap : answers_after (two_masters 65535) [] wrapping
-    ≡ Ok Done ∷ Ok Made ∷ Ok Made ∷ Ok Made ∷ Ok Made ∷ Ok (Heard answers.Held) ∷ Ok (Heard answers.Held)
-    ∷ Ok (Heard answers.Completed) ∷ Ok (Heard answers.Completed) ∷ []
+pairs_where_numbers_wrap : answers_after (two_masters 65535) (reverse wrapping) (Hear s 2 ∷ Hear s 4 ∷ [])
+    ≡ Ok (Heard answers.Completed) ∷ Ok (Heard answers.Completed) ∷ []
 pairs_where_numbers_wrap = refl
+
+older_follow_up_is_ignored : answers_after (two_masters 65535) (reverse wrapping) (Hear s 4 ∷ Hear s 2 ∷ [])
+    ≡ Ok (Heard answers.Completed) ∷ Ok (Heard (answers.Ignored NotNewer)) ∷ []
+older_follow_up_is_ignored = refl
 
 last_number : copy_of (two_masters 65535) (reverse wrapping) 1 ≡ Some (sync m_config 65535)
 last_number = refl
