@@ -18,6 +18,7 @@ pub record IsWhole (b : List ℕ) (kind : MessageType) : Type 0 where
 
 -- then the nanoseconds decide
 pub decode_refusal-whole : (b : List ℕ) (kind : MessageType) → IsWhole b kind → decode_refusal b ≡ cond (ltb (number b 40 4) (10 ^ 9)) None (Some Nanoseconds)
+unfolding decode_refusal
 decode_refusal-whole b kind s =
     rw (le-ltb (length b) 34 s.header, eq-eqb (get_or b 1 0 % 16) 2 s.version)
     (ap (body_refusal b) (ap type_numbered s.numbered ∙ type_numbered-number_of kind)

@@ -25,7 +25,7 @@ body_refusal b (Some kind) =
     else Some Nanoseconds
 
 -- the first refusal that applies to octets, and none where they begin with a message
-abbrev pub decode_refusal : List ℕ → Option DecodeRefusal
+unfoldable pub decode_refusal : List ℕ → Option DecodeRefusal
 decode_refusal b =
     if nat_lt (length b) 34 then Some Short
     else if slice_index b 1 % 16 == 2 then body_refusal b (type_numbered (slice_index b 0 % 16))

@@ -122,6 +122,7 @@ fn message_of(kind: MessageType, timestamp: Timestamp, octets: &[u8]) -> Message
 }
 
 /// The type of the message, from a whole header of version 2.
+#[tactic(auto, unfolding(crate::specs::Refusal::decode_refusal))]
 fn message_type_of(octets: &[u8]) -> Result<MessageType, DecodeRefusal>
     ensures { MatchResult result
         (λ kind. (34 ≤ length octets.now) × (slice_index octets.now 1 % 16 ≡ 2) × (slice_index octets.now 0 % 16 ≡ number_of kind))
@@ -138,6 +139,7 @@ fn message_type_of(octets: &[u8]) -> Result<MessageType, DecodeRefusal>
 }
 
 /// The octets up to messageLength, at least as many as the fields take.
+#[tactic(auto, unfolding(crate::specs::Refusal::decode_refusal))]
 fn without_padding(kind: MessageType, octets: &[u8]) -> Result<&[u8], DecodeRefusal>
     requires header { 34 ≤ length octets.now }
     requires version { slice_index octets.now 1 % 16 ≡ 2 }

@@ -6,6 +6,7 @@ use Rattle.std.specs.Option.{option_to_list}
 use Rattle.std.specs.Str.{bytes_eq}
 use Rattle.std.proofs.lemmas.List.Elements.{filter_map-append}
 use Rattle.std.proofs.lemmas.Map.Made.{AllPairs-from_IsDistinct}
+use Rattle.std.proofs.lemmas.Slice.Eq.{bytes_eq-Decides}
 use Rattle.event_codec.specs.declared.port.PortIdentity.{PortIdentity}
 use Rattle.event_codec.specs.Port.{is_same_port}
 use Rattle.event_codec.proofs.SamePort.{is_same_port-Decides}
