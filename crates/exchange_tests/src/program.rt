@@ -2,10 +2,9 @@
 
 use schedule_replay::{Counted, command};
 use std::alloc::Global;
-use std::io;
 use std::io::{Error, ErrorKind, Read, Write};
-use std::str;
 use std::test::Fail;
+use std::{io, str};
 
 /// A Sync whose fields are 0, but for messageLength, versionPTP and twoStepFlag.
 const SYNC: &[u8] =
@@ -173,6 +172,7 @@ fn says_which_device_failed(rt: HostRuntime) -> Result<(), Fail> {
 
 /// What stands in the help of the program, and of `show`.
 const WHOLE_HELP: &str = "Usage: ptpx <COMMAND>\n\nCommands:\n  show  Print the datagrams";
+
 const SHOW_HELP: &str = "one a line\n\nUsage: ptpx show\n";
 
 /// Words that ask for help, and what stands in the text.
@@ -193,7 +193,10 @@ fn writes_help_with_status_0(rt: HostRuntime) -> Result<(), Fail> {
     for (line, part) in HELPS {
         let ended = run(rt.alloc(), line, SYNC)?;
         assert_eq!(rt; ended.status, 0, "{line}");
-        assert!(rt; str::from_utf8(ended.output.as_slice())?.contains(part), "{line}");
+        assert!(rt;
+            str::from_utf8(ended.output.as_slice())?.contains(part),
+            "{line}"
+        );
         assert_eq!(rt; ended.errors.len(), 0, "{line}");
     }
     Ok(())
@@ -245,7 +248,10 @@ fn refuses_other_words_with_status_2(rt: HostRuntime) -> Result<(), Fail> {
         assert_eq!(rt; ended.output.len(), 0, "{line}");
         assert!(rt; said.starts_with("error: "), "{line}");
         assert!(rt; said.contains(part), "{line}");
-        assert!(rt; said.ends_with("\n\nFor more information, try '--help'.\n"), "{line}");
+        assert!(rt;
+            said.ends_with("\n\nFor more information, try '--help'.\n"),
+            "{line}"
+        );
     }
     let mut errors = Vec::new(rt.alloc());
     let status = command(

@@ -20,7 +20,7 @@ lines_of (x ∷ rest) = if x == 10 then [] ∷ lines_of rest else begin_line x (
 abbrev pub lfs_in : List ℕ → ℕ
 lfs_in octets = count_by (λ x. x == 10) octets
 
--- what is left of the octets behind this many lines and their LFs
+-- what is left of the octets after this many lines and their LFs
 abbrev pub after_lines : ℕ → List ℕ → List ℕ
 after_lines zero octets = octets
 after_lines (suc count) octets = after_lines count (drop_through 10 octets)
@@ -66,7 +66,7 @@ StopsReading kind number octets left =
     (line : List ℕ) × (others : List (List ℕ)) × (lines_of octets ≡ line ∷ others)
     × (reading_fault number line ≡ Some kind) × LeavesUnread kind number octets left
 
--- a line of this number was read where there was one, and nothing at the end of the input; a line behind which the
+-- a line of this number was read where there was one, and nothing at the end of the input; a line after which the
 -- end was not seen has its LF
 abbrev pub ReadsLine : Bool → ℕ → List ℕ → Bool → List ℕ → Option (List ℕ) → Type 0
 ReadsLine true number line ended octets left =

@@ -6,7 +6,7 @@ use Rattle.schedule_replay.specs.Counted.{device_of, HasFailed, HasNotFailed}
 use Rattle.schedule_replay.specs.Fault.{FailedWith}
 use Rattle.schedule_replay.specs.declared.fault.Fault.{Fault}
 use Rattle.schedule_replay.specs.declared.words.Subcommand.TheVariants.{Show}
-use Rattle.schedule_replay.specs.Words.{Names, HasHelpFlag, BeginsWithHelp}
+use Rattle.schedule_replay.specs.Words.{Names, NamesNothing, HasHelpFlag, BeginsWithHelp}
 
 -- the words ask for `show`
 abbrev pub AsksShow : List (List ℕ) → Type 0
@@ -14,7 +14,7 @@ AsksShow words = Names words Show
 
 -- the words ask for no subcommand and no help
 abbrev pub AsksNothing : List (List ℕ) → Type 0
-AsksNothing words = (AsksShow words → ⊥) × (HasHelpFlag words → ⊥) × (BeginsWithHelp words → ⊥)
+AsksNothing words = NamesNothing words × (HasHelpFlag words → ⊥) × (BeginsWithHelp words → ⊥)
 
 -- the exit status of a subcommand that ended in this answer
 abbrev pub status_of : Result ℕ Fault → ℕ
@@ -27,7 +27,7 @@ EndsRun Means status input input' output output' =
     ((status ≡ 3) × (input' ≡ input) × (output' ≡ output))
     ⊎ ((answer : Result ℕ Fault) × (status ≡ status_of answer) × FailedWith answer input input' output output' × Means answer)
 
--- What comes of words that ask for no subcommand that reads. Status 0: a text went out whole. Status 2: nothing went
+-- What comes of words that name no subcommand. Status 0: a text went out whole. Status 2: nothing went
 -- out. Status 3: nothing went out, for want of memory, or a write failed.
 abbrev pub EndsUnread : {W : Type 0} → (W → Option (List ℕ)) → ℕ → Counted W → Counted W → Type 0
 EndsUnread contents status old new =

@@ -50,7 +50,7 @@ abbrev pub WentOutAs : FaultKind → Type 0 → Type 0
 WentOutAs Write known = ⊤
 WentOutAs kind known = known
 
--- all lines of an input of these octets were shown behind what the output held, and the input is at its end
+-- all lines of an input of these octets were shown after what the output held, and the input is at its end
 pub record ShowsAll (octets held : List ℕ) (left now : Option (List ℕ)) (lines : ℕ) : Type 0 where
   pub count : lines ≡ length (lines_of octets)
   pub text : List ℕ
@@ -58,8 +58,8 @@ pub record ShowsAll (octets held : List ℕ) (left now : Option (List ℕ)) (lin
   pub output : now ≡ Some (held ++ text)
   pub input : left ≡ Some []
 
--- The lines before a fault, each with its LF, were shown behind what the output held, and nothing else. The fault is
--- that of the next line, of which and behind which the rest is unread.
+-- The lines before a fault, each with its LF, were shown after what the output held, and nothing else. The fault is
+-- that of the next line, of which and after which the rest is unread.
 pub record ShowsUntil (octets held : List ℕ) (left now : Option (List ℕ)) (stop : Fault) : Type 0 where
   pub earlier : ℕ
   pub line : stop.line ≡ earlier + 1

@@ -47,7 +47,7 @@ requesting_text (DelayReq origin) = []
 requesting_text (FollowUp precise) = []
 requesting_text (DelayResp receive requesting) = codes " requesting=" ++ identity_text requesting
 
--- the fields that all messages have, behind the name of the type
+-- the fields that all messages have, after the name of the type
 abbrev pub header_text : Header → List ℕ → List ℕ
 header_text header name =
     name ++ codes " sdo=" ++ sdo_text header
@@ -97,6 +97,6 @@ pub record ShowsRefusal (octets text : List ℕ) : Type 0 where
 abbrev pub IsShownAs : List ℕ → List ℕ → Type 0
 IsShownAs octets text = ShowsMessage octets text ⊎ ShowsRefusal octets text
 
--- the text of the datagram stands behind the old text
+-- the text of the datagram stands after the old text
 abbrev pub AppendsShown : List ℕ → List ℕ → List ℕ → Type 0
 AppendsShown octets old new = (text : List ℕ) × IsShownAs octets text × (new ≡ old ++ text)

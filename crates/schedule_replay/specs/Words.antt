@@ -22,22 +22,26 @@ abbrev pub program : App
 program = fold (λ app s. with_subcommand app (new_shape (name_of s)))
     (on_top (λ top. record top { subcommand_required = true }) (new_app (codes "ptpx"))) subcommands
 
--- behind the program's own name stands the subcommand's name, alone or with `--` behind it
+-- after the program's own name stands the subcommand's name, alone or with `--` after it
 abbrev pub Names : List (List ℕ) → Subcommand → Type 0
 Names words s = (drop 1 words ≡ name_of s ∷ []) ⊎ (drop 1 words ≡ name_of s ∷ codes "--" ∷ [])
 
--- the word is `--help`, or `-h` with anything behind it
+-- the words name no subcommand
+abbrev pub NamesNothing : List (List ℕ) → Type 0
+NamesNothing words = (s : Subcommand) → Names words s → ⊥
+
+-- the word is `--help`, or `-h` with anything after it
 abbrev pub AsksHelp : List ℕ → Type 0
 AsksHelp word = (word ≡ codes "--help")
     ⊎ ((flags : List ℕ) × (word ≡ codes "-" ++ flags) × (slice_get (chars flags) 0 ≡ Some 104))
 
--- help is asked for in the place of a subcommand's name, or right behind it
+-- help is asked for in the place of a subcommand's name, or right after it
 abbrev pub HasHelpFlag : List (List ℕ) → Type 0
 HasHelpFlag words = (word : List ℕ) × AsksHelp word
     × ((slice_get words 1 ≡ Some word)
     ⊎ ((s : Subcommand) × (slice_get words 1 ≡ Some (name_of s)) × (slice_get words 2 ≡ Some word)))
 
--- the first word behind the program's name is `help`
+-- the first word after the program's name is `help`
 abbrev pub BeginsWithHelp : List (List ℕ) → Type 0
 BeginsWithHelp words = slice_get words 1 ≡ Some (codes "help")
 
@@ -45,7 +49,7 @@ BeginsWithHelp words = slice_get words 1 ≡ Some (codes "help")
 abbrev pub Asks : List (List ℕ) → Invocation → Type 0
 Asks words (Run s) = Names words s
 Asks words (Help text) = HasHelpFlag words ⊎ BeginsWithHelp words
-Asks words (Mistake text) = ((s : Subcommand) → Names words s → ⊥) × (HasHelpFlag words → ⊥)
+Asks words (Mistake text) = NamesNothing words × (HasHelpFlag words → ⊥)
 
 -- the text of an error of this kind goes to the stream that it asks for; want of memory has none
 abbrev pub ShowsKind : ErrorKind → Invocation → Type 0

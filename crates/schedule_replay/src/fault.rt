@@ -7,7 +7,7 @@ use thiserror::Error;
 /// A fault that ended the reading of lines, and where.
 #[derive(Clone, Copy, Debug, PartialEq, Eq)]
 pub struct Fault {
-    /// The line that was being read or answered, counted from 1. Behind the last line this is the
+    /// The line that was being read or answered, counted from 1. After the last line this is the
     /// number that the next one would have.
     pub line: u64,
     /// What went wrong.

@@ -4,7 +4,7 @@ ghost use Rattle.schedule_replay.specs.Program.{AsksShow, AsksNothing, EndsRun, 
 ghost use Rattle.schedule_replay.specs.Lines.{input_limit, ReadsWithin};
 ghost use Rattle.schedule_replay.specs.Counted.{device_of};
 ghost use Rattle.schedule_replay.specs.Show.{ShowsAnswer};
-ghost use Rattle.schedule_replay.specs.Words.{HasHelpFlag};
+ghost use Rattle.schedule_replay.specs.Words.{HasHelpFlag, NamesNothing};
 
 use crate::counted::Counted;
 use crate::fault::{Fault, FaultKind};
@@ -34,7 +34,7 @@ pub fn command<R: Read, W: Write, E: Write>(
     ensures bounded { ForSome (R.remaining (device_of input.old)) (λ octets.
         ReadsWithin input_limit octets (R.remaining (device_of input.new))) }
     // Other words read nothing. Which text help is, and what comes of words that begin with `help`, is clap's.
-    ensures unread { (AsksShow (map string_bytes words.now) → ⊥) →
+    ensures unread { NamesNothing (map string_bytes words.now) →
         (input.new ≡ input.old) × EndsUnread W.contents result output.old output.new }
     // A flag for help is no mistake.
     ensures help { HasHelpFlag (map string_bytes words.now) → (input.new ≡ input.old) × (result ≢ 2) }
