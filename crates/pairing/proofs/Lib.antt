@@ -1,4 +1,6 @@
+mod Links
 mod Lists
 mod Pairs
+mod Rings
 mod Worked
 pub mod Laws
