@@ -1,4 +1,4 @@
-ghost use Rattle.std.specs.Prelude.{◌≡◌, ◌+◌, ◌-◌, ◌<◌, ◌≤◌, [], ◌∷◌, ◌++◌, length, reverse, drop, nat_eq, position, option_map, slice_set, IfSome};
+ghost use Rattle.std.specs.Prelude.{◌≡◌, ◌+◌, ◌-◌, ◌<◌, ◌≤◌, [], ◌∷◌, ◌++◌, length, reverse, drop, nat_eq, position, option_map, slice_index, slice_set, IfSome};
 ghost use Rattle.pairing.specs.Ringed.{IsLinked, numbers_of, place_of, slot_at, place_at, members};
 
 use crate::pair_table::PairTable;
@@ -118,6 +118,14 @@ impl<V: Copy + Default, const N: usize> RingTable<V, N> {
         }
     }
 
+    /// The number in a slot.
+    fn number_at(&self, slot: usize) -> Seq
+        requires { slot < N }
+        ensures { result.0 ≡ slice_index (numbers_of self.now.slots.items) slot }
+    {
+        self.slots[slot].0
+    }
+
     /// The slot of the newest value of this number.
     fn newest_of(&self, number: Seq) -> Option<usize>
         ensures within { IfSome result (λ slot. (slot < N) × (place_of N self.now.oldest slot < self.now.count)) }
@@ -130,7 +138,7 @@ impl<V: Copy + Default, const N: usize> RingTable<V, N> {
         while let Some(slot) = link {
             let slot = usize::from(slot);
             let place = self.place_of(slot);
-            let held = self.slots[slot].0;
+            let held = self.number_at(slot);
             if place >= newer || usize::from(held.0) % N != bucket {
                 return None;
             }
