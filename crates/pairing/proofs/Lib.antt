@@ -1,3 +1,4 @@
+mod Found
 mod Links
 mod Lists
 mod Pairs

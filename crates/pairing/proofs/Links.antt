@@ -1,7 +1,7 @@
 -- That the links of a ring stay true.
-use Rattle.std.proofs.Common.{◌≡◌, ◌∙◌, ◌<◌, ◌≤◌, ◌-◌, ◌+◌, ◌%◌, ◌≢◌, ℕ, refl, sym, ap, subst, inl, inr, arith, List, [], ◌∷◌, length, replicate, set, get_or, Option, Some, None}
+use Rattle.std.proofs.Common.{◌≡◌, ◌∙◌, ◌<◌, ◌≤◌, ◌-◌, ◌+◌, ◌%◌, ◌≢◌, ℕ, refl, sym, ap, subst, inl, inr, arith, List, length, set, get_or, Option, Some, None}
 use Rattle.std.proofs.lemmas.Bool.{cases_lt, cases_eq}
-use Rattle.std.proofs.lemmas.List.{map-set, length-map, get_or-set_same, get_or-set_other, get_or-replicate, get_or_past, length-replicate}
+use Rattle.std.proofs.lemmas.List.{map-set, set-get_or, length-map, get_or-set_same, get_or-set_other}
 use Rattle.ptp_units.specs.declared.sequence.Seq.{Seq}
 use Rattle.pairing.specs.Ringed.{numbers_of, slot_at, place_of, slot_of, place_at, LeadsBack, IsLinked}
 use Rattle.pairing.proofs.Rings.{slot_at-within, place_of-slot_at, slot_at-place_of, place_of-later, place_of-gone}
@@ -178,17 +178,10 @@ IsLinked-add {V} capacity oldest count slots older newest pair begins room fille
     (sym (map-set (λ (p : Seq × V). p.0.0) slots next pair))
     (IsLinked-push capacity oldest begins count room (numbers_of slots) older newest pair.0.0 (length-map slots (λ p. p.0.0) ∙ filled) older_each newest_each in_buckets linked)
 
--- a ring that holds nothing
-pub IsLinked-empty : (capacity oldest n : ℕ) (numbers : List ℕ) → 1 ≤ capacity → IsLinked capacity oldest 0 numbers (replicate n None) (replicate n None)
-IsLinked-empty capacity oldest n numbers some = record {
-  newest_in = λ bucket. rw (none bucket) (omega arith);
-  older_in = λ slot. rw (none slot) (omega arith);
-  newest_leads = λ bucket slot within near same. absurd (omega (arith, near));
-  older_leads = λ slot within near. absurd (omega (arith, near));
-}
-  where
-    none : (i : ℕ) → get_or {A = Option ℕ} (replicate n None) i None ≡ None
-    none i = elim (cases_lt i n) [
-      | inl within ↦ get_or-replicate n i None None within
-      | inr past ↦ get_or_past (replicate n None) i None (omega (arith, length-replicate {A = Option ℕ} n None))
-    ]
+-- with another value under the number of a slot
+pub IsLinked-set : {V : Type 0} (capacity oldest count : ℕ) (slots : List (Seq × V)) (older newest : List (Option ℕ)) (slot : ℕ) (pair : Seq × V)
+    → get_or (numbers_of slots) slot 0 ≡ pair.0.0 → IsLinked capacity oldest count (numbers_of slots) older newest
+    → IsLinked capacity oldest count (numbers_of (set slots slot pair)) older newest
+IsLinked-set {V} capacity oldest count slots older newest slot pair same linked =
+    subst (λ (numbers : List ℕ). IsLinked capacity oldest count numbers older newest)
+    (sym (map-set (λ (p : Seq × V). p.0.0) slots slot pair ∙ ap (set (numbers_of slots) slot) (sym same) ∙ set-get_or (numbers_of slots) slot 0)) linked

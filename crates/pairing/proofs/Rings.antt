@@ -1,9 +1,8 @@
 -- Places in a ring of slots, and the list that it stands for.
-use Rattle.std.proofs.Common.{◌≡◌, ◌∙◌, ◌<◌, ◌≤◌, ◌-◌, ◌+◌, ◌≢◌, ℕ, refl, sym, ap, subst, inl, inr, arith, List, [], ◌∷◌, ◌++◌, length, take, drop, set, get_or}
-use Rattle.std.specs.List.{refill}
+use Rattle.std.proofs.Common.{◌≡◌, ◌∙◌, ◌<◌, ◌≤◌, ◌-◌, ◌+◌, ℕ, refl, sym, ap, inl, inr, arith, List, [], ◌∷◌, ◌++◌, length, drop, set, get_or}
 use Rattle.std.proofs.lemmas.Bool.{cases_lt, cases_eq, cond_below, cond_above}
 use Rattle.std.proofs.lemmas.Bool.Decides.{nat_tests}
-use Rattle.std.proofs.lemmas.List.{length-take-le, length-append, length-drop, length-set, length_push, get_or-take, get_or-drop, get_or_append_left, get_or-append_right, get_or_push, get_or-set_same, get_or-set_other, same_lists, take_at}
+use Rattle.std.proofs.lemmas.List.{length-take-le, length-append, length-drop, length-set, length_push, get_or-take, get_or-drop, get_or_append_left, get_or-append_right, get_or_push, get_or-set_same, get_or-set_other, same_lists}
 use Rattle.pairing.specs.Ringed.{slot_at, place_of, members}
 
 module _ (capacity oldest : ℕ) (begins : oldest < capacity) where
@@ -65,10 +64,10 @@ module _ {X : Type 0} (capacity oldest count : ℕ) (slots : List X) (filled : l
       let all = length-members capacity oldest count slots filled begins fits in
       let left = length-members capacity (slot_at capacity oldest gone) (count - gone) slots filled next less in
       same_lists _ _ (left ∙ sym (length-drop gone _ ∙ ap (λ n. n - gone) all)) (λ place d h.
-          let here : place < count - gone = omega (arith, left) in
-          get_or-members capacity (slot_at capacity oldest gone) (count - gone) slots filled next less place d here
-          ∙ ap (λ slot. get_or slots slot d) (slot_at-later capacity oldest begins gone place (omega arith))
-          ∙ sym (get_or-drop gone _ place d ∙ get_or-members capacity oldest count slots filled begins fits (gone + place) d (omega arith)))
+      let here : place < count - gone = omega (arith, left) in
+      get_or-members capacity (slot_at capacity oldest gone) (count - gone) slots filled next less place d here
+      ∙ ap (λ slot. get_or slots slot d) (slot_at-later capacity oldest begins gone place (omega arith))
+      ∙ sym (get_or-drop gone _ place d ∙ get_or-members capacity oldest count slots filled begins fits (gone + place) d (omega arith)))
 
   -- with another value in the slot of a member
   pub members-set : (slot : ℕ) (x : X) → slot < capacity → place_of capacity oldest slot < count
@@ -79,14 +78,14 @@ module _ {X : Type 0} (capacity oldest count : ℕ) (slots : List X) (filled : l
       let before = length-members capacity oldest count slots filled begins fits in
       let after = length-members capacity oldest count (set slots slot x) same begins fits in
       same_lists _ _ (after ∙ sym (length-set (members oldest count slots) at x ∙ before)) (λ place d h.
-          let here : place < count = omega (arith, after) in
-          get_or-members capacity oldest count (set slots slot x) same begins fits place d here ∙ elim (cases_eq place at) [
-            | inl e ↦ ap (λ s. get_or (set slots slot x) s d) (ap (slot_at capacity oldest) e ∙ slot_at-place_of capacity oldest begins slot within)
-                ∙ get_or-set_same slots slot x d (omega arith)
-                ∙ sym (ap (λ p. get_or (set (members oldest count slots) at x) p d) e ∙ get_or-set_same (members oldest count slots) at x d (omega (arith, before)))
-            | inr ne ↦ get_or-set_other slots slot (slot_at capacity oldest place) x d (λ e. ne (sym (place_of-slot_at capacity oldest begins place (omega arith)) ∙ ap (place_of capacity oldest) e))
-                ∙ sym (get_or-set_other (members oldest count slots) at place x d ne ∙ get_or-members capacity oldest count slots filled begins fits place d here)
-          ])
+      let here : place < count = omega (arith, after) in
+      get_or-members capacity oldest count (set slots slot x) same begins fits place d here ∙ elim (cases_eq place at) [
+        | inl e ↦ ap (λ s. get_or (set slots slot x) s d) (ap (slot_at capacity oldest) e ∙ slot_at-place_of capacity oldest begins slot within)
+            ∙ get_or-set_same slots slot x d (omega arith)
+            ∙ sym (ap (λ p. get_or (set (members oldest count slots) at x) p d) e ∙ get_or-set_same (members oldest count slots) at x d (omega (arith, before)))
+        | inr ne ↦ get_or-set_other slots slot (slot_at capacity oldest place) x d (λ e. ne (sym (place_of-slot_at capacity oldest begins place (omega arith)) ∙ ap (place_of capacity oldest) e))
+            ∙ sym (get_or-set_other (members oldest count slots) at place x d ne ∙ get_or-members capacity oldest count slots filled begins fits place d here)
+      ])
 
 module _ {X : Type 0} (capacity oldest count : ℕ) (slots : List X) (filled : length slots ≡ capacity) (begins : oldest < capacity) (room : count < capacity) where
   -- with one more, in the slot behind the newest
@@ -100,15 +99,11 @@ module _ {X : Type 0} (capacity oldest count : ℕ) (slots : List X) (filled : l
       let before = length-members capacity oldest count slots filled begins fits in
       let after = length-members capacity oldest (count + 1) (set slots next x) same begins more in
       same_lists _ _ (after ∙ sym (length_push (members oldest count slots) x ∙ ap (λ n. n + 1) before)) (λ place d h.
-          let here : place < count + 1 = omega (arith, after) in
-          get_or-members capacity oldest (count + 1) (set slots next x) same begins more place d here ∙ elim (cases_eq place count) [
-            | inl e ↦ ap (λ p. get_or (set slots next x) (slot_at capacity oldest p) d) e ∙ get_or-set_same slots next x d within
-                ∙ sym (ap (λ p. get_or (members oldest count slots ++ x ∷ []) p d) e ∙ get_or_push (members oldest count slots) x d count before)
-            | inr ne ↦ get_or-set_other slots next (slot_at capacity oldest place) x d (λ e.
-                ne (sym (place_of-slot_at capacity oldest begins place (omega arith)) ∙ ap (place_of capacity oldest) e ∙ place_of-slot_at capacity oldest begins count room))
-                ∙ sym (get_or_append_left (members oldest count slots) (x ∷ []) d place (omega (arith, before, ne)) ∙ get_or-members capacity oldest count slots filled begins fits place d (omega (arith, ne)))
-          ])
-
--- a list written back whole
-pub refilled : {X : Type 0} (old new : List X) → length new ≡ length old → refill (length old) old new ≡ new
-refilled old new same = take_at new (drop (length new) old) (length old) same
+      let here : place < count + 1 = omega (arith, after) in
+      get_or-members capacity oldest (count + 1) (set slots next x) same begins more place d here ∙ elim (cases_eq place count) [
+        | inl e ↦ ap (λ p. get_or (set slots next x) (slot_at capacity oldest p) d) e ∙ get_or-set_same slots next x d within
+            ∙ sym (ap (λ p. get_or (members oldest count slots ++ x ∷ []) p d) e ∙ get_or_push (members oldest count slots) x d count before)
+        | inr ne ↦ get_or-set_other slots next (slot_at capacity oldest place) x d (λ e.
+            ne (sym (place_of-slot_at capacity oldest begins place (omega arith)) ∙ ap (place_of capacity oldest) e ∙ place_of-slot_at capacity oldest begins count room))
+            ∙ sym (get_or_append_left (members oldest count slots) (x ∷ []) d place (omega (arith, before, ne)) ∙ get_or-members capacity oldest count slots filled begins fits place d (omega (arith, ne)))
+      ])

@@ -1,5 +1,5 @@
 -- What a walk along the links of a bucket has passed, and what it finds.
-use Rattle.std.proofs.Common.{◌≡◌, ◌∙◌, ◌<◌, ◌≤◌, ◌-◌, ◌+◌, ◌%◌, ◌≢◌, ℕ, refl, sym, ap, inl, inr, arith, Bool, true, false, cond, nat_eq, nat_lt, List, [], ◌∷◌, length, reverse, get_or, Option, Some, None, position}
+use Rattle.std.proofs.Common.{◌≡◌, ◌∙◌, ◌<◌, ◌≤◌, ◌-◌, ◌+◌, ◌%◌, ◌≢◌, ℕ, refl, sym, ap, inl, inr, arith, false, cond, nat_eq, nat_lt, List, [], ◌∷◌, length, reverse, get_or, Option, Some, None, position}
 use Rattle.std.specs.List.{position_or_len}
 use Rattle.std.proofs.lemmas.Bool.{cases_lt, cases_eq, cond_below, cond_above, eq-eqb, ne_eqb}
 use Rattle.std.proofs.lemmas.List.{length-reverse, get_or-reverse, get_or-map}

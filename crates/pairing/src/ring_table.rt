@@ -34,7 +34,8 @@ impl<V: Copy + Default, const N: usize> PairTable<V> for RingTable<V, N> {
     ghost use Rattle.pairing.specs.Marked.{IsWithin};
     ghost use Rattle.pairing.specs.Listed.{marked_of};
     ghost use Rattle.pairing.specs.Ringed.{members};
-    ghost use Rattle.std.proofs.Common.{rules};
+    ghost use Rattle.std.proofs.Common.{arith};
+    ghost use Rattle.std.proofs.lemmas.List.{length-map, length-take, length-append, length-drop};
 
     const CAPACITY: usize = N;
 
@@ -42,13 +43,14 @@ impl<V: Copy + Default, const N: usize> PairTable<V> for RingTable<V, N> {
 
     ghost marked = { λ table. marked_of (members table.oldest table.count table.slots.items) table.marked };
 
-    ghost within = { λ table.
-        record {
-          some_fit = table.some_fit;
-          few_fit = table.few_fit;
-          fits = Prim.omega (rules, table.fits);
-          marked_there = Prim.omega (rules, table.marked_there);
-        } };
+    ghost within = { λ table. record {
+      some_fit = table.some_fit;
+      few_fit = table.few_fit;
+      fits = Prim.simp (length-map, length-take, length-append, length-drop)
+          (Prim.omega (arith, table.fits, table.filled, table.begins));
+      marked_there = Prim.simp (length-map, length-take, length-append, length-drop)
+          (Prim.omega (arith, table.fits, table.filled, table.begins, table.marked_there));
+    } };
 
     fn empty() -> Self {
         RingTable {
@@ -128,7 +130,8 @@ impl<V: Copy + Default, const N: usize> RingTable<V, N> {
 
     /// The slot of the newest value of this number.
     fn newest_of(&self, number: Seq) -> Option<usize>
-        ensures within { IfSome result (λ slot. (slot < N) × (place_of N self.now.oldest slot < self.now.count)) }
+        ensures within { IfSome result (λ slot. (slot < N) × (place_of N self.now.oldest slot < self.now.count)
+            × (slice_index (numbers_of self.now.slots.items) slot ≡ number.0)) }
         ensures newest { option_map (λ slot. self.now.count - 1 - place_of N self.now.oldest slot) result
             ≡ position (λ p. nat_eq p.0.0 number.0) (reverse (members self.now.oldest self.now.count self.now.slots.items)) }
     {

@@ -1,5 +1,4 @@
-use Rattle.std.proofs.Common.{◌∙◌, ◌≡◌, ◌<◌, ◌≤◌, ◌+◌, ◌%◌, List, Option, Some, None, ℕ, sym, ap, subst, set, get_or, length, arith, rules}
-use Rattle.pairing.specs.Ringed.{numbers_of, members, slot_at, IsLinked}
+use Rattle.std.proofs.Common.{rules}
 use Rattle.pairing.proofs.Rings.{members-push}
 use Rattle.pairing.proofs.Links.{IsLinked-add}
 use Rattle.pairing.proofs.ring_table.RingTable.add.Goals as goal
