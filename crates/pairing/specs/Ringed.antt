@@ -1,4 +1,4 @@
--- What the slots of a ring stand for, and how those of one bucket are linked.
+-- What the slots of a ring stand for, and how those of one bucket are linked. No public clause rests on it.
 use Rattle.std.specs.Prelude.{◌≡◌, ℕ, ◌+◌, ◌-◌, ◌%◌, ◌<◌, ◌≤◌, List, ◌++◌, take, drop, map, Option, Some, None, unwrap_or, nat_lt, if◌then◌else◌, slice_index, slice_index_or}
 use Rattle.ptp_units.specs.declared.sequence.Seq.{Seq}
 

@@ -5,18 +5,20 @@ use crate::pair_table::PairTable;
 use arrayvec::ArrayVec;
 use ptp_units::Seq;
 
-/// A table that keeps its values in a ring of `N` slots, where a number is found by its remainder
-/// modulo `N`, its bucket. No call takes time in proportion to `N` but `empty`: `find` and `set`
-/// walk the values of one bucket, from the newest back.
+/// A table that keeps its values in a ring of `N` slots, oldest first. A number falls into the
+/// bucket of its remainder modulo `N`: `find` and `set` walk the values of one bucket, from the
+/// newest back. `push`, `tick` and `clear` take the same time, however large the table is.
+///
+/// A link to a slot counts only while it leads to an older value of the same bucket. So a value
+/// that is dropped leaves its bucket with no link changed.
 #[derive(Drop)]
 pub struct RingTable<V, const N: usize> {
     slots: ArrayVec<(Seq, V), N>,
-    /// For each slot the one that was its bucket's newest before it. Where that one has gone since,
-    /// its slot isn't older than this any more.
+    /// For each slot the one that was its bucket's newest before it.
     older: [Option<u8>; N],
-    /// For each bucket the slot that came to it last. Where that one has gone since, its slot is
-    /// empty or of another bucket.
+    /// For each bucket the slot that came to it last.
     newest: [Option<u8>; N],
+    /// The slot of the oldest value, or of the next one where there is none.
     oldest: usize,
     count: usize,
     marked: usize,
