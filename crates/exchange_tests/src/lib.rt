@@ -22,4 +22,6 @@ mod show;
 #[cfg(test)]
 mod slave;
 #[cfg(test)]
+mod tables;
+#[cfg(test)]
 mod units;
