@@ -3,11 +3,11 @@ use Rattle.std.proofs.Common.{if◌then◌else◌, ◌≡◌, ℕ, ◌+◌, ◌*
 use Rattle.std.proofs.lemmas.List.{drop-drop}
 use Rattle.std.specs.Prelude.{nat_lt}
 use Rattle.std.specs.Io.BufRead.{drop_through}
-use Rattle.std.proofs.lemmas.Bool.{le-ltb, ltb-false}
+use Rattle.std.proofs.lemmas.Bool.{ltb-false}
 use Rattle.schedule_replay.specs.declared.counted.Counted.{Counted}
 use Rattle.schedule_replay.specs.declared.fault.FaultKind.{FaultKind}
 use Rattle.schedule_replay.specs.declared.fault.FaultKind.TheVariants.{Read, Write, LineTooLong, TooManyLines, Field, Memory}
-use Rattle.schedule_replay.specs.Lines.{lines_of, begin_line, line_limit, lines_limit, input_limit, room_of, reading_fault, IsFromReading, ReadsLine, ReadsWithin, StopsReading}
+use Rattle.schedule_replay.specs.Lines.{lines_of, line_limit, lines_limit, input_limit, room_of, IsFromReading, ReadsLine, ReadsWithin, StopsReading}
 use Rattle.schedule_replay.proofs.Cutting.{first_line}
 
 pub reads_less : (a b : ℕ) (octets : List ℕ) (left : Option (List ℕ)) → ReadsWithin a octets left → a ≤ b → ReadsWithin b octets left

@@ -1,6 +1,6 @@
 -- What one word leads to at a level of the command line whose one argument is the flag for help, where the word names
 -- no subcommand: `--help` and `-h` with anything after it ask for help, all else is a mistake.
-use Rattle.std.proofs.Common.{◌≡◌, ◌==◌, ◌∙◌, ◌⊎◌, inl, inr, ◌++◌, ◌||◌, ℕ, Bool, true, false, refl, sym, ap, subst, arith, List, [], ◌∷◌, Option, Some, None, codes, length, true≢false, zero, suc}
+use Rattle.std.proofs.Common.{◌≡◌, ◌==◌, ◌∙◌, ◌⊎◌, inl, inr, ◌||◌, ℕ, Bool, true, false, refl, sym, ap, subst, arith, List, [], ◌∷◌, Option, Some, None, codes, length, true≢false, zero, suc}
 use Rattle.std.specs.Prelude.{slice_get, find, if◌then◌else◌}
 use Rattle.std.specs.Option.{option_map_or}
 use Rattle.std.specs.Str.{bytes_eq, chars}

@@ -1,11 +1,13 @@
 -- What clap makes of a word in the place of a subcommand's name, and of the words after it.
--- One more subcommand adds its clause to `computed`, with the same right side as the others, and nothing else here.
-use Rattle.std.proofs.Common.{◌≡◌, ◌∙◌, ◌⊎◌, inl, inr, ◌++◌, ◌||◌, Bool, true, false, refl, sym, ap, ap₂, subst, List, [], ◌∷◌, Option, Some, None, is_some, codes, map, option_map}
-use Rattle.std.specs.Prelude.{find, fold, unwrap_or, if◌then◌else◌}
+-- One more subcommand is a variant, a `Command` and an arm of `chosen` in src/words.rt; its name and its place in
+-- `subcommands` in specs/Words.antt; an arm and a clause of `command` in src/program.rt; and here its clause of
+-- `computed`, with the same right side as the others. No other proof names a subcommand but that of `command`.
+use Rattle.std.proofs.Common.{◌≡◌, ◌∙◌, ◌⊎◌, inl, inr, ◌++◌, Bool, true, false, refl, sym, ap, ap₂, subst, List, [], ◌∷◌, Option, Some, None, is_some, codes, map, option_map}
+use Rattle.std.specs.Prelude.{find, fold, unwrap_or}
 use Rattle.std.specs.Str.{bytes_eq}
 use Rattle.std.proofs.lemmas.Slice.Eq.{bytes_eq-Decides}
 use Rattle.std.proofs.lemmas.List.{append_assoc, append-nil}
-use Rattle.clap.specs.Walk.{Names as NamesOf, Text, Walk, answers_to, idle, nothing_held, stop_after, subcommand_met, walk, walked, finished, settled}
+use Rattle.clap.specs.Walk.{Names as NamesOf, Text, Walk, idle, nothing_held, stop_after, subcommand_met, walk, walked, finished, settled}
 use Rattle.clap.specs.Simple.{Shape, built, entered, names_of, subcommand_of}
 use Rattle.clap.specs.Kinds.{Kinds, or_else}
 use Rattle.clap.specs.Faults.{check_fault, defaults_fault, entered_fault, fault_of, level_fault, settle_fault, turn_fault, walk_fault}

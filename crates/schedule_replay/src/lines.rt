@@ -1,4 +1,4 @@
-ghost use Rattle.std.specs.Prelude.{◌≡◌, ℕ, List, false, IsTrue, ◌+◌, ◌≤◌, ◌<◌, if◌then◌else◌, [], ◌∷◌, IfOk, IfErr, MatchResult, MatchOption, length};
+ghost use Rattle.std.specs.Prelude.{◌≡◌, ℕ, List, false, IsTrue, ◌+◌, ◌≤◌, ◌<◌, if◌then◌else◌, [], ◌∷◌, IfOk, MatchResult, MatchOption, length};
 ghost use Rattle.std.specs.Option.{ForSome};
 ghost use Rattle.std.specs.Io.KnownBytes.{Consumes, IsAtEnd, Keeps};
 ghost use Rattle.schedule_replay.specs.Counted.{device_of, HasFailed, HasNotFailed};

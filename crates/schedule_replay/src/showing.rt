@@ -1,8 +1,8 @@
-ghost use Rattle.std.specs.Prelude.{◌≡◌, ℕ, List, [], ◌∷◌, ◌++◌, ◌≤◌, length, Some, MatchResult, IsTrue, IfErr, ◌⊎◌};
+ghost use Rattle.std.specs.Prelude.{◌≡◌, ◌≤◌, length, MatchResult, ◌⊎◌};
 ghost use Rattle.std.specs.Option.{ForSome};
 ghost use Rattle.std.specs.String.{string_bytes};
 ghost use Rattle.std.specs.Io.KnownBytes.{Appends, Keeps};
-ghost use Rattle.schedule_replay.specs.Counted.{device_of, HasFailed, HasNotFailed};
+ghost use Rattle.schedule_replay.specs.Counted.{device_of, HasNotFailed};
 ghost use Rattle.schedule_replay.specs.Fault.{FailedWith};
 ghost use Rattle.schedule_replay.specs.Lines.{input_limit, line_limit, ReadsWithin};
 ghost use Rattle.schedule_replay.specs.Show.{IsAnswer, digits_fault, own_fault, WentOutAs, IsFromAnswering, ShowsAnswer};
