@@ -1,0 +1,8 @@
+//! A world: a network of real ports and clocks, in which events happen one after the other.
+#![tactic(auto)]
+
+mod entry;
+mod station;
+
+pub use network_model::{Event, Name, NodeKind, NodeSpec, Nodes, Outcome, RunStop, Stepped, WorldRefusal};
+pub use slave_port::{Heard, Reason, Report};
