@@ -4,14 +4,15 @@ pub mod Clash
 pub mod Index
 pub mod Refusal
 pub mod Run
+pub mod Kinds
 pub mod Clock
 pub mod Numbering
 pub mod Journey
 pub mod Truth
 pub mod SlaveHistory
 pub mod Outcome
+pub mod Present
 pub mod Premises
-pub mod Exact
-pub mod Headline
 pub mod Level
 pub mod TrueTime
+pub mod Reported
