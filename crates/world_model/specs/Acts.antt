@@ -20,7 +20,7 @@ Room = Result (Unit {0}) WorldRefusal
 -- what an accepted event brings about at a node of this kind, whose station this is afterwards
 pub record Brings (network : Network) (run : Run) (event : Event) (kind : NodeKind) (new : Station) (happened : Happened) : Type 0 where
   pub outcome : outcome_of network run event ≡ Ok happened.outcome
-  pub reading : happened.reading ≡ reading_of (place event run)
+  pub read : happened.reading ≡ reading_of (place event run)
   pub stands : Stands network (event ∷ run) (site_of event) kind new
   pub copy : TellsTruth (copy_made network event run (copy_of network run)) (octets_in happened.left)
   pub stay : stay_in happened.left ≡ option_map reading (entering (place event run))

@@ -5,17 +5,18 @@ use Rattle.std.specs.List.{list_any}
 use Rattle.ptp_units.specs.Sequence.{of_count}
 use Rattle.slave_port.specs.StandsFor.{StandsFor}
 use Rattle.network_model.specs.declared.event.Event.{Event}
+use Rattle.network_model.specs.declared.event.Event.TheVariants.{Sync}
 use Rattle.network_model.specs.declared.node.NodeKind.{NodeKind}
 use Rattle.network_model.specs.declared.node.NodeKind.TheVariants as kinds
 use Rattle.network_model.specs.declared.node.NodeSpec.{NodeSpec}
 use Rattle.network_model.specs.Network.{Network, NodeName, PortSetup}
-use Rattle.network_model.specs.Run.{Run, Place, place_at}
+use Rattle.network_model.specs.Run.{Run, Place, place, place_at}
 use Rattle.network_model.specs.Clock.{difference, reading}
-use Rattle.network_model.specs.Numbering.{next_sync_number, waiting_sync, waiting_request}
-use Rattle.network_model.specs.Journey.{entered_copy}
+use Rattle.network_model.specs.Numbering.{number_of, waiting_sync, waiting_request}
+use Rattle.network_model.specs.Kinds.{entered_copy, spends}
 use Rattle.network_model.specs.Truth.{TellsTruth, copy_of}
-use Rattle.network_model.specs.SlaveHistory.{slave_setup, history_of, request_sequence}
-use Rattle.network_model.specs.Outcome.{IsRun, spends}
+use Rattle.network_model.specs.SlaveHistory.{slave_setup, history_of}
+use Rattle.network_model.specs.Outcome.{IsRun}
 use Rattle.world_model.specs.declared.entry.Entry.{Entry}
 use Rattle.world_model.specs.declared.entry.Left.{Left}
 use Rattle.world_model.specs.declared.entry.Left.TheVariants.{Copy, Stay, Nothing}
@@ -74,21 +75,25 @@ pub record Keeps (network : Network) (run : Run) (entries : List Entry) : Type 0
 abbrev pub departure : ℕ → Place → Departure
 departure number p = record { number = record { 0 = number }; at = reading p }
 
--- the number of a Sync
-abbrev pub sync_sequence : PortSetup → NodeName → Place → ℕ
-sync_sequence port master sync = of_count (next_sync_number port master sync.earlier)
+-- the sequenceId that an event draws
+abbrev pub sequence_of : PortSetup → Place → ℕ
+sequence_of setup p = of_count (number_of setup p)
+
+-- the sequenceId of a master's next Sync
+abbrev pub next_sync : PortSetup → NodeName → Run → ℕ
+next_sync setup name run = sequence_of setup (place (Sync name 0) run)
 
 -- what is kept of a master
 pub record MasterStands (run : Run) (name : NodeName) (setup : PortSetup) (master : Master) : Type 0 where
   pub config : master.port.config ≡ setup.config
-  pub next : master.port.next ≡ of_count (next_sync_number setup name run)
-  pub number : master.port.waiting ≡ option_map (sync_sequence setup name) (waiting_sync name run)
-  pub waiting : master.waiting ≡ option_map (λ p. departure (sync_sequence setup name p) p) (waiting_sync name run)
+  pub next : master.port.next ≡ next_sync setup name run
+  pub number : master.port.waiting ≡ option_map (sequence_of setup) (waiting_sync name run)
+  pub waiting : master.waiting ≡ option_map (λ p. departure (sequence_of setup p) p) (waiting_sync name run)
 
 -- what is kept of a slave
 pub record SlaveStands (network : Network) (run : Run) (name : NodeName) (setup : PortSetup) (slave : Slave) : Type 0 where
   pub port : StandsFor (slave_setup setup) slave.port (history_of network setup name run)
-  pub waiting : slave.waiting ≡ option_map (λ p. departure (request_sequence setup name p) p) (waiting_request name run)
+  pub waiting : slave.waiting ≡ option_map (λ p. departure (sequence_of setup p) p) (waiting_request name run)
 
 -- what is kept of a node's port; a clock has none
 abbrev pub PortStands : Network → Run → NodeName → NodeKind → Port → Type 0

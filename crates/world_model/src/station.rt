@@ -50,12 +50,6 @@ pub(crate) struct Station {
     pub(crate) port: Port,
 }
 
-fn shown(difference: i128, at: ScaledTime) -> Result<ScaledTime, WorldRefusal>
-    ensures { result ≡ ok_or (moment_of (pos at +ℤ difference)) WorldRefusal.ReadingOutOfRange }
-{
-    at.shifted(difference).map_err(|_| WorldRefusal::ReadingOutOfRange)
-}
-
 type Room = Result<(), WorldRefusal>;
 
 impl Master {
@@ -73,14 +67,24 @@ impl Master {
 }
 
 impl Station {
+    /// What the clock shows at this true moment. Refused with 607 where that is no moment.
+    fn shown(&self, at: ScaledTime) -> Result<ScaledTime, WorldRefusal>
+        ensures { result ≡ ok_or (moment_of (pos at +ℤ self.now.difference)) WorldRefusal.ReadingOutOfRange }
+    {
+        match at.shifted(self.difference) {
+            Ok(now) => Ok(now),
+            Err(_) => Err(WorldRefusal::ReadingOutOfRange),
+        }
+    }
+
     pub(crate) fn sync(&mut self, at: ScaledTime, room: Room) -> Result<Happened, WorldRefusal>
         ensures { (node : NodeName) (entries : List Entry) → Acts (Event.Sync node at) entries self.old self.new room result }
     {
-        let difference = self.difference;
+        let shown = self.shown(at);
         let Port::Master(master) = &mut self.port else {
             return Err(WorldRefusal::WrongKind);
         };
-        let now = shown(difference, at)?;
+        let now = shown?;
         room?;
         let octets = master.sync(now);
         Ok(Happened {
