@@ -2,7 +2,14 @@ pub mod Names
 pub mod Networks
 pub mod Places
 pub mod Exactness
+pub mod Accepted
 pub mod Short
 pub mod Travelled
 pub mod Worked
+pub mod WorkedExchange
+pub mod WorkedOctets
+pub mod WorkedRepeat
+pub mod WorkedOneStep
+pub mod WorkedPairs
 pub mod WorkedRefusals
+pub mod WorkedSlaves

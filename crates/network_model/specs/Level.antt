@@ -1,5 +1,5 @@
 -- True time: crossings of cables, runs whose clocks are steady, and networks that are level (IEEE 1588-2019, 7.4.2).
-use Rattle.std.specs.Prelude.{◌≡◌, ℕ, ℤ, pos, ◌+ℤ◌, ◌-ℤ◌, Bool, true, ◌&&◌, ◌||◌, not, List, [], ◌∷◌, ◌++◌, reverse, fold, Option, Some, None, unwrap_or, option_and_then, option_map, option_to_list, if◌then◌else◌, IsTrue}
+use Rattle.std.specs.Prelude.{◌≡◌, ℤ, pos, ◌+ℤ◌, ◌-ℤ◌, Bool, true, ◌&&◌, ◌||◌, not, List, [], ◌∷◌, ◌++◌, reverse, fold, Option, Some, unwrap_or, option_and_then, option_map, option_to_list, if◌then◌else◌, IsTrue}
 use Rattle.std.specs.List.{AllZip, list_all}
 use Rattle.std.specs.Ordering.{int_eq}
 use Rattle.slave_port.specs.declared.heard.Report.{Report}

@@ -13,6 +13,11 @@ pub mod SlaveHistory
 pub mod Outcome
 pub mod Present
 pub mod Premises
+pub mod Reported
+pub mod Exact
+pub mod Headline
+pub mod Pairs
+pub mod Evidence
 pub mod Level
 pub mod TrueTime
-pub mod Reported
+pub mod Order

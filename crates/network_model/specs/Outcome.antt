@@ -10,10 +10,11 @@ use Rattle.transparent_clock.specs.declared.refusal.ClockRefusal.{ClockRefusal}
 use Rattle.transparent_clock.specs.Refusal.{code_of as clock_code}
 use Rattle.transparent_clock.specs.Forwarding.{forwarded}
 use Rattle.slave_port.specs.declared.reason.SlaveRefusal.TheVariants.{NotHeld}
-use Rattle.slave_port.specs.Codes.{refusal_code}
+use Rattle.slave_port.specs.Refusal.{code_of as slave_code}
 use Rattle.slave_port.specs.History as calls
 use Rattle.slave_port.specs.History.{Call}
 use Rattle.slave_port.specs.Answer as slaves
+use Rattle.slave_port.specs.Requests.{is_held}
 use Rattle.network_model.specs.declared.event.Event.{Event}
 use Rattle.network_model.specs.declared.event.Event.TheVariants.{Sync, SyncOne, Follow, Enter, Leave, Arrive, Hear, Request, Stamped, Tick, SetMaster, StepClock}
 use Rattle.network_model.specs.declared.node.NodeKind.{NodeKind}
@@ -94,9 +95,9 @@ arrived_outcome network kinds.Clock node earlier now m = Done
 -- a waiting request gets its departure time, where the slave still holds it
 abbrev pub stamped_outcome : Network → PortSetup → NodeName → Run → Place → Outcome
 stamped_outcome network port node earlier request =
-    if slaves.is_held (slave_setup port) (history_of network port node earlier) (request_sequence port request)
+    if is_held (slave_setup port) (history_of network port node earlier) (request_sequence port request)
     then Done
-    else Refused (refusal_code NotHeld)
+    else Refused (slave_code NotHeld)
 
 -- the outcome of an event after a run, where it is accepted, or the first refusal
 abbrev pub outcome_of : Network → Run → Event → Result Outcome WorldRefusal

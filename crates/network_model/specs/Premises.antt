@@ -1,5 +1,5 @@
 -- What is asked of a run whose reports are exact: no number is too old when it is heard, and slaves tick often enough.
-use Rattle.std.specs.Prelude.{ℕ, ◌+◌, ◌<◌, ◌≤◌, Bool, ◌||◌, not, true, false, [], ◌∷◌, count_by, if◌then◌else◌, IsTrue, Ok, Err, Result, IfSome}
+use Rattle.std.specs.Prelude.{ℕ, ◌+◌, ◌<◌, ◌≤◌, Bool, ◌||◌, true, false, [], ◌∷◌, count_by, if◌then◌else◌, IsTrue, Ok, Err, Result, IfSome}
 use Rattle.std.specs.Option.{option_map_or}
 use Rattle.slave_port.specs.declared.heard.Heard.{Heard}
 use Rattle.slave_port.specs.declared.heard.Heard.TheVariants as answers
