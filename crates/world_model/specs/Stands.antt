@@ -1,7 +1,8 @@
 -- What a world keeps of its run: one station for each node and one entry for each event. Its own functions cite these; what
 -- its callers are told is said by the run alone.
-use Rattle.std.specs.Prelude.{◌≡◌, ℕ, Bool, not, ◌&&◌, List, [], ◌∷◌, length, map, reverse, slice_get, is_some, if◌then◌else◌, Option, Some, None, option_map, option_and_then}
+use Rattle.std.specs.Prelude.{◌≡◌, ℕ, Bool, not, ◌&&◌, List, [], ◌∷◌, length, map, reverse, slice_get, slice_set, is_some, if◌then◌else◌, Option, Some, None, option_map, option_and_then}
 use Rattle.std.specs.List.{list_any}
+use Rattle.std.specs.Option.{option_map_or}
 use Rattle.ptp_units.specs.Sequence.{of_count}
 use Rattle.slave_port.specs.StandsFor.{StandsFor}
 use Rattle.network_model.specs.declared.event.Event.{Event}
@@ -54,6 +55,14 @@ octets_at entries tag = option_and_then (λ entry. octets_in entry.left) (slice_
 -- the stay of this tag, which no Leave event has ended
 abbrev pub stay_at : List Entry → ℕ → Option ℕ
 stay_at entries tag = option_and_then (λ entry. stay_in entry.left) (slice_get entries tag)
+
+-- an entry whose stay has ended
+abbrev pub ended : Entry → Entry
+ended entry = record { event = entry.event; left = Nothing }
+
+-- the entries without the stay of this tag
+abbrev pub spent : ℕ → List Entry → List Entry
+spent tag entries = option_map_or (λ entry. slice_set entries tag (ended entry)) (slice_get entries tag) entries
 
 -- the event, where it is an Enter event
 abbrev pub entering : Place → Option Place

@@ -1,7 +1,11 @@
 //! A world: a network of real ports and clocks, in which events happen one after the other.
 #![tactic(auto)]
 
+mod arrival;
+mod clock;
 mod entry;
+mod master;
+mod slave;
 mod station;
 
 pub use network_model::{Event, Name, NodeKind, NodeSpec, Nodes, Outcome, RunStop, Stepped, WorldRefusal};

@@ -1,6 +1,6 @@
 use Rattle.std.proofs.Common.{sym}
 use Rattle.world_model.proofs.Masters.{sync-brings}
-use Rattle.world_model.proofs.station.Station.sync.Goals as goal
+use Rattle.world_model.proofs.master.Station.sync.Goals as goal
 
 pub returns : goal.returns
 returns c = λ node entries network run kind is_kind stands keeps.
