@@ -1,2 +1,1 @@
-mod Own
-mod Masters
+pub mod Own

@@ -22,10 +22,10 @@ difference-stays event run none = grind (arith, named (site_of event))
 
 -- one more that passes, and one more that doesn't
 pub count_by-passed : {X : Type 0} (p : X → Bool) (x : X) (xs : List X) → p x ≡ true → count_by p (x ∷ xs) ≡ count_by p xs + 1
-count_by-passed p x xs passes = omega (arith, sum_by-cons (λ y. if p y then 1 else 0) x xs, ap (λ b. if b then 1 else 0) passes)
+count_by-passed p x xs passes = omega (arith, sum_by-cons (λ y. if p y then 1 else 0) x xs, ap {B = ℕ} (λ b. if b then 1 else 0) passes)
 
 pub count_by-failed : {X : Type 0} (p : X → Bool) (x : X) (xs : List X) → p x ≡ false → count_by p (x ∷ xs) ≡ count_by p xs
-count_by-failed p x xs fails = omega (arith, sum_by-cons (λ y. if p y then 1 else 0) x xs, ap (λ b. if b then 1 else 0) fails)
+count_by-failed p x xs fails = omega (arith, sum_by-cons (λ y. if p y then 1 else 0) x xs, ap {B = ℕ} (λ b. if b then 1 else 0) fails)
 
 -- the number after that of a count
 pub next-of_count : (count : ℕ) → next (of_count count) ≡ of_count (count + 1)

@@ -1,36 +1,35 @@
 -- What an event does at its node. The world's own functions cite these.
-use Rattle.std.specs.Prelude.{◌≡◌, ◌⊎◌, ℕ, List, ◌∷◌, if◌then◌else◌, Option, Some, None, option_map, option_and_then, Ok, Err, Result, IsOk, MatchResult}
+use Rattle.std.specs.Prelude.{◌≡◌, ◌⊎◌, ℕ, List, ◌∷◌, length, if◌then◌else◌, Option, Some, None, option_map, option_and_then, Ok, Err, Result, IsOk, MatchResult}
 use Rattle.event_codec.specs.Packet.{Contents}
-use Rattle.slave_port.specs.History.{Setup, Call}
-use Rattle.slave_port.specs.Answer.{answer}
-use Rattle.slave_port.specs.StandsFor.{StandsFor}
 use Rattle.network_model.specs.declared.event.Event.{Event}
 use Rattle.network_model.specs.declared.event.Event.TheVariants.{Sync, SyncOne, Follow, Enter, Leave, Arrive, Hear, Request, Stamped, Tick, SetMaster, StepClock}
 use Rattle.network_model.specs.declared.node.NodeKind.{NodeKind}
 use Rattle.network_model.specs.declared.stepped.Outcome.{Outcome}
-use Rattle.network_model.specs.declared.stepped.Outcome.TheVariants.{Heard}
 use Rattle.network_model.specs.declared.refusal.WorldRefusal.{WorldRefusal}
-use Rattle.network_model.specs.Network.{Network, NodeName, kind_of, is_named}
+use Rattle.network_model.specs.Network.{Network, NodeName, PortSetup, kind_of, is_named}
 use Rattle.network_model.specs.Run.{Run, Place, place, site_of}
 use Rattle.network_model.specs.Kinds.{entered_copy}
 use Rattle.network_model.specs.Clock.{reading, reading_of}
+use Rattle.network_model.specs.Truth.{master_at, slave_at}
 use Rattle.network_model.specs.Truth.{TellsTruth, copy_of, copy_made}
-use Rattle.network_model.specs.Outcome.{outcome_of}
+use Rattle.network_model.specs.Outcome.{outcome_of, reads}
 use Rattle.world_model.specs.declared.entry.Entry.{Entry}
 use Rattle.world_model.specs.declared.entry.Happened.{Happened}
+use Rattle.world_model.specs.declared.station.Master.{Master}
 use Rattle.world_model.specs.declared.station.Slave.{Slave}
 use Rattle.world_model.specs.declared.station.Station.{Station}
-use Rattle.world_model.specs.Stands.{octets_in, stay_in, entering, event_at, stay_at, spent, Keeps, Stands}
+use Rattle.world_model.specs.Stands.{octets_in, stay_in, entering, event_at, stay_at, spent, Keeps, MasterStands, SlaveStands, Stands}
 
 -- room for one more entry, or why there is none
 abbrev pub Room : Type 0
 Room = Result (Unit {0}) WorldRefusal
 
--- what an accepted event brings about at a node of this kind, whose station this is afterwards
-pub record Brings (network : Network) (run : Run) (event : Event) (kind : NodeKind) (new : Station) (happened : Happened) : Type 0 where
+-- What an accepted event brings about: its outcome and reading, a copy or a stay for later events, and what its node then
+-- stands for.
+pub record Brings (network : Network) (run : Run) (event : Event) (After : Type 0) (happened : Happened) : Type 0 where
   pub outcome : outcome_of network run event ≡ Ok happened.outcome
   pub read : happened.reading ≡ reading_of (place event run)
-  pub stands : Stands network (event ∷ run) (site_of event) kind new
+  pub stands : After
   pub copy : TellsTruth (copy_made network event run (copy_of network run)) (octets_in happened.left)
   pub stay : stay_in happened.left ≡ option_map reading (entering (place event run))
 
@@ -39,23 +38,55 @@ abbrev pub Refuses : Network → Run → Event → Room → WorldRefusal → Typ
 Refuses network run event room why =
     (outcome_of network run event ≡ Err why) ⊎ ((room ≡ Err why) × IsOk (outcome_of network run event))
 
--- an event at a node whose station was old and is new, for every run that this station and these entries keep
-abbrev pub Acts : Event → List Entry → (old new : Station) → Room → Result Happened WorldRefusal → Type 0
-Acts event entries old new room result =
-    (network : Network) (run : Run) (kind : NodeKind)
-    → kind_of network (site_of event) ≡ Some kind
-    → Stands network run (site_of event) kind old
-    → Keeps network run entries
-    → MatchResult result (Brings network run event kind new) (λ why. (new ≡ old) × Refuses network run event room why)
+-- an event is accepted, or it is refused and its node is as it was
+abbrev pub Answers : Network → Run → Event → Room → (After Same : Type 0) → Result Happened WorldRefusal → Type 0
+Answers network run event room After Same result =
+    MatchResult result (Brings network run event After) (λ why. Same × Refuses network run event room why)
 
--- the same in one network
+-- an event at a node whose station was old and is new, in one network, for every run that this station and these entries keep
 abbrev pub ActsIn : Network → Event → List Entry → (old new : Station) → Room → Result Happened WorldRefusal → Type 0
 ActsIn network event entries old new room result =
     (run : Run) (kind : NodeKind)
-    → kind_of network (site_of event) ≡ Some kind
-    → Stands network run (site_of event) kind old
-    → Keeps network run entries
-    → MatchResult result (Brings network run event kind new) (λ why. (new ≡ old) × Refuses network run event room why)
+    → kind_of network (site_of event) ≡ Some kind → Stands network run (site_of event) kind old → Keeps network run entries
+    → Answers network run event room (Stands network (event ∷ run) (site_of event) kind new) (new ≡ old) result
+
+-- the same in every network
+abbrev pub Acts : Event → List Entry → (old new : Station) → Room → Result Happened WorldRefusal → Type 0
+Acts event entries old new room result = (network : Network) → ActsIn network event entries old new room result
+
+-- the same of a master, where this is given
+abbrev pub MasterActs : Event → (Given : Network → Run → Type 0) → (old new : Master) → Room → Result Happened WorldRefusal → Type 0
+MasterActs event Given old new room result =
+    (network : Network) (run : Run) (setup : PortSetup)
+    → master_at network (site_of event) ≡ Some setup → MasterStands run (site_of event) setup old → Given network run
+    → Answers network run event room (MasterStands (event ∷ run) (site_of event) setup new) (new ≡ old) result
+
+-- the same of a slave
+abbrev pub SlaveActs : Event → (Given : Network → Run → Type 0) → (old new : Slave) → Room → Result Happened WorldRefusal → Type 0
+SlaveActs event Given old new room result =
+    (network : Network) (run : Run) (setup : PortSetup)
+    → slave_at network (site_of event) ≡ Some setup → SlaveStands network run (site_of event) setup old → Given network run
+    → Answers network run event room (SlaveStands network (event ∷ run) (site_of event) setup new) (new ≡ old) result
+
+-- nothing is given
+abbrev pub Nothing : Network → Run → Type 0
+Nothing network run = Unit {0}
+
+-- the reading at an event, or why there is none
+abbrev pub Reads : Event → Result ℕ WorldRefusal → Network → Run → Type 0
+Reads event shown network run = shown ≡ reads event run
+
+-- the octets of the copy of this tag, or none
+abbrev pub IsCopy : ℕ → Option (List ℕ) → Network → Run → Type 0
+IsCopy copy octets network run = TellsTruth (copy_of network run copy) octets
+
+-- what the node of this name is
+abbrev pub IsKind : NodeName → NodeKind → Network → Run → Type 0
+IsKind name kind network run = kind_of network name ≡ Some kind
+
+-- the tag of the next event
+abbrev pub IsNext : ℕ → Network → Run → Type 0
+IsNext tag network run = length run ≡ tag
 
 -- what an event gives that leaves no stay: a reading, an outcome, and a copy of a message where there is one
 pub record Gives (reading : Option ℕ) (outcome : Outcome) (copy : Option Contents) (happened : Happened) : Type 0 where
@@ -63,16 +94,6 @@ pub record Gives (reading : Option ℕ) (outcome : Outcome) (copy : Option Conte
   pub answered : happened.outcome ≡ outcome
   pub made : TellsTruth copy (octets_in happened.left)
   pub stay : stay_in happened.left ≡ None
-
--- what a call gives that tells a slave's port a message, for every history that the port stands for
-pub record HearsAfter (setup : Setup) (history : List Call) (call : Call) (reading : Option ℕ) (new : Slave) (happened : Happened) : Type 0 where
-  pub gives : Gives reading (Heard (answer setup history call)) None happened
-  pub stands : StandsFor setup new.port (call ∷ history)
-
-abbrev pub Hears : Call → Option ℕ → (old new : Slave) → Happened → Type 0
-Hears call reading old new happened =
-    (new.waiting ≡ old.waiting)
-    × ((setup : Setup) (history : List Call) → StandsFor setup old.port history → HearsAfter setup history call reading new happened)
 
 -- the copy that an entry's event took into this clock
 abbrev pub copy_taken : NodeName → Event → Option ℕ

@@ -13,17 +13,11 @@ impl Station {
         ensures { (node : NodeName) → Acts (Event.Arrive node copy at) entries.now self.old self.new room result }
     {
         let shown = self.shown(at);
-        if let Port::Clock = &self.port {
-            return Err(WorldRefusal::WrongKind);
-        }
-        let Some(octets) = octets_of(entries, copy) else {
-            return Err(WorldRefusal::NoCopy);
-        };
-        let now = shown?;
-        room?;
         match &mut self.port {
-            Port::Master(master) => Ok(master.arrive(octets, now)),
-            Port::Slave(slave) => Ok(slave.arrive(octets, now, entries.len() as u64)),
+            Port::Master(master) => master.arrive(octets_of(entries, copy), shown, room),
+            Port::Slave(slave) => {
+                slave.arrive(octets_of(entries, copy), shown, entries.len() as u64, room)
+            }
             Port::Clock => Err(WorldRefusal::WrongKind),
         }
     }

@@ -19,8 +19,11 @@ fn copy_inside(entries: &[Entry], clock: &Name, transit: u64) -> Option<u64>
     ensures { result ≡ copy_inside entries.now clock.now transit }
 {
     let entry = entries.get(transit as usize)?;
-    match (entry.event, &entry.left) {
-        (Event::Enter { node, copy, .. }, Left::Stay(_)) if node == *clock => Some(copy),
+    let Left::Stay(_) = &entry.left else {
+        return None;
+    };
+    match &entry.event {
+        Event::Enter { node, copy, .. } if node.text() == clock.text() => Some(*copy),
         _ => None,
     }
 }

@@ -1,57 +1,90 @@
-ghost use Rattle.std.specs.Prelude.{◌≡◌, List, Some};
-ghost use Rattle.std.specs.Result.{result_ok};
-ghost use Rattle.ptp_units.specs.Sequence.{next};
-ghost use Rattle.event_codec.specs.Packet.{Contents, Packet};
-ghost use Rattle.master_port.specs.Written.{sync, one_step_sync, answer};
-ghost use Rattle.network_model.specs.Network.{NodeName};
-ghost use Rattle.network_model.specs.Outcome.{answered_outcome};
+ghost use Rattle.std.specs.Prelude.{ℕ, List, option_map};
+ghost use Rattle.network_model.specs.Network.{Network, NodeName};
+ghost use Rattle.network_model.specs.Run.{Run};
 ghost use Rattle.world_model.specs.declared.entry.Entry.{Entry};
-ghost use Rattle.world_model.specs.Acts.{Acts, Gives};
+ghost use Rattle.world_model.specs.Acts.{Acts, MasterActs, Nothing, Reads, IsCopy};
 
 use crate::entry::{Happened, Left, copied};
-use crate::station::{Departure, Master, Port, Room, Station};
+use crate::station::{Departure, Master, Port, Room, Shown, Station};
 use network_model::{Event, Outcome, WorldRefusal};
 use ptp_units::ScaledTime;
 
 impl Master {
-    /// The octets of the next Sync, which departs now and waits for its Follow_Up from then on.
-    fn sync(&mut self, now: ScaledTime) -> [u8; 44]
-        ensures octets { Packet (sync self.old.port.config self.old.port.next) result }
-        ensures master { let number = self.old.port.next in self.new ≡ record {
-            port = record { config = self.old.port.config; next = next number; waiting = Some number };
-            waiting = Some (record { number = record { 0 = number }; at = now });
-        } }
+    /// Draws a Sync, which waits for its Follow_Up from then on.
+    fn sync(&mut self, shown: Shown, room: Room) -> Result<Happened, WorldRefusal>
+        ensures { (node : NodeName) (at : ℕ) → MasterActs (Event.Sync node at) (Reads (Event.Sync node at) shown) self.old self.new room result }
     {
+        let now = shown?;
+        room?;
         let (octets, number) = self.port.next_sync();
         self.waiting = Some(Departure { number, at: now });
-        octets
+        Ok(Happened {
+            reading: Some(now),
+            outcome: Outcome::Made,
+            left: Left::Copy(copied(&octets)),
+        })
     }
 
-    /// The octets of the next one-step Sync, which departs now.
-    fn one_step_sync(&mut self, now: ScaledTime) -> [u8; 44]
-        ensures octets { Packet (one_step_sync self.old.port.config self.old.port.next now) result }
-        ensures master { self.new ≡ record self.old { port = record self.old.port { next = next self.old.port.next } } }
+    /// Draws a one-step Sync.
+    fn one_step_sync(&mut self, shown: Shown, room: Room) -> Result<Happened, WorldRefusal>
+        ensures { (node : NodeName) (at : ℕ) → MasterActs (Event.SyncOne node at) (Reads (Event.SyncOne node at) shown) self.old self.new room result }
     {
+        let now = shown?;
+        room?;
         let (octets, _) = self.port.one_step_sync(now);
-        octets
+        Ok(Happened {
+            reading: Some(now),
+            outcome: Outcome::Made,
+            left: Left::Copy(copied(&octets)),
+        })
     }
 
-    /// What comes of a message that arrives now: the Delay_Resp, or a refusal.
-    pub(crate) fn arrive(&self, octets: &[u8], now: ScaledTime) -> Happened
-        ensures { (m : Contents) → Packet m octets.now → let answered = answer self.now.port.config (Ok m) now in
-            Gives (Some now) (answered_outcome answered) (result_ok answered) result }
+    /// Writes the Follow_Up of the Sync that waits for it.
+    fn follow(&mut self, room: Room) -> Result<Happened, WorldRefusal>
+        ensures { (node : NodeName) → MasterActs (Event.Follow node) Nothing self.old self.new room result }
     {
+        let Some(sync) = self.waiting else {
+            return Err(WorldRefusal::NothingWaiting);
+        };
+        room?;
+        let Ok(octets) = self.port.sync_left(sync.number, sync.at) else {
+            return Err(WorldRefusal::NothingWaiting);
+        };
+        self.waiting = None;
+        Ok(Happened {
+            reading: None,
+            outcome: Outcome::Made,
+            left: Left::Copy(copied(&octets)),
+        })
+    }
+
+    /// Answers a message that arrives, where it is a Delay_Req of the master's domain.
+    pub(crate) fn arrive(
+        &self,
+        heard: Option<&[u8]>,
+        shown: Shown,
+        room: Room,
+    ) -> Result<Happened, WorldRefusal>
+        ensures { (node : NodeName) (copy at : ℕ) → MasterActs (Event.Arrive node copy at)
+            (λ network run. IsCopy copy (option_map (λ octets. octets.now) heard) network run × Reads (Event.Arrive node copy at) shown network run)
+            self.now self.now room result }
+    {
+        let Some(octets) = heard else {
+            return Err(WorldRefusal::NoCopy);
+        };
+        let now = shown?;
+        room?;
         match self.port.delay_req(octets, now) {
-            Ok(response) => Happened {
+            Ok(response) => Ok(Happened {
                 reading: Some(now),
                 outcome: Outcome::Made,
                 left: Left::Copy(copied(&response)),
-            },
-            Err(refusal) => Happened {
+            }),
+            Err(refusal) => Ok(Happened {
                 reading: Some(now),
                 outcome: Outcome::Refused(refusal.code()),
                 left: Left::Nothing,
-            },
+            }),
         }
     }
 }
@@ -65,32 +98,22 @@ impl Station {
         let Port::Master(master) = &mut self.port else {
             return Err(WorldRefusal::WrongKind);
         };
-        let now = shown?;
-        room?;
-        let octets = master.sync(now);
-        Ok(Happened {
-            reading: Some(now),
-            outcome: Outcome::Made,
-            left: Left::Copy(copied(&octets)),
-        })
+        master.sync(shown, room)
     }
 
     /// A master sends a one-step Sync.
-    pub(crate) fn one_step_sync(&mut self, at: ScaledTime, room: Room) -> Result<Happened, WorldRefusal>
+    pub(crate) fn one_step_sync(
+        &mut self,
+        at: ScaledTime,
+        room: Room,
+    ) -> Result<Happened, WorldRefusal>
         ensures { (node : NodeName) (entries : List Entry) → Acts (Event.SyncOne node at) entries self.old self.new room result }
     {
         let shown = self.shown(at);
         let Port::Master(master) = &mut self.port else {
             return Err(WorldRefusal::WrongKind);
         };
-        let now = shown?;
-        room?;
-        let octets = master.one_step_sync(now);
-        Ok(Happened {
-            reading: Some(now),
-            outcome: Outcome::Made,
-            left: Left::Copy(copied(&octets)),
-        })
+        master.one_step_sync(shown, room)
     }
 
     /// A master sends the Follow_Up of the Sync that waits for it.
@@ -100,18 +123,6 @@ impl Station {
         let Port::Master(master) = &mut self.port else {
             return Err(WorldRefusal::WrongKind);
         };
-        let Some(sync) = master.waiting else {
-            return Err(WorldRefusal::NothingWaiting);
-        };
-        room?;
-        let Ok(octets) = master.port.sync_left(sync.number, sync.at) else {
-            return Err(WorldRefusal::NothingWaiting);
-        };
-        master.waiting = None;
-        Ok(Happened {
-            reading: None,
-            outcome: Outcome::Made,
-            left: Left::Copy(copied(&octets)),
-        })
+        master.follow(room)
     }
 }

@@ -1,4 +1,4 @@
-ghost use Rattle.std.specs.Prelude.{◌≡◌, List, pos, ◌+ℤ◌, ok_or};
+ghost use Rattle.std.specs.Prelude.{◌≡◌, List, [], pos, ◌+ℤ◌, ok_or};
 ghost use Rattle.ptp_units.specs.Moment.{moment_of};
 ghost use Rattle.network_model.specs.Network.{Network, NodeName};
 ghost use Rattle.world_model.specs.declared.entry.Entry.{Entry};
@@ -17,6 +17,9 @@ pub(crate) type Table<V> = ListTable<V, 16>;
 
 /// Room for one more entry, or why there is none.
 pub(crate) type Room = Result<(), WorldRefusal>;
+
+/// What a clock shows, or why it shows nothing.
+pub(crate) type Shown = Result<ScaledTime, WorldRefusal>;
 
 /// A message that waits for its departure time: its number, and what the clock showed as it left.
 #[derive(Clone, Copy)]
@@ -79,7 +82,7 @@ impl Station {
     }
 
     /// What the clock shows at this true moment. Refused with 607 where that is no moment.
-    pub(crate) fn shown(&self, at: ScaledTime) -> Result<ScaledTime, WorldRefusal>
+    pub(crate) fn shown(&self, at: ScaledTime) -> Shown
         ensures { result ≡ ok_or (moment_of (pos at +ℤ self.now.difference)) WorldRefusal.ReadingOutOfRange }
     {
         match at.shifted(self.difference) {
