@@ -38,10 +38,10 @@ abbrev pub Refuses : Network → Run → Event → Room → WorldRefusal → Typ
 Refuses network run event room why =
     (outcome_of network run event ≡ Err why) ⊎ ((room ≡ Err why) × IsOk (outcome_of network run event))
 
--- an event is accepted, or it is refused and its node is as it was
+-- an event is accepted, for which there is room, or it is refused and its node is as it was
 abbrev pub Answers : Network → Run → Event → Room → (After Same : Type 0) → Result Happened WorldRefusal → Type 0
 Answers network run event room After Same result =
-    MatchResult result (Brings network run event After) (λ why. Same × Refuses network run event room why)
+    MatchResult result (λ happened. IsOk room × Brings network run event After happened) (λ why. Same × Refuses network run event room why)
 
 -- an event at a node whose station was old and is new, in one network, for every run that this station and these entries keep
 abbrev pub ActsIn : Network → Event → List Entry → (old new : Station) → Room → Result Happened WorldRefusal → Type 0

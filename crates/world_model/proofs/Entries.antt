@@ -1,0 +1,202 @@
+-- Entries after one more event.
+use Rattle.std.proofs.Common.{◌≡◌, ◌≢◌, ◌∙◌, ℕ, zero, suc, ◌<◌, ◌≤◌, ◌==◌, ◌⊎◌, inl, inr, Bool, true, false, List, [], ◌∷◌, ◌++◌, length, map, reverse, slice_get, if◌then◌else◌, Option, Some, None, Ok, Err, Result, IsOk, is_ok, option_map, option_and_then, refl, sym, ap, subst, arith}
+use Rattle.std.specs.Prelude.{◌||◌}
+use Rattle.std.specs.List.{list_any}
+use Rattle.std.proofs.lemmas.Bool.Decides.{nat_tests}
+use Rattle.std.proofs.lemmas.List.{map-append, reverse-append, length-append}
+use Rattle.network_model.specs.declared.event.Event.{Event}
+use Rattle.network_model.specs.declared.event.Event.TheVariants.{Sync, SyncOne, Follow, Enter, Leave, Arrive, Hear, Request, Stamped, Tick, SetMaster, StepClock}
+use Rattle.network_model.specs.declared.refusal.WorldRefusal.{WorldRefusal}
+use Rattle.network_model.specs.declared.refusal.WorldRefusal.TheVariants.{NoTransit}
+use Rattle.network_model.specs.Network.{Network}
+use Rattle.network_model.specs.Run.{Run, Place, place, place_at}
+use Rattle.network_model.specs.Kinds.{spends}
+use Rattle.network_model.specs.Clock.{reading}
+use Rattle.network_model.specs.Truth.{TellsTruth, copy_of, copy_made}
+use Rattle.network_model.specs.Outcome.{outcome_of, node_as, clock_of, IsRun, ◌>>=◌}
+use Rattle.world_model.specs.declared.entry.Entry.{Entry}
+use Rattle.world_model.specs.declared.entry.Left.{Left}
+use Rattle.world_model.specs.declared.entry.Left.TheVariants.{Copy, Stay, Nothing}
+use Rattle.world_model.specs.declared.entry.Happened.{Happened}
+use Rattle.world_model.specs.Stands.{run_of, octets_in, stay_in, event_at, octets_at, stay_at, ended, spent, entering, open_stay, Keeps}
+use Rattle.world_model.specs.Acts.{Brings, entries_after}
+
+-- what is at a place after one more was put behind
+get-push : {X : Type 0} (xs : List X) (x : X) (i : ℕ) → slice_get (xs ++ x ∷ []) i ≡ (if length xs == i then Some x else slice_get xs i)
+get-push [] x zero = refl
+get-push [] x (suc i) = refl
+get-push (y ∷ ys) x zero = refl
+get-push (y ∷ ys) x (suc i) = get-push ys x i
+
+-- a stay that ends changes no event and no copy
+spent-length : (transit : ℕ) (entries : List Entry) → length (spent transit entries) ≡ length entries
+spent-length transit [] = refl
+spent-length zero (entry ∷ entries) = refl
+spent-length (suc transit) (entry ∷ entries) = ap suc (spent-length transit entries)
+
+spent-events : (transit : ℕ) (entries : List Entry) → map (λ (e : Entry). e.event) (spent transit entries) ≡ map (λ (e : Entry). e.event) entries
+spent-events transit [] = refl
+spent-events zero (entry ∷ entries) = refl
+spent-events (suc transit) (entry ∷ entries) = ap (λ rest. entry.event ∷ rest) (spent-events transit entries)
+
+spent-event_at : (transit : ℕ) (entries : List Entry) (tag : ℕ) → event_at (spent transit entries) tag ≡ event_at entries tag
+spent-event_at transit [] tag = refl
+spent-event_at zero (entry ∷ entries) zero = refl
+spent-event_at zero (entry ∷ entries) (suc tag) = refl
+spent-event_at (suc transit) (entry ∷ entries) zero = refl
+spent-event_at (suc transit) (entry ∷ entries) (suc tag) = spent-event_at transit entries tag
+
+ended-octets : (left : Left) → octets_in (ended left) ≡ octets_in left
+ended-octets (Copy octets) = refl
+ended-octets (Stay transit) = refl
+ended-octets Nothing = refl
+
+spent-octets_at : (transit : ℕ) (entries : List Entry) (tag : ℕ) → octets_at (spent transit entries) tag ≡ octets_at entries tag
+spent-octets_at transit [] tag = refl
+spent-octets_at zero (entry ∷ entries) zero = ended-octets entry.left
+spent-octets_at zero (entry ∷ entries) (suc tag) = refl
+spent-octets_at (suc transit) (entry ∷ entries) zero = refl
+spent-octets_at (suc transit) (entry ∷ entries) (suc tag) = spent-octets_at transit entries tag
+
+ended-stay : (left : Left) → stay_in (ended left) ≡ None
+ended-stay (Copy octets) = refl
+ended-stay (Stay transit) = refl
+ended-stay Nothing = refl
+
+spent-stay_at : (transit : ℕ) (entries : List Entry) (tag : ℕ) → stay_at (spent transit entries) tag ≡ (if transit == tag then None else stay_at entries tag)
+spent-stay_at zero [] zero = refl
+spent-stay_at zero [] (suc tag) = refl
+spent-stay_at (suc transit) [] zero = refl
+spent-stay_at (suc transit) [] (suc tag) = by_test (transit == tag)
+  where
+    by_test : (b : Bool) → None ≡ (if b then None else None)
+    by_test true = refl
+    by_test false = refl
+spent-stay_at zero (entry ∷ entries) zero = ended-stay entry.left
+spent-stay_at zero (entry ∷ entries) (suc tag) = refl
+spent-stay_at (suc transit) (entry ∷ entries) zero = refl
+spent-stay_at (suc transit) (entry ∷ entries) (suc tag) = spent-stay_at transit entries tag
+
+-- the same of the entries after an event
+after-length : (event : Event) (entries : List Entry) → length (entries_after event entries) ≡ length entries
+after-length (Leave node transit at) entries = spent-length transit entries
+after-length _ entries = refl
+
+after-events : (event : Event) (entries : List Entry) → map (λ (e : Entry). e.event) (entries_after event entries) ≡ map (λ (e : Entry). e.event) entries
+after-events (Leave node transit at) entries = spent-events transit entries
+after-events _ entries = refl
+
+after-event_at : (event : Event) (entries : List Entry) (tag : ℕ) → event_at (entries_after event entries) tag ≡ event_at entries tag
+after-event_at (Leave node transit at) entries tag = spent-event_at transit entries tag
+after-event_at _ entries tag = refl
+
+after-octets_at : (event : Event) (entries : List Entry) (tag : ℕ) → octets_at (entries_after event entries) tag ≡ octets_at entries tag
+after-octets_at (Leave node transit at) entries tag = spent-octets_at transit entries tag
+after-octets_at _ entries tag = refl
+
+after-stay_at : (event : Event) (entries : List Entry) (tag : ℕ)
+    → stay_at (entries_after event entries) tag ≡ (if spends tag event then None else stay_at entries tag)
+after-stay_at (Leave node transit at) entries tag = spent-stay_at transit entries tag
+after-stay_at _ entries tag = refl
+
+-- an event comes in front of the run where its entry comes behind the entries
+pub run_of-after : (event : Event) (entries : List Entry) (left : Left)
+    → run_of (entries_after event entries ++ (record { event = event; left = left }) ∷ []) ≡ event ∷ run_of entries
+run_of-after event entries left =
+    ap reverse (map-append (λ (e : Entry). e.event) (entries_after event entries) ((record { event = event; left = left }) ∷ []))
+    ∙ reverse-append (map (λ (e : Entry). e.event) (entries_after event entries)) (event ∷ [])
+    ∙ ap (λ (events : List Event). event ∷ reverse events) (after-events event entries)
+
+-- no event has spent what isn't there
+nothing_there : (run : Run) (tag : ℕ) → length run ≤ tag → place_at run tag ≡ None
+nothing_there [] tag late = refl
+nothing_there (event ∷ earlier) tag late = by_test (length earlier == tag) refl
+  where
+    by_test : (b : Bool) → (length earlier == tag) ≡ b → (if b then Some (place event earlier) else place_at earlier tag) ≡ None
+    by_test true same = absurd (let e : length earlier ≡ tag = grind (arith, nat_tests) in omega arith)
+    by_test false same = nothing_there earlier tag (omega arith)
+
+never_ok : {A B : Type 0} (r : Result A WorldRefusal) (why : WorldRefusal) → IsOk {B} (r >>= (λ x. Err why)) → ⊥
+never_ok (Ok x) why ok = absurd (cc)
+never_ok (Err other) why ok = absurd (cc)
+
+pub not_spent : (network : Network) (run : Run) (event : Event) (tag : ℕ) → IsOk (outcome_of network run event) → length run ≤ tag → spends tag event ≡ false
+not_spent network run (Leave node transit at) tag ok late = by_test (transit == tag) refl
+  where
+    by_test : (b : Bool) → (transit == tag) ≡ b → b ≡ false
+    by_test true same =
+        let e : transit ≡ tag = grind (arith, nat_tests) in
+        let none : place_at run transit ≡ None = ap (place_at run) e ∙ nothing_there run tag late in
+        absurd (never_ok (node_as clock_of network node) NoTransit (rw none at ok))
+    by_test false same = refl
+not_spent network run _ tag ok late = refl
+
+unspent : (network : Network) (run : Run) (tag : ℕ) → IsRun network run → length run ≤ tag → list_any (spends tag) run ≡ false
+unspent network [] tag accepted late = refl
+unspent network (event ∷ earlier) tag accepted late =
+    ap (λ b. b || list_any (spends tag) earlier) (not_spent network earlier event tag accepted.0 (omega arith))
+    ∙ unspent network earlier tag accepted.1 (omega arith)
+
+module _ (network : Network) (run : Run) (event : Event) (entries : List Entry) (After : Type 0) (happened : Happened)
+    (keeps : Keeps network run entries) (brings : Brings network run event After happened) where
+  abbrev entry : Entry
+  entry = record { event = event; left = happened.left }
+
+  put : {Y : Type 0} (of : Entry → Option Y) (tag : ℕ) → option_and_then of (slice_get (entries_after event entries ++ entry ∷ []) tag)
+      ≡ option_and_then of (if length run == tag then Some entry else slice_get (entries_after event entries) tag)
+  put of tag =
+      ap (option_and_then of) (get-push (entries_after event entries) entry tag)
+      ∙ ap (λ n. option_and_then of (if n == tag then Some entry else slice_get (entries_after event entries) tag)) (after-length event entries ∙ sym keeps.count)
+
+  accepted : IsOk (outcome_of network run event)
+  accepted = ap is_ok brings.outcome
+
+  events : (tag : ℕ) → event_at (entries_after event entries ++ entry ∷ []) tag ≡ option_map (λ (p : Place). p.event) (place_at (event ∷ run) tag)
+  events tag =
+      ap (option_map (λ (e : Entry). e.event)) (get-push (entries_after event entries) entry tag)
+      ∙ ap (λ n. option_map (λ (e : Entry). e.event) (if n == tag then Some entry else slice_get (entries_after event entries) tag)) (after-length event entries ∙ sym keeps.count)
+      ∙ by_test (length run == tag)
+    where
+      by_test : (b : Bool) → option_map (λ (e : Entry). e.event) (if b then Some entry else slice_get (entries_after event entries) tag)
+          ≡ option_map (λ (p : Place). p.event) (if b then Some (place event run) else place_at run tag)
+      by_test true = refl
+      by_test false = after-event_at event entries tag ∙ keeps.events tag
+
+  copies : (tag : ℕ) → TellsTruth (copy_of network (event ∷ run) tag) (octets_at (entries_after event entries ++ entry ∷ []) tag)
+  copies tag = subst (TellsTruth (copy_of network (event ∷ run) tag)) (sym (put (λ (e : Entry). octets_in e.left) tag)) (by_test (length run == tag))
+    where
+      by_test : (b : Bool) → TellsTruth (if b then copy_made network event run (copy_of network run) else copy_of network run tag)
+          (option_and_then (λ (e : Entry). octets_in e.left) (if b then Some entry else slice_get (entries_after event entries) tag))
+      by_test true = brings.copy
+      by_test false = subst (TellsTruth (copy_of network run tag)) (sym (after-octets_at event entries tag)) (keeps.copies tag)
+
+  none_spent : (tag : ℕ) → (length run == tag) ≡ true → (spends tag event || list_any (spends tag) run) ≡ false
+  none_spent tag same =
+      let e : length run ≡ tag = grind (arith, nat_tests) in
+      ap (λ b. b || list_any (spends tag) run) (not_spent network run event tag accepted (omega arith)) ∙ unspent network run tag keeps.accepted (omega arith)
+
+  stays : (tag : ℕ) → stay_at (entries_after event entries ++ entry ∷ []) tag ≡ option_map reading (open_stay (event ∷ run) tag)
+  stays tag = put (λ (e : Entry). stay_in e.left) tag ∙ by_test (length run == tag) refl
+    where
+      abbrev open_if : Bool → Option Place → Option ℕ
+      open_if b p = option_map reading (if b then None else option_and_then entering p)
+
+      kept : (b : Bool) → (if b then None else stay_at entries tag) ≡ open_if (b || list_any (spends tag) run) (place_at run tag)
+      kept true = refl
+      kept false = keeps.stays tag
+
+      by_test : (b : Bool) → (length run == tag) ≡ b
+          → option_and_then (λ (e : Entry). stay_in e.left) (if b then Some entry else slice_get (entries_after event entries) tag)
+          ≡ open_if (spends tag event || list_any (spends tag) run) (if b then Some (place event run) else place_at run tag)
+      by_test true same = brings.stay ∙ sym (ap (λ b. open_if b (Some (place event run))) (none_spent tag same))
+      by_test false same = after-stay_at event entries tag ∙ kept (spends tag event)
+
+  -- the entries keep the run after one more event
+  pub Keeps-after : Keeps network (event ∷ run) (entries_after event entries ++ entry ∷ [])
+  Keeps-after = record {
+    accepted = (accepted, keeps.accepted);
+    count = omega (arith, length-append (entries_after event entries) (entry ∷ []), after-length event entries, keeps.count);
+    events = events;
+    copies = copies;
+    stays = stays;
+  }
