@@ -5,6 +5,7 @@ pub mod Exactness
 pub mod Accepted
 pub mod Short
 pub mod Travelled
+pub mod Leaving
 pub mod Worked
 pub mod WorkedExchange
 pub mod WorkedOctets

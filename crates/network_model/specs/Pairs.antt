@@ -7,7 +7,7 @@ use Rattle.network_model.specs.Network.{Network, PortSetup}
 use Rattle.network_model.specs.Run.{Run, Place, place_at, tag_of, until, site_of}
 use Rattle.network_model.specs.Truth.{slave_at, origin_heard}
 use Rattle.network_model.specs.SlaveHistory.{slave_setup, call_made, history_of}
-use Rattle.network_model.specs.Premises.{Premise}
+use Rattle.network_model.specs.Premises.{Premise, exact_limits, IsFreshAndTicked}
 
 -- what a slave's port is told at an event, and the event that drew the number of what it hears
 pub record HeardAt (network : Network) (p : Place) : Type 0 where
@@ -55,3 +55,9 @@ EachDelayRespPairs premise =
     IsSome (usable_delay_resp setup before heard.call)
     → IsSome (delay_completion setup before heard.call)
     ↔ Any (λ request. (request.value.tag ≡ tag_of heard.origin) × IsSome request.value.t3) (held_requests setup before)
+
+-- No pair is missed, over runs of any length that are fresh and ticked.
+pub record NoPairIsMissed : Type 0 where
+  pub syncs : EachSyncPairs (IsFreshAndTicked exact_limits)
+  pub follow_ups : EachFollowUpPairs (IsFreshAndTicked exact_limits)
+  pub delay_resps : EachDelayRespPairs (IsFreshAndTicked exact_limits)
