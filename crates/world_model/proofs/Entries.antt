@@ -1,19 +1,18 @@
 -- Entries after one more event.
-use Rattle.std.proofs.Common.{◌≡◌, ◌≢◌, ◌∙◌, ℕ, zero, suc, ◌<◌, ◌≤◌, ◌==◌, ◌⊎◌, inl, inr, Bool, true, false, List, [], ◌∷◌, ◌++◌, length, map, reverse, slice_get, if◌then◌else◌, Option, Some, None, Ok, Err, Result, IsOk, is_ok, option_map, option_and_then, refl, sym, ap, subst, arith}
+use Rattle.std.proofs.Common.{◌≡◌, ◌≢◌, ◌∙◌, ℕ, zero, suc, ◌<◌, ◌≤◌, ◌==◌, ◌⊎◌, inl, inr, Bool, true, false, List, [], ◌∷◌, ◌++◌, length, map, reverse, slice_get, if◌then◌else◌, Option, Some, None, Ok, IsOk, is_ok, option_map, option_and_then, refl, sym, ap, subst, arith}
 use Rattle.std.specs.Prelude.{◌||◌}
 use Rattle.std.specs.List.{list_any}
 use Rattle.std.proofs.lemmas.Bool.Decides.{nat_tests}
 use Rattle.std.proofs.lemmas.List.{map-append, reverse-append, length-append}
 use Rattle.network_model.specs.declared.event.Event.{Event}
 use Rattle.network_model.specs.declared.event.Event.TheVariants.{Sync, SyncOne, Follow, Enter, Leave, Arrive, Hear, Request, Stamped, Tick, SetMaster, StepClock}
-use Rattle.network_model.specs.declared.refusal.WorldRefusal.{WorldRefusal}
-use Rattle.network_model.specs.declared.refusal.WorldRefusal.TheVariants.{NoTransit}
 use Rattle.network_model.specs.Network.{Network}
 use Rattle.network_model.specs.Run.{Run, Place, place, place_at}
 use Rattle.network_model.specs.Kinds.{spends}
 use Rattle.network_model.specs.Clock.{reading}
 use Rattle.network_model.specs.Truth.{TellsTruth, copy_of, copy_made}
-use Rattle.network_model.specs.Outcome.{outcome_of, node_as, clock_of, IsRun, ◌>>=◌}
+use Rattle.network_model.specs.Outcome.{outcome_of, IsRun}
+use Rattle.network_model.proofs.Leaving.{leave_before, unspent}
 use Rattle.world_model.specs.declared.entry.Entry.{Entry}
 use Rattle.world_model.specs.declared.entry.Left.{Left}
 use Rattle.world_model.specs.declared.entry.Left.TheVariants.{Copy, Stay, Nothing}
@@ -107,35 +106,11 @@ run_of-after event entries left =
     ∙ reverse-append (map (λ (e : Entry). e.event) (entries_after event entries)) (event ∷ [])
     ∙ ap (λ (events : List Event). event ∷ reverse events) (after-events event entries)
 
--- no event has spent what isn't there
-nothing_there : (run : Run) (tag : ℕ) → length run ≤ tag → place_at run tag ≡ None
-nothing_there [] tag late = refl
-nothing_there (event ∷ earlier) tag late = by_test (length earlier == tag) refl
-  where
-    by_test : (b : Bool) → (length earlier == tag) ≡ b → (if b then Some (place event earlier) else place_at earlier tag) ≡ None
-    by_test true same = absurd (let e : length earlier ≡ tag = grind (arith, nat_tests) in omega arith)
-    by_test false same = nothing_there earlier tag (omega arith)
-
-never_ok : {A B : Type 0} (r : Result A WorldRefusal) (why : WorldRefusal) → IsOk {B} (r >>= (λ x. Err why)) → ⊥
-never_ok (Ok x) why ok = absurd (cc)
-never_ok (Err other) why ok = absurd (cc)
-
-pub not_spent : (network : Network) (run : Run) (event : Event) (tag : ℕ) → IsOk (outcome_of network run event) → length run ≤ tag → spends tag event ≡ false
-not_spent network run (Leave node transit at) tag ok late = by_test (transit == tag) refl
-  where
-    by_test : (b : Bool) → (transit == tag) ≡ b → b ≡ false
-    by_test true same =
-        let e : transit ≡ tag = grind (arith, nat_tests) in
-        let none : place_at run transit ≡ None = ap (place_at run) e ∙ nothing_there run tag late in
-        absurd (never_ok (node_as clock_of network node) NoTransit (rw none at ok))
-    by_test false same = refl
-not_spent network run _ tag ok late = refl
-
-unspent : (network : Network) (run : Run) (tag : ℕ) → IsRun network run → length run ≤ tag → list_any (spends tag) run ≡ false
-unspent network [] tag accepted late = refl
-unspent network (event ∷ earlier) tag accepted late =
-    ap (λ b. b || list_any (spends tag) earlier) (not_spent network earlier event tag accepted.0 (omega arith))
-    ∙ unspent network earlier tag accepted.1 (omega arith)
+-- an accepted event spends no transit that isn't there
+not_spent : (network : Network) (run : Run) (event : Event) (tag : ℕ) → IsRun network (event ∷ run) → length run ≤ tag → spends tag event ≡ false
+not_spent network run (Leave node transit at) tag accepted late =
+    let before : transit < length run = leave_before network run node transit at accepted.0 in grind (arith, nat_tests)
+not_spent network run _ tag accepted late = refl
 
 module _ (network : Network) (run : Run) (event : Event) (entries : List Entry) (After : Type 0) (happened : Happened)
     (keeps : Keeps network run entries) (brings : Brings network run event After happened) where
@@ -173,7 +148,7 @@ module _ (network : Network) (run : Run) (event : Event) (entries : List Entry) 
   none_spent : (tag : ℕ) → (length run == tag) ≡ true → (spends tag event || list_any (spends tag) run) ≡ false
   none_spent tag same =
       let e : length run ≡ tag = grind (arith, nat_tests) in
-      ap (λ b. b || list_any (spends tag) run) (not_spent network run event tag accepted (omega arith)) ∙ unspent network run tag keeps.accepted (omega arith)
+      ap (λ b. b || list_any (spends tag) run) (not_spent network run event tag (accepted, keeps.accepted) (omega arith)) ∙ unspent network run tag keeps.accepted (omega arith)
 
   stays : (tag : ℕ) → stay_at (entries_after event entries ++ entry ∷ []) tag ≡ option_map reading (open_stay (event ∷ run) tag)
   stays tag = put (λ (e : Entry). stay_in e.left) tag ∙ by_test (length run == tag) refl

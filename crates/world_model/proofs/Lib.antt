@@ -1,1 +1,7 @@
 pub mod Own
+pub mod Elsewhere
+pub mod Stations
+pub mod Entries
+pub mod Masters
+pub mod Lifting
+pub mod Slaves

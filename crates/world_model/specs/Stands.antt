@@ -1,8 +1,7 @@
 -- What a world keeps of its run: one station for each node and one entry for each event. Its own functions cite these; what
 -- its callers are told is said by the run alone.
-use Rattle.std.specs.Prelude.{◌≡◌, ℕ, Bool, not, ◌&&◌, List, [], ◌∷◌, length, map, reverse, slice_get, slice_set, is_some, if◌then◌else◌, Option, Some, None, option_map, option_and_then}
+use Rattle.std.specs.Prelude.{◌≡◌, ℕ, zero, suc, List, [], ◌∷◌, length, map, reverse, slice_get, is_some, if◌then◌else◌, Option, Some, None, option_map, option_and_then}
 use Rattle.std.specs.List.{list_any}
-use Rattle.std.specs.Option.{option_map_or}
 use Rattle.ptp_units.specs.Sequence.{of_count}
 use Rattle.slave_port.specs.StandsFor.{StandsFor}
 use Rattle.network_model.specs.declared.event.Event.{Event}
@@ -56,13 +55,17 @@ octets_at entries tag = option_and_then (λ entry. octets_in entry.left) (slice_
 abbrev pub stay_at : List Entry → ℕ → Option ℕ
 stay_at entries tag = option_and_then (λ entry. stay_in entry.left) (slice_get entries tag)
 
--- an entry whose stay has ended
-abbrev pub ended : Entry → Entry
-ended entry = record { event = entry.event; left = Nothing }
+-- a stay ends
+abbrev pub ended : Left → Left
+ended (Copy octets) = Copy octets
+ended (Stay transit) = Nothing
+ended Nothing = Nothing
 
--- the entries without the stay of this tag
+-- the entries after the stay of this tag has ended
 abbrev pub spent : ℕ → List Entry → List Entry
-spent tag entries = option_map_or (λ entry. slice_set entries tag (ended entry)) (slice_get entries tag) entries
+spent tag [] = []
+spent zero (entry ∷ entries) = record { event = entry.event; left = ended entry.left } ∷ entries
+spent (suc tag) (entry ∷ entries) = entry ∷ spent tag entries
 
 -- the event, where it is an Enter event
 abbrev pub entering : Place → Option Place
@@ -129,3 +132,8 @@ pub record AllStand (network : Network) (run : Run) (stations : List Station) : 
   pub each : (index : ℕ) (node : NodeSpec) (station : Station)
       → slice_get network index ≡ Some node → slice_get stations index ≡ Some station
       → Stands network run node.name node.kind station
+
+-- what a world keeps of its run
+pub record IsWorld (network : Network) (stations : List Station) (entries : List Entry) : Type 0 where
+  pub nodes : AllStand network (run_of entries) stations
+  pub events : Keeps network (run_of entries) entries

@@ -4,7 +4,7 @@ ghost use Rattle.event_codec.specs.Packet.{Contents, Packet};
 ghost use Rattle.transparent_clock.specs.Forwarding.{forwarded};
 ghost use Rattle.network_model.specs.Network.{NodeName};
 ghost use Rattle.network_model.specs.Outcome.{left_outcome};
-ghost use Rattle.world_model.specs.Stands.{stay_at, spent};
+ghost use Rattle.world_model.specs.Stands.{stay_in, stay_at, ended, spent};
 ghost use Rattle.world_model.specs.Acts.{Acts, Gives, copy_inside};
 
 use crate::entry::{Entry, Happened, Left, Octets, copied, octets_of};
@@ -28,23 +28,30 @@ fn copy_inside(entries: &[Entry], clock: &Name, transit: u64) -> Option<u64>
     }
 }
 
+/// Ends a stay.
+fn end(left: &mut Left) -> Option<Transit>
+    ensures value { result ≡ stay_in left.old }
+    ensures ended { left.new ≡ ended left.old }
+{
+    match mem::replace(left, Left::Nothing) {
+        Left::Stay(transit) => Some(transit),
+        other => {
+            *left = other;
+            None
+        }
+    }
+}
+
 /// Takes a message out of a clock.
 fn take_out(entries: &mut [Entry], transit: u64) -> Option<Transit>
     ensures value { result ≡ stay_at entries.old transit }
-    ensures spent { IsSome result → entries.new ≡ spent transit entries.old }
-    ensures none { result ≡ None → entries.new ≡ entries.old }
+    ensures spent { entries.new ≡ spent transit entries.old }
 {
     let index = transit as usize;
-    if index >= entries.len() {
-        return None;
-    }
-    let entry = &mut entries[index];
-    match mem::replace(&mut entry.left, Left::Nothing) {
-        Left::Stay(transit) => Some(transit),
-        other => {
-            entry.left = other;
-            None
-        }
+    if index < entries.len() {
+        end(&mut entries[index].left)
+    } else {
+        None
     }
 }
 

@@ -4,9 +4,12 @@
 mod arrival;
 mod clock;
 mod entry;
+mod happen;
 mod master;
 mod slave;
 mod station;
+mod world;
 
 pub use network_model::{Event, Name, NodeKind, NodeSpec, Nodes, Outcome, RunStop, Stepped, WorldRefusal};
 pub use slave_port::{Heard, Reason, Report};
+pub use world::World;

@@ -66,7 +66,7 @@ impl Master {
         room: Room,
     ) -> Result<Happened, WorldRefusal>
         ensures { (node : NodeName) (copy at : ℕ) → MasterActs (Event.Arrive node copy at)
-            (λ network run. IsCopy copy (option_map (λ octets. octets.now) heard) network run × Reads (Event.Arrive node copy at) shown network run)
+            (λ network run. IsCopy copy (option_map (λ octets. octets.now) heard.entry) network run × Reads (Event.Arrive node copy at) shown network run)
             self.now self.now room result }
     {
         let Some(octets) = heard else {

@@ -19,7 +19,7 @@ impl Slave {
         room: Room,
     ) -> Result<Happened, WorldRefusal>
         ensures { (node : NodeName) (copy at : ℕ) → SlaveActs (Event.Arrive node copy at)
-            (λ network run. IsCopy copy (option_map (λ octets. octets.now) heard) network run
+            (λ network run. IsCopy copy (option_map (λ octets. octets.now) heard.entry) network run
             × Reads (Event.Arrive node copy at) shown network run × IsNext tag network run)
             self.old self.new room result }
     {
@@ -43,7 +43,7 @@ impl Slave {
         room: Room,
     ) -> Result<Happened, WorldRefusal>
         ensures { (node : NodeName) (copy : ℕ) → SlaveActs (Event.Hear node copy)
-            (λ network run. IsCopy copy (option_map (λ octets. octets.now) heard) network run × IsNext tag network run)
+            (λ network run. IsCopy copy (option_map (λ octets. octets.now) heard.entry) network run × IsNext tag network run)
             self.old self.new room result }
     {
         let Some(octets) = heard else {

@@ -1,16 +1,17 @@
-ghost use Rattle.std.specs.Prelude.{◌≡◌, List, [], pos, ◌+ℤ◌, ok_or};
+ghost use Rattle.std.specs.Prelude.{◌≡◌, List, [], pos, ◌+ℤ◌, ok_or, IfOk, IfErr};
 ghost use Rattle.ptp_units.specs.Moment.{moment_of};
 ghost use Rattle.network_model.specs.Network.{Network, NodeName};
 ghost use Rattle.world_model.specs.declared.entry.Entry.{Entry};
-ghost use Rattle.world_model.specs.Stands.{Stands};
+ghost use Rattle.world_model.specs.Stands.{Stands, AllStand};
 ghost use Rattle.world_model.specs.Acts.{Acts};
 
 use crate::entry::{Happened, Left};
 use master_port::MasterPort;
-use network_model::{Event, NodeKind, Outcome, WorldRefusal};
+use network_model::{Event, NodeKind, Nodes, Outcome, WorldRefusal};
 use pairing::ListTable;
 use ptp_units::{BOUND, ScaledTime, Seq};
 use slave_port::{HeldFollow, HeldRequest, HeldSync, SlavePort};
+use std::alloc::Global;
 
 /// What holds the messages of a slave: at most 16 of each kind.
 pub(crate) type Table<V> = ListTable<V, 16>;
@@ -106,4 +107,18 @@ impl Station {
             left: Left::Nothing,
         })
     }
+}
+
+/// What stands at each node before any event.
+pub(crate) fn stations_of(alloc: Global, nodes: &Nodes) -> Result<Vec<Station>, WorldRefusal>
+    ensures stand { IfOk result (λ stations. AllStand nodes.now [] stations.items) }
+    ensures refused { IfErr result (λ why. why ≡ WorldRefusal.Memory) }
+{
+    let mut stations = Vec::new(alloc);
+    for index in 0..nodes.len() {
+        if let Some(node) = nodes.get_index(index) {
+            stations.push(Station::new(&node.kind))?;
+        }
+    }
+    Ok(stations)
 }
