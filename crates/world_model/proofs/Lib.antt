@@ -5,3 +5,5 @@ pub mod Entries
 pub mod Masters
 pub mod Lifting
 pub mod Slaves
+pub mod Readings
+pub mod Arrivals
