@@ -7,3 +7,5 @@ pub mod Lifting
 pub mod Slaves
 pub mod Readings
 pub mod Arrivals
+pub mod Ended
+pub mod Leaves
