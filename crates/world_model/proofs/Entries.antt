@@ -93,7 +93,7 @@ spent-stay_at (suc transit) (entry ∷ entries) (suc tag) =
     spent-stay_at transit entries tag ∙ sym (ap (λ b. if b then None else stay_at entries tag) (one_less transit tag))
 
 -- the same of the entries after an event
-after-length : (event : Event) (entries : List Entry) → length (entries_after event entries) ≡ length entries
+pub after-length : (event : Event) (entries : List Entry) → length (entries_after event entries) ≡ length entries
 after-length (Leave node transit at) entries = spent-length transit entries
 after-length _ entries = refl
 

@@ -9,3 +9,4 @@ pub mod Readings
 pub mod Arrivals
 pub mod Ended
 pub mod Leaves
+pub mod Happening

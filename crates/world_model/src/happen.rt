@@ -104,6 +104,8 @@ pub(crate) fn step(
     let Some(index) = nodes.index_of(&site(event)) else {
         return Err(WorldRefusal::NoNode);
     };
-    let happened = happen(nodes, &mut stations[index], entries.as_mut_slice(), event, room)?;
-    Ok(append(entries, event, happened))
+    match happen(nodes, &mut stations[index], entries.as_mut_slice(), event, room) {
+        Ok(happened) => Ok(append(entries, event, happened)),
+        Err(why) => Err(why),
+    }
 }
