@@ -74,6 +74,27 @@ fn moments_out_of_range(rt: HostRuntime) {
 }
 
 #[test]
+fn moments_are_shifted(rt: HostRuntime) -> Result<(), Fail> {
+    let last = BOUND - 1;
+    let cases = [
+        (0, -1, None),
+        (0, 0, Some(0)),
+        (5, -5, Some(0)),
+        (5, -6, None),
+        (5, 7, Some(12)),
+        (last, 0, Some(last)),
+        (last, 1, None),
+        (last, i128::MAX, None),
+        (last, i128::MIN, None),
+    ];
+    for (units, difference, sum) in cases {
+        let shifted = ScaledTime::new(units)?.shifted(difference);
+        assert_eq!(rt; shifted.map(ScaledTime::value).ok(), sum);
+    }
+    Ok(())
+}
+
+#[test]
 fn residence_is_added(rt: HostRuntime) {
     let cases = [
         (0, 131_072_000, 131_072_000),

@@ -188,7 +188,7 @@ there_before [] tag there = cc
 there_before (event ∷ earlier) tag there = grind (arith, nat_tests, there_before earlier tag)
 
 -- a Leave event that is accepted spends a transit of an earlier event
-leave_before : (network : Network) (earlier : Run) (node : NodeName) (transit at : ℕ)
+pub leave_before : (network : Network) (earlier : Run) (node : NodeName) (transit at : ℕ)
     → IsOk (outcome_of network earlier (Leave node transit at)) → transit < length earlier
 leave_before network earlier node transit at accepted =
     there_before earlier transit (leave_at (node_as clock_of network node) (place_at earlier transit) (open_transit node earlier transit)

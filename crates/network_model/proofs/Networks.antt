@@ -17,9 +17,15 @@ use Rattle.network_model.specs.Network.{Network, NodeName, AllDiffer, node_of, n
 use Rattle.network_model.specs.Clash.{has_name}
 use Rattle.network_model.specs.Index.{Entries, IsIndex, entries_of}
 
-pub lookup-entries_of : (nodes : Network) (name : NodeName) → lookup (bytes_eq name) (entries_of nodes) ≡ node_of nodes name
+lookup-entries_of : (nodes : Network) (name : NodeName) → lookup (bytes_eq name) (entries_of nodes) ≡ node_of nodes name
 lookup-entries_of [] name = refl
 lookup-entries_of (node ∷ others) name = ap (λ rest. cond (bytes_eq name node.name) (Some node) rest) (lookup-entries_of others name)
+
+-- the node of a name, as an index has it
+pub lookup-node_of : (entries : Entries) (nodes : Network) (name : NodeName) → IsIndex entries → values_of entries ≡ nodes
+    → lookup (bytes_eq name) entries ≡ node_of nodes name
+lookup-node_of entries nodes name index same =
+    ap (lookup (bytes_eq name)) index.at_names ∙ lookup-entries_of (values_of entries) name ∙ ap (λ found. node_of found name) same
 
 keys_of-entries_of : (nodes : Network) → keys_of (entries_of nodes) ≡ names nodes
 keys_of-entries_of [] = refl

@@ -1,6 +1,6 @@
 -- Clocks: each is ahead of the true time by as much as it was last stepped to.
-use Rattle.std.specs.Prelude.{ℕ, ℤ, pos, negsuc, ◌+ℤ◌, [], ◌∷◌, nat_lt, if◌then◌else◌, Option, Some, None, unwrap_or, option_map, option_and_then}
-use Rattle.ptp_units.specs.Moment.{bound}
+use Rattle.std.specs.Prelude.{ℕ, ℤ, pos, ◌+ℤ◌, [], ◌∷◌, if◌then◌else◌, Option, Some, None, unwrap_or, option_map, option_and_then}
+use Rattle.ptp_units.specs.Moment.{moment_of}
 use Rattle.network_model.specs.Network.{NodeName, is_named}
 use Rattle.network_model.specs.Run.{Run, Place, site_of, true_moment}
 use Rattle.network_model.specs.Kinds.{step_of}
@@ -15,18 +15,13 @@ difference node (event ∷ earlier) =
 abbrev pub clock_shows : NodeName → Run → ℕ → ℤ
 clock_shows node run at = pos at +ℤ difference node run
 
--- the moment that a clock shows, where it shows one
-abbrev pub moment_shown : ℤ → Option ℕ
-moment_shown (pos n) = if nat_lt n bound then Some n else None
-moment_shown (negsuc n) = None
-
 -- what the clock shows at an event that has a true moment
 abbrev pub shown_at : Place → Option ℤ
 shown_at p = option_map (clock_shows (site_of p.event) p.earlier) (true_moment p.event)
 
 -- the reading at an event, which is a moment at each accepted event that has a true moment
 abbrev pub reading_of : Place → Option ℕ
-reading_of p = option_and_then moment_shown (shown_at p)
+reading_of p = option_and_then moment_of (shown_at p)
 
 -- the same as a number
 abbrev pub reading : Place → ℕ

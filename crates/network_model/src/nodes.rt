@@ -1,4 +1,4 @@
-ghost use Rattle.std.specs.Prelude.{◌≡◌, ◌⊎◌, ◌++◌, ◌∷◌, [], None, Some, length, IsTrue, ◌↔◌, MatchResult, OnOk};
+ghost use Rattle.std.specs.Prelude.{◌≡◌, ◌⊎◌, ◌++◌, ◌∷◌, [], None, Some, length, slice_get, is_some, IsTrue, IfSome, ◌↔◌, MatchResult, OnOk};
 ghost use Rattle.std.specs.Option.{option_copied, option_to_list};
 ghost use Rattle.network_model.specs.Network.{Network, IsNetwork, AllDiffer, node_of, identities, identity_of};
 ghost use Rattle.network_model.specs.Clash.{clash, first_clash, identity_clash};
@@ -77,6 +77,23 @@ impl Nodes {
         ensures { option_copied result ≡ node_of self.now name.now }
     {
         self.by_name.get(name)
+    }
+
+    /// The place of the node of this name, from 0, in the order in which the nodes were given.
+    pub fn index_of(&self, name: &Name) -> Option<usize>
+        ensures found { is_some result ≡ is_some (node_of self.now name.now) }
+        ensures node { IfSome result (λ index. slice_get self.now index ≡ node_of self.now name.now) }
+        ensures network { IsNetwork self.now }
+    {
+        self.by_name.get_index_of(name)
+    }
+
+    /// The node at this place, from 0.
+    pub fn get_index(&self, index: usize) -> Option<&NodeSpec>
+        ensures { option_copied result ≡ slice_get self.now index }
+    {
+        let (_, node) = self.by_name.get_index(index)?;
+        Some(node)
     }
 
     /// The number of nodes.

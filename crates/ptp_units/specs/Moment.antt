@@ -1,5 +1,5 @@
 -- Moments, and the timestamp and fraction that name each of them (IEEE 1588-2019, 5.3.3 and 13.3.2.9).
-use Rattle.std.specs.Prelude.{ℕ, ◌+◌, ◌*◌, ◌/◌, ◌%◌, ◌^◌, ◌<◌}
+use Rattle.std.specs.Prelude.{ℕ, ◌+◌, ◌*◌, ◌/◌, ◌%◌, ◌^◌, ◌<◌, ℤ, pos, negsuc, nat_lt, if◌then◌else◌, Option, Some, None}
 
 -- seconds, and nanoseconds past the second
 pub record Stamp : Type 0 where
@@ -17,6 +17,11 @@ pub record IsStamp (s : Stamp) : Type 0 where
 -- the moments are the numbers of 2^-16 ns below 2^48 s
 abbrev pub bound : ℕ
 bound = 18446744073709551616000000000
+
+-- the moment that a whole number is, where it is one
+abbrev pub moment_of : ℤ → Option ℕ
+moment_of (pos n) = if nat_lt n bound then Some n else None
+moment_of (negsuc n) = None
 
 -- the moment that a timestamp and a fraction of a nanosecond name
 abbrev pub moment : Stamp → ℕ → ℕ

@@ -1,5 +1,5 @@
-ghost use Rattle.std.specs.Prelude.{◌≡◌, ◌<◌, ◌≤◌, ℕ, MatchResult};
-ghost use Rattle.ptp_units.specs.Moment.{bound, moment, stamp_of, fraction_of};
+ghost use Rattle.std.specs.Prelude.{◌≡◌, ◌<◌, ◌≤◌, ℕ, pos, ◌+ℤ◌, MatchResult, ok_or};
+ghost use Rattle.ptp_units.specs.Moment.{bound, moment, moment_of, stamp_of, fraction_of};
 
 use crate::refusal::UnitRefusal;
 use crate::timestamp::Timestamp;
@@ -43,6 +43,23 @@ impl ScaledTime {
         ensures within { result < bound }
     {
         self.units
+    }
+
+    /// The moment that is later by this many units, or earlier where the number is negative. Refused
+    /// with 101 where that is no moment.
+    pub fn shifted(self, units: i128) -> Result<ScaledTime, UnitRefusal>
+        ensures { result ≡ ok_or (moment_of (pos self +ℤ units)) UnitRefusal.OutOfRange }
+    {
+        let size = units.unsigned_abs();
+        let sum = if units < 0 {
+            self.value().checked_sub(size)
+        } else {
+            self.value().checked_add(size)
+        };
+        match sum {
+            Some(units) => ScaledTime::new(units),
+            None => Err(UnitRefusal::OutOfRange),
+        }
     }
 
     /// The timestamp without its fraction of a nanosecond, and that fraction in units.

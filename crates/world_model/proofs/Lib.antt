@@ -1,0 +1,13 @@
+mod Own
+mod Elsewhere
+mod Stations
+mod Entries
+mod Masters
+mod Lifting
+mod Slaves
+mod Readings
+mod Arrivals
+mod Ended
+mod Leaves
+mod Happening
+mod InTurn

@@ -1,0 +1,5 @@
+pub mod State
+pub mod Turns
+pub mod Stands
+pub mod Acts
+pub mod Steps

@@ -1,0 +1,149 @@
+ghost use Rattle.std.specs.Prelude.{◌≡◌, ℕ, Some, OnErr, OnOk};
+ghost use Rattle.std.specs.Result.{result_ok};
+ghost use Rattle.event_codec.specs.Packet.{Contents, Packet};
+ghost use Rattle.transparent_clock.specs.Forwarding.{forwarded};
+ghost use Rattle.network_model.specs.Network.{NodeName};
+ghost use Rattle.network_model.specs.Outcome.{left_outcome};
+ghost use Rattle.world_model.specs.Stands.{stay_in, stay_at, ended, spent};
+ghost use Rattle.world_model.specs.Acts.{Acts, Gives, Departs, copy_inside};
+
+use crate::entry::{Entry, Happened, Left, Octets, copied, octets_of};
+use crate::station::{Port, Room, Shown, Station};
+use network_model::{Event, Name, Outcome, WorldRefusal};
+use ptp_units::ScaledTime;
+use std::mem;
+use transparent_clock::{Transit, enter};
+
+/// The tag of the copy that entered this clock by the event of this tag, and is still inside.
+fn copy_inside(entries: &[Entry], clock: &Name, transit: u64) -> Option<u64>
+    ensures { result ≡ copy_inside entries.now clock.now transit }
+{
+    let entry = entries.get(transit as usize)?;
+    let Left::Stay(_) = &entry.left else {
+        return None;
+    };
+    match &entry.event {
+        Event::Enter { node, copy, .. } if node.text() == clock.text() => Some(*copy),
+        _ => None,
+    }
+}
+
+/// Ends a stay.
+fn end(left: &mut Left) -> Option<Transit>
+    ensures value { result ≡ stay_in left.old }
+    ensures ended { left.new ≡ ended left.old }
+{
+    match mem::replace(left, Left::Nothing) {
+        Left::Stay(transit) => Some(transit),
+        other => {
+            *left = other;
+            None
+        }
+    }
+}
+
+/// Takes a message out of a clock.
+fn take_out(entries: &mut [Entry], transit: u64) -> Option<Transit>
+    ensures value { result ≡ stay_at entries.old transit }
+    ensures spent { entries.new ≡ spent transit entries.old }
+{
+    let index = transit as usize;
+    if index < entries.len() {
+        end(&mut entries[index].left)
+    } else {
+        None
+    }
+}
+
+/// What comes of a message that leaves a clock now.
+fn left(transit: Transit, mut octets: Octets, now: ScaledTime) -> Happened
+    ensures { (m : Contents) → Packet m octets.items → let sent = forwarded (Ok m) transit now in
+        Gives (Some now) (left_outcome sent) (result_ok sent) result }
+{
+    match transit.leave(octets.as_mut_slice(), now) {
+        Ok(()) => Happened {
+            reading: Some(now),
+            outcome: Outcome::Made,
+            left: Left::Copy(octets),
+        },
+        Err(refusal) => Happened {
+            reading: Some(now),
+            outcome: Outcome::Refused(refusal.code()),
+            left: Left::Nothing,
+        },
+    }
+}
+
+/// The message of these octets leaves its clock, which shows this now. Room for the copy is tested
+/// before the stay ends.
+fn depart(
+    entries: &mut [Entry],
+    transit: u64,
+    octets: Octets,
+    shown: Shown,
+    room: Room,
+) -> Result<Happened, WorldRefusal>
+    ensures departs { (m : Contents) (entered : ℕ) → Packet m octets.items → stay_at entries.old transit ≡ Some entered → Departs m entered shown room result }
+    ensures spent { OnOk result (entries.new ≡ spent transit entries.old) }
+    ensures kept { OnErr result (entries.new ≡ entries.old) }
+{
+    let now = shown?;
+    room?;
+    match take_out(entries, transit) {
+        Some(stay) => Ok(left(stay, octets, now)),
+        None => Err(WorldRefusal::NoTransit),
+    }
+}
+
+impl Station {
+    /// A copy of a message enters a transparent clock.
+    pub(crate) fn enter(
+        &self,
+        entries: &[Entry],
+        copy: u64,
+        at: ScaledTime,
+        room: Room,
+    ) -> Result<Happened, WorldRefusal>
+        ensures { (node : NodeName) → Acts (Event.Enter node copy at) entries.now self.now self.now room result }
+    {
+        let Port::Clock = &self.port else {
+            return Err(WorldRefusal::WrongKind);
+        };
+        if octets_of(entries, copy).is_none() {
+            return Err(WorldRefusal::NoCopy);
+        }
+        let now = self.shown(at)?;
+        room?;
+        Ok(Happened {
+            reading: Some(now),
+            outcome: Outcome::Entered,
+            left: Left::Stay(enter(now)),
+        })
+    }
+
+    /// A message leaves the transparent clock of this name.
+    pub(crate) fn leave(
+        &self,
+        entries: &mut [Entry],
+        clock: &Name,
+        transit: u64,
+        at: ScaledTime,
+        room: Room,
+    ) -> Result<Happened, WorldRefusal>
+        ensures acts { Acts (Event.Leave clock.now transit at) entries.old self.now self.now room result }
+        ensures spent { OnOk result (entries.new ≡ spent transit entries.old) }
+        ensures kept { OnErr result (entries.new ≡ entries.old) }
+    {
+        let Port::Clock = &self.port else {
+            return Err(WorldRefusal::WrongKind);
+        };
+        let Some(copy) = copy_inside(entries, clock, transit) else {
+            return Err(WorldRefusal::NoTransit);
+        };
+        let octets = match octets_of(entries, copy) {
+            Some(octets) => copied(octets),
+            None => return Err(WorldRefusal::NoTransit),
+        };
+        depart(entries, transit, octets, self.shown(at), room)
+    }
+}

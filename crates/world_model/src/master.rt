@@ -1,0 +1,128 @@
+ghost use Rattle.std.specs.Prelude.{ℕ, List, option_map};
+ghost use Rattle.network_model.specs.Network.{Network, NodeName};
+ghost use Rattle.network_model.specs.Run.{Run};
+ghost use Rattle.world_model.specs.declared.entry.Entry.{Entry};
+ghost use Rattle.world_model.specs.Acts.{Acts, MasterActs, Nothing, Reads, IsCopy};
+
+use crate::entry::{Happened, Left, copied};
+use crate::station::{Departure, Master, Port, Room, Shown, Station};
+use network_model::{Event, Outcome, WorldRefusal};
+use ptp_units::ScaledTime;
+
+impl Master {
+    /// Draws a Sync, which waits for its Follow_Up from then on.
+    fn sync(&mut self, shown: Shown, room: Room) -> Result<Happened, WorldRefusal>
+        ensures { (node : NodeName) (at : ℕ) → MasterActs (Event.Sync node at) (Reads (Event.Sync node at) shown) self.old self.new room result }
+    {
+        let now = shown?;
+        room?;
+        let (octets, number) = self.port.next_sync();
+        self.waiting = Some(Departure { number, at: now });
+        Ok(Happened {
+            reading: Some(now),
+            outcome: Outcome::Made,
+            left: Left::Copy(copied(&octets)),
+        })
+    }
+
+    /// Draws a one-step Sync.
+    fn one_step_sync(&mut self, shown: Shown, room: Room) -> Result<Happened, WorldRefusal>
+        ensures { (node : NodeName) (at : ℕ) → MasterActs (Event.SyncOne node at) (Reads (Event.SyncOne node at) shown) self.old self.new room result }
+    {
+        let now = shown?;
+        room?;
+        let (octets, _) = self.port.one_step_sync(now);
+        Ok(Happened {
+            reading: Some(now),
+            outcome: Outcome::Made,
+            left: Left::Copy(copied(&octets)),
+        })
+    }
+
+    /// Writes the Follow_Up of the Sync that waits for it.
+    fn follow(&mut self, room: Room) -> Result<Happened, WorldRefusal>
+        ensures { (node : NodeName) → MasterActs (Event.Follow node) Nothing self.old self.new room result }
+    {
+        let Some(sync) = self.waiting else {
+            return Err(WorldRefusal::NothingWaiting);
+        };
+        room?;
+        let Ok(octets) = self.port.sync_left(sync.number, sync.at) else {
+            return Err(WorldRefusal::NothingWaiting);
+        };
+        self.waiting = None;
+        Ok(Happened {
+            reading: None,
+            outcome: Outcome::Made,
+            left: Left::Copy(copied(&octets)),
+        })
+    }
+
+    /// Answers a message that arrives, where it is a Delay_Req of the master's domain.
+    pub(crate) fn arrive(
+        &self,
+        heard: Option<&[u8]>,
+        shown: Shown,
+        room: Room,
+    ) -> Result<Happened, WorldRefusal>
+        ensures { (node : NodeName) (copy at : ℕ) → MasterActs (Event.Arrive node copy at)
+            (λ network run. IsCopy copy (option_map (λ octets. octets.now) heard.entry) network run × Reads (Event.Arrive node copy at) shown network run)
+            self.now self.now room result }
+    {
+        let Some(octets) = heard else {
+            return Err(WorldRefusal::NoCopy);
+        };
+        let now = shown?;
+        room?;
+        match self.port.delay_req(octets, now) {
+            Ok(response) => Ok(Happened {
+                reading: Some(now),
+                outcome: Outcome::Made,
+                left: Left::Copy(copied(&response)),
+            }),
+            Err(refusal) => Ok(Happened {
+                reading: Some(now),
+                outcome: Outcome::Refused(refusal.code()),
+                left: Left::Nothing,
+            }),
+        }
+    }
+}
+
+impl Station {
+    /// A master sends a Sync.
+    pub(crate) fn sync(&mut self, at: ScaledTime, room: Room) -> Result<Happened, WorldRefusal>
+        ensures { (node : NodeName) (entries : List Entry) → Acts (Event.Sync node at) entries self.old self.new room result }
+    {
+        let shown = self.shown(at);
+        let Port::Master(master) = &mut self.port else {
+            return Err(WorldRefusal::WrongKind);
+        };
+        master.sync(shown, room)
+    }
+
+    /// A master sends a one-step Sync.
+    pub(crate) fn one_step_sync(
+        &mut self,
+        at: ScaledTime,
+        room: Room,
+    ) -> Result<Happened, WorldRefusal>
+        ensures { (node : NodeName) (entries : List Entry) → Acts (Event.SyncOne node at) entries self.old self.new room result }
+    {
+        let shown = self.shown(at);
+        let Port::Master(master) = &mut self.port else {
+            return Err(WorldRefusal::WrongKind);
+        };
+        master.one_step_sync(shown, room)
+    }
+
+    /// A master sends the Follow_Up of the Sync that waits for it.
+    pub(crate) fn follow(&mut self, room: Room) -> Result<Happened, WorldRefusal>
+        ensures { (node : NodeName) (entries : List Entry) → Acts (Event.Follow node) entries self.old self.new room result }
+    {
+        let Port::Master(master) = &mut self.port else {
+            return Err(WorldRefusal::WrongKind);
+        };
+        master.follow(room)
+    }
+}

@@ -1,0 +1,86 @@
+ghost use Rattle.std.specs.Prelude.{◌≡◌, length, option_map, IfOk, IfErr, OnOk, OnErr, IsTrue, ◌↔◌, []};
+ghost use Rattle.network_model.specs.declared.refusal.WorldRefusal.TheVariants.{Memory};
+ghost use Rattle.network_model.specs.Truth.{TellsTruth, copy_of};
+ghost use Rattle.network_model.specs.Outcome.{IsRun, IsStepped};
+ghost use Rattle.world_model.specs.State.{new_state, after, IsRefused};
+
+use crate::entry::{Entry, octets_of};
+use crate::happen::step;
+use crate::station::{Station, stations_of};
+use network_model::{Event, Nodes, Stepped, WorldRefusal};
+use std::alloc::Global;
+use std::marker::Model;
+
+/// A network of real ports and clocks, and what happened in it: its run, the events that it
+/// accepted, one after the other. An event costs the same however long the run is.
+#[derive(Drop)]
+pub struct World {
+    nodes: Nodes,
+    stations: Vec<Station>,
+    entries: Vec<Entry>,
+}
+
+impl Model for World {
+    ghost use Rattle.world_model.specs.State.{State};
+
+    ghost Value = { State };
+
+    ghost use Rattle.world_model.specs.Stands.{run_of, IsWorld};
+
+    ghost view = { λ w. record { network = w.nodes; run = run_of w.entries.items } };
+
+    ghost invariant = { λ w. IsWorld w.nodes w.stations.items w.entries.items };
+}
+
+impl World {
+    /// A world of these nodes in which nothing happened yet. Refused with 609 where memory for it
+    /// was refused; the nodes are then dropped.
+    pub fn new(alloc: Global, nodes: Nodes) -> Result<World, WorldRefusal>
+        ensures world { IfOk result (λ world. world ≡ new_state nodes) }
+        ensures refused { IfErr result (λ why. why ≡ Memory) }
+    {
+        let stations = stations_of(alloc, &nodes)?;
+        Ok(World {
+            nodes,
+            stations,
+            entries: Vec::new(alloc),
+        })
+    }
+
+    /// One more event, at a true moment that may be earlier than those before it. Refused with the
+    /// first of 603 to 608 that applies, or with 609 where memory for an event that would be
+    /// accepted was refused; the world is then as it was, and the event took no tag.
+    pub fn step(&mut self, event: &Event) -> Result<Stepped, WorldRefusal>
+        ensures stepped { IfOk result (IsStepped self.old.network self.old.run event.now) }
+        ensures after { OnOk result (self.new ≡ after event.now self.old) }
+        ensures refused { IfErr result (IsRefused self.old event.now) }
+        ensures unchanged { OnErr result (self.new ≡ self.old) }
+        // Every event of the run was accepted.
+        ensures run { IsRun self.new.network self.new.run }
+    {
+        step(&self.nodes, &mut self.stations, &mut self.entries, event)
+    }
+
+    /// The octets of the copy that the event of this tag made, or None where it made none.
+    pub fn octets(&self, copy: u64) -> Option<&[u8]>
+        ensures truth { TellsTruth (copy_of self.now.network self.now.run copy) (option_map (λ octets. octets.now) result) }
+        ensures run { IsRun self.now.network self.now.run }
+    {
+        octets_of(self.entries.as_slice(), copy)
+    }
+
+    /// How many events happened.
+    pub fn len(&self) -> u64
+        ensures value { result ≡ length self.now.run }
+        ensures run { IsRun self.now.network self.now.run }
+    {
+        self.entries.len() as u64
+    }
+
+    /// Whether nothing happened yet.
+    pub fn is_empty(&self) -> bool
+        ensures { IsTrue result ↔ (self.now.run ≡ []) }
+    {
+        self.len() == 0
+    }
+}
