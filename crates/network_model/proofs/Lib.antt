@@ -1,6 +1,12 @@
 pub mod Names
 pub mod Networks
 pub mod Places
+pub mod Sequences
+pub mod Options
+pub mod Made
+pub mod Sites
+pub mod Journeys
+pub mod Copies
 pub mod Exactness
 pub mod Short
 pub mod Travelled
