@@ -1,2 +1,7 @@
 //! Tests by the public calls of all crates: worked values and exchanges, and datagrams from outside.
 #![tactic(auto)]
+
+#[cfg(test)]
+mod master;
+#[cfg(test)]
+mod slave;

@@ -10,7 +10,6 @@ use Rattle.event_codec.specs.declared.message.Body.{Body}
 use Rattle.event_codec.specs.declared.message.Body.TheVariants as bodies
 use Rattle.event_codec.specs.declared.port.PortConfig.{PortConfig}
 use Rattle.event_codec.specs.declared.port.PortIdentity.{PortIdentity}
-use Rattle.event_codec.specs.Reading.{Reading}
 use Rattle.pairing.specs.Marked.{Entry, entry}
 use Rattle.slave_port.specs.declared.reason.Reason.{Reason}
 use Rattle.slave_port.specs.declared.reason.Reason.TheVariants as reasons
