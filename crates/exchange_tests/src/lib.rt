@@ -4,4 +4,6 @@
 #[cfg(test)]
 mod master;
 #[cfg(test)]
+mod nodes;
+#[cfg(test)]
 mod slave;

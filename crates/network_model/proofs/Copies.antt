@@ -16,6 +16,7 @@ use Rattle.master_port.specs.declared.refusal.MasterRefusal.TheVariants.{OtherDo
 use Rattle.master_port.specs.Written.{sync, one_step_sync, delay_resp, answer, answer_to, answer_to_request}
 use Rattle.slave_port.specs.Written.{delay_req}
 use Rattle.transparent_clock.specs.Forwarding.{resided}
+use Rattle.slave_port.proofs.Uses.{some_step, some_image}
 use Rattle.network_model.specs.declared.event.Event.{Event}
 use Rattle.network_model.specs.declared.event.Event.TheVariants.{Sync, SyncOne, Follow, Enter, Leave, Arrive, Hear, Request, Stamped, Tick, SetMaster, StepClock}
 use Rattle.network_model.specs.Network.{Network, NodeName, PortSetup}
@@ -25,7 +26,6 @@ use Rattle.network_model.specs.Clock.{reading}
 use Rattle.network_model.specs.Numbering.{number_of, waiting_sync}
 use Rattle.network_model.specs.Journey.{Journey, Stay, begun, journey_made, journey_of, residence}
 use Rattle.network_model.specs.Truth.{master_at, slave_at, drawn, travelled, followed, responded, copy_made, copy_of}
-use Rattle.network_model.proofs.Options.{some_step, some_image}
 use Rattle.network_model.proofs.Made.{copy_of-place_at, journey_of-place_at}
 use Rattle.network_model.proofs.Sites.{named-self}
 use Rattle.network_model.proofs.Journeys.{IsIn-origin}

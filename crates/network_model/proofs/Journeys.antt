@@ -3,6 +3,7 @@
 use Rattle.std.proofs.Common.{◌≡◌, ◌∙◌, ℕ, Bool, true, false, [], ◌∷◌, length, Option, Some, None, option_map, option_and_then, refl, sym, ap, subst, arith, if◌then◌else◌}
 use Rattle.std.specs.Prelude.{◌==◌, nat_lt}
 use Rattle.std.proofs.lemmas.Bool.{eq-eqb}
+use Rattle.slave_port.proofs.Uses.{some_step, some_image}
 use Rattle.network_model.specs.declared.event.Event.{Event}
 use Rattle.network_model.specs.declared.event.Event.TheVariants.{Sync, SyncOne, Follow, Enter, Leave, Arrive, Hear, Request, Stamped, Tick, SetMaster, StepClock}
 use Rattle.network_model.specs.Run.{Run, Place, place, place_at, tag_of, IsIn}
@@ -10,7 +11,6 @@ use Rattle.network_model.specs.Kinds.{entered_copy}
 use Rattle.network_model.specs.Clock.{reading}
 use Rattle.network_model.specs.Journey.{Journey, Stay, begun, goes_on, left_from, journey_made, journey_of}
 use Rattle.network_model.specs.Truth.{origin_made, origin_of}
-use Rattle.network_model.proofs.Options.{some_step, some_image}
 use Rattle.network_model.proofs.Places.{place_at-later}
 use Rattle.network_model.proofs.Made.{journey_of-place_at, origin_of-place_at}
 

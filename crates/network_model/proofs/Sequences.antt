@@ -1,6 +1,6 @@
 -- Numbers of one sequence: the events that draw them are counted, so each count is drawn once.
 -- Used where two messages turn out to have one number: then one event drew both.
-use Rattle.std.proofs.Common.{◌≡◌, ℕ, ◌+◌, ◌<◌, ◌≤◌, Bool, true, false, [], ◌∷◌, length, Some, sym, subst, refl, ap, arith, if◌then◌else◌}
+use Rattle.std.proofs.Common.{◌≡◌, ◌∙◌, ℕ, ◌+◌, ◌<◌, ◌≤◌, Bool, true, false, [], ◌∷◌, length, Some, sym, subst, refl, ap, arith, if◌then◌else◌}
 use Rattle.std.specs.Prelude.{◌==◌, count_by, ◌⊎◌}
 use Rattle.std.proofs.Common.{inl, inr}
 use Rattle.std.proofs.lemmas.Bool.{cases_order}
@@ -42,3 +42,19 @@ same_count kind run p q here there drawn drawn_too same = at (cases_order (tag_o
     at (inl e) = same_place run p q here there e
     at (inr (inl lower)) = absurd (omega (arith, count-place_at kind q.earlier (tag_of p) p (IsIn-before run q p there here lower) drawn))
     at (inr (inr lower)) = absurd (omega (arith, count-place_at kind p.earlier (tag_of q) q (IsIn-before run p q here there lower) drawn_too))
+
+-- no more before an event of a run than in the run
+pub count-within : (kind : Event → Bool) (run : Run) (tag : ℕ) (p : Place) → place_at run tag ≡ Some p → count_by kind p.earlier ≤ count_by kind run
+count-within kind [] tag p there = cc
+count-within kind (event ∷ earlier) tag p there = at (length earlier == tag) there (count-within kind earlier tag p)
+  where
+    at : (same : Bool) → (if same then Some (place event earlier) else place_at earlier tag) ≡ Some p
+        → (place_at earlier tag ≡ Some p → count_by kind p.earlier ≤ count_by kind earlier) → count_by kind p.earlier ≤ count_by kind (event ∷ earlier)
+    at true there rest = let same : place event earlier ≡ p = cc in
+        subst (λ (o : Place). count_by kind o.earlier ≤ count_by kind (event ∷ earlier)) same (count-more kind event earlier)
+    at false there rest = let behind : count_by kind p.earlier ≤ count_by kind earlier = rest there in omega (arith, count-more kind event earlier)
+
+-- nothing is of no kind
+pub count-none : (run : Run) → count_by (λ (event : Event). false) run ≡ 0
+count-none [] = refl
+count-none (event ∷ earlier) = count-no (λ (event : Event). false) event earlier refl ∙ count-none earlier

@@ -15,7 +15,7 @@ use Rattle.network_model.specs.Kinds.{is_at, is_request, spends}
 use Rattle.network_model.specs.Journey.{Journey}
 use Rattle.network_model.specs.Truth.{master_at, slave_at, travelled}
 use Rattle.network_model.specs.Outcome.{outcome_of, IsRun}
-use Rattle.network_model.specs.Premises.{Premise, is_used}
+use Rattle.network_model.specs.Premises.{Premise, IsAcceptedRun, is_used}
 use Rattle.network_model.specs.Reported.{Reports}
 use Rattle.network_model.specs.Exact.{IsMeasurement}
 
@@ -102,3 +102,8 @@ EachReportHasEvidence premise =
 abbrev pub EachTransitIsSpentOnce : Type 0
 EachTransitIsSpentOnce =
     (network : Network) (run : Run) (transit : ℕ) → IsRun network run → count_by (spends transit) run ≤ 1
+
+-- What every accepted run shows.
+pub record ShowsEvidence : Type 0 where
+  pub reports : EachReportHasEvidence IsAcceptedRun
+  pub transits : EachTransitIsSpentOnce

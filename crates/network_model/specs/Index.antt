@@ -1,4 +1,4 @@
--- An index of nodes: what is kept to find each by its name.
+-- An index of nodes: what is kept to find each by its name. For the proofs alone: no public clause speaks of it.
 use Rattle.std.specs.Prelude.{◌≡◌, List, map}
 use Rattle.std.specs.Map.{values_of}
 use Rattle.network_model.specs.declared.node.NodeSpec.{NodeSpec}

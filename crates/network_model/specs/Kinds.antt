@@ -153,7 +153,7 @@ entered_copy (Tick node) = None
 entered_copy (SetMaster node master) = None
 entered_copy (StepClock node diff) = None
 
--- the copy that a port hears, of an event message or a general message
+-- the copy that a port hears, of an event message that arrives or of a general message
 abbrev pub heard_copy : Event → Option ℕ
 heard_copy (Sync node at) = None
 heard_copy (SyncOne node at) = None
@@ -168,7 +168,7 @@ heard_copy (Tick node) = None
 heard_copy (SetMaster node master) = None
 heard_copy (StepClock node diff) = None
 
--- the copy that goes over a cable to an event at which its moment counts
+-- the copy that comes over a cable and whose moment counts: it enters a clock, or it arrives at a port
 abbrev pub timed_copy : Event → Option ℕ
 timed_copy (Sync node at) = None
 timed_copy (SyncOne node at) = None

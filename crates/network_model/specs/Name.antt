@@ -13,11 +13,11 @@ pub record IsName (text : List ℕ) : Type 0 where
   pub fits : length text ≤ 16
   pub octets : AllPass is_name_octet text
 
--- the 16 octets in which a name is kept: its text, and zeros behind it
+-- the 16 octets in which a name is kept: its text, and zeros behind it; for the proofs alone
 abbrev pub padded : List ℕ → List ℕ
 padded text = text ++ replicate (16 - length text) 0
 
--- the octets in front are a name, of which the whole is the padded text
+-- the octets in front are a name, of which the whole is the padded text; for the proofs alone
 pub record IsKept (len : ℕ) (octets : List ℕ) : Type 0 where
   pub within : len ≤ length octets
   pub zeros : octets ≡ padded (take len octets)

@@ -7,7 +7,7 @@ use Rattle.network_model.specs.Run.{Run, place_at, tag_of, site_of, events_after
 use Rattle.network_model.specs.Kinds.{is_at, is_tick, is_set_master}
 use Rattle.network_model.specs.Numbering.{number_of}
 use Rattle.network_model.specs.Truth.{master_at, origin_heard}
-use Rattle.network_model.specs.Premises.{Premise}
+use Rattle.network_model.specs.Premises.{Premise, ordered_limits, IsFreshAndTicked}
 use Rattle.network_model.specs.Reported.{ReportedIn}
 
 -- the true number of a report's Sync
@@ -43,3 +43,7 @@ ReportsKeepOrder premise =
     → tag_of reported.answered < tag_of reported_later.answered
     → IsOneWindow reported_later.answered.earlier slave (completed_at first)
     → IsInOrder network run first second
+
+-- Reports don't go back, over runs of any length that are fresh and ticked within half of the limits.
+abbrev pub ReportsDontGoBack : Type 0
+ReportsDontGoBack = ReportsKeepOrder (IsFreshAndTicked ordered_limits)

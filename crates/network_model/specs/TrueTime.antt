@@ -5,7 +5,7 @@ use Rattle.network_model.specs.Network.{Network, NodeName}
 use Rattle.network_model.specs.Run.{Run}
 use Rattle.network_model.specs.Clock.{difference, clock_shows}
 use Rattle.network_model.specs.Present.{present_master}
-use Rattle.network_model.specs.Premises.{Premise}
+use Rattle.network_model.specs.Premises.{Premise, exact_limits, IsFreshAndTicked}
 use Rattle.network_model.specs.Reported.{ReportedIn}
 use Rattle.network_model.specs.Level.{Crossing, sync_way, request_way, time_on, IsSteady, IsLevelFor}
 
@@ -55,3 +55,9 @@ SlavesAgree premise =
     → present_master other reported_too.answered.earlier ≡ Some master
     → IsLevelFor run first → IsLevelFor run second
     → KnowsMaster run one master first moment × KnowsMaster run other master second moment
+
+-- What reports say of true time, over runs of any length that are fresh and ticked.
+pub record TellsTrueTime : Type 0 where
+  pub error : ErrorIsAsymmetry (IsFreshAndTicked exact_limits)
+  pub even : WaysAreEven (IsFreshAndTicked exact_limits)
+  pub agreement : SlavesAgree (IsFreshAndTicked exact_limits)

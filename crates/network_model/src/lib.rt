@@ -8,8 +8,6 @@ mod node;
 mod nodes;
 mod refusal;
 mod stepped;
-#[cfg(test)]
-mod tests;
 
 pub use event::Event;
 pub use name::Name;

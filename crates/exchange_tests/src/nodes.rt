@@ -1,7 +1,7 @@
-//! Worked networks, and what no contract says: that a call succeeds where memory is there.
+//! The nodes of a network: worked networks, and that a call succeeds where memory is there, which no contract says.
 
-use crate::{Name, NodeKind, NodeSpec, Nodes, WorldRefusal};
 use event_codec::{PortConfig, PortIdentity};
+use network_model::{Name, NodeKind, NodeSpec, Nodes, WorldRefusal};
 use ptp_units::Seq;
 use std::alloc::Global;
 use std::test::Fail;

@@ -1,0 +1,133 @@
+-- The octets of the exchange's messages, field by field.
+use Rattle.std.proofs.Common.{◌≡◌, ℕ, ◌<◌, true, refl, arith, List, [], ◌∷◌, Some}
+use Rattle.std.specs.Prelude.{EachIndex, slice_index, nat_lt}
+use Rattle.std.specs.List.{list_all}
+use Rattle.std.proofs.lemmas.Bool.Decides.{nat_tests}
+use Rattle.std.proofs.lemmas.List.Folds.{list_all_at}
+use Rattle.network_model.specs.Truth.{TellsTruth, copy_of}
+use Rattle.network_model.proofs.Worked.{small_network}
+use Rattle.network_model.proofs.WorkedExchange.{whole}
+
+all_octets : (b : List ℕ) → list_all (λ octet. nat_lt octet 256) b ≡ true → EachIndex b (λ k. slice_index b k < 256)
+all_octets b small k within = grind (arith, nat_tests, list_all_at (λ octet. nat_lt octet 256) b k 0 within)
+
+abbrev sync_octets : List ℕ
+sync_octets =
+    0 ∷ 18 ∷ 0 ∷ 44 ∷ 0 ∷ 0 ∷ 2 ∷ 0 ∷ 0 ∷ 0 ∷ 0 ∷ 0 ∷ 7 ∷ 208 ∷ 0 ∷ 0
+    ∷ 0 ∷ 0 ∷ 0 ∷ 0 ∷ 0 ∷ 17 ∷ 34 ∷ 255 ∷ 254 ∷ 51 ∷ 68 ∷ 85 ∷ 0 ∷ 1 ∷ 0 ∷ 0
+    ∷ 0 ∷ 0 ∷ 0 ∷ 0 ∷ 0 ∷ 0 ∷ 0 ∷ 0 ∷ 0 ∷ 0 ∷ 0 ∷ 0 ∷ []
+
+-- the Sync that left the clock
+sync : TellsTruth (copy_of small_network whole 4) (Some sync_octets)
+sync = record {
+  octets = all_octets sync_octets refl;
+  message_length = refl;
+  least = omega arith;
+  major_sdo_and_type = refl;
+  minor_version_and_version = refl;
+  domain = refl;
+  minor_sdo = refl;
+  flags = refl;
+  correction = refl;
+  specific = refl;
+  source = record { clock = refl; port = refl };
+  sequence = refl;
+  control = refl;
+  log = refl;
+  seconds = refl;
+  nanoseconds = refl;
+  within_second = omega arith;
+  requesting = tt;
+  suffix = refl;
+}
+
+abbrev follow_up_octets : List ℕ
+follow_up_octets =
+    8 ∷ 18 ∷ 0 ∷ 44 ∷ 0 ∷ 0 ∷ 0 ∷ 0 ∷ 0 ∷ 0 ∷ 0 ∷ 0 ∷ 0 ∷ 0 ∷ 0 ∷ 0
+    ∷ 0 ∷ 0 ∷ 0 ∷ 0 ∷ 0 ∷ 17 ∷ 34 ∷ 255 ∷ 254 ∷ 51 ∷ 68 ∷ 85 ∷ 0 ∷ 1 ∷ 0 ∷ 0
+    ∷ 2 ∷ 0 ∷ 0 ∷ 0 ∷ 0 ∷ 0 ∷ 0 ∷ 1 ∷ 0 ∷ 0 ∷ 0 ∷ 0 ∷ []
+
+-- the Follow_Up
+follow_up : TellsTruth (copy_of small_network whole 6) (Some follow_up_octets)
+follow_up = record {
+  octets = all_octets follow_up_octets refl;
+  message_length = refl;
+  least = omega arith;
+  major_sdo_and_type = refl;
+  minor_version_and_version = refl;
+  domain = refl;
+  minor_sdo = refl;
+  flags = refl;
+  correction = refl;
+  specific = refl;
+  source = record { clock = refl; port = refl };
+  sequence = refl;
+  control = refl;
+  log = refl;
+  seconds = refl;
+  nanoseconds = refl;
+  within_second = omega arith;
+  requesting = tt;
+  suffix = refl;
+}
+
+abbrev request_octets : List ℕ
+request_octets =
+    1 ∷ 18 ∷ 0 ∷ 44 ∷ 0 ∷ 0 ∷ 0 ∷ 0 ∷ 0 ∷ 0 ∷ 0 ∷ 0 ∷ 13 ∷ 172 ∷ 64 ∷ 0
+    ∷ 0 ∷ 0 ∷ 0 ∷ 0 ∷ 0 ∷ 170 ∷ 187 ∷ 255 ∷ 254 ∷ 204 ∷ 221 ∷ 238 ∷ 0 ∷ 1 ∷ 0 ∷ 0
+    ∷ 1 ∷ 127 ∷ 0 ∷ 0 ∷ 0 ∷ 0 ∷ 0 ∷ 0 ∷ 0 ∷ 0 ∷ 0 ∷ 0 ∷ []
+
+-- the Delay_Req that left the clock
+request : TellsTruth (copy_of small_network whole 10) (Some request_octets)
+request = record {
+  octets = all_octets request_octets refl;
+  message_length = refl;
+  least = omega arith;
+  major_sdo_and_type = refl;
+  minor_version_and_version = refl;
+  domain = refl;
+  minor_sdo = refl;
+  flags = refl;
+  correction = refl;
+  specific = refl;
+  source = record { clock = refl; port = refl };
+  sequence = refl;
+  control = refl;
+  log = refl;
+  seconds = refl;
+  nanoseconds = refl;
+  within_second = omega arith;
+  requesting = tt;
+  suffix = refl;
+}
+
+abbrev response_octets : List ℕ
+response_octets =
+    9 ∷ 18 ∷ 0 ∷ 54 ∷ 0 ∷ 0 ∷ 0 ∷ 0 ∷ 0 ∷ 0 ∷ 0 ∷ 0 ∷ 13 ∷ 172 ∷ 0 ∷ 0
+    ∷ 0 ∷ 0 ∷ 0 ∷ 0 ∷ 0 ∷ 17 ∷ 34 ∷ 255 ∷ 254 ∷ 51 ∷ 68 ∷ 85 ∷ 0 ∷ 1 ∷ 0 ∷ 0
+    ∷ 3 ∷ 0 ∷ 0 ∷ 0 ∷ 0 ∷ 0 ∷ 0 ∷ 2 ∷ 0 ∷ 0 ∷ 17 ∷ 148 ∷ 0 ∷ 170 ∷ 187 ∷ 255
+    ∷ 254 ∷ 204 ∷ 221 ∷ 238 ∷ 0 ∷ 1 ∷ []
+
+-- the Delay_Resp
+response : TellsTruth (copy_of small_network whole 11) (Some response_octets)
+response = record {
+  octets = all_octets response_octets refl;
+  message_length = refl;
+  least = omega arith;
+  major_sdo_and_type = refl;
+  minor_version_and_version = refl;
+  domain = refl;
+  minor_sdo = refl;
+  flags = refl;
+  correction = refl;
+  specific = refl;
+  source = record { clock = refl; port = refl };
+  sequence = refl;
+  control = refl;
+  log = refl;
+  seconds = refl;
+  nanoseconds = refl;
+  within_second = omega arith;
+  requesting = record { clock = refl; port = refl };
+  suffix = refl;
+}
