@@ -12,7 +12,7 @@ pub mod Calls
 pub mod Windows
 pub mod Reach
 pub mod Told
-pub mod Heard
+pub mod Hearing
 pub mod Exactness
 pub mod Accepted
 pub mod Short
@@ -25,3 +25,9 @@ pub mod WorkedOneStep
 pub mod WorkedPairs
 pub mod WorkedRefusals
 pub mod WorkedSlaves
+pub mod Masters
+pub mod Entries
+pub mod Pairing
+pub mod HeldMessages
+pub mod OneSync
+pub mod Requests

@@ -23,11 +23,11 @@ use Rattle.slave_port.specs.declared.used.Used.TheVariants as uses
 use Rattle.slave_port.specs.History as calls
 use Rattle.slave_port.specs.History.{Call, Setup}
 use Rattle.slave_port.specs.Values.{SyncValue, OneStepValue, FollowValue, ResponseValue, RequestValue}
-use Rattle.slave_port.specs.Used.{part, delay_resp}
-use Rattle.slave_port.specs.Usable.{Criteria, Test, first_reason, common_tests, is_same_port, is_other, is_too_big, is_not_newer, sync_reason, response_reason, sync_use, used_unless, event_use, general_use, judged, usable_in, unusable_in}
+use Rattle.slave_port.specs.Used.{part, two_step_sync, follow_up, delay_resp}
+use Rattle.slave_port.specs.Usable.{Criteria, Test, first_reason, common_tests, is_same_port, is_other, is_too_big, is_not_newer, is_two_step, sync_reason, response_reason, sync_use, used_unless, event_use, general_use, judged, usable_in, unusable_in}
 use Rattle.slave_port.specs.Requests.{held_requests}
-use Rattle.slave_port.specs.Completion.{SyncCompletion, DelayCompletion, answered}
-use Rattle.slave_port.specs.Kept.{criteria, usable, unusable, usable_delay_resp, sync_completion, delay_completion, last_sync_completion, last_delay_completion}
+use Rattle.slave_port.specs.Completion.{SyncCompletion, DelayCompletion, pair, alone, answered, completed_by}
+use Rattle.slave_port.specs.Kept.{criteria, usable, unusable, usable_two_step_sync, usable_follow_up, usable_delay_resp, held_syncs, held_follows, sync_completion, delay_completion, last_sync_completion, last_delay_completion}
 use Rattle.slave_port.specs.Answer.{request_reason, unanswerable, ignored, completed, used, unless_ignored, answer}
 
 pub some_step : {A B : Type 0} (f : A → Option B) (o : Option A) {y : B} → option_and_then f o ≡ Some y → (x : A) × (o ≡ Some x) × (f x ≡ Some y)
@@ -63,7 +63,8 @@ pub record Passes (judge : Criteria) (header : Header) : Type 0 where
   pub domain : header.domain ≡ judge.config.domain
   pub small : int_lt header.correction.0 too_big ≡ true
 
-pub record UsesSync (judge : Criteria) (call : Call) (used : Entry Used) : Type 0 where
+-- a Sync that can be used
+pub record HeardSync (judge : Criteria) (call : Call) : Type 0 where
   pub m : Contents
   pub t2 : ℕ
   pub tag : ℕ
@@ -72,9 +73,9 @@ pub record UsesSync (judge : Criteria) (call : Call) (used : Entry Used) : Type 
   pub body : m.body ≡ bodies.Sync origin
   pub passes : Passes judge m.header
   pub newer : is_not_newer judge.last m.header.sequence.0 ≡ false
-  pub is : used ≡ entry m.header.sequence.0 (sync_use m.header origin t2 tag)
 
-pub record UsesFollowUp (judge : Criteria) (call : Call) (used : Entry Used) : Type 0 where
+-- a Follow_Up that can be used
+pub record HeardFollowUp (judge : Criteria) (call : Call) : Type 0 where
   pub m : Contents
   pub tag : ℕ
   pub precise : Stamp
@@ -82,9 +83,9 @@ pub record UsesFollowUp (judge : Criteria) (call : Call) (used : Entry Used) : T
   pub body : m.body ≡ bodies.FollowUp precise
   pub passes : Passes judge m.header
   pub newer : is_not_newer judge.last m.header.sequence.0 ≡ false
-  pub is : used ≡ entry m.header.sequence.0 (uses.FollowUp (record { precise = precise; correction = m.header.correction.0; tag = tag }))
 
-pub record UsesDelayResp (judge : Criteria) (call : Call) (used : Entry Used) : Type 0 where
+-- a Delay_Resp that can be used
+pub record HeardDelayResp (judge : Criteria) (call : Call) : Type 0 where
   pub m : Contents
   pub tag : ℕ
   pub receive : Stamp
@@ -93,12 +94,35 @@ pub record UsesDelayResp (judge : Criteria) (call : Call) (used : Entry Used) : 
   pub body : m.body ≡ bodies.DelayResp receive requesting
   pub passes : Passes judge m.header
   pub own : requesting ≡ judge.config.identity
-  pub is : used ≡ entry m.header.sequence.0 (uses.DelayResp (record { receive = receive; correction = m.header.correction.0; tag = tag }))
 
-pub data IsUse (judge : Criteria) (call : Call) (used : Entry Used) : Type 0 where
-  Sync : UsesSync judge call used → IsUse judge call used
-  FollowUp : UsesFollowUp judge call used → IsUse judge call used
-  DelayResp : UsesDelayResp judge call used → IsUse judge call used
+-- what is taken from each
+abbrev pub two_step_value : {judge : Criteria} {call : Call} → HeardSync judge call → SyncValue
+two_step_value h = record { t2 = h.t2; correction = h.m.header.correction.0; tag = h.tag }
+
+abbrev pub one_step_value : {judge : Criteria} {call : Call} → HeardSync judge call → OneStepValue
+one_step_value h = record { t2 = h.t2; origin = h.origin; correction = h.m.header.correction.0; tag = h.tag }
+
+abbrev pub follow_value : {judge : Criteria} {call : Call} → HeardFollowUp judge call → FollowValue
+follow_value h = record { precise = h.precise; correction = h.m.header.correction.0; tag = h.tag }
+
+abbrev pub response_value : {judge : Criteria} {call : Call} → HeardDelayResp judge call → ResponseValue
+response_value h = record { receive = h.receive; correction = h.m.header.correction.0; tag = h.tag }
+
+data IsUse (judge : Criteria) (call : Call) (used : Entry Used) : Type 0 where
+  TwoStep : (h : HeardSync judge call) → is_two_step h.m.header ≡ true → used ≡ entry h.m.header.sequence.0 (uses.TwoStepSync (two_step_value h)) → IsUse judge call used
+  OneStep : (h : HeardSync judge call) → is_two_step h.m.header ≡ false → used ≡ entry h.m.header.sequence.0 (uses.OneStepSync (one_step_value h)) → IsUse judge call used
+  FollowUp : (h : HeardFollowUp judge call) → used ≡ entry h.m.header.sequence.0 (uses.FollowUp (follow_value h)) → IsUse judge call used
+  DelayResp : (h : HeardDelayResp judge call) → used ≡ entry h.m.header.sequence.0 (uses.DelayResp (response_value h)) → IsUse judge call used
+
+-- a Sync is used by its twoStepFlag
+sync_used : (judge : Criteria) (call : Call) (used : Entry Used) (h : HeardSync judge call) → used ≡ entry h.m.header.sequence.0 (sync_use h.m.header h.origin h.t2 h.tag)
+    → IsUse judge call used
+sync_used judge call used h is = by (is_two_step h.m.header) refl is
+  where
+    by : (flag : Bool) → is_two_step h.m.header ≡ flag
+        → used ≡ entry h.m.header.sequence.0 (if flag then uses.TwoStepSync (two_step_value h) else uses.OneStepSync (one_step_value h)) → IsUse judge call used
+    by true e is = TwoStep h e is
+    by false e is = OneStep h e is
 
 -- where no test applies, the first doesn't and none of the others does
 passed : (t : Test) (tests : List Test) → first_reason (t ∷ tests) ≡ None → (t.applies ≡ false) × (first_reason tests ≡ None)
@@ -145,7 +169,7 @@ unless_reason None chosen used is = (refl, cc)
 unless_reason (Some reason) chosen used is = cc
 
 -- what a call that can be used is used as
-pub use_of : (judge : Criteria) (call : Call) (used : Entry Used) → usable_in judge call ≡ Some used → IsUse judge call used
+use_of : (judge : Criteria) (call : Call) (used : Entry Used) → usable_in judge call ≡ Some used → IsUse judge call used
 use_of judge (calls.SetMaster master) used is = cc
 use_of judge calls.Tick used is = cc
 use_of judge (calls.NextRequest tag) used is = cc
@@ -158,7 +182,7 @@ use_of judge (calls.Event (Ok m) t2 tag) used is = by m.body refl is
     by (bodies.Sync origin) body is =
         let unless = unless_reason (sync_reason judge m.header) (entry m.header.sequence.0 (sync_use m.header origin t2 tag)) used is in
         let tests = passes_all judge m.header (record { applies = is_not_newer judge.last m.header.sequence.0; reason = reasons.NotNewer } ∷ []) unless.0 in
-        Sync (record {
+        sync_used judge (calls.Event (Ok m) t2 tag) used (record {
           m = m;
           t2 = t2;
           tag = tag;
@@ -167,8 +191,7 @@ use_of judge (calls.Event (Ok m) t2 tag) used is = by m.body refl is
           body = body;
           passes = tests.0;
           newer = (passed (record { applies = is_not_newer judge.last m.header.sequence.0; reason = reasons.NotNewer }) [] tests.1).0;
-          is = unless.1;
-        })
+        }) unless.1
     by (bodies.DelayReq origin) body is = cc
     by (bodies.FollowUp precise) body is = cc
     by (bodies.DelayResp receive requesting) body is = cc
@@ -189,8 +212,7 @@ use_of judge (calls.General (Ok m) tag) used is = by m.body refl is
           body = body;
           passes = tests.0;
           newer = (passed (record { applies = is_not_newer judge.last m.header.sequence.0; reason = reasons.NotNewer }) [] tests.1).0;
-          is = unless.1;
-        })
+        }) unless.1
     by (bodies.DelayResp receive requesting) body is =
         let unless = unless_reason (response_reason judge m.header requesting)
             (entry m.header.sequence.0 (uses.DelayResp (record { receive = receive; correction = m.header.correction.0; tag = tag }))) used is in
@@ -205,8 +227,7 @@ use_of judge (calls.General (Ok m) tag) used is = by m.body refl is
           passes = tests.0;
           own = same_port requesting judge.config.identity (not-false (is_same_port requesting judge.config.identity)
               (passed (record { applies = not (is_same_port requesting judge.config.identity); reason = reasons.OtherRequester }) [] tests.1).0);
-          is = unless.1;
-        })
+        }) unless.1
 
 -- a message that can be used meets no reason
 usable_no_reason : (judge : Criteria) (call : Call) (chosen : Entry Used) → usable_in judge call ≡ Some chosen → unusable_in judge call ≡ None
@@ -218,7 +239,7 @@ usable_no_reason judge call chosen is = by (judged judge call) is
     by (Some (Err reason)) is = cc
 
 -- a call that can be used, and that isn't a Delay_Resp without its request, is used
-pub answer-used : (setup : Setup) (earlier : List Call) (call : Call) (chosen : Entry Used) → usable setup earlier call ≡ Some chosen → unanswerable setup earlier call ≡ None
+answer-used : (setup : Setup) (earlier : List Call) (call : Call) (chosen : Entry Used) → usable setup earlier call ≡ Some chosen → unanswerable setup earlier call ≡ None
     → answer setup earlier call ≡ used setup earlier call
 answer-used setup earlier call chosen is none =
     let no_reason : ignored setup earlier call ≡ None =
@@ -226,7 +247,7 @@ answer-used setup earlier call chosen is none =
     ap (λ (r : Option Reason). unless_ignored r (used setup earlier call)) no_reason
 
 -- no Sync and no Follow_Up is a Delay_Resp without its request
-pub answerable : (setup : Setup) (earlier : List Call) (call : Call) (chosen : Entry Used) → usable setup earlier call ≡ Some chosen → delay_resp chosen.value ≡ None
+answerable : (setup : Setup) (earlier : List Call) (call : Call) (chosen : Entry Used) → usable setup earlier call ≡ Some chosen → delay_resp chosen.value ≡ None
     → unanswerable setup earlier call ≡ None
 answerable setup earlier call chosen is other =
     let none : usable_delay_resp setup earlier call ≡ None =
@@ -234,7 +255,7 @@ answerable setup earlier call chosen is other =
     ap (option_and_then (λ (response : Entry ResponseValue). request_reason (first_value response.number (held_requests setup earlier)))) none
 
 -- a Delay_Resp that completes a request isn't without it
-pub completes_answerable : (setup : Setup) (earlier : List Call) (call : Call) (c : DelayCompletion) → delay_completion setup earlier call ≡ Some c
+completes_answerable : (setup : Setup) (earlier : List Call) (call : Call) (c : DelayCompletion) → delay_completion setup earlier call ≡ Some c
     → unanswerable setup earlier call ≡ None
 completes_answerable setup earlier call c is =
     let response = some_step (λ (response : Entry ResponseValue). option_and_then (answered response.value) (first_value response.number (held_requests setup earlier)))
@@ -250,3 +271,154 @@ completes_answerable setup earlier call c is =
     left : (f : ℕ → DelayCompletion) (t3 : Option ℕ) → option_map f t3 ≡ Some c → (if is_none t3 then Some reasons.EgressUnknown else None) ≡ None
     left f None is = cc
     left f (Some t) is = refl
+
+-- the two-step Sync that a call brings
+pub record IsTwoStepEntry (setup : Setup) (earlier : List Call) (call : Call) (e : Entry SyncValue) : Type 0 where
+  pub h : HeardSync (criteria setup earlier) call
+  pub flag : is_two_step h.m.header ≡ true
+  pub is : e ≡ entry h.m.header.sequence.0 (two_step_value h)
+  pub used : answer setup earlier call ≡ used setup earlier call
+
+pub two_step_entry : (setup : Setup) (earlier : List Call) (call : Call) (e : Entry SyncValue) → usable_two_step_sync setup earlier call ≡ Some e
+    → IsTwoStepEntry setup earlier call e
+two_step_entry setup earlier call e is =
+    let chosen = some_step (part two_step_sync) (usable setup earlier call) is in
+    by chosen.0 (use_of (criteria setup earlier) call chosen.0 chosen.1) chosen.1 chosen.2
+  where
+    by : (chosen : Entry Used) → IsUse (criteria setup earlier) call chosen → usable setup earlier call ≡ Some chosen → part two_step_sync chosen ≡ Some e
+        → IsTwoStepEntry setup earlier call e
+    by chosen (TwoStep h flag same) usable part_is = record {
+      h = h;
+      flag = flag;
+      is = let kind : part two_step_sync chosen ≡ Some (entry h.m.header.sequence.0 (two_step_value h)) = ap (part two_step_sync) same in cc;
+      used = answer-used setup earlier call chosen usable (answerable setup earlier call chosen usable (ap (λ (u : Entry Used). delay_resp u.value) same));
+    }
+    by chosen (OneStep h flag same) usable part_is = let kind : part two_step_sync chosen ≡ None = ap (part two_step_sync) same in cc
+    by chosen (FollowUp h same) usable part_is = let kind : part two_step_sync chosen ≡ None = ap (part two_step_sync) same in cc
+    by chosen (DelayResp h same) usable part_is = let kind : part two_step_sync chosen ≡ None = ap (part two_step_sync) same in cc
+
+-- the Follow_Up that a call brings
+pub record IsFollowEntry (setup : Setup) (earlier : List Call) (call : Call) (e : Entry FollowValue) : Type 0 where
+  pub h : HeardFollowUp (criteria setup earlier) call
+  pub is : e ≡ entry h.m.header.sequence.0 (follow_value h)
+  pub used : answer setup earlier call ≡ used setup earlier call
+
+pub follow_entry : (setup : Setup) (earlier : List Call) (call : Call) (e : Entry FollowValue) → usable_follow_up setup earlier call ≡ Some e
+    → IsFollowEntry setup earlier call e
+follow_entry setup earlier call e is =
+    let chosen = some_step (part follow_up) (usable setup earlier call) is in
+    by chosen.0 (use_of (criteria setup earlier) call chosen.0 chosen.1) chosen.1 chosen.2
+  where
+    by : (chosen : Entry Used) → IsUse (criteria setup earlier) call chosen → usable setup earlier call ≡ Some chosen → part follow_up chosen ≡ Some e
+        → IsFollowEntry setup earlier call e
+    by chosen (FollowUp h same) usable part_is = record {
+      h = h;
+      is = let kind : part follow_up chosen ≡ Some (entry h.m.header.sequence.0 (follow_value h)) = ap (part follow_up) same in cc;
+      used = answer-used setup earlier call chosen usable (answerable setup earlier call chosen usable (ap (λ (u : Entry Used). delay_resp u.value) same));
+    }
+    by chosen (TwoStep h flag same) usable part_is = let kind : part follow_up chosen ≡ None = ap (part follow_up) same in cc
+    by chosen (OneStep h flag same) usable part_is = let kind : part follow_up chosen ≡ None = ap (part follow_up) same in cc
+    by chosen (DelayResp h same) usable part_is = let kind : part follow_up chosen ≡ None = ap (part follow_up) same in cc
+
+-- the Delay_Resp that a call brings
+pub record IsResponseEntry (setup : Setup) (earlier : List Call) (call : Call) (e : Entry ResponseValue) : Type 0 where
+  pub h : HeardDelayResp (criteria setup earlier) call
+  pub is : e ≡ entry h.m.header.sequence.0 (response_value h)
+
+pub response_entry : (setup : Setup) (earlier : List Call) (call : Call) (e : Entry ResponseValue) → usable_delay_resp setup earlier call ≡ Some e
+    → IsResponseEntry setup earlier call e
+response_entry setup earlier call e is =
+    let chosen = some_step (part delay_resp) (usable setup earlier call) is in
+    by chosen.0 (use_of (criteria setup earlier) call chosen.0 chosen.1) chosen.2
+  where
+    by : (chosen : Entry Used) → IsUse (criteria setup earlier) call chosen → part delay_resp chosen ≡ Some e → IsResponseEntry setup earlier call e
+    by chosen (DelayResp h same) part_is = record {
+      h = h;
+      is = let kind : part delay_resp chosen ≡ Some (entry h.m.header.sequence.0 (response_value h)) = ap (part delay_resp) same in cc;
+    }
+    by chosen (TwoStep h flag same) part_is = let kind : part delay_resp chosen ≡ None = ap (part delay_resp) same in cc
+    by chosen (OneStep h flag same) part_is = let kind : part delay_resp chosen ≡ None = ap (part delay_resp) same in cc
+    by chosen (FollowUp h same) part_is = let kind : part delay_resp chosen ≡ None = ap (part delay_resp) same in cc
+
+-- a Sync completes by a Follow_Up that is held, alone, or by a Follow_Up that finds it held
+pub data IsSyncCompletion (setup : Setup) (earlier : List Call) (call : Call) (c : SyncCompletion) : Type 0 where
+  BySync : (h : HeardSync (criteria setup earlier) call) (follow : FollowValue) → is_two_step h.m.header ≡ true
+      → first_value h.m.header.sequence.0 (held_follows setup earlier) ≡ Some follow → c ≡ pair h.m.header.sequence.0 (two_step_value h) follow
+      → IsSyncCompletion setup earlier call c
+  Alone : (h : HeardSync (criteria setup earlier) call) → is_two_step h.m.header ≡ false → c ≡ alone h.m.header.sequence.0 (one_step_value h)
+      → IsSyncCompletion setup earlier call c
+  ByFollowUp : (h : HeardFollowUp (criteria setup earlier) call) (sync : SyncValue)
+      → first_value h.m.header.sequence.0 (held_syncs setup earlier) ≡ Some sync → c ≡ pair h.m.header.sequence.0 sync (follow_value h)
+      → IsSyncCompletion setup earlier call c
+
+-- what completes at a call, and that its message is used
+pub sync_completion_of : (setup : Setup) (earlier : List Call) (call : Call) (c : SyncCompletion) → sync_completion setup earlier call ≡ Some c
+    → IsSyncCompletion setup earlier call c × (answer setup earlier call ≡ used setup earlier call)
+sync_completion_of setup earlier call c is =
+    let syncs : List (Entry SyncValue) = held_syncs setup earlier in
+    let follows : List (Entry FollowValue) = held_follows setup earlier in
+    let chosen = some_step (λ (e : Entry Used). completed_by syncs follows e.number e.value) (usable setup earlier call) is in
+    by chosen.0 (use_of (criteria setup earlier) call chosen.0 chosen.1) chosen.1 chosen.2
+  where
+    by : (chosen : Entry Used) → IsUse (criteria setup earlier) call chosen → usable setup earlier call ≡ Some chosen
+        → completed_by (held_syncs setup earlier) (held_follows setup earlier) chosen.number chosen.value ≡ Some c
+        → IsSyncCompletion setup earlier call c × (answer setup earlier call ≡ used setup earlier call)
+    by chosen (TwoStep h flag same) usable completes =
+        let found = some_image (pair h.m.header.sequence.0 (two_step_value h)) (first_value h.m.header.sequence.0 (held_follows setup earlier))
+            (sym (ap (λ (u : Entry Used). completed_by (held_syncs setup earlier) (held_follows setup earlier) u.number u.value) same) ∙ completes) in
+        (BySync h found.0 flag found.1 (sym found.2),
+        answer-used setup earlier call chosen usable (answerable setup earlier call chosen usable (ap (λ (u : Entry Used). delay_resp u.value) same)))
+    by chosen (OneStep h flag same) usable completes =
+        let completed : Some (alone h.m.header.sequence.0 (one_step_value h)) ≡ Some c =
+        sym (ap (λ (u : Entry Used). completed_by (held_syncs setup earlier) (held_follows setup earlier) u.number u.value) same) ∙ completes in
+        (Alone h flag cc,
+        answer-used setup earlier call chosen usable (answerable setup earlier call chosen usable (ap (λ (u : Entry Used). delay_resp u.value) same)))
+    by chosen (FollowUp h same) usable completes =
+        let found = some_image (λ (sync : SyncValue). pair h.m.header.sequence.0 sync (follow_value h)) (first_value h.m.header.sequence.0 (held_syncs setup earlier))
+            (sym (ap (λ (u : Entry Used). completed_by (held_syncs setup earlier) (held_follows setup earlier) u.number u.value) same) ∙ completes) in
+        (ByFollowUp h found.0 found.1 (sym found.2),
+        answer-used setup earlier call chosen usable (answerable setup earlier call chosen usable (ap (λ (u : Entry Used). delay_resp u.value) same)))
+    by chosen (DelayResp h same) usable completes =
+        let none : completed_by (held_syncs setup earlier) (held_follows setup earlier) chosen.number chosen.value ≡ None =
+        ap (λ (u : Entry Used). completed_by (held_syncs setup earlier) (held_follows setup earlier) u.number u.value) same in cc
+
+-- a request completes by a Delay_Resp that finds it held, and that knows when it left
+pub record IsDelayCompletion (setup : Setup) (earlier : List Call) (call : Call) (c : DelayCompletion) : Type 0 where
+  pub h : HeardDelayResp (criteria setup earlier) call
+  pub request : RequestValue
+  pub t3 : ℕ
+  pub found : first_value h.m.header.sequence.0 (held_requests setup earlier) ≡ Some request
+  pub left : request.t3 ≡ Some t3
+  pub is : c ≡ record {
+    bracket = delay_bracket h.receive h.m.header.correction.0 t3;
+    request_tag = request.tag;
+    response_tag = h.tag;
+  }
+  pub used : answer setup earlier call ≡ used setup earlier call
+
+pub delay_completion_of : (setup : Setup) (earlier : List Call) (call : Call) (c : DelayCompletion) → delay_completion setup earlier call ≡ Some c
+    → IsDelayCompletion setup earlier call c
+delay_completion_of setup earlier call c is =
+    let response = some_step (λ (response : Entry ResponseValue). option_and_then (answered response.value) (first_value response.number (held_requests setup earlier)))
+        (usable_delay_resp setup earlier call) is in
+    let chosen = some_step (part delay_resp) (usable setup earlier call) response.1 in
+    let use_is = response_entry setup earlier call response.0 response.1 in
+    let request = some_step (answered response.0.value) (first_value response.0.number (held_requests setup earlier)) response.2 in
+    let t3 = some_image (λ t3. record {
+      bracket = delay_bracket response.0.value.receive response.0.value.correction t3;
+      request_tag = request.0.tag;
+      response_tag = response.0.value.tag;
+    }) request.0.t3 request.2 in
+    record {
+      h = use_is.h;
+      request = request.0;
+      t3 = t3.0;
+      found = subst (λ (e : Entry ResponseValue). first_value e.number (held_requests setup earlier) ≡ Some request.0) use_is.is request.1;
+      left = t3.1;
+      is = subst (λ (e : Entry ResponseValue). c ≡ record {
+        bracket = delay_bracket e.value.receive e.value.correction t3.0;
+        request_tag = request.0.tag;
+        response_tag = e.value.tag;
+      }) use_is.is (sym t3.2);
+      used = answer-used setup earlier call chosen.0 chosen.1 (completes_answerable setup earlier call c is);
+    }

@@ -35,7 +35,7 @@ completed_of_use (Some sync) None = refl
 completed_of_use (Some sync) (Some delay) = refl
 
 -- what isn't ignored is of use
-used_of_use : (setup : Setup) (earlier : List Call) (call : Call) → is_of_use (used setup earlier call) ≡ true
+pub used_of_use : (setup : Setup) (earlier : List Call) (call : Call) → is_of_use (used setup earlier call) ≡ true
 used_of_use setup earlier call = by (is_none (sync_completion setup earlier call) && is_none (delay_completion setup earlier call))
   where
     by : (held : Bool)
