@@ -31,3 +31,6 @@ pub mod Pairing
 pub mod HeldMessages
 pub mod OneSync
 pub mod Requests
+pub mod OneRequest
+pub mod Answers
+pub mod Reports

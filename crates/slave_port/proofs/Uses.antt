@@ -16,6 +16,8 @@ use Rattle.event_codec.specs.declared.message.Body.TheVariants as bodies
 use Rattle.event_codec.specs.declared.port.PortIdentity.{PortIdentity}
 use Rattle.event_codec.specs.Packet.{Contents}
 use Rattle.pairing.specs.Marked.{Entry, entry, first_value}
+use Rattle.slave_port.specs.declared.heard.Heard.TheVariants as answers
+use Rattle.slave_port.specs.declared.heard.Report.{Report}
 use Rattle.slave_port.specs.declared.reason.Reason.{Reason}
 use Rattle.slave_port.specs.declared.reason.Reason.TheVariants as reasons
 use Rattle.slave_port.specs.declared.used.Used.{Used}
@@ -28,7 +30,7 @@ use Rattle.slave_port.specs.Usable.{Criteria, Test, first_reason, common_tests, 
 use Rattle.slave_port.specs.Requests.{held_requests}
 use Rattle.slave_port.specs.Completion.{SyncCompletion, DelayCompletion, pair, alone, answered, completed_by}
 use Rattle.slave_port.specs.Kept.{criteria, usable, unusable, usable_two_step_sync, usable_follow_up, usable_delay_resp, held_syncs, held_follows, sync_completion, delay_completion, last_sync_completion, last_delay_completion}
-use Rattle.slave_port.specs.Answer.{request_reason, unanswerable, ignored, completed, used, unless_ignored, answer}
+use Rattle.slave_port.specs.Answer.{request_reason, unanswerable, ignored, report_of, completed, used, unless_ignored, answer}
 
 pub some_step : {A B : Type 0} (f : A → Option B) (o : Option A) {y : B} → option_and_then f o ≡ Some y → (x : A) × (o ≡ Some x) × (f x ≡ Some y)
 some_step f None e = cc
@@ -422,3 +424,28 @@ delay_completion_of setup earlier call c is =
       }) use_is.is (sym t3.2);
       used = answer-used setup earlier call chosen.0 chosen.1 (completes_answerable setup earlier call c is);
     }
+
+-- a report is made of the last completion of each kind in the window
+pub report_parts : (setup : Setup) (earlier : List Call) (call : Call) (report : Report) → answer setup earlier call ≡ answers.Report report
+    → (sync : SyncCompletion) × (delay : DelayCompletion) × (last_sync_completion setup (call ∷ earlier) ≡ Some sync)
+    × (last_delay_completion setup (call ∷ earlier) ≡ Some delay) × (report ≡ report_of sync delay)
+report_parts setup earlier call report is = by (ignored setup earlier call) is
+  where
+    parts : (last : Option SyncCompletion) (last_delay : Option DelayCompletion) → completed last last_delay ≡ answers.Report report
+        → (sync : SyncCompletion) × (delay : DelayCompletion) × (last ≡ Some sync) × (last_delay ≡ Some delay) × (report ≡ report_of sync delay)
+    parts None last_delay is = cc
+    parts (Some sync) None is = cc
+    parts (Some sync) (Some delay) is = (sync, delay, refl, refl, cc)
+
+    of_used : (held : Bool)
+        → (if held then answers.Held else completed (last_sync_completion setup (call ∷ earlier)) (last_delay_completion setup (call ∷ earlier))) ≡ answers.Report report
+        → (sync : SyncCompletion) × (delay : DelayCompletion) × (last_sync_completion setup (call ∷ earlier) ≡ Some sync)
+        × (last_delay_completion setup (call ∷ earlier) ≡ Some delay) × (report ≡ report_of sync delay)
+    of_used true is = cc
+    of_used false is = parts (last_sync_completion setup (call ∷ earlier)) (last_delay_completion setup (call ∷ earlier)) is
+
+    by : (reason : Option Reason) → unless_ignored reason (used setup earlier call) ≡ answers.Report report
+        → (sync : SyncCompletion) × (delay : DelayCompletion) × (last_sync_completion setup (call ∷ earlier) ≡ Some sync)
+        × (last_delay_completion setup (call ∷ earlier) ≡ Some delay) × (report ≡ report_of sync delay)
+    by (Some reason) is = cc
+    by None is = of_used (is_none (sync_completion setup earlier call) && is_none (delay_completion setup earlier call)) is
