@@ -36,3 +36,4 @@ pub mod Answers
 pub mod Reports
 pub mod Readings
 pub mod Twice
+pub mod Pairs

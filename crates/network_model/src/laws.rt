@@ -2,6 +2,7 @@
 //! proof calls it.
 
 ghost use Rattle.network_model.specs.Headline.{Headline, HeadlineWithinOneTurn};
+ghost use Rattle.network_model.specs.Pairs.{NoPairIsMissed};
 
 /// Over runs of any length that are fresh and ticked, each report of a slave is of one Sync and of one
 /// Delay_Req, those that its tags name, and exactly twice the standard's two results over them.
@@ -13,4 +14,12 @@ pub fn each_report_is_exact()
 /// the ticks.
 pub fn each_report_is_exact_within_one_turn()
     ensures { HeadlineWithinOneTurn }
+{}
+
+/// Over runs of any length that are fresh and ticked no pair is missed: a usable two-step Sync
+/// completes exactly where a Follow_Up of the same Sync event is held, a usable Follow_Up exactly where
+/// a Sync of the same Sync event is, and a usable Delay_Resp exactly where its own request is held with
+/// its departure.
+pub fn no_pair_is_missed()
+    ensures { NoPairIsMissed }
 {}
