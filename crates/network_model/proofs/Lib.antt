@@ -36,3 +36,5 @@ pub mod Requests
 pub mod OneRequest
 pub mod Answers
 pub mod Reports
+pub mod Readings
+pub mod Twice

@@ -1,8 +1,9 @@
 -- Each completion of a request is of one Request event of the slave: the Delay_Resp answers a copy of its Delay_Req, at the
 -- present master. A report takes its Delay_Req from such a completion.
-use Rattle.std.proofs.Common.{◌≡◌, ◌∙◌, ℕ, ◌+◌, ◌-◌, ◌<◌, ◌≤◌, Bool, true, false, List, ◌∷◌, ◌++◌, length, take, Option, Some, None, IsOk, refl, sym, ap, subst, arith, option_and_then}
+use Rattle.std.proofs.Common.{◌≡◌, ◌∙◌, ℕ, pos, ◌+◌, ◌-◌, ◌<◌, ◌≤◌, Bool, true, false, List, ◌∷◌, ◌++◌, length, take, Option, Some, None, IsOk, refl, sym, ap, subst, arith, option_and_then}
 use Rattle.std.specs.Prelude.{count_by, IsTrue}
-use Rattle.ptp_units.specs.Moment.{Stamp, stamp_of}
+use Rattle.ptp_units.specs.Interval.{with_residence, less_fraction}
+use Rattle.ptp_units.specs.Moment.{Stamp, stamp_of, fraction_of}
 use Rattle.ptp_units.specs.Sequence.{of_count}
 use Rattle.event_codec.specs.declared.message.Body.{Body}
 use Rattle.event_codec.specs.declared.message.Body.TheVariants as bodies
@@ -74,10 +75,7 @@ pub record IsAnswer (network : Network) (port : PortSetup) (slave : NodeName) (r
   pub source_is : m.header.source ≡ answering.config.identity
   pub number_is : m.header.sequence.0 ≡ of_count (number_of port journey.origin)
   pub receive_is : receive ≡ stamp_of (reading made)
-  pub request : Contents
-  pub request_is : copy_of network made.earlier asked ≡ Some request
-  pub request_drawn : IsDelayReq network made.earlier asked request
-  pub same_journey : request_drawn.journey ≡ journey
+  pub correction_is : m.header.correction.0 ≡ less_fraction (with_residence (pos 0) (residence journey)) (fraction_of (reading made))
 
 same_answer : {a b : PortIdentity} {receive other : Stamp} → ◌≡◌ {A = Body} (bodies.DelayResp receive a) (bodies.DelayResp other b) → (receive ≡ other) × (a ≡ b)
 same_answer same = (cc, cc)
@@ -115,10 +113,8 @@ answer_to_slave network port slave run copy m receive requesting apart slave_is 
       number_is = ap (λ (m : Contents). m.header.sequence.0) resp.is ∙ ap (λ (m : Contents). m.header.sequence.0) req.is
           ∙ ap (λ (o : PortSetup). of_count (number_of o req.journey.origin)) port_is;
       receive_is = bodies_are.0;
-      request = resp.request;
-      request_is = resp.request_is;
-      request_drawn = req;
-      same_journey = refl;
+      correction_is = ap (λ (m : Contents). m.header.correction.0) resp.is
+          ∙ ap (λ (m : Contents). less_fraction m.header.correction.0 (fraction_of (reading resp.made))) req.is;
     }
 
 -- a completion at an event is of one Request event of the slave, which the present master answered

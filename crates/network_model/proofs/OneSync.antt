@@ -50,7 +50,7 @@ pub record IsOneSync (network : Network) (slave : NodeName) (run : Run) (p : Pla
   pub number_is : c.number ≡ of_count (number_of told.port journey.origin)
 
 -- the event of a tag, by another name of the tag
-tagged : (run : Run) (p : Place) (tag : ℕ) → IsIn run p → tag ≡ tag_of p → place_at run tag ≡ Some p
+pub tagged : (run : Run) (p : Place) (tag : ℕ) → IsIn run p → tag ≡ tag_of p → place_at run tag ≡ Some p
 tagged run p tag there is = subst (λ (t : ℕ). place_at run t ≡ Some p) (sym is) there
 
 -- the SetMaster is earlier than what was heard under it
