@@ -38,3 +38,7 @@ pub mod Answers
 pub mod Reports
 pub mod Readings
 pub mod Twice
+pub mod Measured
+pub mod Steady
+pub mod Legs
+pub mod Ways
