@@ -42,3 +42,4 @@ pub mod Measured
 pub mod Steady
 pub mod Legs
 pub mod Ways
+pub mod Asymmetry
