@@ -43,3 +43,6 @@ pub mod Steady
 pub mod Legs
 pub mod Ways
 pub mod Asymmetry
+pub mod EvenWays
+pub mod Agreement
+pub mod TellsTrueTimes

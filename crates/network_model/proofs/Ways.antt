@@ -30,7 +30,7 @@ pub time_on-cons : (c : Crossing) (way : List Crossing) → time_on (c ∷ way) 
 time_on-cons c way = let from = time_from (pos 0 +ℤ time_of c) way in omega (arith, ints)
 
 -- what enters a clock has a true moment
-entry_timed : (event : Event) (copy : ℕ) → entered_copy event ≡ Some copy → (is_some (true_moment event) ≡ true) × (timed_copy event ≡ Some copy)
+pub entry_timed : (event : Event) (copy : ℕ) → entered_copy event ≡ Some copy → (is_some (true_moment event) ≡ true) × (timed_copy event ≡ Some copy)
 entry_timed (Enter node taken at) copy takes = (refl, takes)
 entry_timed (Sync node at) copy takes = cc
 entry_timed (SyncOne node at) copy takes = cc
