@@ -37,3 +37,6 @@ pub mod Reports
 pub mod Readings
 pub mod Twice
 pub mod Pairs
+pub mod Steady
+pub mod Ways
+pub mod TrueTime
