@@ -7,10 +7,12 @@ use Rattle.network_model.specs.Network.{Network, NodeName}
 use Rattle.network_model.specs.Run.{Run}
 use Rattle.network_model.specs.Clock.{difference}
 use Rattle.network_model.specs.Present.{present_master}
-use Rattle.network_model.specs.Premises.{Premise}
+use Rattle.network_model.specs.Premises.{Premise, exact_limits, IsFreshAndTicked}
 use Rattle.network_model.specs.Reported.{ReportedIn}
 use Rattle.network_model.specs.Level.{Crossing, sync_way, request_way, time_on, IsLevelFor}
-use Rattle.network_model.specs.TrueTime.{twice, IsAsymmetric, ErrorIsAsymmetry, WaysAreEven, KnowsMaster, SlavesAgree}
+use Rattle.network_model.specs.TrueTime.{twice, IsAsymmetric, ErrorIsAsymmetry, WaysAreEven, KnowsMaster, SlavesAgree, TellsTrueTime}
+use Rattle.network_model.proofs.TrueTime.{error_is_asymmetry}
+use Rattle.network_model.proofs.EvenWays.{ways_are_even}
 
 known_number : (moment : ℕ) (slave master offset there back there' back' : ℤ) → offset ≡ twice (slave -ℤ master) +ℤ (there -ℤ back) → there ≡ there' → back ≡ back' → there' ≡ back'
     → twice (pos moment +ℤ slave) -ℤ offset ≡ twice (pos moment +ℤ master)
@@ -35,3 +37,10 @@ slaves_agree premise error even network run one other master first second moment
   knows_master premise error even network run one master first moment holds reported present level,
   knows_master premise error even network run other master second moment holds reported_too present_too level_too,
 )
+
+-- over runs that are fresh and ticked
+even : WaysAreEven (IsFreshAndTicked exact_limits)
+even = ways_are_even (IsFreshAndTicked exact_limits) (λ network run premise. record { apart = premise.apart; accepted = premise.accepted })
+
+pub tells_true_time : TellsTrueTime
+tells_true_time = record { error = error_is_asymmetry; even = even; agreement = slaves_agree (IsFreshAndTicked exact_limits) error_is_asymmetry even }

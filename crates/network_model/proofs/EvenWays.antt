@@ -12,9 +12,10 @@ use Rattle.std.proofs.lemmas.List.Sums.{fold-append}
 use Rattle.slave_port.specs.declared.heard.Report.{Report}
 use Rattle.slave_port.proofs.Uses.{some_step, some_image}
 use Rattle.network_model.specs.declared.event.Event.{Event}
+use Rattle.network_model.specs.declared.event.Event.TheVariants.{Sync, SyncOne, Follow, Enter, Leave, Arrive, Hear, Request, Stamped, Tick, SetMaster, StepClock}
 use Rattle.network_model.specs.Network.{Network, NodeName, is_named}
 use Rattle.network_model.specs.Run.{Run, Place, place, place_at, tag_of, IsIn, site_of}
-use Rattle.network_model.specs.Kinds.{timed_copy, heard_copy}
+use Rattle.network_model.specs.Kinds.{entered_copy, timed_copy, heard_copy}
 use Rattle.network_model.specs.Journey.{Journey, Stay, journey_of}
 use Rattle.network_model.specs.Outcome.{IsRun}
 use Rattle.network_model.specs.Premises.{Premise, IsAcceptedRun}
@@ -24,7 +25,27 @@ use Rattle.network_model.specs.TrueTime.{WaysAreEven}
 use Rattle.network_model.proofs.Places.{IsRun-place_at, IsIn-place_at, IsIn-within}
 use Rattle.network_model.proofs.Sites.{named-self, named-same}
 use Rattle.network_model.proofs.Legs.{journey, IsStay, LastLeg, last_leg}
-use Rattle.network_model.proofs.Ways.{Among, entry_timed, time_on-cons}
+use Rattle.network_model.proofs.Ways.{time-more}
+
+-- what enters a clock comes over a cable
+entry_timed : (event : Event) (copy : ℕ) → entered_copy event ≡ Some copy → timed_copy event ≡ Some copy
+entry_timed (Enter node taken at) copy takes = takes
+entry_timed (Sync node at) copy takes = cc
+entry_timed (SyncOne node at) copy takes = cc
+entry_timed (Follow node) copy takes = cc
+entry_timed (Leave node transit at) copy takes = cc
+entry_timed (Arrive node c at) copy takes = cc
+entry_timed (Hear node c) copy takes = cc
+entry_timed (Request node at) copy takes = cc
+entry_timed (Stamped node) copy takes = cc
+entry_timed (Tick node) copy takes = cc
+entry_timed (SetMaster node master) copy takes = cc
+entry_timed (StepClock node diff) copy takes = cc
+
+-- a crossing is one of these
+abbrev pub Among : List Crossing → Crossing → Type 0
+Among [] c = ⊥
+Among (d ∷ others) c = (d ≡ c) ⊎ Among others c
 
 -- all crossings of a way are among these
 abbrev pub AllAmong : List Crossing → List Crossing → Type 0
@@ -73,7 +94,7 @@ module _ (network : Network) (run : Run) (all : IsRun network run) where
       let entered_in : IsIn run s.entered = IsIn-within run last.0 s.entered left_in stay.entered_there in
       (among_run run end (crossing s.left end) there
           (crossing_is end copy (journey origin (s ∷ stays)) last.0 timed made last.1 ∙ ap (λ (p : Place). Some (crossing p end)) (sym stay.left_is)),
-      among_way origin stays s.entered stay.copy entered_in (entry_timed s.entered.event stay.copy stay.takes).1 stay.before)
+      among_way origin stays s.entered stay.copy entered_in (entry_timed s.entered.event stay.copy stay.takes) stay.before)
 
   -- and each way to an event
   among_way_to : (p : Place) (way : List Crossing) → IsIn run p → way_to p ≡ Some way → AllAmong (crossings_in run) way
@@ -144,7 +165,7 @@ time_on-reverse : (way : List Crossing) → time_on (reverse way) ≡ time_on wa
 time_on-reverse [] = refl
 time_on-reverse (c ∷ way) =
     ap time_on (reverse_onto way c []) ∙ fold-append (λ total c. total +ℤ time_of c) (pos 0) (reverse way) (c ∷ [])
-    ∙ last (time_on (reverse way)) (time_on way) (time_of c) (time_on (c ∷ way)) (time_on-reverse way) (time_on-cons c way)
+    ∙ last (time_on (reverse way)) (time_on way) (time_of c) (time_on (c ∷ way)) (time_on-reverse way) (time-more c way)
   where
     last : (back way one whole : ℤ) → back ≡ way → whole ≡ one +ℤ way → back +ℤ one ≡ whole
     last back way one whole e f = omega (arith, ints)
@@ -164,8 +185,8 @@ even_ways cs [] [] even first second same = refl
 even_ways cs [] (d ∷ other) even first second same = absurd same
 even_ways cs (c ∷ way) [] even first second same = absurd same
 even_ways cs (c ∷ way) (d ∷ other) even first second same =
-    time_on-cons c way ∙ ap (λ (t : ℤ). t +ℤ time_on way) (even_pair cs c d even first.0 second.0 same.0)
-    ∙ ap (λ (t : ℤ). time_of d +ℤ t) (even_ways cs way other even first.1 second.1 same.1) ∙ sym (time_on-cons d other)
+    time-more c way ∙ ap (λ (t : ℤ). t +ℤ time_on way) (even_pair cs c d even first.0 second.0 same.0)
+    ∙ ap (λ (t : ℤ). time_of d +ℤ t) (even_ways cs way other even first.1 second.1 same.1) ∙ sym (time-more d other)
 
 -- a report's two ways
 pub ways_are_even : (premise : Premise) → ((network : Network) (run : Run) → premise network run → IsAcceptedRun network run) → WaysAreEven premise

@@ -1,5 +1,5 @@
 -- The last leg of a journey: it starts at the event that made the copy, which is the origin or the Leave event of the last
--- stay, and what entered there ended the journey before. True time on the legs is added up by it.
+-- stay, and what entered there ended the journey before. So each leg is a crossing of the run.
 use Rattle.std.proofs.Common.{◌≡◌, ◌∙◌, ℕ, ◌-◌, ◌<◌, ◌≤◌, Bool, true, false, List, [], ◌∷◌, length, Option, Some, None, Ok, IsOk, refl, sym, ap, subst, arith, option_map, option_and_then, if◌then◌else◌}
 use Rattle.std.specs.Prelude.{Result, nat_lt, ok_or, is_some, not, ◌&&◌}
 use Rattle.std.specs.List.{list_any}
@@ -25,7 +25,8 @@ use Rattle.network_model.proofs.Options.{ok_value, ok_step, ok_some}
 use Rattle.network_model.proofs.Places.{accepted-place_at, IsRun-place_at, IsIn-place_at, place_at-within}
 use Rattle.network_model.proofs.Made.{copy_of-place_at, journey_of-place_at}
 use Rattle.network_model.proofs.Sites.{named-same}
-use Rattle.network_model.proofs.Journeys.{continued}
+use Rattle.network_model.proofs.Journeys.{same_origin, continued}
+use Rattle.network_model.proofs.Ways.{left_where, gone_on}
 
 -- a journey of this origin and these stays
 abbrev pub journey : Place → List Stay → Journey
@@ -49,28 +50,6 @@ pub record IsStay (before_left : Run) (left : Place) (origin : Place) (s : Stay)
 abbrev pub LastLeg : Place → (origin : Place) → List Stay → Type 0
 LastLeg made origin [] = made ≡ origin
 LastLeg made origin (s ∷ stays) = IsStay made.earlier made origin s stays
-
--- a Leave event is at the clock that the copy entered
-opened : (takes here spent : Bool) (p x : Place) → (if takes && here && not spent then Some p else None) ≡ Some x → here ≡ true
-opened true true spent p x is = refl
-opened true false spent p x is = cc
-opened false here spent p x is = cc
-
-left_at : (network : Network) (earlier : Run) (node : NodeName) (transit at : ℕ) (entered : Place) → IsOk (outcome_of network earlier (Leave node transit at))
-    → place_at earlier transit ≡ Some entered → site_of entered.event ≡ node
-left_at network earlier node transit at entered accepted there =
-    let rest : Place → Result Outcome WorldRefusal = λ entered. ok_or (copy_in network entered) NoTransit
-        >>= (λ m. reads (Leave node transit at) earlier >>= (λ now. Ok (left_outcome (forwarded (Ok m) (reading entered) now)))) in
-    let outcome = ok_value (outcome_of network earlier (Leave node transit at)) accepted in
-    let unspent : Option Place = option_and_then (open_transit node earlier transit) (place_at earlier transit) in
-    let clock = ok_step (node_as clock_of network node) (λ clock. ok_or unspent NoTransit >>= rest) outcome.1 in
-    let taken = ok_step (ok_or unspent NoTransit) rest clock.2 in
-    let stay = some_step (open_transit node earlier transit) (place_at earlier transit) (ok_some unspent NoTransit {x = taken.0} taken.1) in
-    let one : Some stay.0 ≡ Some entered = sym stay.1 ∙ there in
-    let same : stay.0 ≡ entered = cc in
-    named-same (site_of entered.event) node
-    (subst (λ (o : Place). is_named (site_of o.event) node ≡ true) same
-        (opened (is_some (entered_copy stay.0.event)) (is_named (site_of stay.0.event) node) (list_any (spends transit) earlier) stay.0 taken.0 stay.2))
 
 -- the copy that enters a clock is there
 entered_made : (network : Network) (event : Event) (earlier : Run) (copy : ℕ) → IsOk (outcome_of network earlier event) → entered_copy event ≡ Some copy
@@ -103,19 +82,6 @@ journey_of-earlier run p q copy here there =
     ∙ ap (option_and_then (λ (p : Place). journey_made p.event p.earlier (journey_of p.earlier))) (place_at-within run p copy q here there ∙ sym there)
     ∙ sym (journey_of-place_at p.earlier copy)
 
--- a journey that goes on has one more stay, of a time that isn't negative
-gone_on : (left entered : Place) (before : Journey) (origin : Place) (stays : List Stay) → goes_on left entered before ≡ Some (journey origin stays)
-    → (reading entered ≤ reading left) × (before.origin ≡ origin) × (◌≡◌ {A = List Stay} (record { entered = entered; left = left } ∷ before.stays) stays)
-gone_on left entered before origin stays on = by (nat_lt (reading left) (reading entered)) refl on
-  where
-    by : (fell : Bool) → nat_lt (reading left) (reading entered) ≡ fell
-        → (if fell then None else Some (record { origin = before.origin; stays = record { entered = entered; left = left } ∷ before.stays })) ≡ Some (journey origin stays)
-        → (reading entered ≤ reading left) × (before.origin ≡ origin) × (◌≡◌ {A = List Stay} (record { entered = entered; left = left } ∷ before.stays) stays)
-    by true e on = cc
-    by false e on =
-        let same : (record { origin = before.origin; stays = record { entered = entered; left = left } ∷ before.stays }) ≡ journey origin stays = cc in
-        (grind (arith, nat_tests), ap (λ (j : Journey). j.origin) same, ap (λ (j : Journey). j.stays) same)
-
 -- the last stay of a journey that a Leave event continues
 after_stay : (network : Network) (earlier : Run) → IsRun network earlier → (origin : Place) (node : NodeName) (transit at : ℕ) (stays : List Stay)
     → IsOk (outcome_of network earlier (Leave node transit at))
@@ -123,18 +89,18 @@ after_stay : (network : Network) (earlier : Run) → IsRun network earlier → (
 after_stay network earlier all origin node transit at stays accepted made =
     let left : Place = place (Leave node transit at) earlier in
     let from = continued left earlier transit (journey origin stays) made in
-    let on = gone_on left from.0 from.2 origin stays from.6 in
+    let on = gone_on left from.0 from.2 (journey origin stays) from.6 in
     let entered_in : IsIn earlier from.0 = IsIn-place_at earlier transit from.0 from.3 in
     let maker = entered_made network from.0.event from.0.earlier from.1 (accepted-place_at network earlier (tag_of from.0) from.0 all entered_in) from.4 in
     let before : journey_of from.0.earlier from.1 ≡ Some (journey origin from.2.stays) =
-    sym (journey_of-earlier earlier from.0 maker.0 from.1 entered_in maker.1) ∙ from.5 ∙ ap (λ (o : Place). Some (journey o from.2.stays)) on.1 in
-    subst (LastLeg left origin) on.2 (record {
+    sym (journey_of-earlier earlier from.0 maker.0 from.1 entered_in maker.1) ∙ from.5 ∙ ap (λ (o : Place). Some (journey o from.2.stays)) (same_origin left from.0 from.2 (journey origin stays) from.6) in
+    subst (LastLeg left origin) (sym on.1) (record {
       left_is = refl;
       copy = from.1;
       entered_there = entered_in;
       takes = from.4;
       before = before;
-      one_site = left_at network earlier node transit at from.0 accepted from.3;
+      one_site = left_where network node transit at earlier from.0 accepted from.3;
       order = on.0;
       node = node;
       transit = transit;

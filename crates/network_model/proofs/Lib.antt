@@ -17,8 +17,6 @@ pub mod Exactness
 pub mod Accepted
 pub mod Short
 pub mod Travelled
-pub mod Leaving
-pub mod Spent
 pub mod Worked
 pub mod WorkedExchange
 pub mod WorkedOctets
@@ -38,11 +36,12 @@ pub mod Answers
 pub mod Reports
 pub mod Readings
 pub mod Twice
-pub mod Measured
+pub mod Pairs
 pub mod Steady
-pub mod Legs
 pub mod Ways
-pub mod Asymmetry
+pub mod TrueTime
+pub mod Leaving
+pub mod Spent
+pub mod Legs
 pub mod EvenWays
 pub mod Agreement
-pub mod TellsTrueTimes

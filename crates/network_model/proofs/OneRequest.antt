@@ -129,6 +129,7 @@ pub record IsOneRequest (network : Network) (slave : NodeName) (run : Run) (p : 
   pub arrives : Arrives run (tag_of arrival) told.master arrival journey
   pub later_request : tag_of told.set < c.request_tag
   pub later_response : tag_of told.set < c.response_tag
+  pub heard : origin_heard p ≡ Some journey.origin
   pub unset : is_set_master p.event ≡ false
 
 pub one_request : (reach : ℕ) → reach ≤ 65536 → (network : Network) (port : PortSetup) (slave : NodeName) → slave_at network slave ≡ Some port
@@ -185,5 +186,6 @@ one_request reach fits network port slave slave_is run meet p there site call ma
       };
       later_request = omega arith;
       later_response = omega arith;
+      heard = heard;
       unset = ap is_set_master at.event;
     }

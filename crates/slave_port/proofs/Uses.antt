@@ -280,6 +280,8 @@ pub record IsTwoStepEntry (setup : Setup) (earlier : List Call) (call : Call) (e
   pub flag : is_two_step h.m.header ≡ true
   pub is : e ≡ entry h.m.header.sequence.0 (two_step_value h)
   pub used : answer setup earlier call ≡ used setup earlier call
+  pub completes : sync_completion setup earlier call
+      ≡ option_map (pair h.m.header.sequence.0 (two_step_value h)) (first_value h.m.header.sequence.0 (held_follows setup earlier))
 
 pub two_step_entry : (setup : Setup) (earlier : List Call) (call : Call) (e : Entry SyncValue) → usable_two_step_sync setup earlier call ≡ Some e
     → IsTwoStepEntry setup earlier call e
@@ -294,6 +296,8 @@ two_step_entry setup earlier call e is =
       flag = flag;
       is = let kind : part two_step_sync chosen ≡ Some (entry h.m.header.sequence.0 (two_step_value h)) = ap (part two_step_sync) same in cc;
       used = answer-used setup earlier call chosen usable (answerable setup earlier call chosen usable (ap (λ (u : Entry Used). delay_resp u.value) same));
+      completes = ap (option_and_then (λ (u : Entry Used). completed_by (held_syncs setup earlier) (held_follows setup earlier) u.number u.value)) usable
+          ∙ ap (λ (u : Entry Used). completed_by (held_syncs setup earlier) (held_follows setup earlier) u.number u.value) same;
     }
     by chosen (OneStep h flag same) usable part_is = let kind : part two_step_sync chosen ≡ None = ap (part two_step_sync) same in cc
     by chosen (FollowUp h same) usable part_is = let kind : part two_step_sync chosen ≡ None = ap (part two_step_sync) same in cc
@@ -304,6 +308,8 @@ pub record IsFollowEntry (setup : Setup) (earlier : List Call) (call : Call) (e 
   pub h : HeardFollowUp (criteria setup earlier) call
   pub is : e ≡ entry h.m.header.sequence.0 (follow_value h)
   pub used : answer setup earlier call ≡ used setup earlier call
+  pub completes : sync_completion setup earlier call
+      ≡ option_map (λ sync. pair h.m.header.sequence.0 sync (follow_value h)) (first_value h.m.header.sequence.0 (held_syncs setup earlier))
 
 pub follow_entry : (setup : Setup) (earlier : List Call) (call : Call) (e : Entry FollowValue) → usable_follow_up setup earlier call ≡ Some e
     → IsFollowEntry setup earlier call e
@@ -317,6 +323,8 @@ follow_entry setup earlier call e is =
       h = h;
       is = let kind : part follow_up chosen ≡ Some (entry h.m.header.sequence.0 (follow_value h)) = ap (part follow_up) same in cc;
       used = answer-used setup earlier call chosen usable (answerable setup earlier call chosen usable (ap (λ (u : Entry Used). delay_resp u.value) same));
+      completes = ap (option_and_then (λ (u : Entry Used). completed_by (held_syncs setup earlier) (held_follows setup earlier) u.number u.value)) usable
+          ∙ ap (λ (u : Entry Used). completed_by (held_syncs setup earlier) (held_follows setup earlier) u.number u.value) same;
     }
     by chosen (TwoStep h flag same) usable part_is = let kind : part follow_up chosen ≡ None = ap (part follow_up) same in cc
     by chosen (OneStep h flag same) usable part_is = let kind : part follow_up chosen ≡ None = ap (part follow_up) same in cc
