@@ -17,8 +17,6 @@ pub mod Exactness
 pub mod Accepted
 pub mod Short
 pub mod Travelled
-pub mod Leaving
-pub mod Spent
 pub mod Worked
 pub mod WorkedExchange
 pub mod WorkedOctets
@@ -39,3 +37,11 @@ pub mod Reports
 pub mod Readings
 pub mod Twice
 pub mod Pairs
+pub mod Steady
+pub mod Ways
+pub mod TrueTime
+pub mod Leaving
+pub mod Spent
+pub mod Legs
+pub mod EvenWays
+pub mod Agreement

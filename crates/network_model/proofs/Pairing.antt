@@ -10,7 +10,7 @@ use Rattle.event_codec.specs.declared.port.PortIdentity.{PortIdentity}
 use Rattle.pairing.specs.Marked.{Entry, first_value}
 use Rattle.network_model.specs.declared.event.Event.{Event}
 use Rattle.network_model.specs.Network.{Network, NodeName, PortSetup, IsNetwork, is_named}
-use Rattle.network_model.specs.Run.{Run, Place, place, place_at, tag_of, IsIn, site_of}
+use Rattle.network_model.specs.Run.{Run, Place, place, place_at, tag_of, IsIn, until, site_of}
 use Rattle.network_model.specs.Kinds.{is_at, is_sync, is_one_step_sync, draws_sync, is_request}
 use Rattle.network_model.specs.Numbering.{draws_with, drawn_before, drawn_later, number_of}
 use Rattle.network_model.specs.Truth.{master_at, slave_at}
@@ -19,6 +19,7 @@ use Rattle.network_model.specs.Present.{last_set_master, present_master}
 use Rattle.network_model.specs.Premises.{Limits, IsFreshAndTicked, IsWithinTurn}
 use Rattle.network_model.proofs.Identities.{same_name, identity_of_master, identity_of_slave}
 use Rattle.network_model.proofs.Reach.{one_origin, draws_with-sync, draws_with-request, HeldReach, UsedReach, IsWithinReach, reach-fresh_ticked, reach-one_turn}
+use Rattle.network_model.proofs.Places.{place_at-within}
 use Rattle.network_model.proofs.Sequences.{count-more}
 use Rattle.network_model.proofs.Told.{IsTold}
 
@@ -112,22 +113,23 @@ pub record NumbersMeet (reach : ℕ) (network : Network) (run : Run) : Type 0 wh
   pub held : (p : Place) → IsIn run p → HeldReach reach network p.earlier
   pub used : UsedReach reach network run
 
+-- the premise of the headline holds of each run that a run goes on from
+pub fresh_ticked_shorter : (limits : Limits) (network : Network) (event : Event) (earlier : Run) → IsFreshAndTicked limits network (event ∷ earlier) → IsFreshAndTicked limits network earlier
+fresh_ticked_shorter limits network event earlier premise = record {
+  apart = premise.apart;
+  accepted = premise.accepted.1;
+  fresh = premise.fresh.1;
+  ticked = λ slave. (premise.ticked slave).1;
+}
+
 pub meet-fresh_ticked : (limits : Limits) (network : Network) (run : Run) → IsFreshAndTicked limits network run
     → NumbersMeet (limits.late + limits.between_ticks + limits.between_ticks) network run
 meet-fresh_ticked limits network run premise = record {
   apart = premise.apart;
   accepted = premise.accepted;
-  held = λ p there. (reach-fresh_ticked limits network p.earlier (before_each (IsFreshAndTicked limits network) shorter run p there premise)).held;
+  held = λ p there. (reach-fresh_ticked limits network p.earlier (before_each (IsFreshAndTicked limits network) (fresh_ticked_shorter limits network) run p there premise)).held;
   used = (reach-fresh_ticked limits network run premise).used;
 }
-  where
-    shorter : (event : Event) (earlier : Run) → IsFreshAndTicked limits network (event ∷ earlier) → IsFreshAndTicked limits network earlier
-    shorter event earlier premise = record {
-      apart = premise.apart;
-      accepted = premise.accepted.1;
-      fresh = premise.fresh.1;
-      ticked = λ slave. (premise.ticked slave).1;
-    }
 
 pub meet-one_turn : (network : Network) (run : Run) → IsWithinTurn network run → NumbersMeet 65536 network run
 meet-one_turn network run premise = record {
@@ -146,3 +148,20 @@ meet-one_turn network run premise = record {
         requests = λ node. let few = premise.one_turn.requests node in omega (arith, count-more (is_at is_request node) event earlier);
       };
     }
+
+-- what holds of a run and of each that it goes on from, up to an event
+pub until_each : (P : Run → Type 0) → ((event : Event) (earlier : Run) → P (event ∷ earlier) → P earlier) → (run : Run) (p : Place) → IsIn run p → P run → P (until p)
+until_each P step [] p there is = cc
+until_each P step (event ∷ earlier) p there is = at (length earlier == tag_of p) there (λ within. until_each P step earlier p within (step event earlier is))
+  where
+    at : (same : Bool) → (if same then Some (place event earlier) else place_at earlier (tag_of p)) ≡ Some p → (IsIn earlier p → P (until p)) → P (until p)
+    at true there rest = let same : place event earlier ≡ p = cc in subst (λ (o : Place). P (until o)) same is
+    at false there rest = rest there
+
+-- the event of a tag stays, in the runs that go on
+pub place_at-until : (run : Run) (p : Place) (tag : ℕ) (q : Place) → IsIn run p → place_at (until p) tag ≡ Some q → place_at run tag ≡ Some q
+place_at-until run p tag q here there = at (length p.earlier == tag) refl there
+  where
+    at : (same : Bool) → (length p.earlier == tag) ≡ same → (if same then Some p else place_at p.earlier tag) ≡ Some q → place_at run tag ≡ Some q
+    at true e there = let same : tag_of p ≡ tag = eqb-true (length p.earlier) tag e in subst (λ (t : ℕ). place_at run t ≡ Some p) same here ∙ there
+    at false e there = place_at-within run p tag q here there

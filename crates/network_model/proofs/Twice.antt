@@ -77,7 +77,7 @@ pub record IsTimedBy (run : Run) (slave : NodeName) (tag : ℕ) (t1 : ℕ) : Typ
   pub is : t1 ≡ reading origin
 
 -- when a completion takes its Sync to have left
-abbrev TakesDeparture : Run → NodeName → Option ℕ → Place → ℕ → Type 0
+abbrev pub TakesDeparture : Run → NodeName → Option ℕ → Place → ℕ → Type 0
 TakesDeparture run slave None origin t1 = t1 ≡ reading origin
 TakesDeparture run slave (Some tag) origin t1 = IsTimedBy run slave tag t1
 
@@ -295,7 +295,7 @@ timed_request network port slave slave_is run premise p there site call made c b
     }
 
 -- the reading at which the Sync of a report left
-departure_is : (run : Run) (slave master : NodeName) (tag : Option ℕ) (origin : Place) (t1 : ℕ) → LearnsDeparture run slave master tag origin → TakesDeparture run slave tag origin t1
+pub departure_is : (run : Run) (slave master : NodeName) (tag : Option ℕ) (origin : Place) (t1 : ℕ) → LearnsDeparture run slave master tag origin → TakesDeparture run slave tag origin t1
     → (is_at draws_sync master origin.event ≡ true) × (t1 ≡ reading origin)
 departure_is run slave master None origin t1 learns takes = (one_step_draws master origin.event learns, takes)
 departure_is run slave master (Some tag) origin t1 learns takes =
