@@ -1,7 +1,8 @@
+pub mod SamePort
 pub mod Fields
 pub mod Numbers
+pub mod Agreement
 pub mod Front
 pub mod Same
-pub mod Written
 pub mod Again
 pub mod Corrected

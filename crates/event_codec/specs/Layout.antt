@@ -1,5 +1,5 @@
 -- Numbers in octets, and what the type of a message settles (IEEE 1588-2019, 13.2 and 13.3.2.3).
-use Rattle.std.specs.Prelude.{ℕ, zero, suc, ◌+◌, ◌*◌, ◌||◌, List, slice_index, ◌==◌, if◌then◌else◌, Option, Some, None}
+use Rattle.std.specs.Prelude.{ℕ, zero, suc, ◌+◌, ◌*◌, List, [], ◌∷◌, find, slice_index, ◌==◌, Option}
 use Rattle.ptp_units.specs.Moment.{Stamp}
 use Rattle.event_codec.specs.declared.message_type.MessageType.{MessageType}
 use Rattle.event_codec.specs.declared.message_type.MessageType.TheVariants as types
@@ -11,31 +11,28 @@ abbrev pub number : List ℕ → ℕ → ℕ → ℕ
 number b i zero = 0
 number b i (suc count) = 256 * number b i count + slice_index b (i + count)
 
--- the number of each messageType (13.3.2.3)
+-- messageType (13.3.2.3)
+abbrev pub type_of : Body → MessageType
+type_of (Sync origin) = types.Sync
+type_of (DelayReq origin) = types.DelayReq
+type_of (FollowUp precise) = types.FollowUp
+type_of (DelayResp receive requesting) = types.DelayResp
+
+-- the number of a messageType
 abbrev pub number_of : MessageType → ℕ
 number_of types.Sync = 0
 number_of types.DelayReq = 1
 number_of types.FollowUp = 8
 number_of types.DelayResp = 9
 
--- messageType
-abbrev pub type_of : Body → ℕ
-type_of (Sync origin) = 0
-type_of (DelayReq origin) = 1
-type_of (FollowUp precise) = 8
-type_of (DelayResp receive requesting) = 9
+-- the one of the four types that has this number
+abbrev pub type_numbered : ℕ → Option MessageType
+type_numbered number = find (λ kind. number_of kind == number) (types.Sync ∷ types.DelayReq ∷ types.FollowUp ∷ types.DelayResp ∷ [])
 
--- the least messageLength of a messageType, which is where the suffix begins; none for other types
-abbrev pub least_length : ℕ → Option ℕ
-least_length kind =
-    if kind == 0 || kind == 1 || kind == 8 then Some 44 else if kind == 9 then Some 54 else None
-
--- where the suffix of a message begins
-abbrev pub fields_length : Body → ℕ
-fields_length (Sync origin) = 44
-fields_length (DelayReq origin) = 44
-fields_length (FollowUp precise) = 44
-fields_length (DelayResp receive requesting) = 54
+-- how many octets the fields of a message take, behind which its suffix begins
+abbrev pub fields_length : MessageType → ℕ
+fields_length types.DelayResp = 54
+fields_length _ = 44
 
 -- the timestamp field
 abbrev pub stamp_in : Body → Stamp

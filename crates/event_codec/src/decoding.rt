@@ -1,7 +1,7 @@
 ghost use Rattle.std.specs.Prelude.{◌≡◌, ◌<◌, ◌≤◌, ◌+◌, ◌/◌, ◌%◌, ◌^◌, ℕ, length, take, slice_index, slice_range, IfOk, IfSome, MatchResult, IsOkAnd, Some, None};
 ghost use Rattle.std.specs.Int.{w8, w64, cast_signed};
-ghost use Rattle.event_codec.specs.Layout.{number, number_of, least_length, type_of, stamp_in};
-ghost use Rattle.event_codec.specs.Packet.{Contents, Packet, IsIdentityAt, IsRequesting, contents};
+ghost use Rattle.event_codec.specs.Layout.{number, number_of, type_of, fields_length, stamp_in};
+ghost use Rattle.event_codec.specs.Packet.{Contents, Packet, IsHeader, IsIdentityAt, IsTimestampAt, IsRequesting, contents};
 ghost use Rattle.event_codec.specs.Reading.{Reading, IsReading, Answers};
 ghost use Rattle.event_codec.specs.Refusal.{decode_refusal};
 
@@ -55,20 +55,11 @@ fn port_identity_at(octets: &[u8], at: usize) -> PortIdentity
     }
 }
 
-/// The header, but for messageType, versionPTP and messageLength.
+/// The header, of a message of version 2.
 fn header_of(octets: &[u8]) -> Header
-    requires { 34 ≤ length octets.now }
-    ensures major_sdo { result.major_sdo ≡ slice_index octets.now 0 / 16 }
-    ensures minor_version { result.minor_version ≡ slice_index octets.now 1 / 16 }
-    ensures domain { result.domain ≡ slice_index octets.now 4 }
-    ensures minor_sdo { result.minor_sdo ≡ slice_index octets.now 5 }
-    ensures flags { result.flags ≡ slice_range octets.now 6 8 }
-    ensures correction { result.correction.0 ≡ cast_signed w64 (number octets.now 8 8) }
-    ensures specific { result.specific ≡ slice_range octets.now 16 20 }
-    ensures source { IsIdentityAt result.source octets.now 20 }
-    ensures sequence { result.sequence.0 ≡ number octets.now 30 2 }
-    ensures control { result.control ≡ slice_index octets.now 32 }
-    ensures log { result.log ≡ cast_signed w8 (slice_index octets.now 33) }
+    requires whole { 34 ≤ length octets.now }
+    requires version { slice_index octets.now 1 % 16 ≡ 2 }
+    ensures { IsHeader result (slice_index octets.now 0 % 16) (number octets.now 2 2) octets.now }
 {
     Header {
         major_sdo: Nibble::high(octets[0]),
@@ -89,7 +80,7 @@ fn header_of(octets: &[u8]) -> Header
 fn timestamp_of(octets: &[u8]) -> Result<Timestamp, DecodeRefusal>
     requires { 44 ≤ length octets.now }
     ensures { MatchResult result
-        (λ t. (t.seconds ≡ number octets.now 34 6) × (t.nanos ≡ number octets.now 40 4) × (t.nanos < 10 ^ 9))
+        (λ t. IsTimestampAt t octets.now 34)
         (λ e. (e ≡ DecodeRefusal.Nanoseconds) × (10 ^ 9 ≤ number octets.now 40 4)) }
 {
     let seconds = u64::from(u16_at(octets, 34)) << 32 | u64::from(u32_at(octets, 36));
@@ -98,8 +89,8 @@ fn timestamp_of(octets: &[u8]) -> Result<Timestamp, DecodeRefusal>
 
 /// What stands between the header and the suffix.
 fn body_of(kind: MessageType, timestamp: Timestamp, octets: &[u8]) -> Body
-    requires { IfSome (least_length (number_of kind)) (λ least. least ≤ length octets.now) }
-    ensures type_of { type_of result ≡ number_of kind }
+    requires { fields_length kind ≤ length octets.now }
+    ensures type_of { type_of result ≡ kind }
     ensures stamp { stamp_in result ≡ timestamp }
     ensures requesting { IsRequesting result octets.now }
 {
@@ -118,21 +109,20 @@ fn body_of(kind: MessageType, timestamp: Timestamp, octets: &[u8]) -> Body
 fn message_of(kind: MessageType, timestamp: Timestamp, octets: &[u8]) -> Message<'_>
     requires kind { slice_index octets.now 0 % 16 ≡ number_of kind }
     requires version { slice_index octets.now 1 % 16 ≡ 2 }
-    requires least { IfSome (least_length (number_of kind)) (λ least. least ≤ length octets.now) }
+    requires least { fields_length kind ≤ length octets.now }
     requires message_length { number octets.now 2 2 ≡ length octets.now }
-    requires seconds { timestamp.seconds ≡ number octets.now 34 6 }
-    requires nanoseconds { timestamp.nanos ≡ number octets.now 40 4 }
-    requires within_second { timestamp.nanos < 10 ^ 9 }
+    requires timestamp { IsTimestampAt timestamp octets.now 34 }
     ensures { Packet (contents result) octets.now }
 {
     Message {
         header: header_of(octets),
         body: body_of(kind, timestamp, octets),
-        suffix: &octets[kind.least_length()..],
+        suffix: &octets[kind.fields_length()..],
     }
 }
 
 /// The type of the message, from a whole header of version 2.
+#[tactic(auto, unfolding(crate::specs::Refusal::decode_refusal))]
 fn message_type_of(octets: &[u8]) -> Result<MessageType, DecodeRefusal>
     ensures { MatchResult result
         (λ kind. (34 ≤ length octets.now) × (slice_index octets.now 1 % 16 ≡ 2) × (slice_index octets.now 0 % 16 ≡ number_of kind))
@@ -149,17 +139,18 @@ fn message_type_of(octets: &[u8]) -> Result<MessageType, DecodeRefusal>
 }
 
 /// The octets up to messageLength, at least as many as the fields take.
+#[tactic(auto, unfolding(crate::specs::Refusal::decode_refusal))]
 fn without_padding(kind: MessageType, octets: &[u8]) -> Result<&[u8], DecodeRefusal>
     requires header { 34 ≤ length octets.now }
     requires version { slice_index octets.now 1 % 16 ≡ 2 }
     requires kind { slice_index octets.now 0 % 16 ≡ number_of kind }
     ensures { MatchResult result
         (λ packet. (number octets.now 2 2 ≤ length octets.now) × (packet.now ≡ take (number octets.now 2 2) octets.now)
-        × IfSome (least_length (number_of kind)) (λ least. least ≤ number octets.now 2 2))
+        × (fields_length kind ≤ number octets.now 2 2))
         (λ e. decode_refusal octets.now ≡ Some e) }
 {
     let message_length = usize::from(u16_at(octets, 2));
-    if message_length < kind.least_length() {
+    if message_length < kind.fields_length() {
         return Err(DecodeRefusal::LengthField);
     }
     octets.get(..message_length).ok_or(DecodeRefusal::Truncated)
@@ -182,8 +173,8 @@ fn message_at_front(octets: &[u8]) -> Result<(Message<'_>, usize), DecodeRefusal
 /// padding, and each value of a field that the layout doesn't limit is kept
 /// (IEEE 1588-2019, 13.3). Refused with the first of 201 to 206 that applies.
 ///
-/// What [`encode`](crate::encode) wrote is read again as it was, whatever follows it: by `written`
-/// the front of its buffer is a packet of the message, and by `only` that packet is what is read.
+/// What [`encode`](crate::encode) wrote is read again as it was, whatever follows it: see
+/// [`decode_of_encode`](crate::laws::decode_of_encode).
 pub fn decode(octets: &[u8]) -> Result<(Message<'_>, usize), DecodeRefusal>
     // What is read is what the octets say.
     ensures read { IfOk result (λ r. (r.1 ≤ length octets.now) × Packet (contents r.0) (take r.1 octets.now)) }

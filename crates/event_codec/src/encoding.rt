@@ -1,128 +1,108 @@
 ghost use Rattle.std.specs.Prelude.{◌≡◌, ◌<◌, ◌≤◌, ◌+◌, ◌*◌, ◌^◌, ◌++◌, ℕ, List, length, take, drop, slice_index, slice_range, IfOk, OnErr, MatchResult, Some, None};
 ghost use Rattle.std.specs.Int.{w8, w16, w64, cast_signed, to_be_bytes};
-ghost use Rattle.event_codec.specs.Layout.{number, number_of, fields_length, stamp_in};
-ghost use Rattle.event_codec.specs.Packet.{Packet, IsIdentityAt, IsRequesting, contents};
-ghost use Rattle.event_codec.specs.Refusal.{encode_refusal};
+ghost use Rattle.event_codec.specs.Layout.{number, number_of, type_of, fields_length, stamp_in};
+ghost use Rattle.event_codec.specs.Packet.{Packet, IsHeader, IsIdentityAt, IsTimestampAt, IsRequesting, contents};
+ghost use Rattle.event_codec.specs.EncodeRefusal.{encode_refusal};
 
 use crate::message::{Body, Header, Message, VERSION};
 use crate::message_type::MessageType;
 use crate::port::PortIdentity;
 use crate::refusal::EncodeRefusal;
-use ptp_units::Timestamp;
+use ptp_units::{Seq, Timestamp};
 
-/// Copies the octets to a place of the buffer, and gives the place behind them.
-fn put(buffer: &mut [u8], at: usize, octets: &[u8]) -> usize
-    requires { at + length octets.now ≤ length buffer.old }
-    ensures next { result ≡ at + length octets.now }
+/// Copies the octets to a place of the buffer.
+fn put<const N: usize>(buffer: &mut [u8], at: usize, octets: [u8; N])
+    requires { at + N ≤ length buffer.old }
     ensures before { take at buffer.new ≡ take at buffer.old }
-    ensures front { take result buffer.new ≡ take at buffer.old ++ octets.now }
-    ensures back { drop result buffer.new ≡ drop result buffer.old }
+    ensures here { slice_range buffer.new at (at + N) ≡ octets.entry }
+    ensures behind { drop (at + N) buffer.new ≡ drop (at + N) buffer.old }
 {
-    let next = at + octets.len();
-    buffer[at..next].copy_from_slice(octets);
-    next
+    buffer[at..at + N].copy_from_slice(&octets);
 }
 
-fn put_identity(buffer: &mut [u8], at: usize, identity: PortIdentity) -> usize
-    requires { at + 10 ≤ length buffer.old }
-    ensures next { result ≡ at + 10 }
-    ensures before { take at buffer.new ≡ take at buffer.old }
-    ensures front { take result buffer.new ≡ take at buffer.old ++ (identity.clock ++ to_be_bytes w16 identity.port) }
-    ensures back { drop result buffer.new ≡ drop result buffer.old }
-    ensures identity { IsIdentityAt identity buffer.new at }
-    ensures port { identity.port < 2 ^ 16 }
+/// The octets of the identity.
+fn identity_octets(identity: PortIdentity) -> [u8; 10]
+    ensures { IsIdentityAt identity result 0 }
 {
-    let at = put(buffer, at, &identity.clock);
-    put(buffer, at, &identity.port.to_be_bytes())
+    let [c0, c1, c2, c3, c4, c5, c6, c7] = identity.clock;
+    let [p0, p1] = identity.port.to_be_bytes();
+    [c0, c1, c2, c3, c4, c5, c6, c7, p0, p1]
 }
 
-fn put_timestamp(buffer: &mut [u8], at: usize, timestamp: Timestamp) -> usize
-    requires { at + 10 ≤ length buffer.old }
-    ensures next { result ≡ at + 10 }
-    ensures before { take at buffer.new ≡ take at buffer.old }
-    ensures seconds { timestamp.seconds ≡ number buffer.new at 6 }
-    ensures nanoseconds { timestamp.nanos ≡ number buffer.new (at + 6) 4 }
-    ensures within_second { timestamp.nanos < 10 ^ 9 }
-    ensures back { drop result buffer.new ≡ drop result buffer.old }
+/// The octets of the number.
+fn sequence_octets(sequence: Seq) -> [u8; 2]
+    ensures { sequence.0 ≡ number result 0 2 }
 {
-    let at = put(buffer, at, &timestamp.seconds().to_be_bytes()[2..]);
-    put(buffer, at, &timestamp.nanos().to_be_bytes())
+    sequence.0.to_be_bytes()
 }
 
-/// The header, with messageType, versionPTP and messageLength.
-fn put_header(buffer: &mut [u8], header: &Header, kind: MessageType, message_length: u16) -> usize
-    requires { 34 ≤ length buffer.old }
-    ensures next { result ≡ 34 }
-    ensures major_sdo_and_type { slice_index buffer.new 0 ≡ 16 * header.now.major_sdo + number_of kind }
-    ensures minor_version_and_version { slice_index buffer.new 1 ≡ 16 * header.now.minor_version + 2 }
-    ensures message_length { number buffer.new 2 2 ≡ message_length }
-    ensures domain { header.now.domain ≡ slice_index buffer.new 4 }
-    ensures minor_sdo { header.now.minor_sdo ≡ slice_index buffer.new 5 }
-    ensures flags { header.now.flags ≡ slice_range buffer.new 6 8 }
-    ensures correction { header.now.correction.0 ≡ cast_signed w64 (number buffer.new 8 8) }
-    ensures specific { header.now.specific ≡ slice_range buffer.new 16 20 }
-    ensures source { IsIdentityAt header.now.source buffer.new 20 }
-    ensures sequence { header.now.sequence.0 ≡ number buffer.new 30 2 }
-    ensures control { header.now.control ≡ slice_index buffer.new 32 }
-    ensures log { header.now.log ≡ cast_signed w8 (slice_index buffer.new 33) }
-    ensures back { drop 34 buffer.new ≡ drop 34 buffer.old }
+/// The octets of the timestamp.
+fn timestamp_octets(timestamp: Timestamp) -> [u8; 10]
+    ensures { IsTimestampAt timestamp result 0 }
 {
-    let major_sdo_and_type = header.major_sdo.octet_with(kind.number());
+    let [_, _, s0, s1, s2, s3, s4, s5] = timestamp.seconds().to_be_bytes();
+    let [n0, n1, n2, n3] = timestamp.nanos().to_be_bytes();
+    [s0, s1, s2, s3, s4, s5, n0, n1, n2, n3]
+}
+
+/// The octets of the header, with messageType, versionPTP and messageLength.
+fn header_octets(header: &Header, kind: MessageType, message_length: u16) -> [u8; 34]
+    ensures { IsHeader header.now (number_of kind) message_length result }
+{
+    let [l0, l1] = message_length.to_be_bytes();
+    let [c0, c1, c2, c3, c4, c5, c6, c7] = header.correction.0.to_be_bytes();
+    let [s0, s1] = sequence_octets(header.sequence);
+    let log = header.log.cast_unsigned();
+    let sdo_type = header.major_sdo.octet_with(kind.number());
     let versions = header.minor_version.octet_with(VERSION);
-    let at = put(buffer, 0, &[major_sdo_and_type, versions]);
-    let at = put(buffer, at, &message_length.to_be_bytes());
-    let at = put(buffer, at, &[header.domain, header.minor_sdo]);
-    let at = put(buffer, at, &header.flags);
-    let at = put(buffer, at, &header.correction.0.to_be_bytes());
-    let at = put(buffer, at, &header.specific);
-    let at = put_identity(buffer, at, header.source);
-    let at = put(buffer, at, &header.sequence.0.to_be_bytes());
-    put(buffer, at, &[header.control, header.log.cast_unsigned()])
+    let [f0, f1] = header.flags;
+    let [m0, m1, m2, m3] = header.specific;
+    let [i0, i1, i2, i3, i4, i5, i6, i7, i8, i9] = identity_octets(header.source);
+    let (domain, minor_sdo, control) = (header.domain, header.minor_sdo, header.control);
+    [
+        sdo_type, versions, l0, l1, domain, minor_sdo, f0, f1, c0, c1, c2, c3, c4, c5, c6, c7, m0,
+        m1, m2, m3, i0, i1, i2, i3, i4, i5, i6, i7, i8, i9, s0, s1, control, log,
+    ]
 }
 
-/// What stands between the header and the suffix.
-fn put_body(buffer: &mut [u8], at: usize, body: &Body) -> usize
-    requires start { at ≡ 34 }
-    requires room { fields_length body.now ≤ length buffer.old }
-    ensures next { result ≡ fields_length body.now }
-    ensures before { take at buffer.new ≡ take at buffer.old }
-    ensures seconds { (stamp_in body.now).seconds ≡ number buffer.new 34 6 }
-    ensures nanoseconds { (stamp_in body.now).nanos ≡ number buffer.new 40 4 }
-    ensures within_second { (stamp_in body.now).nanos < 10 ^ 9 }
-    ensures requesting { IsRequesting body.now buffer.new }
-    ensures back { drop result buffer.new ≡ drop result buffer.old }
+/// The fields of the message, of which the header says this messageLength.
+fn put_fields(buffer: &mut [u8], message: &Message<'_>, message_length: u16)
+    requires { fields_length (type_of message.now.body) ≤ length buffer.old }
+    ensures header { IsHeader message.now.header (number_of (type_of message.now.body)) message_length buffer.new }
+    ensures timestamp { IsTimestampAt (stamp_in message.now.body) buffer.new 34 }
+    ensures requesting { IsRequesting message.now.body buffer.new }
+    ensures behind { drop (fields_length (type_of message.now.body)) buffer.new ≡ drop (fields_length (type_of message.now.body)) buffer.old }
 {
-    let at = put_timestamp(buffer, at, body.timestamp());
+    let Message { header, body, .. } = message;
+    put(
+        buffer,
+        0,
+        header_octets(header, body.message_type(), message_length),
+    );
+    put(buffer, 34, timestamp_octets(body.timestamp()));
     if let Body::DelayResp { requesting, .. } = body {
-        return put_identity(buffer, at, *requesting);
+        put(buffer, 44, identity_octets(*requesting));
     }
-    at
 }
 
 /// The whole message, of this messageLength.
-fn put_message(buffer: &mut [u8], message: &Message<'_>, message_length: u16) -> usize
-    requires whole { message_length ≡ fields_length message.now.body + length message.now.suffix.now }
+fn put_message(buffer: &mut [u8], message: &Message<'_>, message_length: u16)
+    requires whole { message_length ≡ fields_length (type_of message.now.body) + length message.now.suffix.now }
     requires room { message_length ≤ length buffer.old }
-    ensures next { result ≡ message_length }
     ensures written { Packet (contents message.now) (take message_length buffer.new) }
-    ensures back { drop message_length buffer.new ≡ drop message_length buffer.old }
+    ensures behind { drop message_length buffer.new ≡ drop message_length buffer.old }
 {
-    let at = put_header(
-        buffer,
-        &message.header,
-        message.body.message_type(),
-        message_length,
-    );
-    let at = put_body(buffer, at, &message.body);
-    put(buffer, at, message.suffix)
+    put_fields(buffer, message, message_length);
+    let fields_length = message.body.message_type().fields_length();
+    buffer[fields_length..usize::from(message_length)].copy_from_slice(message.suffix);
 }
 
 /// Writes the message into the front of the buffer, and gives its messageLength. The octets behind
 /// that stay as they are, and on a refusal all octets do. Refused with 211 where the buffer is
 /// shorter than the message, else with 212 where messageLength would pass 65,535.
 ///
-/// What is written is read again by [`decode`](crate::decode) as it was, whatever follows it: by
-/// `written` it is a packet of the message, and by `only` there that packet is what is read.
+/// What is written is read again by [`decode`](crate::decode) as it was, whatever follows it: see
+/// [`decode_of_encode`](crate::laws::decode_of_encode).
 pub fn encode(message: &Message<'_>, buffer: &mut [u8]) -> Result<usize, EncodeRefusal>
     ensures written { IfOk result (λ n. (n ≤ length buffer.old)
         × Packet (contents message.now) (take n buffer.new)
@@ -134,13 +114,16 @@ pub fn encode(message: &Message<'_>, buffer: &mut [u8]) -> Result<usize, EncodeR
         (λ e. encode_refusal (contents message.now) (length buffer.old) ≡ Some e) }
     ensures unchanged { OnErr result (buffer.new ≡ buffer.old) }
 {
-    let fields_length = message.body.message_type().least_length();
+    let fields_length = message.body.message_type().fields_length();
     let message_length = fields_length + message.suffix.len();
     if buffer.len() < message_length {
         return Err(EncodeRefusal::NoRoom);
     }
     match u16::try_from(message_length) {
-        Ok(length_field) => Ok(put_message(buffer, message, length_field)),
+        Ok(length_field) => {
+            put_message(buffer, message, length_field);
+            Ok(message_length)
+        }
         Err(_) => Err(EncodeRefusal::SuffixTooLong),
     }
 }

@@ -5,6 +5,7 @@
 mod correction;
 mod decoding;
 mod encoding;
+pub mod laws;
 mod message;
 mod message_type;
 mod nibble;
@@ -20,6 +21,3 @@ pub use nibble::Nibble;
 pub use port::{PortConfig, PortIdentity};
 pub use profile::octets_of;
 pub use refusal::{DecodeRefusal, EncodeRefusal};
-
-#[cfg(test)]
-mod tests;

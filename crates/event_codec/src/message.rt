@@ -59,11 +59,11 @@ pub enum Body {
 }
 
 impl Body {
-    ghost use Rattle.event_codec.specs.Layout.{number_of, type_of, stamp_in};
+    ghost use Rattle.event_codec.specs.Layout.{type_of, stamp_in};
 
     /// The type of a message with this body.
     pub(crate) fn message_type(&self) -> MessageType
-        ensures { number_of result ≡ type_of self.now }
+        ensures { result ≡ type_of self.now }
     {
         match self {
             Body::Sync { .. } => MessageType::Sync,

@@ -10,12 +10,12 @@ pub(crate) enum MessageType {
 }
 
 impl MessageType {
-    ghost use Rattle.event_codec.specs.Layout.{number_of, least_length};
+    ghost use Rattle.event_codec.specs.Layout.{number_of, type_numbered, fields_length};
 
     /// The type with this number in the low half of octet 0.
     pub(crate) fn from_nibble(nibble: u8) -> Option<MessageType>
         ensures { MatchOption result
-            (least_length nibble ≡ None)
+            (type_numbered nibble ≡ None)
             (λ kind. number_of kind ≡ nibble) }
     {
         match nibble {
@@ -36,8 +36,8 @@ impl MessageType {
     }
 
     /// The octets of the fields of a message of this type, behind which the suffix begins.
-    pub(crate) fn least_length(self) -> usize
-        ensures { least_length (number_of self) ≡ Some result }
+    pub(crate) fn fields_length(self) -> usize
+        ensures { result ≡ fields_length self }
     {
         match self {
             MessageType::Sync | MessageType::DelayReq | MessageType::FollowUp => 44,

@@ -1,5 +1,5 @@
 ghost use Rattle.std.specs.Prelude.{◌≡◌, []};
-ghost use Rattle.event_codec.specs.Layout.{fields_length};
+ghost use Rattle.event_codec.specs.Layout.{type_of, fields_length};
 ghost use Rattle.event_codec.specs.Packet.{Packet};
 ghost use Rattle.event_codec.specs.Profile.{header_of};
 
@@ -40,7 +40,7 @@ impl PortConfig {
 
 /// The octets of a message without suffix, whose fields take N of them.
 pub fn octets_of<const N: usize>(header: Header, body: Body) -> [u8; N]
-    requires { fields_length body ≡ N }
+    requires { fields_length (type_of body) ≡ N }
     ensures { Packet (record { header = header; body = body; suffix = [] }) result }
 {
     let mut octets = [0; N];

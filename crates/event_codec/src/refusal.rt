@@ -27,11 +27,11 @@ pub enum EncodeRefusal {
 }
 
 impl DecodeRefusal {
-    ghost use Rattle.event_codec.specs.Refusal.{decode_code};
+    ghost use Rattle.event_codec.specs.Refusal.{code_of};
 
     /// The number of the refusal.
     pub fn code(&self) -> u16
-        ensures { result ≡ decode_code self.now }
+        ensures { result ≡ code_of self.now }
     {
         match self {
             DecodeRefusal::Short => 201,
@@ -45,11 +45,11 @@ impl DecodeRefusal {
 }
 
 impl EncodeRefusal {
-    ghost use Rattle.event_codec.specs.Refusal.{encode_code};
+    ghost use Rattle.event_codec.specs.EncodeRefusal.{code_of};
 
     /// The number of the refusal.
     pub fn code(&self) -> u16
-        ensures { result ≡ encode_code self.now }
+        ensures { result ≡ code_of self.now }
     {
         match self {
             EncodeRefusal::NoRoom => 211,

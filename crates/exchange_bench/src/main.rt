@@ -1,7 +1,10 @@
 //! Exchanges through a master, one clock and a slave, or the same messages merely decoded and
 //! encoded, as often as the words say: `exchange 1000000`, or `codec 1000000` over the octets of a
-//! Sync, a Follow_Up, a Delay_Req and a Delay_Resp on standard input.
+//! Sync, a Follow_Up, a Delay_Req and a Delay_Resp on standard input; or numbers put in a table and
+//! sought there, `list16`, `ring16`, `list256` or `ring256`.
 #![tactic(auto)]
+
+mod tables;
 
 use event_codec::{PortConfig, PortIdentity, decode, encode};
 use master_port::MasterPort;
@@ -125,12 +128,14 @@ fn main(rt: HostRuntime) -> io::Result<()> {
         .get(2)
         .and_then(|word| word.as_str().parse::<u64>().ok())
         .unwrap_or(1);
-    match words.get(1) {
-        Some(word) if word.as_str() == "codec" => {
-            let mut messages = Vec::new(rt.alloc());
-            rt.reader().read_to_end(&mut messages)?;
-            println!(rt; "{} octets", coded(&messages, rounds))
-        }
-        _ => println!(rt; "{} reports", exchanges(rounds)),
+    let word = words.get(1).map_or("exchange", |word| word.as_str());
+    if word == "codec" {
+        let mut messages = Vec::new(rt.alloc());
+        rt.reader().read_to_end(&mut messages)?;
+        return println!(rt; "{} octets", coded(&messages, rounds));
+    }
+    match tables::found_in(word, rounds) {
+        Some(found) => println!(rt; "{found} found"),
+        None => println!(rt; "{} reports", exchanges(rounds)),
     }
 }

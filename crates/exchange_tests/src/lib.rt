@@ -2,4 +2,26 @@
 #![tactic(auto)]
 
 #[cfg(test)]
+mod clock;
+#[cfg(test)]
+mod codec;
+#[cfg(test)]
+mod counted;
+#[cfg(test)]
+mod datagrams;
+#[cfg(test)]
+mod devices;
+#[cfg(test)]
+mod master;
+#[cfg(test)]
 mod nodes;
+#[cfg(test)]
+mod program;
+#[cfg(test)]
+mod show;
+#[cfg(test)]
+mod slave;
+#[cfg(test)]
+mod tables;
+#[cfg(test)]
+mod units;

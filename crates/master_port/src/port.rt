@@ -3,7 +3,7 @@ ghost use Rattle.ptp_units.specs.Sequence.{next};
 ghost use Rattle.event_codec.specs.Packet.{Contents, Packet, contents};
 ghost use Rattle.event_codec.specs.Reading.{Reading, IsReading};
 ghost use Rattle.master_port.specs.Port.{new_port};
-ghost use Rattle.master_port.specs.Written.{sync, one_step_sync, follow_up, answer};
+ghost use Rattle.master_port.specs.Written.{sync_with, sync, one_step_sync, follow_up, answer};
 
 use crate::refusal::MasterRefusal;
 use event_codec::{Body, Message, PortConfig, decode, octets_of};
@@ -51,13 +51,10 @@ impl MasterPort {
         ensures number { result.1.0 ≡ self.old.next }
         ensures port { self.new ≡ record { config = self.old.config; next = next self.old.next; waiting = Some self.old.next } }
     {
-        let number = self.next;
-        self.next = number.next();
-        self.waiting = Some(number);
-        let config = self.config;
-        let header = config.header(TWO_STEP, Interval(0), number, 0, config.log);
+        let waiting = self.draw();
+        self.waiting = Some(waiting);
         let origin = Timestamp::default();
-        (octets_of(header, Body::Sync { origin }), number)
+        (self.sync(TWO_STEP, Interval(0), waiting, origin), waiting)
     }
 
     /// Draws a number from the same pool: the octets of its one-step Sync, which leaves at t1, and the
@@ -67,13 +64,29 @@ impl MasterPort {
         ensures number { result.1.0 ≡ self.old.next }
         ensures port { self.new ≡ record self.old { next = next self.old.next } }
     {
-        let number = self.next;
-        self.next = number.next();
-        let config = self.config;
+        let number = self.draw();
         let (origin, fraction) = t1.split();
         let correction = Interval(i64::from(fraction));
-        let header = config.header(NO_FLAGS, correction, number, 0, config.log);
-        (octets_of(header, Body::Sync { origin }), number)
+        (self.sync(NO_FLAGS, correction, number, origin), number)
+    }
+
+    /// Draws the next number of the pool of Syncs.
+    fn draw(&mut self) -> Seq
+        ensures number { result.0 ≡ self.old.next }
+        ensures port { self.new ≡ record self.old { next = next self.old.next } }
+    {
+        let number = self.next;
+        self.next = number.next();
+        number
+    }
+
+    /// The octets of a Sync.
+    fn sync(&self, flags: [u8; 2], correction: Interval, number: Seq, origin: Timestamp) -> [u8; 44]
+        ensures { Packet (sync_with self.now.config flags correction.0 number.0 origin) result }
+    {
+        let config = self.config;
+        let header = config.header(flags, correction, number, 0, config.log);
+        octets_of(header, Body::Sync { origin })
     }
 
     /// The Follow_Up of the waiting Sync, which left at t1; no Sync waits then. Refused with 301

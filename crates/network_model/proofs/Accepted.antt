@@ -5,8 +5,8 @@ use Rattle.std.specs.List.{IsDistinct, AllByRecursion, list_all}
 use Rattle.std.specs.Str.{bytes_eq}
 use Rattle.std.proofs.lemmas.Map.Made.{AllPairs-from_IsDistinct}
 use Rattle.std.proofs.lemmas.Slice.Eq.{bytes_eq-Decides}
+use Rattle.event_codec.specs.Port.{is_same_port}
 use Rattle.network_model.specs.Network.{Network, IsNetwork, names, identities}
-use Rattle.network_model.specs.Clash.{is_identity}
 use Rattle.network_model.specs.Run.{Run}
 use Rattle.network_model.specs.Outcome.{outcome_of, IsRun}
 use Rattle.network_model.proofs.Networks.{AllDiffer-identities}
@@ -39,10 +39,10 @@ IsDistinct-test eq (k ∷ others) h =
     (none_equal eq k others parts.0, IsDistinct-test eq others parts.1)
 
 -- no two names and no two identities are equal
-pub IsNetwork-test : (nodes : Network) → are_distinct bytes_eq (names nodes) ≡ true → are_distinct is_identity (identities nodes) ≡ true → IsNetwork nodes
+pub IsNetwork-test : (nodes : Network) → are_distinct bytes_eq (names nodes) ≡ true → are_distinct is_same_port (identities nodes) ≡ true → IsNetwork nodes
 IsNetwork-test nodes of_names of_identities = record {
   names = AllPairs-from_IsDistinct bytes_eq-Decides (names nodes) (IsDistinct-test bytes_eq (names nodes) of_names);
-  identities = AllDiffer-identities (identities nodes) (IsDistinct-test is_identity (identities nodes) of_identities);
+  identities = AllDiffer-identities (identities nodes) (IsDistinct-test is_same_port (identities nodes) of_identities);
 }
 
 -- every event has an outcome

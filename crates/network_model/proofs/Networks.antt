@@ -1,19 +1,20 @@
 -- Nodes in an index, and the clashes of a network.
-use Rattle.std.proofs.Common.{◌≡◌, ◌∙◌, false, cond, List, [], ◌∷◌, ◌++◌, Option, Some, None, Decides, is_some, refl, sym, ap, subst, arith}
+use Rattle.std.proofs.Common.{◌≡◌, ◌∙◌, false, cond, List, [], ◌∷◌, ◌++◌, Option, Some, None, is_some, refl, sym, ap, subst, arith}
 use Rattle.std.specs.List.{IsDistinct, filter_map}
 use Rattle.std.specs.Map.{keys_of, values_of, lookup}
 use Rattle.std.specs.Option.{option_to_list}
 use Rattle.std.specs.Str.{bytes_eq}
-use Rattle.std.proofs.lemmas.Bool.Decides.{Decides-eqb}
 use Rattle.std.proofs.lemmas.List.Elements.{filter_map-append}
 use Rattle.std.proofs.lemmas.Map.Made.{AllPairs-from_IsDistinct}
 use Rattle.std.proofs.lemmas.Slice.Eq.{bytes_eq-Decides}
 use Rattle.event_codec.specs.declared.port.PortIdentity.{PortIdentity}
+use Rattle.event_codec.specs.Port.{is_same_port}
+use Rattle.event_codec.proofs.SamePort.{is_same_port-Decides}
 use Rattle.indexmap.specs.IndexMap.{IndexMap, get, insert_entry}
 use Rattle.indexmap.proofs.CallerLemmas.{insert_entry-new}
 use Rattle.network_model.specs.declared.node.NodeSpec.{NodeSpec}
 use Rattle.network_model.specs.Network.{Network, NodeName, AllDiffer, node_of, names, identities, identity_of}
-use Rattle.network_model.specs.Clash.{is_identity, has_name}
+use Rattle.network_model.specs.Clash.{has_name}
 use Rattle.network_model.specs.Index.{Entries, IsIndex, entries_of}
 
 lookup-entries_of : (nodes : Network) (name : NodeName) → lookup (bytes_eq name) (entries_of nodes) ≡ node_of nodes name
@@ -46,12 +47,9 @@ identities-push nodes node = filter_map-append (λ (n : NodeSpec). identity_of n
     one None = refl
     one (Some x) = refl
 
-is_identity-Decides : (a b : PortIdentity) → Decides (is_identity a b) (a ≡ b)
-is_identity-Decides a b = grind (arith, bytes_eq-Decides, Decides-eqb)
-
 -- identities that `==` tells apart differ
-pub AllDiffer-identities : (taken : List PortIdentity) → IsDistinct is_identity taken → AllDiffer taken
-AllDiffer-identities = AllPairs-from_IsDistinct is_identity-Decides
+pub AllDiffer-identities : (taken : List PortIdentity) → IsDistinct is_same_port taken → AllDiffer taken
+AllDiffer-identities = AllPairs-from_IsDistinct is_same_port-Decides
 
 None-from_is_some : {X : Type 0} (o : Option X) → is_some o ≡ false → o ≡ None
 None-from_is_some None h = refl

@@ -1,5 +1,5 @@
 -- The octets of the exchange's messages, field by field.
-use Rattle.std.proofs.Common.{◌≡◌, ℕ, ◌<◌, true, refl, arith, List, [], ◌∷◌, Some}
+use Rattle.std.proofs.Common.{◌≡◌, ℕ, ◌<◌, true, refl, arith, rules, List, [], ◌∷◌, Some}
 use Rattle.std.specs.Prelude.{EachIndex, slice_index, nat_lt}
 use Rattle.std.specs.List.{list_all}
 use Rattle.std.proofs.lemmas.Bool.Decides.{nat_tests}
@@ -21,22 +21,9 @@ sync_octets =
 sync : TellsTruth (copy_of small_network whole 4) (Some sync_octets)
 sync = record {
   octets = all_octets sync_octets refl;
-  message_length = refl;
   least = omega arith;
-  major_sdo_and_type = refl;
-  minor_version_and_version = refl;
-  domain = refl;
-  minor_sdo = refl;
-  flags = refl;
-  correction = refl;
-  specific = refl;
-  source = record { clock = refl; port = refl };
-  sequence = refl;
-  control = refl;
-  log = refl;
-  seconds = refl;
-  nanoseconds = refl;
-  within_second = omega arith;
+  header = search rules;
+  timestamp = search rules;
   requesting = tt;
   suffix = refl;
 }
@@ -51,22 +38,9 @@ follow_up_octets =
 follow_up : TellsTruth (copy_of small_network whole 6) (Some follow_up_octets)
 follow_up = record {
   octets = all_octets follow_up_octets refl;
-  message_length = refl;
   least = omega arith;
-  major_sdo_and_type = refl;
-  minor_version_and_version = refl;
-  domain = refl;
-  minor_sdo = refl;
-  flags = refl;
-  correction = refl;
-  specific = refl;
-  source = record { clock = refl; port = refl };
-  sequence = refl;
-  control = refl;
-  log = refl;
-  seconds = refl;
-  nanoseconds = refl;
-  within_second = omega arith;
+  header = search rules;
+  timestamp = search rules;
   requesting = tt;
   suffix = refl;
 }
@@ -81,22 +55,9 @@ request_octets =
 request : TellsTruth (copy_of small_network whole 10) (Some request_octets)
 request = record {
   octets = all_octets request_octets refl;
-  message_length = refl;
   least = omega arith;
-  major_sdo_and_type = refl;
-  minor_version_and_version = refl;
-  domain = refl;
-  minor_sdo = refl;
-  flags = refl;
-  correction = refl;
-  specific = refl;
-  source = record { clock = refl; port = refl };
-  sequence = refl;
-  control = refl;
-  log = refl;
-  seconds = refl;
-  nanoseconds = refl;
-  within_second = omega arith;
+  header = search rules;
+  timestamp = search rules;
   requesting = tt;
   suffix = refl;
 }
@@ -112,22 +73,9 @@ response_octets =
 response : TellsTruth (copy_of small_network whole 11) (Some response_octets)
 response = record {
   octets = all_octets response_octets refl;
-  message_length = refl;
   least = omega arith;
-  major_sdo_and_type = refl;
-  minor_version_and_version = refl;
-  domain = refl;
-  minor_sdo = refl;
-  flags = refl;
-  correction = refl;
-  specific = refl;
-  source = record { clock = refl; port = refl };
-  sequence = refl;
-  control = refl;
-  log = refl;
-  seconds = refl;
-  nanoseconds = refl;
-  within_second = omega arith;
+  header = search rules;
+  timestamp = search rules;
   requesting = record { clock = refl; port = refl };
   suffix = refl;
 }

@@ -1,17 +1,13 @@
 -- The first node that repeats a name or an identity.
-use Rattle.std.specs.Prelude.{Bool, ◌&&◌, ◌==◌, List, [], ◌∷◌, ◌++◌, if◌then◌else◌, Option, Some, None, is_some}
+use Rattle.std.specs.Prelude.{Bool, List, [], ◌∷◌, ◌++◌, if◌then◌else◌, Option, Some, None, is_some}
 use Rattle.std.specs.List.{list_any}
 use Rattle.std.specs.Option.{option_or}
-use Rattle.std.specs.Str.{bytes_eq}
 use Rattle.event_codec.specs.declared.port.PortIdentity.{PortIdentity}
+use Rattle.event_codec.specs.Port.{is_same_port}
 use Rattle.network_model.specs.declared.node.NodeSpec.{NodeSpec}
 use Rattle.network_model.specs.declared.refusal.WorldRefusal.{WorldRefusal}
 use Rattle.network_model.specs.declared.refusal.WorldRefusal.TheVariants.{SameName, SameIdentity}
 use Rattle.network_model.specs.Network.{Network, NodeName, node_of, identity_of, identities}
-
--- whether two identities are one: the same clockIdentity and the same portNumber (IEEE 1588-2019, 5.3.5)
-abbrev pub is_identity : PortIdentity → PortIdentity → Bool
-is_identity a b = bytes_eq a.clock b.clock && a.port == b.port
 
 -- whether a node has this name
 abbrev pub has_name : Network → NodeName → Bool
@@ -20,7 +16,7 @@ has_name nodes name = is_some (node_of nodes name)
 -- what an identity repeats of those that are taken
 abbrev pub identity_clash : List PortIdentity → Option PortIdentity → Option WorldRefusal
 identity_clash taken None = None
-identity_clash taken (Some identity) = if list_any (is_identity identity) taken then Some SameIdentity else None
+identity_clash taken (Some identity) = if list_any (is_same_port identity) taken then Some SameIdentity else None
 
 -- what a node repeats of those before it, its name tested before its identity
 abbrev pub clash : Network → NodeSpec → Option WorldRefusal

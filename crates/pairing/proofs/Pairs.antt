@@ -1,11 +1,11 @@
 -- The last pair of a number, as the newest entry of that number.
-use Rattle.std.proofs.Common.{◌≡◌, ◌∙◌, ◌≤◌, ◌<◌, ◌+◌, ◌-◌, ℕ, zero, suc, refl, sym, ap, arith, Bool, true, false, cond, not, nat_eq, nat_lt, List, [], ◌∷◌, length, reverse, set, get_or, drop, Option, Some, None, option_map, is_some, find as first_passing, position}
+use Rattle.std.proofs.Common.{◌≡◌, ◌∙◌, ◌≤◌, ◌<◌, ◌+◌, ◌-◌, ℕ, zero, suc, refl, sym, ap, arith, Bool, true, false, cond, not, nat_eq, nat_lt, List, [], ◌∷◌, ◌++◌, length, reverse, set, get_or, drop, Option, Some, None, option_map, is_some, find as first_passing, position}
 use Rattle.std.specs.List.{position_or_len}
-use Rattle.std.proofs.lemmas.List.{length-reverse, length-map, get_or-reverse, reverse-reverse, drop-map}
+use Rattle.std.proofs.lemmas.List.{length-reverse, length-map, get_or-reverse, reverse-reverse, drop-map, map-append, length_push}
 use Rattle.std.proofs.lemmas.List.Quantifiers.{position-Some}
 use Rattle.std.proofs.lemmas.Bool.Decides.{nat_tests}
 use Rattle.ptp_units.specs.declared.sequence.Seq.{Seq}
-use Rattle.pairing.specs.Marked.{entry, first_value, replace_first, tick}
+use Rattle.pairing.specs.Marked.{Entry, entry, first_value, replace_first, tick, push, without_oldest}
 use Rattle.pairing.specs.Listed.{entries_of, marked_of}
 use Rattle.pairing.proofs.Lists.{map-reverse, reverse-set}
 
@@ -82,6 +82,25 @@ module _ {V : Type 0} where
       ∙ first_replaced number value back behind d place.0 place.1 place.2
       ∙ ap (replace_first number value) (map-reverse (λ p. entry p.0.0 p.1) pairs))
 
+  first_at : (number : ℕ) (pairs : List (Seq × V)) (i : ℕ) (d : Seq × V) → i < length pairs
+      → is_of number (get_or pairs i d) ≡ true → ((k : ℕ) → k < i → is_of number (get_or pairs k d) ≡ false)
+      → first_value number (entries_of pairs) ≡ Some (get_or pairs i d).1
+  first_at number [] i d within here before = absurd (omega arith)
+  first_at number (p ∷ pairs) zero d within here before = rw here refl
+  first_at number (p ∷ pairs) (suc i) d within here before =
+      let first : is_of number p ≡ false = before 0 (omega arith) in
+      rw first (first_at number pairs i d (omega arith) here (λ k below. before (suc k) (omega arith)))
+
+  -- the newest entry of the number has the value of the last pair
+  pub last_at : (number : ℕ) (pairs : List (Seq × V)) (behind i : ℕ) (d : Seq × V)
+      → position (λ p. nat_eq p.0.0 number) (reverse pairs) ≡ Some behind → i ≡ length pairs - 1 - behind
+      → first_value number (reverse (entries_of pairs)) ≡ Some (get_or pairs i d).1
+  last_at number pairs behind i d found at =
+      let place = position-Some (is_of number) (reverse pairs) behind d found in
+      ap (first_value number) (sym (map-reverse (λ p. entry p.0.0 p.1) pairs))
+      ∙ first_at number (reverse pairs) behind d place.0 place.1 place.2
+      ∙ ap (λ p. Some p.1) (get_or-reverse pairs behind d (omega (arith, length-reverse pairs, place.0)) ∙ ap (λ k. get_or pairs k d) (sym at))
+
   -- there is a newest entry of the number just where there is a last pair of it
   pub last_held : (number : ℕ) (pairs : List (Seq × V)) (behind : Option ℕ) → behind ≡ position (λ p. nat_eq p.0.0 number) (reverse pairs)
       → is_some behind ≡ is_some (first_value number (reverse (entries_of pairs)))
@@ -112,3 +131,23 @@ module _ {V : Type 0} where
       counted ∙ sym (length-map kept (λ p. entry p.0.0 p.1)) ∙ ap length same in
       ap (λ es. record { entries = es; marked = left }) same
       ∙ ap (λ n. record { entries = drop marked (entries_of pairs); marked = n }) all
+
+  -- one more pair, the newest
+  pub pushed : (capacity : ℕ) (pairs : List (Seq × V)) (marked : ℕ) (pair : Seq × V) → length pairs < capacity
+      → marked_of (pairs ++ pair ∷ []) marked ≡ push capacity (entry pair.0.0 pair.1) (marked_of pairs marked)
+  pushed capacity pairs marked pair room =
+      let es : List (Entry V) = entries_of pairs ++ entry pair.0.0 pair.1 ∷ [] in
+      let none : length es - capacity ≡ 0 = omega (arith, length_push (entries_of pairs) (entry pair.0.0 pair.1), length-map pairs (λ p. entry p.0.0 p.1)) in
+      ap (λ es. record { entries = es; marked = marked }) (map-append (λ p. entry p.0.0 p.1) pairs (pair ∷ []))
+      ∙ ap (λ n. record { entries = es; marked = n }) (let same : marked ≡ marked - 0 = omega arith in same)
+      ∙ ap (λ n. without_oldest n (record { entries = es; marked = marked })) (sym none)
+
+  -- and the oldest gone, where the table was full
+  pub pushed_full : (capacity : ℕ) (pairs : List (Seq × V)) (marked : ℕ) (pair : Seq × V) → 1 ≤ capacity → length pairs ≡ capacity
+      → marked_of (drop 1 pairs ++ pair ∷ []) (marked - 1) ≡ push capacity (entry pair.0.0 pair.1) (marked_of pairs marked)
+  pushed_full capacity [] marked pair some full = absurd (omega (arith, full))
+  pushed_full capacity (p ∷ pairs) marked pair some full =
+      let es : List (Entry V) = entries_of (p ∷ pairs) ++ entry pair.0.0 pair.1 ∷ [] in
+      let one : length es - capacity ≡ 1 = omega (arith, full, length_push (entries_of (p ∷ pairs)) (entry pair.0.0 pair.1), length-map (p ∷ pairs) (λ p. entry p.0.0 p.1)) in
+      ap (λ es. record { entries = es; marked = marked - 1 }) (map-append (λ p. entry p.0.0 p.1) pairs (pair ∷ []))
+      ∙ ap (λ n. without_oldest n (record { entries = es; marked = marked })) (sym one)

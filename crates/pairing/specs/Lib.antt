@@ -1,3 +1,4 @@
 pub mod Latest
 pub mod Listed
 pub mod Marked
+pub mod Ringed

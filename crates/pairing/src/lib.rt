@@ -6,8 +6,8 @@
 
 mod list_table;
 mod pair_table;
-#[cfg(test)]
-mod tests;
+mod ring_table;
 
 pub use list_table::ListTable;
 pub use pair_table::PairTable;
+pub use ring_table::RingTable;

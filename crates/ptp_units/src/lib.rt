@@ -9,8 +9,6 @@ pub mod laws;
 mod refusal;
 mod scaled_time;
 mod sequence;
-#[cfg(test)]
-mod tests;
 mod timestamp;
 
 pub use exchange::{delay_bracket, offset2, path2, sync_bracket};

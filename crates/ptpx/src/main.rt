@@ -1,8 +1,8 @@
 //! `ptpx`: reads standard input, writes standard output, and leaves the rest to `command`.
 #![tactic(auto)]
 
-use schedule_replay::{Counted, command};
-use std::io::{BufReader, ErrorKind};
+use schedule_replay::{Counted, OctetReader, command};
+use std::io::ErrorKind;
 use std::process::ExitCode;
 use std::{env, io};
 
@@ -24,10 +24,7 @@ fn run(rt: &HostRuntime) -> u8 {
         Err(error) if error.kind() == ErrorKind::InvalidData => return not_words(rt),
         Err(_) => return no_memory(rt),
     };
-    let Ok(reader) = BufReader::new(alloc, rt.stdin()) else {
-        return no_memory(rt);
-    };
-    let mut input = Counted::new(reader);
+    let mut input = Counted::new(OctetReader::new(rt.stdin()));
     let mut output = Counted::new(rt.stdout());
     command(
         alloc,

@@ -7,7 +7,7 @@ use Rattle.event_codec.specs.Layout.{stamp_in}
 use Rattle.event_codec.specs.Packet.{Contents}
 use Rattle.schedule_replay.specs.Shown.{name_of, sdo_text, correction_text, identity_text, stamp_text, requesting_text, header_text, message_text}
 
--- ten labels, each with its value behind it
+-- ten labels, each with its value after it
 joined : (text name l1 v1 l2 v2 l3 v3 l4 v4 l5 v5 l6 v6 l7 v7 l8 v8 l9 v9 l10 v10 : List ℕ)
     → ((text ++ (name ++ (l1 ++ (v1 ++ (l2 ++ (v2 ++ (l3 ++ (v3 ++ (l4 ++ v4))))))))) ++ (l5 ++ (v5 ++ (l6 ++ (v6 ++ (l7 ++ v7)))))) ++ (l8 ++ (v8 ++ (l9 ++ (v9 ++ (l10 ++ v10)))))
     ≡ text ++ (name ++ l1 ++ v1 ++ l2 ++ v2 ++ l3 ++ v3 ++ l4 ++ v4 ++ l5 ++ v5 ++ l6 ++ v6 ++ l7 ++ v7 ++ l8 ++ v8 ++ l9 ++ v9 ++ l10 ++ v10)

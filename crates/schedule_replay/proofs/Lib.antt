@@ -1,7 +1,13 @@
 pub mod KnownOctets
+pub mod ReadAhead
 pub mod Cutting
 pub mod Reading
+pub mod Bounds
 pub mod Printing
 pub mod Joining
 pub mod ShownLines
-pub mod ProgramLemmas
+pub mod ErrorKinds
+pub mod FlagWords
+pub mod SubcommandNames
+pub mod CommandLines
+pub mod Invocations

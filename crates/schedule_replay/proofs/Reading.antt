@@ -64,11 +64,11 @@ line_too_long a b c line x count octets first then other unended full allowed kn
     )
 
 pub line_failed : (a b c : Option (List ℕ)) (line : List ℕ) (count : ℕ) (octets : List ℕ) → Consumes a b line → Keeps b c
-    → IsUnended line → length line ≤ line_limit → a ≡ Some octets → StopsReading Read (count + 1) octets c
-line_failed a b c line count octets first kept unended fits known =
+    → IsUnended line → length line ≤ line_limit → count < lines_limit → a ≡ Some octets → StopsReading Read (count + 1) octets c
+line_failed a b c line count octets first kept unended fits allowed known =
     let (rest, left, split) = Consumes-known a c _ octets (Consumes-kept a b c line first kept) known in (
       length line,
-      fits,
+      rw (le-ltb lines_limit (count + 1) (omega arith)) fits,
       rw (split, take_at line rest (length line) refl) unended,
       left ∙ ap Some (sym (ap (drop (length line)) split ∙ drop_at line rest (length line) refl)),
     )

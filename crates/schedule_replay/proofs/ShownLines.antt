@@ -11,7 +11,7 @@ use Rattle.schedule_replay.specs.declared.fault.FaultKind.TheVariants.{Read, Wri
 use Rattle.schedule_replay.specs.Lines.{lines_of, lfs_in, after_lines, without_cr, reading_fault, LeavesUnread, StopsReading, ReadsLine, IsFromReading}
 use Rattle.schedule_replay.specs.Show.{IsAnswer, line_fault, digits_fault, own_fault, ShowsLines, WentOutAs, IsFaultAt, IsFromAnswering, ShowsAll, ShowsUntil}
 
--- the first lines, which are count, were shown behind what the output held; each has its LF, unless the end was seen
+-- the first lines, which are count, were shown after what the output held; each has its LF, unless the end was seen
 pub record HasShown (octets held : List ℕ) (count : ℕ) (ended : Bool) (left now : Option (List ℕ)) : Type 0 where
   pub text : List ℕ
   pub shown : ShowsLines 1 (take count (lines_of octets)) text
@@ -52,7 +52,7 @@ after_lines-suc (suc count) octets = after_lines-suc count (drop_through 10 octe
 after_lines-more : (count : ℕ) (octets : List ℕ) → after_lines (count + 1) octets ≡ after_lines 1 (after_lines count octets)
 after_lines-more count octets = rw add-one (after_lines-suc count octets)
 
--- one line more is shown behind the others
+-- one line more is shown after the others
 ShowsLines-push : (number : ℕ) (lines : List (List ℕ)) (line : List ℕ) (text written : List ℕ) → ShowsLines number lines text
     → line_fault (number + length lines) line ≡ None → IsAnswer (without_cr line) written → ShowsLines number (lines ++ line ∷ []) (text ++ written)
 ShowsLines-push number [] line text written shown fine answer =
@@ -114,7 +114,7 @@ shown_more octets held count ended left left' now now' line written so_far (cut,
 
 until : (octets held : List ℕ) (count : ℕ) (left left' now now' : Option (List ℕ)) (what : FaultKind) → (so_far : HasShown octets held count false left now)
     → WentOutAs what (now' ≡ Some (held ++ so_far.text)) → IsFaultAt what (count + 1) (slice_get (lines_of octets) count)
-    → LeavesUnread what (after_lines count octets) left' → ShowsUntil octets held left' now' (record { line = count + 1; what = what })
+    → LeavesUnread what (count + 1) (after_lines count octets) left' → ShowsUntil octets held left' now' (record { line = count + 1; what = what })
 until octets held count left left' now now' what so_far out fault unread = record {
   earlier = count;
   line = refl;

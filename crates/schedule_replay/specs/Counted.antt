@@ -1,5 +1,5 @@
 -- What a counted reader or writer shows.
-use Rattle.std.specs.Prelude.{◌≡◌, ℕ, ◌+◌, ◌-◌, ◌^◌, ◌<◌, ◌⊎◌, min}
+use Rattle.std.specs.Prelude.{◌≡◌, ℕ, ◌+◌, ◌-◌, ◌^◌, min}
 use Rattle.schedule_replay.specs.declared.counted.Counted.{Counted}
 
 -- the reader or writer itself
@@ -18,9 +18,9 @@ most_failures = 2 ^ 64 - 1
 abbrev pub one_more : ℕ → ℕ
 one_more count = min (count + 1) most_failures
 
--- a call failed, as far as the count can tell
+-- one call failed
 abbrev pub HasFailed : {T : Type 0} → Counted T → Counted T → Type 0
-HasFailed old new = (failures_of old < failures_of new) ⊎ (failures_of new ≡ most_failures)
+HasFailed old new = failures_of new ≡ one_more (failures_of old)
 
 -- no call failed
 abbrev pub HasNotFailed : {T : Type 0} → Counted T → Counted T → Type 0

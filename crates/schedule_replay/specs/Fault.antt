@@ -1,12 +1,28 @@
--- The numbers of the faults.
-use Rattle.std.specs.Prelude.{ℕ}
+-- The numbers of the faults, and which device failed.
+use Rattle.std.specs.Prelude.{ℕ, MatchResult, Result}
+use Rattle.schedule_replay.specs.declared.counted.Counted.{Counted}
+use Rattle.schedule_replay.specs.declared.fault.Fault.{Fault}
 use Rattle.schedule_replay.specs.declared.fault.FaultKind.{FaultKind}
 use Rattle.schedule_replay.specs.declared.fault.FaultKind.TheVariants.{Read, Write, LineTooLong, TooManyLines, Field, Memory}
+use Rattle.schedule_replay.specs.Counted.{HasFailed, HasNotFailed}
 
-abbrev pub fault_code : FaultKind → ℕ
-fault_code Read = 801
-fault_code Write = 802
-fault_code LineTooLong = 803
-fault_code TooManyLines = 804
-fault_code Field = 806
-fault_code Memory = 808
+-- the number of a fault
+abbrev pub code_of : FaultKind → ℕ
+code_of Read = 801
+code_of Write = 802
+code_of LineTooLong = 803
+code_of TooManyLines = 804
+code_of Field = 806
+code_of Memory = 808
+
+-- which of the two devices failed where this is answered
+abbrev pub FailedAs : {R W : Type 0} → FaultKind → (input input' : Counted R) (output output' : Counted W) → Type 0
+FailedAs Read input input' output output' = HasFailed input input' × HasNotFailed output output'
+FailedAs Write input input' output output' = HasNotFailed input input' × HasFailed output output'
+FailedAs kind input input' output output' = HasNotFailed input input' × HasNotFailed output output'
+
+-- which of the two devices failed at this answer
+abbrev pub FailedWith : {R W : Type 0} → Result ℕ Fault → (input input' : Counted R) (output output' : Counted W) → Type 0
+FailedWith answer input input' output output' = MatchResult answer
+    (λ _. HasNotFailed input input' × HasNotFailed output output')
+    (λ fault. FailedAs fault.what input input' output output')

@@ -1,5 +1,6 @@
 pub mod Fault
 pub mod Counted
+pub mod OctetReader
 pub mod Lines
 pub mod Shown
 pub mod Show

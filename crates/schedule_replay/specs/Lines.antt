@@ -1,5 +1,5 @@
 -- How an input is cut into lines, and what reading one of them answers.
-use Rattle.std.specs.Prelude.{◌≡◌, ◌≢◌, ℕ, zero, suc, ◌+◌, ◌≤◌, nat_lt, List, [], ◌∷◌, length, take, drop, count_by, All, Bool, true, false, ◌==◌, if◌then◌else◌, Option, Some, None}
+use Rattle.std.specs.Prelude.{◌≡◌, ◌≢◌, ℕ, zero, suc, ◌+◌, ◌*◌, ◌≤◌, nat_lt, List, [], ◌∷◌, length, take, drop, count_by, All, Bool, true, false, ◌==◌, if◌then◌else◌, Option, Some, None}
 use Rattle.std.specs.Io.BufRead.{drop_through, strip_last}
 use Rattle.schedule_replay.specs.declared.counted.Counted.{Counted}
 use Rattle.schedule_replay.specs.declared.fault.FaultKind.{FaultKind}
@@ -20,7 +20,7 @@ lines_of (x ∷ rest) = if x == 10 then [] ∷ lines_of rest else begin_line x (
 abbrev pub lfs_in : List ℕ → ℕ
 lfs_in octets = count_by (λ x. x == 10) octets
 
--- what is left of the octets behind this many lines and their LFs
+-- what is left of the octets after this many lines and their LFs
 abbrev pub after_lines : ℕ → List ℕ → List ℕ
 after_lines zero octets = octets
 after_lines (suc count) octets = after_lines count (drop_through 10 octets)
@@ -44,31 +44,43 @@ reading_fault number line =
     else if nat_lt line_limit (length line) then Some LineTooLong
     else None
 
--- What a fault leaves unread of the octets from the faulty line's first on. A reader fails within a line; the two
--- limits are seen at the first octet behind them; each other fault comes once its line is read.
-abbrev pub LeavesUnread : FaultKind → List ℕ → Option (List ℕ) → Type 0
-LeavesUnread Read octets left =
-    (count : ℕ) × (count ≤ line_limit) × All (λ x. x ≢ 10) (take count octets) × (left ≡ Some (drop count octets))
-LeavesUnread LineTooLong octets left = left ≡ Some (drop (line_limit + 1) octets)
-LeavesUnread TooManyLines octets left = left ≡ Some (drop 1 octets)
-LeavesUnread Write octets left = left ≡ Some (after_lines 1 octets)
-LeavesUnread Field octets left = left ≡ Some (after_lines 1 octets)
-LeavesUnread Memory octets left = left ≡ Some (after_lines 1 octets)
+-- the most octets of the line of this number: none where no line is allowed any more
+abbrev pub room_of : ℕ → ℕ
+room_of number = if nat_lt lines_limit number then 0 else line_limit
+
+-- What a fault in the line of this number leaves unread of the octets from that line's first on. A reader fails
+-- within a line; the two limits are seen at the first octet after them; each other fault comes once its line is read.
+abbrev pub LeavesUnread : FaultKind → ℕ → List ℕ → Option (List ℕ) → Type 0
+LeavesUnread Read number octets left =
+    (count : ℕ) × (count ≤ room_of number) × All (λ x. x ≢ 10) (take count octets) × (left ≡ Some (drop count octets))
+LeavesUnread LineTooLong number octets left = left ≡ Some (drop (line_limit + 1) octets)
+LeavesUnread TooManyLines number octets left = left ≡ Some (drop 1 octets)
+LeavesUnread Write number octets left = left ≡ Some (after_lines 1 octets)
+LeavesUnread Field number octets left = left ≡ Some (after_lines 1 octets)
+LeavesUnread Memory number octets left = left ≡ Some (after_lines 1 octets)
 
 -- a fault in reading the line of this number, with which these octets begin, and what it leaves unread
 abbrev pub StopsReading : FaultKind → ℕ → List ℕ → Option (List ℕ) → Type 0
-StopsReading Read number octets left = LeavesUnread Read octets left
+StopsReading Read number octets left = LeavesUnread Read number octets left
 StopsReading kind number octets left =
     (line : List ℕ) × (others : List (List ℕ)) × (lines_of octets ≡ line ∷ others)
-    × (reading_fault number line ≡ Some kind) × LeavesUnread kind octets left
+    × (reading_fault number line ≡ Some kind) × LeavesUnread kind number octets left
 
--- a line of this number was read where there was one, and nothing at the end of the input; a line behind which the
+-- a line of this number was read where there was one, and nothing at the end of the input; a line after which the
 -- end was not seen has its LF
 abbrev pub ReadsLine : Bool → ℕ → List ℕ → Bool → List ℕ → Option (List ℕ) → Type 0
 ReadsLine true number line ended octets left =
     (lines_of octets ≡ line ∷ lines_of (after_lines 1 octets)) × (reading_fault number line ≡ None)
     × (left ≡ Some (after_lines 1 octets)) × (ended ≡ false → lfs_in octets ≡ lfs_in (after_lines 1 octets) + 1)
 ReadsLine false number line ended octets left = (octets ≡ []) × (left ≡ Some [])
+
+-- at most this many of the octets were read
+abbrev pub ReadsWithin : ℕ → List ℕ → Option (List ℕ) → Type 0
+ReadsWithin limit octets left = (count : ℕ) × (count ≤ limit) × (left ≡ Some (drop count octets))
+
+-- the most octets that are read: each line that is allowed, with its LF, and one octet more
+abbrev pub input_limit : ℕ
+input_limit = lines_limit * (line_limit + 1) + 1
 
 -- the kinds of fault in reading a line, of which one says that the reader failed
 abbrev pub IsFromReading : {R : Type 0} → FaultKind → Counted R → Counted R → Type 0

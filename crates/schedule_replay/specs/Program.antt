@@ -1,8 +1,12 @@
 -- What the program answers: its exit status, by what the words ask for.
-use Rattle.std.specs.Prelude.{ℕ, List, Result, Ok, Err}
+use Rattle.std.specs.Prelude.{◌≡◌, ◌⊎◌, ℕ, List, Option, Result, Ok, Err}
+use Rattle.std.specs.Io.KnownBytes.{Appends}
+use Rattle.schedule_replay.specs.declared.counted.Counted.{Counted}
+use Rattle.schedule_replay.specs.Counted.{device_of, HasFailed, HasNotFailed}
+use Rattle.schedule_replay.specs.Fault.{FailedWith}
 use Rattle.schedule_replay.specs.declared.fault.Fault.{Fault}
 use Rattle.schedule_replay.specs.declared.words.Subcommand.TheVariants.{Show}
-use Rattle.schedule_replay.specs.Words.{Names, HasHelpFlag, BeginsWithHelp}
+use Rattle.schedule_replay.specs.Words.{Names, NamesNothing, HasHelpFlag, BeginsWithHelp}
 
 -- the words ask for `show`
 abbrev pub AsksShow : List (List ℕ) → Type 0
@@ -10,9 +14,23 @@ AsksShow words = Names words Show
 
 -- the words ask for no subcommand and no help
 abbrev pub AsksNothing : List (List ℕ) → Type 0
-AsksNothing words = (AsksShow words → ⊥) × (HasHelpFlag words → ⊥) × (BeginsWithHelp words → ⊥)
+AsksNothing words = NamesNothing words × (HasHelpFlag words → ⊥) × (BeginsWithHelp words → ⊥)
 
--- the exit status of a call that shows lines
+-- the exit status of a subcommand that ended in this answer
 abbrev pub status_of : Result ℕ Fault → ℕ
 status_of (Ok lines) = 0
 status_of (Err fault) = 3
+
+-- A subcommand ran, and its answer, which means this, gave the status; or memory was refused before it ran.
+abbrev pub EndsRun : {R W : Type 0} → (Result ℕ Fault → Type 0) → ℕ → (input input' : Counted R) (output output' : Counted W) → Type 0
+EndsRun Means status input input' output output' =
+    ((status ≡ 3) × (input' ≡ input) × (output' ≡ output))
+    ⊎ ((answer : Result ℕ Fault) × (status ≡ status_of answer) × FailedWith answer input input' output output' × Means answer)
+
+-- What comes of words that name no subcommand. Status 0: a text went out whole. Status 2: nothing went
+-- out. Status 3: nothing went out, for want of memory, or a write failed.
+abbrev pub EndsUnread : {W : Type 0} → (W → Option (List ℕ)) → ℕ → Counted W → Counted W → Type 0
+EndsUnread contents status old new =
+    ((status ≡ 0) × HasNotFailed old new × (text : List ℕ) × Appends (contents (device_of old)) (contents (device_of new)) text)
+    ⊎ (((status ≡ 2) × (new ≡ old))
+    ⊎ ((status ≡ 3) × ((new ≡ old) ⊎ HasFailed old new)))

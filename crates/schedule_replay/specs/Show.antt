@@ -1,12 +1,12 @@
 -- What `show` writes, as a function of the lines that it reads.
-use Rattle.std.specs.Prelude.{◌≡◌, ℕ, ◌+◌, ◌≤◌, List, [], ◌∷◌, ◌++◌, length, take, slice_get, is_ok, Option, Some, None, Ok, ⊤, if◌then◌else◌}
-use Rattle.std.specs.Option.{option_or}
+use Rattle.std.specs.Prelude.{◌≡◌, ℕ, ◌+◌, ◌≤◌, List, [], ◌∷◌, ◌++◌, length, take, slice_get, is_ok, Option, Some, None, Ok, MatchResult, Result, ⊤, if◌then◌else◌}
+use Rattle.std.specs.Option.{ForSome, option_or}
 use Rattle.hex.specs.Hex.{decode_of}
 use Rattle.schedule_replay.specs.declared.counted.Counted.{Counted}
 use Rattle.schedule_replay.specs.declared.fault.Fault.{Fault}
 use Rattle.schedule_replay.specs.declared.fault.FaultKind.{FaultKind}
 use Rattle.schedule_replay.specs.declared.fault.FaultKind.TheVariants.{Read, Write, Field, Memory}
-use Rattle.schedule_replay.specs.Counted.{HasFailed, HasNotFailed}
+use Rattle.schedule_replay.specs.Counted.{device_of, HasFailed, HasNotFailed}
 use Rattle.schedule_replay.specs.Lines.{lines_of, lfs_in, after_lines, without_cr, reading_fault, LeavesUnread}
 use Rattle.schedule_replay.specs.Shown.{IsShownAs}
 
@@ -50,7 +50,7 @@ abbrev pub WentOutAs : FaultKind → Type 0 → Type 0
 WentOutAs Write known = ⊤
 WentOutAs kind known = known
 
--- all lines of an input of these octets were shown behind what the output held, and the input is at its end
+-- all lines of an input of these octets were shown after what the output held, and the input is at its end
 pub record ShowsAll (octets held : List ℕ) (left now : Option (List ℕ)) (lines : ℕ) : Type 0 where
   pub count : lines ≡ length (lines_of octets)
   pub text : List ℕ
@@ -58,8 +58,8 @@ pub record ShowsAll (octets held : List ℕ) (left now : Option (List ℕ)) (lin
   pub output : now ≡ Some (held ++ text)
   pub input : left ≡ Some []
 
--- The lines before a fault, each with its LF, were shown behind what the output held, and nothing else. The fault is
--- that of the next line, of which and behind which the rest is unread.
+-- The lines before a fault, each with its LF, were shown after what the output held, and nothing else. The fault is
+-- that of the next line, of which and after which the rest is unread.
 pub record ShowsUntil (octets held : List ℕ) (left now : Option (List ℕ)) (stop : Fault) : Type 0 where
   pub earlier : ℕ
   pub line : stop.line ≡ earlier + 1
@@ -68,13 +68,17 @@ pub record ShowsUntil (octets held : List ℕ) (left now : Option (List ℕ)) (s
   pub shown : ShowsLines 1 (take earlier (lines_of octets)) text
   pub output : WentOutAs stop.what (now ≡ Some (held ++ text))
   pub fault : IsFaultAt stop.what stop.line (slice_get (lines_of octets) earlier)
-  pub input : LeavesUnread stop.what (after_lines earlier octets) left
+  pub input : LeavesUnread stop.what stop.line (after_lines earlier octets) left
 
--- which of the two devices failed where this is answered
-abbrev pub FailedAs : {R W : Type 0} → FaultKind → (input input' : Counted R) (output output' : Counted W) → Type 0
-FailedAs Read input input' output output' = HasFailed input input' × HasNotFailed output output'
-FailedAs Write input input' output output' = HasNotFailed input input' × HasFailed output output'
-FailedAs kind input input' output output' = HasNotFailed input input' × HasNotFailed output output'
+-- what an answer of `show` says of what was read and written, where the devices tell their octets
+abbrev pub ShowsAnswer : {R W : Type 0} → (R → Option (List ℕ)) → (W → Option (List ℕ)) → Result ℕ Fault
+    → (input input' : Counted R) (output output' : Counted W) → Type 0
+ShowsAnswer remaining contents answer input input' output output' =
+    ForSome (remaining (device_of input)) (λ octets.
+    ForSome (contents (device_of output)) (λ held.
+    let left = remaining (device_of input') in
+    let now = contents (device_of output') in
+    MatchResult answer (ShowsAll octets held left now) (ShowsUntil octets held left now)))
 
 -- the kinds of fault in answering a line, of which one says that the writer failed
 abbrev pub IsFromAnswering : {W : Type 0} → FaultKind → Counted W → Counted W → Type 0

@@ -12,7 +12,7 @@ use Rattle.event_codec.specs.declared.refusal.DecodeRefusal.{DecodeRefusal}
 use Rattle.event_codec.specs.declared.refusal.DecodeRefusal.TheVariants.{OtherType}
 use Rattle.event_codec.specs.Layout.{stamp_in}
 use Rattle.event_codec.specs.Packet.{Contents, Packet}
-use Rattle.event_codec.specs.Refusal.{decode_code, decode_refusal}
+use Rattle.event_codec.specs.Refusal.{code_of, decode_refusal}
 
 abbrev pub name_of : Body → List ℕ
 name_of (Sync origin) = codes "Sync"
@@ -47,7 +47,7 @@ requesting_text (DelayReq origin) = []
 requesting_text (FollowUp precise) = []
 requesting_text (DelayResp receive requesting) = codes " requesting=" ++ identity_text requesting
 
--- the fields that all messages have, behind the name of the type
+-- the fields that all messages have, after the name of the type
 abbrev pub header_text : Header → List ℕ → List ℕ
 header_text header name =
     name ++ codes " sdo=" ++ sdo_text header
@@ -77,7 +77,7 @@ other_type_text refusal = []
 
 -- the number of a refusal, and the type that is refused
 abbrev pub refusal_text : DecodeRefusal → List ℕ
-refusal_text refusal = codes "refused " ++ decimal (decode_code refusal) ++ other_type_text refusal
+refusal_text refusal = codes "refused " ++ decimal (code_of refusal) ++ other_type_text refusal
 
 -- the datagram begins with a message, and this is its text
 pub record ShowsMessage (octets text : List ℕ) : Type 0 where
@@ -97,6 +97,6 @@ pub record ShowsRefusal (octets text : List ℕ) : Type 0 where
 abbrev pub IsShownAs : List ℕ → List ℕ → Type 0
 IsShownAs octets text = ShowsMessage octets text ⊎ ShowsRefusal octets text
 
--- the text of the datagram stands behind the old text
+-- the text of the datagram stands after the old text
 abbrev pub AppendsShown : List ℕ → List ℕ → List ℕ → Type 0
 AppendsShown octets old new = (text : List ℕ) × IsShownAs octets text × (new ≡ old ++ text)

@@ -1,5 +1,5 @@
 -- What the words of the command line of `ptpx` ask for.
-use Rattle.std.specs.Prelude.{◌≡◌, ◌≢◌, ◌⊎◌, ◌++◌, ℕ, true, List, [], ◌∷◌, Some, codes, drop, slice_get}
+use Rattle.std.specs.Prelude.{◌≡◌, ◌≢◌, ◌⊎◌, ◌++◌, ℕ, true, List, [], ◌∷◌, Some, codes, drop, fold, slice_get}
 use Rattle.std.specs.Str.{chars}
 use Rattle.clap.specs.Simple.{App, new_app, new_shape, on_top, with_subcommand}
 use Rattle.clap.specs.declared.error.kind.ErrorKind.{ErrorKind}
@@ -9,31 +9,39 @@ use Rattle.schedule_replay.specs.declared.words.Invocation.TheVariants.{Run, Hel
 use Rattle.schedule_replay.specs.declared.words.Subcommand.{Subcommand}
 use Rattle.schedule_replay.specs.declared.words.Subcommand.TheVariants.{Show}
 
--- the program as clap's specifications have one: a subcommand is required, and there is no other argument
-abbrev pub program : App
-program = with_subcommand (on_top (λ s. record s { subcommand_required = true }) (new_app (codes "ptpx")))
-    (new_shape (codes "show"))
-
 -- the word that names a subcommand
 abbrev pub name_of : Subcommand → List ℕ
 name_of Show = codes "show"
 
--- behind the program's own name stands the subcommand's name, alone or with `--` behind it
+-- the subcommands, in the order of the text of help
+abbrev pub subcommands : List Subcommand
+subcommands = Show ∷ []
+
+-- the program as clap's specifications have one: a subcommand is required, and there is no other argument
+abbrev pub program : App
+program = fold (λ app s. with_subcommand app (new_shape (name_of s)))
+    (on_top (λ top. record top { subcommand_required = true }) (new_app (codes "ptpx"))) subcommands
+
+-- after the program's own name stands the subcommand's name, alone or with `--` after it
 abbrev pub Names : List (List ℕ) → Subcommand → Type 0
 Names words s = (drop 1 words ≡ name_of s ∷ []) ⊎ (drop 1 words ≡ name_of s ∷ codes "--" ∷ [])
 
--- the word is `--help`, or `-h` with anything behind it
+-- the words name no subcommand
+abbrev pub NamesNothing : List (List ℕ) → Type 0
+NamesNothing words = (s : Subcommand) → Names words s → ⊥
+
+-- the word is `--help`, or `-h` with anything after it
 abbrev pub AsksHelp : List ℕ → Type 0
 AsksHelp word = (word ≡ codes "--help")
     ⊎ ((flags : List ℕ) × (word ≡ codes "-" ++ flags) × (slice_get (chars flags) 0 ≡ Some 104))
 
--- help is asked for in the place of a subcommand's name, or right behind it
+-- help is asked for in the place of a subcommand's name, or right after it
 abbrev pub HasHelpFlag : List (List ℕ) → Type 0
 HasHelpFlag words = (word : List ℕ) × AsksHelp word
     × ((slice_get words 1 ≡ Some word)
     ⊎ ((s : Subcommand) × (slice_get words 1 ≡ Some (name_of s)) × (slice_get words 2 ≡ Some word)))
 
--- the first word behind the program's name is `help`
+-- the first word after the program's name is `help`
 abbrev pub BeginsWithHelp : List (List ℕ) → Type 0
 BeginsWithHelp words = slice_get words 1 ≡ Some (codes "help")
 
@@ -41,7 +49,7 @@ BeginsWithHelp words = slice_get words 1 ≡ Some (codes "help")
 abbrev pub Asks : List (List ℕ) → Invocation → Type 0
 Asks words (Run s) = Names words s
 Asks words (Help text) = HasHelpFlag words ⊎ BeginsWithHelp words
-Asks words (Mistake text) = ((s : Subcommand) → Names words s → ⊥) × (HasHelpFlag words → ⊥)
+Asks words (Mistake text) = NamesNothing words × (HasHelpFlag words → ⊥)
 
 -- the text of an error of this kind goes to the stream that it asks for; want of memory has none
 abbrev pub ShowsKind : ErrorKind → Invocation → Type 0

@@ -1,4 +1,4 @@
-ghost use Rattle.std.specs.Prelude.{◌≡◌, MatchResult, OnOk, OnErr, ◌==◌, if◌then◌else◌};
+ghost use Rattle.std.specs.Prelude.{◌≡◌, MatchResult, OnOk, ◌==◌, if◌then◌else◌};
 ghost use Rattle.std.specs.Io.{ReadsAtMost, WritesAtMost};
 ghost use Rattle.std.specs.Io.KnownBytes.{ReadConsumes, WriteAppends, Keeps, Appends};
 ghost use Rattle.schedule_replay.specs.Counted.{device_of, failures_of, one_more, HasFailed, HasNotFailed};
@@ -42,7 +42,6 @@ impl<T> Counted<T> {
 
     fn count_failure(&mut self)
         ensures device { device_of self.new ≡ device_of self.old }
-        ensures failures { failures_of self.new ≡ one_more (failures_of self.old) }
         ensures failed { HasFailed self.old self.new }
     {
         self.failures = self.failures.saturating_add(1);
@@ -55,10 +54,7 @@ impl<R: Read> Read for Counted<R> {
     fn read(&mut self, buf: &mut [u8]) -> io::Result<usize>
         ensures bound { ReadsAtMost result buf.new }
         ensures bytes { ReadConsumes (R.remaining (device_of self.old)) (R.remaining (device_of self.new)) result buf.new }
-        ensures count { MatchResult result
-            (λ _. HasNotFailed self.old self.new)
-            (λ _. failures_of self.new ≡ one_more (failures_of self.old)) }
-        ensures failed { OnErr result (HasFailed self.old self.new) }
+        ensures count { MatchResult result (λ _. HasNotFailed self.old self.new) (λ _. HasFailed self.old self.new) }
     {
         let answer = self.device.read(buf);
         if answer.is_err() {
@@ -76,9 +72,6 @@ impl<W: Write> Write for Counted<W> {
         ensures bytes { WriteAppends (W.contents (device_of self.old)) (W.contents (device_of self.new)) result buf.now }
         ensures count { MatchResult result
             (λ taken. failures_of self.new ≡ (if taken == 0 then one_more (failures_of self.old) else failures_of self.old))
-            (λ _. failures_of self.new ≡ one_more (failures_of self.old)) }
-        ensures failed { MatchResult result
-            (λ taken. taken ≡ 0 → HasFailed self.old self.new)
             (λ _. HasFailed self.old self.new) }
     {
         let answer = self.device.write(buf);
@@ -98,8 +91,7 @@ impl<W: Write> Write for Counted<W> {
     /// Writes all octets, and stops at the first write that fails.
     fn write_all(&mut self, buf: &[u8]) -> io::Result<()>
         ensures bytes { OnOk result (Appends (W.contents (device_of self.old)) (W.contents (device_of self.new)) buf.now) }
-        ensures count { OnOk result (HasNotFailed self.old self.new) }
-        ensures failed { OnErr result (HasFailed self.old self.new) }
+        ensures count { MatchResult result (λ _. HasNotFailed self.old self.new) (λ _. HasFailed self.old self.new) }
     {
         let mut rest = buf;
         while !rest.is_empty() {

@@ -7,7 +7,7 @@ use thiserror::Error;
 /// A fault that ended the reading of lines, and where.
 #[derive(Clone, Copy, Debug, PartialEq, Eq)]
 pub struct Fault {
-    /// The line that was being read or answered, counted from 1. Behind the last line this is the
+    /// The line that was being read or answered, counted from 1. After the last line this is the
     /// number that the next one would have.
     pub line: u64,
     /// What went wrong.
@@ -38,11 +38,11 @@ pub enum FaultKind {
 }
 
 impl FaultKind {
-    ghost use Rattle.schedule_replay.specs.Fault.{fault_code};
+    ghost use Rattle.schedule_replay.specs.Fault.{code_of};
 
     /// The number of the fault.
     pub fn code(&self) -> u16
-        ensures { result ≡ fault_code self.now }
+        ensures { result ≡ code_of self.now }
     {
         match self {
             FaultKind::Read => 801,

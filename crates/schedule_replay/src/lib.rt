@@ -5,6 +5,7 @@ mod counted;
 mod fault;
 pub mod laws;
 mod lines;
+mod octet_reader;
 mod program;
 mod showing;
 mod shown;
@@ -12,8 +13,6 @@ mod words;
 
 pub use counted::Counted;
 pub use fault::{Fault, FaultKind};
+pub use octet_reader::OctetReader;
 pub use program::command;
 pub use showing::show;
-
-#[cfg(test)]
-mod tests;

@@ -1,4 +1,4 @@
-ghost use Rattle.std.specs.Prelude.{◌≡◌, ℕ, List, false, IsTrue, ◌+◌, ◌≤◌, ◌<◌, if◌then◌else◌, [], ◌∷◌, IfOk, IfErr, MatchResult, MatchOption, length};
+ghost use Rattle.std.specs.Prelude.{◌≡◌, ℕ, List, false, IsTrue, ◌+◌, ◌≤◌, ◌<◌, if◌then◌else◌, [], ◌∷◌, IfOk, MatchResult, MatchOption, length};
 ghost use Rattle.std.specs.Option.{ForSome};
 ghost use Rattle.std.specs.Io.KnownBytes.{Consumes, IsAtEnd, Keeps};
 ghost use Rattle.schedule_replay.specs.Counted.{device_of, HasFailed, HasNotFailed};
@@ -88,7 +88,7 @@ impl Lines {
     }
 
     /// Reads the next line, and answers whether there was one. A fault stands at that line, which
-    /// is partly read then; no more than one octet behind the limits is read, and none behind the
+    /// is partly read then; no more than one octet after the limits is read, and none after the
     /// end of the input.
     pub(crate) fn read_next<R: Read>(&mut self, input: &mut Counted<R>) -> Result<bool, Fault>
         requires { IsTrue self.old.ended → IsAtEnd (R.remaining (device_of input.old)) }
@@ -151,7 +151,7 @@ impl Lines {
     }
 }
 
-/// Reads behind the last line that is allowed.
+/// Reads after the last line that is allowed.
 fn expect_end<R: Read>(input: &mut Counted<R>) -> Result<bool, FaultKind>
     ensures next { ForSome (R.remaining (device_of input.old)) (λ octets. (line : List ℕ) →
         let left = R.remaining (device_of input.new) in

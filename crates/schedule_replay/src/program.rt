@@ -1,10 +1,10 @@
-ghost use Rattle.std.specs.Prelude.{◌≡◌, ◌⊎◌, ℕ, Result, MatchResult, map, string_bytes};
+ghost use Rattle.std.specs.Prelude.{◌≡◌, ◌≢◌, ◌⊎◌, map, string_bytes};
 ghost use Rattle.std.specs.Option.{ForSome};
-ghost use Rattle.schedule_replay.specs.declared.fault.Fault.{Fault};
-ghost use Rattle.schedule_replay.specs.Program.{AsksShow, AsksNothing, status_of};
-ghost use Rattle.schedule_replay.specs.Counted.{device_of, HasNotFailed};
-ghost use Rattle.schedule_replay.specs.Show.{FailedAs, ShowsAll, ShowsUntil};
-ghost use Rattle.schedule_replay.specs.Words.{HasHelpFlag};
+ghost use Rattle.schedule_replay.specs.Program.{AsksShow, AsksNothing, EndsRun, EndsUnread, status_of};
+ghost use Rattle.schedule_replay.specs.Lines.{input_limit, ReadsWithin};
+ghost use Rattle.schedule_replay.specs.Counted.{device_of};
+ghost use Rattle.schedule_replay.specs.Show.{ShowsAnswer};
+ghost use Rattle.schedule_replay.specs.Words.{HasHelpFlag, NamesNothing};
 
 use crate::counted::Counted;
 use crate::fault::{Fault, FaultKind};
@@ -28,27 +28,22 @@ pub fn command<R: Read, W: Write, E: Write>(
 ) -> u8
     // The status and what is read and written are those of `show`, unless memory was refused before it.
     ensures show { AsksShow (map string_bytes words.now) →
-        ((result ≡ 3) × (input.new ≡ input.old) × (output.new ≡ output.old))
-        ⊎ ((answer : Result ℕ Fault) × (result ≡ status_of answer)
-        × MatchResult answer
-        (λ _. HasNotFailed input.old input.new × HasNotFailed output.old output.new)
-        (λ fault. FailedAs fault.what input.old input.new output.old output.new)
-        × ForSome (R.remaining (device_of input.old)) (λ octets.
-        ForSome (W.contents (device_of output.old)) (λ held.
-        let left = R.remaining (device_of input.new) in
-        let now = W.contents (device_of output.new) in
-        MatchResult answer (ShowsAll octets held left now) (ShowsUntil octets held left now)))) }
-    // Help is written, or a fault is said.
-    ensures help { HasHelpFlag (map string_bytes words.now) → ((result ≡ 0) ⊎ (result ≡ 3)) × (input.new ≡ input.old) }
-    // Other words are no command.
+        EndsRun (λ answer. ShowsAnswer R.remaining W.contents answer input.old input.new output.old output.new)
+        result input.old input.new output.old output.new }
+    // Whatever the words are, only so much is read of a reader that tells its octets.
+    ensures bounded { ForSome (R.remaining (device_of input.old)) (λ octets.
+        ReadsWithin input_limit octets (R.remaining (device_of input.new))) }
+    // Other words read nothing. Which text help is, and what comes of words that begin with `help`, is clap's.
+    ensures unread { NamesNothing (map string_bytes words.now) →
+        (input.new ≡ input.old) × EndsUnread W.contents result output.old output.new }
+    // A flag for help is no mistake.
+    ensures help { HasHelpFlag (map string_bytes words.now) → (input.new ≡ input.old) × (result ≢ 2) }
+    // Words that ask for nothing are no command.
     ensures mistake { AsksNothing (map string_bytes words.now) →
         ((result ≡ 2) ⊎ (result ≡ 3)) × (input.new ≡ input.old) × (output.new ≡ output.old) }
 {
     match parse(alloc, words) {
-        Ok(Invocation::Run(Subcommand::Show)) => match show(alloc, input, output) {
-            Ok(_) => 0,
-            Err(fault) => report(errors, fault),
-        },
+        Ok(Invocation::Run(Subcommand::Show)) => finish(errors, show(alloc, input, output)),
         Ok(Invocation::Help(text)) => match output.write_all(text.as_bytes()) {
             Ok(()) => 0,
             Err(_) => report(errors, before_lines(FaultKind::Write)),
@@ -66,6 +61,16 @@ fn before_lines(what: FaultKind) -> Fault {
     Fault { line: 0, what }
 }
 
+/// Answers the exit status of a subcommand that ended, and says its fault.
+fn finish<E: Write>(errors: &mut E, answer: Result<u64, Fault>) -> u8
+    ensures { result ≡ status_of answer }
+{
+    match answer {
+        Ok(_) => 0,
+        Err(fault) => report(errors, fault),
+    }
+}
+
 /// Says a fault, and answers the exit status.
 fn report<E: Write>(errors: &mut E, fault: Fault) -> u8
     ensures { result ≡ 3 }
@@ -73,6 +78,3 @@ fn report<E: Write>(errors: &mut E, fault: Fault) -> u8
     let _ = writeln!(errors, "ptpx: fault {} at line {}", fault.what, fault.line);
     3
 }
-
-#[cfg(test)]
-mod tests;

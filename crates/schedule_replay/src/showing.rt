@@ -1,10 +1,11 @@
-ghost use Rattle.std.specs.Prelude.{◌≡◌, ℕ, List, [], ◌∷◌, ◌++◌, ◌≤◌, length, Some, MatchResult, IsTrue, IfErr, ◌⊎◌};
+ghost use Rattle.std.specs.Prelude.{◌≡◌, ◌≤◌, length, MatchResult, ◌⊎◌};
 ghost use Rattle.std.specs.Option.{ForSome};
 ghost use Rattle.std.specs.String.{string_bytes};
 ghost use Rattle.std.specs.Io.KnownBytes.{Appends, Keeps};
-ghost use Rattle.schedule_replay.specs.Counted.{device_of, HasFailed, HasNotFailed};
-ghost use Rattle.schedule_replay.specs.Lines.{line_limit};
-ghost use Rattle.schedule_replay.specs.Show.{IsAnswer, digits_fault, own_fault, WentOutAs, IsFromAnswering, FailedAs, ShowsAll, ShowsUntil};
+ghost use Rattle.schedule_replay.specs.Counted.{device_of, HasNotFailed};
+ghost use Rattle.schedule_replay.specs.Fault.{FailedWith};
+ghost use Rattle.schedule_replay.specs.Lines.{input_limit, line_limit, ReadsWithin};
+ghost use Rattle.schedule_replay.specs.Show.{IsAnswer, digits_fault, own_fault, WentOutAs, IsFromAnswering, ShowsAnswer};
 
 use crate::counted::Counted;
 use crate::fault::{Fault, FaultKind};
@@ -68,14 +69,11 @@ pub fn show<R: Read, W: Write>(
     input: &mut Counted<R>,
     output: &mut Counted<W>,
 ) -> Result<u64, Fault>
-    ensures shown { ForSome (R.remaining (device_of input.old)) (λ octets.
-        ForSome (W.contents (device_of output.old)) (λ held.
-        let left = R.remaining (device_of input.new) in
-        let now = W.contents (device_of output.new) in
-        MatchResult result (ShowsAll octets held left now) (ShowsUntil octets held left now))) }
-    ensures failures { MatchResult result
-        (λ _. HasNotFailed input.old input.new × HasNotFailed output.old output.new)
-        (λ fault. FailedAs fault.what input.old input.new output.old output.new) }
+    ensures shown { ShowsAnswer R.remaining W.contents result input.old input.new output.old output.new }
+    // However the writer is, only so much is read of a reader that tells its octets.
+    ensures bounded { ForSome (R.remaining (device_of input.old)) (λ octets.
+        ReadsWithin input_limit octets (R.remaining (device_of input.new))) }
+    ensures failures { FailedWith result input.old input.new output.old output.new }
 {
     let mut lines = Lines::new();
     let mut text = String::new(alloc);

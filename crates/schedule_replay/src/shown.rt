@@ -138,7 +138,7 @@ fn push_message(text: &mut String, message: &Message<'_>, used: usize) -> Result
     )
 }
 
-/// Appends the fields that all messages have, behind the name of the type.
+/// Appends the fields that all messages have, after the name of the type.
 fn push_header(text: &mut String, header: &Header, name: &str) -> Result<(), AllocError>
     ensures { OnOk result (string_bytes text.new ≡ string_bytes text.old ++ header_text header.now name.now) }
 {

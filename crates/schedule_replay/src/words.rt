@@ -72,6 +72,3 @@ fn refusal(alloc: Global, error: Error) -> Result<Invocation, AllocError>
         _ => Ok(Invocation::Mistake(error.to_string(alloc)?)),
     }
 }
-
-#[cfg(test)]
-mod tests;

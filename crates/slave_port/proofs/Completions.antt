@@ -1,6 +1,6 @@
 -- The last completion of a kind, after a tick and after a call that may bring one.
-use Rattle.std.proofs.Common.{◌≡◌, ℕ, refl, List, [], ◌∷◌, ◌++◌, slice_get, option_to_list, Option, Some, None, option_map, option_and_then}
-use Rattle.slave_port.specs.StandsFor.{Last, last_of}
+use Rattle.std.proofs.Common.{◌≡◌, refl, List, [], ◌∷◌, ◌++◌, slice_get, option_to_list, Option, Some, None, option_map, option_and_then}
+use Rattle.slave_port.specs.StandsFor.{last_of}
 use Rattle.slave_port.specs.Changes.{aged, renewed}
 
 module _ {C : Type 0} where

@@ -13,13 +13,13 @@ use Rattle.slave_port.specs.declared.used.Used.{Used}
 use Rattle.slave_port.specs.declared.used.Used.TheVariants.{TwoStepSync, OneStepSync, FollowUp, DelayResp}
 use Rattle.slave_port.specs.History.{Setup, Call, Event, General}
 use Rattle.slave_port.specs.Values.{SyncValue, FollowValue, RequestValue, ResponseValue}
-use Rattle.slave_port.specs.Usable.{Criteria, judged, event_use, general_use}
+use Rattle.slave_port.specs.Usable.{judged, event_use, general_use}
 use Rattle.slave_port.specs.Requests.{held_requests}
 use Rattle.slave_port.specs.Completion.{SyncCompletion, DelayCompletion, pair, alone, answered}
 use Rattle.slave_port.specs.Kept.{criteria, usable, held_syncs, held_follows}
 use Rattle.slave_port.specs.Answer.{request_reason, ignored, completed}
 use Rattle.slave_port.specs.StandsFor.{Last, Port, StandsFor}
-use Rattle.slave_port.specs.Changes.{criteria_of, renewed, and_completed, with_sync_completion, with_sync, with_follow, unless, responded, taken, taken_or_ignored, sync_heard, general_heard}
+use Rattle.slave_port.specs.Changes.{criteria_of, renewed, and_completed, with_sync_completion, unless, responded, taken, taken_or_ignored, sync_heard, general_heard}
 use Rattle.slave_port.proofs.Received.{received, received_of, unanswerable_by, IsAnswered, same_criteria, stands-event, stands-general, IsAnswered-used, IsAnswered-ignored}
 
 module _ (port : Port) where
@@ -73,8 +73,8 @@ module _ (setup : Setup) (history : List Call) (port : Port) (stands : StandsFor
   -- what is used does what the history says
   taken-received : (number : ℕ) (used : Used)
       → taken number used port
-      ≡ unless (unanswerable_by setup history port stands (Some (entry number used)))
-      (received_of setup history port stands (Some (entry number used))) port
+      ≡ unless (unanswerable_by setup history (Some (entry number used)))
+      (received_of setup history port (Some (entry number used))) port
   taken-received number (TwoStepSync sync) =
       ap (λ follow. with_sync_completion (option_map (pair number sync) follow) (record port { syncs = push port.capacities.syncs (entry number sync) port.syncs }))
       (ap (newest number) stands.follows.latest)
@@ -90,8 +90,8 @@ module _ (setup : Setup) (history : List Call) (port : Port) (stands : StandsFor
       ∙ responding port number response (newest number (held_requests setup history))
 
   taken-ignored : (number : ℕ) (used : Used) (reason : Reason)
-      → unanswerable_by setup history port stands (Some (entry number used)) ≡ Some reason
-      → (received_of setup history port stands (Some (entry number used))).0 ≡ port
+      → unanswerable_by setup history (Some (entry number used)) ≡ Some reason
+      → (received_of setup history port (Some (entry number used))).0 ≡ port
   taken-ignored number (TwoStepSync sync) reason why = cc
   taken-ignored number (OneStepSync sync) reason why = cc
   taken-ignored number (FollowUp follow) reason why = cc
@@ -99,36 +99,36 @@ module _ (setup : Setup) (history : List Call) (port : Port) (stands : StandsFor
       not_responding port number response (newest number (held_requests setup history)) reason why
 
   -- what is usable, by why it is ignored all the same
-  used-by : (call : Call) (used : Entry Used) → StandsFor setup (received_of setup history port stands (usable setup history call)).0 (call ∷ history)
+  used-by : (call : Call) (used : Entry Used) → StandsFor setup (received_of setup history port (usable setup history call)).0 (call ∷ history)
       → judged (criteria setup history) call ≡ Some (Ok used)
-      → (why : Option Reason) → unanswerable_by setup history port stands (Some used) ≡ why
-      → IsAnswered setup history call (unless why (received_of setup history port stands (Some used)) port)
+      → (why : Option Reason) → unanswerable_by setup history (Some used) ≡ why
+      → IsAnswered setup history call (unless why (received_of setup history port (Some used)) port)
   used-by call used after judgement None why =
       let is : usable setup history call ≡ Some used = ap (option_and_then result_ok) judgement in
       let none : ignored setup history call ≡ None =
-      (λ i. option_or (option_and_then result_err (judgement i)) (unanswerable_by setup history port stands (is i))) ∙ why in
-      subst (λ u. IsAnswered setup history call (received_of setup history port stands u)) is
+      (λ i. option_or (option_and_then result_err (judgement i)) (unanswerable_by setup history (is i))) ∙ why in
+      subst (λ u. IsAnswered setup history call (received_of setup history port u)) is
       (IsAnswered-used setup history port stands call after none)
   used-by call used after judgement (Some reason) why =
       let is : usable setup history call ≡ Some used = ap (option_and_then result_ok) judgement in
       let ignoring : ignored setup history call ≡ Some reason =
-      (λ i. option_or (option_and_then result_err (judgement i)) (unanswerable_by setup history port stands (is i))) ∙ why in
-      let same : (received_of setup history port stands (usable setup history call)).0 ≡ port =
-      ap (λ u. (received_of setup history port stands u).0) is ∙ taken-ignored used.number used.value reason why in
+      (λ i. option_or (option_and_then result_err (judgement i)) (unanswerable_by setup history (is i))) ∙ why in
+      let same : (received_of setup history port (usable setup history call)).0 ≡ port =
+      ap (λ u. (received_of setup history port u).0) is ∙ taken-ignored used.number used.value reason why in
       IsAnswered-ignored setup history port stands call reason (subst (λ p. StandsFor setup p (call ∷ history)) same after) ignoring
 
-  IsAnswered-judged : (call : Call) → StandsFor setup (received_of setup history port stands (usable setup history call)).0 (call ∷ history)
+  IsAnswered-judged : (call : Call) → StandsFor setup (received_of setup history port (usable setup history call)).0 (call ∷ history)
       → (judgement : Result (Entry Used) Reason) → judged (criteria setup history) call ≡ Some judgement
       → IsAnswered setup history call (taken_or_ignored judgement port)
   IsAnswered-judged call after (Ok used) is =
       subst (IsAnswered setup history call) (sym (taken-received used.number used.value))
-      (used-by call used after is (unanswerable_by setup history port stands (Some used)) refl)
+      (used-by call used after is (unanswerable_by setup history (Some used)) refl)
   IsAnswered-judged call after (Err reason) is =
       let none : usable setup history call ≡ None = ap (option_and_then result_ok) is in
-      let same : (received_of setup history port stands (usable setup history call)).0 ≡ port =
-      ap (λ u. (received_of setup history port stands u).0) none in
+      let same : (received_of setup history port (usable setup history call)).0 ≡ port =
+      ap (λ u. (received_of setup history port u).0) none in
       IsAnswered-ignored setup history port stands call reason (subst (λ p. StandsFor setup p (call ∷ history)) same after)
-      (λ i. option_or (option_and_then result_err (is i)) (unanswerable_by setup history port stands (none i)))
+      (λ i. option_or (option_and_then result_err (is i)) (unanswerable_by setup history (none i)))
 
   IsAnswered-event : (m : Contents) (t2 tag : ℕ) → IsAnswered setup history (Event (Ok m) t2 tag) (sync_heard m t2 tag port)
   IsAnswered-event m t2 tag =

@@ -1,5 +1,5 @@
 -- The requests of a slave port, and those of them that it holds.
-use Rattle.std.specs.Prelude.{ℕ, List, [], ◌∷◌, take, is_some, ◌==◌, if◌then◌else◌, Bool, Option, Some, None}
+use Rattle.std.specs.Prelude.{ℕ, List, [], ◌∷◌, take, is_some, ◌==◌, if◌then◌else◌, Bool, Some, None}
 use Rattle.pairing.specs.Marked.{Entry, entry, first_value as newest}
 use Rattle.slave_port.specs.History.{Setup, Call, SetMaster, Tick, NextRequest, RequestLeft, Event, General, next_number}
 use Rattle.slave_port.specs.Values.{RequestValue}

@@ -1,6 +1,5 @@
 -- Which messages a slave port uses, what as, and the first reason for which it can't use another.
 use Rattle.std.specs.Prelude.{ℕ, ◌/◌, ◌%◌, Bool, true, false, not, ◌&&◌, List, [], ◌∷◌, ◌++◌, slice_index, ◌==◌, nat_le, int_lt, is_none, option_and_then, if◌then◌else◌, Option, Some, None, Result, Ok, Err}
-use Rattle.std.specs.Str.{bytes_eq}
 use Rattle.std.specs.Result.{result_ok, result_err}
 use Rattle.ptp_units.specs.Interval.{too_big}
 use Rattle.ptp_units.specs.Moment.{Stamp}
@@ -10,7 +9,7 @@ use Rattle.event_codec.specs.declared.message.Body.{Body}
 use Rattle.event_codec.specs.declared.message.Body.TheVariants as bodies
 use Rattle.event_codec.specs.declared.port.PortConfig.{PortConfig}
 use Rattle.event_codec.specs.declared.port.PortIdentity.{PortIdentity}
-use Rattle.event_codec.specs.Reading.{Reading}
+use Rattle.event_codec.specs.Port.{is_same_port}
 use Rattle.pairing.specs.Marked.{Entry, entry}
 use Rattle.slave_port.specs.declared.reason.Reason.{Reason}
 use Rattle.slave_port.specs.declared.reason.Reason.TheVariants as reasons
@@ -34,10 +33,6 @@ pub record Test : Type 0 where
 abbrev pub first_reason : List Test → Option Reason
 first_reason [] = None
 first_reason (t ∷ tests) = if t.applies then Some t.reason else first_reason tests
-
--- the same port of the same clock
-abbrev pub is_same_port : PortIdentity → PortIdentity → Bool
-is_same_port a b = bytes_eq a.clock b.clock && (a.port == b.port)
 
 -- twoStepFlag (IEEE 1588-2019, 13.3.2.8)
 abbrev pub is_two_step : Header → Bool

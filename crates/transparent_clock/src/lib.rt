@@ -8,6 +8,3 @@ mod transit;
 
 pub use refusal::ClockRefusal;
 pub use transit::{Transit, enter};
-
-#[cfg(test)]
-mod tests;

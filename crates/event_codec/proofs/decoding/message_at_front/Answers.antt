@@ -18,4 +18,4 @@ returns-clause-refused c =
     let kind = c.in_ok-kind.ensures in
     let packet = c.in_ok-packet.ensures in
     let refusal = decode_refusal-packet c.args.octets.now c.in_ok-packet.packet.now c.in_ok-kind.kind kind.0 kind.1 kind.2 packet.2 packet.0 packet.1 in
-    refusal ∙ rw (lt-ltb (number c.in_ok-packet.packet.now 40 4) (10 ^ 9) c.message_of.ensures.within_second) refl
+    refusal ∙ rw (lt-ltb (number c.in_ok-packet.packet.now 40 4) (10 ^ 9) c.message_of.ensures.timestamp.within_second) refl

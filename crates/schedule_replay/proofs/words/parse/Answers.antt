@@ -1,6 +1,7 @@
 use Rattle.std.proofs.Common.{map, sym, ◌∙◌}
 use Rattle.std.specs.Prelude.{string_bytes}
-use Rattle.schedule_replay.proofs.ProgramLemmas.{names_same, run_from, same_in, text_from}
+use Rattle.schedule_replay.proofs.FlagWords.{same_in}
+use Rattle.schedule_replay.proofs.Invocations.{names_same, run_from, text_from}
 use Rattle.schedule_replay.proofs.words.parse.Goals as goal
 
 pub chosen-requires : goal.chosen-requires

@@ -7,7 +7,7 @@ pub returns-in_err-octet-clause-next : goal.returns-in_err-octet-clause-next
 returns-in_err-octet-clause-next g c =
     let p = err_from_is_err_and c.from_residual.result c.from_residual.ensures.1 in
     λ octets known. rw (p.1, p.2, c.in_err-octet.ensures.failures.0)
-    (line_failed _ _ _ _ c.args.self.now.count octets c.loop-octet.invariant.0 c.in_err-octet.ensures.octet c.loop-octet.invariant.1 c.loop-octet.invariant.4 known)
+    (line_failed _ _ _ _ c.args.self.now.count octets c.loop-octet.invariant.0 c.in_err-octet.ensures.octet c.loop-octet.invariant.1 c.loop-octet.invariant.4 (search rules) known)
 
 pub returns-then-octet-eq10-clause-next : goal.returns-then-octet-eq10-clause-next
 returns-then-octet-eq10-clause-next g c = λ octets known.

@@ -1,0 +1,18 @@
+use Rattle.std.proofs.Common.{◌≡◌, ℕ, ◌∙◌, ◌≤◌, IsOkAnd, List, length, take, sym, subst, ap, arith, rules}
+use Rattle.std.proofs.lemmas.List.{length-drop, length-take-le}
+use Rattle.event_codec.specs.Layout.{type_of, fields_length}
+use Rattle.event_codec.specs.Packet.{Contents, Packet, contents}
+use Rattle.event_codec.specs.Refusal.{message_length}
+use Rattle.event_codec.proofs.laws.decode_of_encode.Goals as goal
+
+length-Packet : (m : Contents) (b : List ℕ) → Packet m b → length b ≡ message_length m
+length-Packet m b p = omega (arith, p.least, ap (length {A = ℕ}) p.suffix, length-drop (fields_length (type_of m.body)) b)
+
+pub returns-clause-same : goal.returns-clause-same
+returns-clause-same c =
+    let m : Contents = contents c.args.message.now in
+    let n : ℕ = c.in_ok-encode.field-0 in
+    let written = c.in_ok-encode.ensures.written in
+    let whole : n ≤ length c.encode.new.buffer = search rules in
+    let end : n ≡ message_length m = sym (length-take-le n c.encode.new.buffer whole) ∙ length-Packet m (take n c.encode.new.buffer) written.1 in
+    subst (λ (k : ℕ). IsOkAnd c.decode.result (λ r. (contents r.0 ≡ m) × (r.1 ≡ k))) end (c.decode.ensures.only m n whole written.1)

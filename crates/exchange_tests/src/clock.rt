@@ -1,0 +1,185 @@
+//! What a clock does to messages, octet for octet, worked by hand from the layout of the messages.
+
+ghost use Rattle.std.specs.Prelude.{◌≤◌};
+
+use event_codec::DecodeRefusal;
+use ptp_units::{ScaledTime, Timestamp, UnitRefusal};
+use std::test::Fail;
+use transparent_clock::{ClockRefusal, enter};
+
+const SYNC: [u8; 44] = [
+    0x00, 0x12, 0x00, 0x2c, 0x00, 0x00, 0x02, 0x00, 0x00, 0x00, 0x00, 0x00, 0x00, 0x00, 0x00, 0x00,
+    0x00, 0x00, 0x00, 0x00, 0x00, 0x11, 0x22, 0xff, 0xfe, 0x33, 0x44, 0x55, 0x00, 0x01, 0x00, 0x00,
+    0x00, 0x00, 0x00, 0x00, 0x00, 0x00, 0x00, 0x00, 0x00, 0x00, 0x00, 0x00,
+];
+
+/// A Sync of the 2008 edition, with messageTypeSpecific 01020304, the suffix abcd, and padding.
+const PADDED_SYNC: [u8; 50] = [
+    0x30, 0x02, 0x00, 0x2e, 0x05, 0x06, 0x02, 0x01, 0x00, 0x00, 0x00, 0x00, 0x00, 0x00, 0x00, 0x00,
+    0x01, 0x02, 0x03, 0x04, 0x00, 0x11, 0x22, 0xff, 0xfe, 0x33, 0x44, 0x55, 0x00, 0x01, 0x12, 0x34,
+    0x09, 0xfd, 0x00, 0x00, 0x00, 0x00, 0x00, 0x07, 0x00, 0x00, 0x00, 0x08, 0xab, 0xcd, 0xee, 0xee,
+    0xee, 0xee,
+];
+
+const FOLLOW_UP: [u8; 44] = [
+    0x08, 0x12, 0x00, 0x2c, 0x00, 0x00, 0x00, 0x00, 0x00, 0x00, 0x00, 0x00, 0x00, 0x00, 0x00, 0x00,
+    0x00, 0x00, 0x00, 0x00, 0x00, 0x11, 0x22, 0xff, 0xfe, 0x33, 0x44, 0x55, 0x00, 0x01, 0x00, 0x00,
+    0x02, 0x00, 0x00, 0x00, 0x00, 0x00, 0x00, 0x01, 0x00, 0x00, 0x00, 0x00,
+];
+
+const DELAY_REQ: [u8; 44] = [
+    0x01, 0x12, 0x00, 0x2c, 0x00, 0x00, 0x00, 0x00, 0x00, 0x00, 0x00, 0x00, 0x00, 0x00, 0x00, 0x00,
+    0x00, 0x00, 0x00, 0x00, 0x00, 0xaa, 0xbb, 0xff, 0xfe, 0xcc, 0xdd, 0xee, 0x00, 0x01, 0x00, 0x00,
+    0x01, 0x7f, 0x00, 0x00, 0x00, 0x00, 0x00, 0x00, 0x00, 0x00, 0x00, 0x00,
+];
+
+const DELAY_RESP: [u8; 54] = [
+    0x09, 0x12, 0x00, 0x36, 0x00, 0x00, 0x00, 0x00, 0x00, 0x00, 0x00, 0x00, 0x0d, 0xac, 0x00, 0x00,
+    0x00, 0x00, 0x00, 0x00, 0x00, 0x11, 0x22, 0xff, 0xfe, 0x33, 0x44, 0x55, 0x00, 0x01, 0x00, 0x00,
+    0x03, 0x00, 0x00, 0x00, 0x00, 0x00, 0x00, 0x02, 0x00, 0x00, 0x11, 0x94, 0x00, 0xaa, 0xbb, 0xff,
+    0xfe, 0xcc, 0xdd, 0xee, 0x00, 0x01,
+];
+
+/// The moment of seconds, nanoseconds and units.
+fn moment(seconds: u64, nanos: u32, fraction: u16) -> Result<ScaledTime, UnitRefusal> {
+    Ok(ScaledTime::join(Timestamp::new(seconds, nanos)?, fraction))
+}
+
+/// The octets with another correctionField.
+fn with_correction<const N: usize>(octets: [u8; N], correction: i64) -> [u8; N]
+    requires { 16 ≤ N }
+{
+    let mut changed = octets;
+    let room = &mut changed[..];
+    room[8..16].copy_from_slice(&correction.to_be_bytes());
+    changed
+}
+
+/// The octets with another one at a place.
+fn with_octet<const N: usize>(octets: [u8; N], place: usize, octet: u8) -> [u8; N] {
+    let mut changed = octets;
+    if let Some(old) = changed.get_mut(place) {
+        *old = octet;
+    }
+    changed
+}
+
+#[test]
+fn adds_the_residence(rt: HostRuntime) -> Result<(), Fail> {
+    let first = moment(0, 0, 0)?;
+    let start = moment(1, 0, 0)?;
+    let end = moment(140_737, 488_355_327, 65_535)?;
+    let cases = [
+        (
+            SYNC,
+            0,
+            moment(1, 500, 0)?,
+            moment(1, 2_500, 0)?,
+            131_072_000,
+        ),
+        (
+            DELAY_REQ,
+            0,
+            moment(2, 500, 0)?,
+            moment(2, 4_000, 16_384)?,
+            229_392_384,
+        ),
+        (SYNC, 0, start, start, 0),
+        (SYNC, 7, start, start, 7),
+        (SYNC, -5, start, moment(1, 0, 3)?, -2),
+        (SYNC, i64::MIN, start, moment(1, 0, 1)?, i64::MIN + 1),
+        (SYNC, i64::MAX - 2, start, moment(1, 0, 1)?, i64::MAX - 1),
+        (SYNC, i64::MAX - 1, start, start, i64::MAX - 1),
+        (SYNC, i64::MAX - 1, start, moment(1, 0, 1)?, i64::MAX),
+        (SYNC, i64::MAX, start, start, i64::MAX),
+        (SYNC, i64::MAX, start, moment(2, 0, 0)?, i64::MAX),
+        (SYNC, 0, moment(0, 0, 1)?, end, i64::MAX - 1),
+        (SYNC, 0, first, end, i64::MAX),
+        (
+            DELAY_REQ,
+            i64::MIN,
+            first,
+            moment(281_474_976_710_655, 999_999_999, 65_535)?,
+            i64::MAX,
+        ),
+    ];
+    for (octets, correction, entered, left, sum) in cases {
+        let mut forwarded = with_correction(octets, correction);
+        assert_eq!(rt; enter(entered).leave(&mut forwarded, left), Ok(()));
+        assert_eq!(rt;
+            forwarded,
+            with_correction(octets, sum),
+            "{correction} to {sum}"
+        );
+    }
+    Ok(())
+}
+
+#[test]
+fn keeps_all_other_octets(rt: HostRuntime) -> Result<(), Fail> {
+    let mut forwarded = PADDED_SYNC;
+    let transit = enter(moment(1, 0, 0)?);
+    assert_eq!(rt;
+        transit.leave(&mut forwarded, moment(1, 2, 32_768)?),
+        Ok(())
+    );
+    assert_eq!(rt; forwarded, with_correction(PADDED_SYNC, 0x0002_8000));
+    Ok(())
+}
+
+#[test]
+fn refuses_and_leaves_the_octets(rt: HostRuntime) -> Result<(), Fail> {
+    let start = moment(1, 0, 0)?;
+    let before = moment(0, 999_999_999, 65_535)?;
+    let other_type = with_octet(SYNC, 0, 0x0b);
+    let other_version = with_octet(SYNC, 1, 0x01);
+    let cut = with_octet(SYNC, 3, 45);
+    let rows = [
+        (
+            other_type,
+            start,
+            ClockRefusal::Decode(DecodeRefusal::OtherType(11)),
+            401,
+        ),
+        (
+            other_version,
+            start,
+            ClockRefusal::Decode(DecodeRefusal::Version),
+            401,
+        ),
+        (
+            cut,
+            before,
+            ClockRefusal::Decode(DecodeRefusal::Truncated),
+            401,
+        ),
+        (FOLLOW_UP, start, ClockRefusal::NotEvent, 402),
+        (FOLLOW_UP, before, ClockRefusal::NotEvent, 402),
+        (SYNC, before, ClockRefusal::NegativeResidence, 403),
+        (
+            DELAY_REQ,
+            moment(0, 999_999_999, 0)?,
+            ClockRefusal::NegativeResidence,
+            403,
+        ),
+    ];
+    for (octets, left, refusal, code) in rows {
+        let mut given = octets;
+        assert_eq!(rt; enter(start).leave(&mut given, left), Err(refusal));
+        assert_eq!(rt; given, octets);
+        assert_eq!(rt; refusal.code(), code);
+    }
+    Ok(())
+}
+
+#[test]
+fn refuses_a_delay_resp_and_nothing(rt: HostRuntime) -> Result<(), Fail> {
+    let start = moment(1, 0, 0)?;
+    let mut delay_resp = DELAY_RESP;
+    let refused = enter(start).leave(&mut delay_resp, moment(2, 0, 0)?);
+    assert_eq!(rt; refused, Err(ClockRefusal::NotEvent));
+    assert_eq!(rt; delay_resp, DELAY_RESP);
+    let nothing = ClockRefusal::Decode(DecodeRefusal::Short);
+    assert_eq!(rt; enter(start).leave(&mut [], start), Err(nothing));
+    Ok(())
+}

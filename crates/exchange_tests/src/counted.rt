@@ -1,0 +1,73 @@
+//! Devices that count their failures, the reader that reads ahead, and the numbers of faults.
+
+use crate::devices::{Failing, Full, Pieces};
+use schedule_replay::{Counted, FaultKind, OctetReader};
+use std::io::{ErrorKind, Read, Write};
+use std::test::Fail;
+
+#[test]
+fn devices_count_their_failures(rt: HostRuntime) -> Result<(), Fail> {
+    let mut octets = [0; 3];
+    let mut reader = Counted::new(Failing::new(b"ab", ErrorKind::UnexpectedEof));
+    assert_eq!(rt; reader.read(&mut octets)?, 2);
+    assert_eq!(rt; octets, *b"ab\0");
+    assert_eq!(rt; reader.failures(), 0);
+    assert!(rt; reader.read(&mut octets).is_err());
+    assert!(rt; reader.read_exact(&mut octets).is_err());
+    assert_eq!(rt; reader.failures(), 2);
+
+    // An error, and a write that takes nothing; a flush isn't counted.
+    for kind in [Some(ErrorKind::BrokenPipe), None] {
+        let mut writer = Counted::new(Full::new(Vec::new(rt.alloc()), 1, kind));
+        assert_eq!(rt; writer.write(b"ab")?, 2);
+        assert_eq!(rt; writer.failures(), 0);
+        assert_eq!(rt; writer.write(b"cd").is_err(), kind.is_some());
+        assert_eq!(rt; writer.failures(), 1);
+        assert!(rt; writer.write_all(b"cd").is_err());
+        assert_eq!(rt; writer.failures(), 2);
+        assert_eq!(rt; writer.flush().is_err(), kind.is_some());
+        assert_eq!(rt; writer.failures(), 2);
+        assert_eq!(rt; writer.into_inner().text(), b"ab".as_slice());
+    }
+    Ok(())
+}
+
+#[test]
+fn reads_ahead_and_gives_the_octets_in_order(rt: HostRuntime) -> Result<(), Fail> {
+    let mut octets = Vec::new(rt.alloc());
+    for k in 0..20_000_u32 {
+        octets.push((k % 251) as u8)?;
+    }
+    // Pieces of up to 8,192 octets, and of 5,000; then the end is asked for, and once more.
+    for (most, asked) in [(usize::MAX, 5), (5000, 6)] {
+        let mut pieces = Pieces::new(octets.as_slice(), most);
+        let mut reader = OctetReader::new(&mut pieces);
+        let mut room = [0; 3];
+        assert_eq!(rt; reader.read(&mut [])?, 0);
+        for octet in octets.as_slice() {
+            assert_eq!(rt; reader.read(&mut room)?, 1);
+            assert_eq!(rt; room[0], *octet);
+        }
+        assert_eq!(rt; (room[1], room[2]), (0, 0));
+        assert_eq!(rt; reader.read(&mut room)?, 0);
+        assert_eq!(rt; reader.read(&mut room)?, 0);
+        assert_eq!(rt; pieces.asked(), asked, "{most}");
+    }
+    Ok(())
+}
+
+#[test]
+fn faults_print_their_number(rt: HostRuntime) -> Result<(), Fail> {
+    for (kind, number, text) in [
+        (FaultKind::Read, 801, "801"),
+        (FaultKind::Write, 802, "802"),
+        (FaultKind::LineTooLong, 803, "803"),
+        (FaultKind::TooManyLines, 804, "804"),
+        (FaultKind::Field, 806, "806"),
+        (FaultKind::Memory, 808, "808"),
+    ] {
+        assert_eq!(rt; kind.code(), number);
+        assert_eq!(rt; kind.to_string(rt.alloc())?.as_str(), text);
+    }
+    Ok(())
+}

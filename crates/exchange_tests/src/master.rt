@@ -1,0 +1,286 @@
+//! What a master writes, octet for octet, worked by hand from the layout of the messages.
+
+ghost use Rattle.std.specs.Prelude.{◌≤◌};
+
+use event_codec::{DecodeRefusal, PortConfig, PortIdentity};
+use master_port::{MasterPort, MasterRefusal};
+use ptp_units::{ScaledTime, Seq, Timestamp, UnitRefusal};
+use std::test::Fail;
+
+/// The messages of an exchange between the master 001122fffe334455/1 and the slave
+/// 00aabbfffeccddee/1. The Sync leaves at 1 s; the Delay_Req arrives at 2 s and 4,500.25 ns.
+const SYNC: [u8; 44] = [
+    0x00, 0x12, 0x00, 0x2c, 0x00, 0x00, 0x02, 0x00, 0x00, 0x00, 0x00, 0x00, 0x00, 0x00, 0x00, 0x00,
+    0x00, 0x00, 0x00, 0x00, 0x00, 0x11, 0x22, 0xff, 0xfe, 0x33, 0x44, 0x55, 0x00, 0x01, 0x00, 0x00,
+    0x00, 0x00, 0x00, 0x00, 0x00, 0x00, 0x00, 0x00, 0x00, 0x00, 0x00, 0x00,
+];
+
+/// A one-step Sync, which leaves a quarter of a nanosecond after 1 s.
+const ONE_STEP_SYNC: [u8; 44] = [
+    0x00, 0x12, 0x00, 0x2c, 0x00, 0x00, 0x00, 0x00, 0x00, 0x00, 0x00, 0x00, 0x00, 0x00, 0x40, 0x00,
+    0x00, 0x00, 0x00, 0x00, 0x00, 0x11, 0x22, 0xff, 0xfe, 0x33, 0x44, 0x55, 0x00, 0x01, 0x00, 0x00,
+    0x00, 0x00, 0x00, 0x00, 0x00, 0x00, 0x00, 0x01, 0x00, 0x00, 0x00, 0x00,
+];
+
+const FOLLOW_UP: [u8; 44] = [
+    0x08, 0x12, 0x00, 0x2c, 0x00, 0x00, 0x00, 0x00, 0x00, 0x00, 0x00, 0x00, 0x00, 0x00, 0x00, 0x00,
+    0x00, 0x00, 0x00, 0x00, 0x00, 0x11, 0x22, 0xff, 0xfe, 0x33, 0x44, 0x55, 0x00, 0x01, 0x00, 0x00,
+    0x02, 0x00, 0x00, 0x00, 0x00, 0x00, 0x00, 0x01, 0x00, 0x00, 0x00, 0x00,
+];
+
+const DELAY_REQ: [u8; 44] = [
+    0x01, 0x12, 0x00, 0x2c, 0x00, 0x00, 0x00, 0x00, 0x00, 0x00, 0x00, 0x00, 0x0d, 0xac, 0x40, 0x00,
+    0x00, 0x00, 0x00, 0x00, 0x00, 0xaa, 0xbb, 0xff, 0xfe, 0xcc, 0xdd, 0xee, 0x00, 0x01, 0x00, 0x00,
+    0x01, 0x7f, 0x00, 0x00, 0x00, 0x00, 0x00, 0x00, 0x00, 0x00, 0x00, 0x00,
+];
+
+const DELAY_RESP: [u8; 54] = [
+    0x09, 0x12, 0x00, 0x36, 0x00, 0x00, 0x00, 0x00, 0x00, 0x00, 0x00, 0x00, 0x0d, 0xac, 0x00, 0x00,
+    0x00, 0x00, 0x00, 0x00, 0x00, 0x11, 0x22, 0xff, 0xfe, 0x33, 0x44, 0x55, 0x00, 0x01, 0x00, 0x00,
+    0x03, 0x00, 0x00, 0x00, 0x00, 0x00, 0x00, 0x02, 0x00, 0x00, 0x11, 0x94, 0x00, 0xaa, 0xbb, 0xff,
+    0xfe, 0xcc, 0xdd, 0xee, 0x00, 0x01,
+];
+
+const MASTER: PortConfig = PortConfig {
+    identity: PortIdentity {
+        clock: [0x00, 0x11, 0x22, 0xff, 0xfe, 0x33, 0x44, 0x55],
+        port: 1,
+    },
+    domain: 0,
+    log: 0,
+};
+
+/// The moment of seconds, nanoseconds and units.
+fn moment(seconds: u64, nanos: u32, fraction: u16) -> Result<ScaledTime, UnitRefusal> {
+    Ok(ScaledTime::join(Timestamp::new(seconds, nanos)?, fraction))
+}
+
+/// The octets with others at some places.
+fn changed<const N: usize>(octets: [u8; N], changes: &[(usize, u8)]) -> [u8; N] {
+    let mut changed = octets;
+    for (place, octet) in changes {
+        if let Some(old) = changed.get_mut(*place) {
+            *old = *octet;
+        }
+    }
+    changed
+}
+
+/// The Delay_Req with padding behind it.
+fn padded_delay_req() -> [u8; 60] {
+    let mut room = [0; 60];
+    room[..44].copy_from_slice(&DELAY_REQ);
+    room
+}
+
+#[test]
+fn writes_an_exchange(rt: HostRuntime) -> Result<(), Fail> {
+    let mut port = MasterPort::new(MASTER, Seq(0));
+    assert_eq!(rt; port.next_sync(), (SYNC, Seq(0)));
+    assert_eq!(rt; port.sync_left(Seq(0), moment(1, 0, 0)?), Ok(FOLLOW_UP));
+    let arrival = moment(2, 4_500, 16_384)?;
+    assert_eq!(rt; port.delay_req(&DELAY_REQ, arrival), Ok(DELAY_RESP));
+    Ok(())
+}
+
+#[test]
+fn follow_up_carries_the_fraction(rt: HostRuntime) -> Result<(), Fail> {
+    let cases: [(u32, u16, &[(usize, u8)]); 4] = [
+        (0, 0, &[]),
+        (0, 16_384, &[(14, 0x40)]),
+        (0, 65_535, &[(14, 0xff), (15, 0xff)]),
+        (256, 1, &[(15, 0x01), (42, 0x01)]),
+    ];
+    for (nanos, fraction, changes) in cases {
+        let mut port = MasterPort::new(MASTER, Seq(0));
+        let (_, number) = port.next_sync();
+        let left = port.sync_left(number, moment(1, nanos, fraction)?);
+        assert_eq!(rt;
+            left,
+            Ok(changed(FOLLOW_UP, changes)),
+            "fraction {fraction}"
+        );
+    }
+    Ok(())
+}
+
+#[test]
+fn a_one_step_sync_carries_its_departure(rt: HostRuntime) -> Result<(), Fail> {
+    let cases: [(u64, u16, &[(usize, u8)]); 3] = [
+        (1, 16_384, &[]),
+        (1, 0, &[(14, 0x00)]),
+        (0, 65_535, &[(14, 0xff), (15, 0xff), (39, 0x00)]),
+    ];
+    for (seconds, fraction, changes) in cases {
+        let mut port = MasterPort::new(MASTER, Seq(0));
+        let written = port.one_step_sync(moment(seconds, 0, fraction)?);
+        assert_eq!(rt;
+            written,
+            (changed(ONE_STEP_SYNC, changes), Seq(0)),
+            "{seconds} s, fraction {fraction}"
+        );
+    }
+    Ok(())
+}
+
+#[test]
+fn all_syncs_are_of_one_pool(rt: HostRuntime) -> Result<(), Fail> {
+    let mut port = MasterPort::new(MASTER, Seq(0));
+    let departure = moment(1, 0, 16_384)?;
+    let second = changed(ONE_STEP_SYNC, &[(31, 0x01)]);
+    assert_eq!(rt; port.next_sync(), (SYNC, Seq(0)));
+    assert_eq!(rt; port.one_step_sync(departure), (second, Seq(1)));
+    // The two-step Sync goes on waiting, and the one-step one never waits.
+    assert_eq!(rt;
+        port.sync_left(Seq(1), departure),
+        Err(MasterRefusal::NotWaiting)
+    );
+    assert_eq!(rt; port.sync_left(Seq(0), moment(1, 0, 0)?), Ok(FOLLOW_UP));
+    assert_eq!(rt; port.next_sync().1, Seq(2));
+    Ok(())
+}
+
+#[test]
+fn one_sync_waits_and_gets_one_follow_up(rt: HostRuntime) -> Result<(), Fail> {
+    let departure = moment(1, 0, 0)?;
+    let refused = Err(MasterRefusal::NotWaiting);
+    let second = Ok(changed(FOLLOW_UP, &[(31, 0x01)]));
+    let mut port = MasterPort::new(MASTER, Seq(0));
+    assert_eq!(rt; port.sync_left(Seq(0), departure), refused);
+    port.next_sync();
+    port.next_sync();
+    assert_eq!(rt; port.sync_left(Seq(0), departure), refused);
+    assert_eq!(rt; port.sync_left(Seq(1), departure), second);
+    assert_eq!(rt; port.sync_left(Seq(1), departure), refused);
+    Ok(())
+}
+
+#[test]
+fn numbers_wrap(rt: HostRuntime) {
+    let mut port = MasterPort::new(MASTER, Seq(65_535));
+    let last = changed(SYNC, &[(30, 0xff), (31, 0xff)]);
+    let next = changed(SYNC, &[(31, 0x01)]);
+    assert_eq!(rt; port.next_sync(), (last, Seq(65_535)));
+    assert_eq!(rt; port.next_sync(), (SYNC, Seq(0)));
+    assert_eq!(rt; port.next_sync(), (next, Seq(1)));
+}
+
+#[test]
+fn domain_and_log_are_those_of_the_port(rt: HostRuntime) -> Result<(), Fail> {
+    let config = PortConfig {
+        domain: 7,
+        log: -3,
+        ..MASTER
+    };
+    let mut port = MasterPort::new(config, Seq(0));
+    let changes = [(4, 7), (33, 0xfd)];
+    assert_eq!(rt; port.next_sync(), (changed(SYNC, &changes), Seq(0)));
+    let left = port.sync_left(Seq(0), moment(1, 0, 0)?);
+    assert_eq!(rt; left, Ok(changed(FOLLOW_UP, &changes)));
+    let request = changed(DELAY_REQ, &[(4, 7)]);
+    let answer = port.delay_req(&request, moment(2, 4_500, 16_384)?);
+    assert_eq!(rt; answer, Ok(changed(DELAY_RESP, &changes)));
+    Ok(())
+}
+
+/// Changes to the Delay_Req and how many octets are given, and the changes to its Delay_Resp.
+type AnswerRow = (&'static [(usize, u8)], usize, &'static [(usize, u8)]);
+
+#[test]
+fn answers_what_a_delay_req_says(rt: HostRuntime) -> Result<(), Fail> {
+    let port = MasterPort::new(MASTER, Seq(0));
+    let rows: [AnswerRow; 6] = [
+        (&[], 44, &[]),
+        (&[], 60, &[]),
+        (&[(3, 46), (44, 0xab), (45, 0xcd)], 46, &[]),
+        (&[(3, 46), (44, 0xab), (45, 0xcd)], 60, &[]),
+        (&[(30, 0xff), (31, 0xfe)], 44, &[(30, 0xff), (31, 0xfe)]),
+        (
+            &[
+                (0, 0x31),
+                (1, 0x02),
+                (5, 9),
+                (6, 0x02),
+                (16, 9),
+                (33, 3),
+                (43, 1),
+            ],
+            44,
+            &[],
+        ),
+    ];
+    let arrival = moment(2, 4_500, 16_384)?;
+    for (changes, length, expected) in rows {
+        let octets = changed(padded_delay_req(), changes);
+        let answer = octets
+            .get(..length)
+            .map(|given| port.delay_req(given, arrival));
+        assert_eq!(rt; answer, Some(Ok(changed(DELAY_RESP, expected))));
+    }
+    Ok(())
+}
+
+/// The octets with another correctionField.
+fn with_correction<const N: usize>(octets: [u8; N], correction: i64) -> [u8; N]
+    requires { 16 ≤ N }
+{
+    let mut changed = octets;
+    let room = &mut changed[..];
+    room[8..16].copy_from_slice(&correction.to_be_bytes());
+    changed
+}
+
+#[test]
+fn takes_the_fraction_off_the_correction(rt: HostRuntime) -> Result<(), Fail> {
+    let port = MasterPort::new(MASTER, Seq(0));
+    let cases = [
+        (0, 0, Some(0)),
+        (0, 65_535, Some(-65_535)),
+        (1, 1, Some(0)),
+        (i64::MAX, 5, Some(i64::MAX)),
+        (i64::MAX - 1, 5, Some(i64::MAX - 6)),
+        (i64::MIN, 0, Some(i64::MIN)),
+        (i64::MIN, 1, None),
+        (i64::MIN + 1, 1, Some(i64::MIN)),
+    ];
+    for (correction, fraction, difference) in cases {
+        let request = with_correction(DELAY_REQ, correction);
+        let answer = port.delay_req(&request, moment(2, 4_500, fraction)?);
+        let expected = difference
+            .map(|units| with_correction(DELAY_RESP, units))
+            .ok_or(MasterRefusal::CorrectionTooLow);
+        assert_eq!(rt; answer, expected, "{correction} - {fraction}");
+    }
+    Ok(())
+}
+
+#[test]
+fn refuses_what_is_no_request_to_it(rt: HostRuntime) -> Result<(), Fail> {
+    let port = MasterPort::new(MASTER, Seq(0));
+    let lowest = with_correction(DELAY_REQ, i64::MIN);
+    let rows: [(&[u8], MasterRefusal, u16); 9] = [
+        (&[], MasterRefusal::Decode(DecodeRefusal::Short), 302),
+        (
+            &changed(SYNC, &[(0, 0x0b)]),
+            MasterRefusal::Decode(DecodeRefusal::OtherType(11)),
+            302,
+        ),
+        (
+            &changed(SYNC, &[(1, 0x01)]),
+            MasterRefusal::Decode(DecodeRefusal::Version),
+            302,
+        ),
+        (&SYNC, MasterRefusal::NotRequest, 303),
+        (&FOLLOW_UP, MasterRefusal::NotRequest, 303),
+        (&DELAY_RESP, MasterRefusal::NotRequest, 303),
+        (&changed(SYNC, &[(4, 1)]), MasterRefusal::NotRequest, 303),
+        (&changed(lowest, &[(4, 1)]), MasterRefusal::OtherDomain, 304),
+        (&lowest, MasterRefusal::CorrectionTooLow, 305),
+    ];
+    for (octets, refusal, code) in rows {
+        assert_eq!(rt; port.delay_req(octets, moment(1, 0, 1)?), Err(refusal));
+        assert_eq!(rt; refusal.code(), code);
+    }
+    assert_eq!(rt; MasterRefusal::NotWaiting.code(), 301);
+    Ok(())
+}

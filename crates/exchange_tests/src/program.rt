@@ -1,0 +1,266 @@
+//! The whole program: statuses, and where its texts go.
+
+use schedule_replay::{Counted, command};
+use std::alloc::Global;
+use std::io::{Error, ErrorKind, Read, Write};
+use std::test::Fail;
+use std::{io, str};
+
+/// A Sync whose fields are 0, but for messageLength, versionPTP and twoStepFlag.
+const SYNC: &[u8] =
+    b"0012002c00000200000000000000000000000000001122fffe33445500010000000000000000000000000000\n";
+
+const SHOWN: &[u8] = b"Sync sdo=000 version=2.1 domain=0 flags=0200 correction=0 specific=00000000 \
+source=001122fffe334455/1 seq=0 control=0 log=0 stamp=0.000000000 suffix=0 used=44\n";
+
+/// Neither reads nor writes.
+#[derive(Clone, Copy)]
+struct Broken;
+
+impl Read for Broken {
+    fn read(&mut self, _buf: &mut [u8]) -> io::Result<usize> {
+        Err(Error::from(ErrorKind::Interrupted))
+    }
+}
+
+impl Write for Broken {
+    fn write(&mut self, _buf: &[u8]) -> io::Result<usize> {
+        Err(Error::from(ErrorKind::BrokenPipe))
+    }
+
+    fn flush(&mut self) -> io::Result<()> {
+        Ok(())
+    }
+}
+
+/// What the program answered and wrote.
+#[derive(Drop)]
+struct Ended {
+    status: u8,
+    output: Vec<u8>,
+    errors: Vec<u8>,
+}
+
+fn run(alloc: Global, line: &str, input: &[u8]) -> Result<Ended, Fail> {
+    let mut words = Vec::new(alloc);
+    for word in line.split(' ') {
+        words.push(String::from_str(alloc, word)?)?;
+    }
+    let mut reader = Counted::new(input);
+    let mut writer = Counted::new(Vec::new(alloc));
+    let mut errors = Vec::new(alloc);
+    let status = command(
+        alloc,
+        words.as_slice(),
+        &mut reader,
+        &mut writer,
+        &mut errors,
+    );
+    Ok(Ended {
+        status,
+        output: writer.into_inner(),
+        errors,
+    })
+}
+
+#[test]
+fn shows_with_status_0(rt: HostRuntime) -> Result<(), Fail> {
+    for line in ["ptpx show", "/usr/bin/other show", "ptpx show --"] {
+        let ended = run(rt.alloc(), line, SYNC)?;
+        assert_eq!(rt; ended.status, 0, "{line}");
+        assert_eq!(rt; ended.output.as_slice(), SHOWN, "{line}");
+        assert_eq!(rt; ended.errors.len(), 0, "{line}");
+    }
+    Ok(())
+}
+
+#[test]
+fn says_faults_with_status_3(rt: HostRuntime) -> Result<(), Fail> {
+    let long = [b'0'; 4097];
+    let cases: [(&[u8], &[u8]); 3] = [
+        (b"0\n", b"ptpx: fault 806 at line 1\n"),
+        (b"\n\nxy\n", b"ptpx: fault 806 at line 3\n"),
+        (&long, b"ptpx: fault 803 at line 1\n"),
+    ];
+    for (input, said) in cases {
+        let ended = run(rt.alloc(), "ptpx show", input)?;
+        assert_eq!(rt; ended.status, 3, "{input:?}");
+        assert_eq!(rt; ended.errors.as_slice(), said, "{input:?}");
+    }
+    Ok(())
+}
+
+#[test]
+fn keeps_what_stands_before_a_fault(rt: HostRuntime) -> Result<(), Fail> {
+    let ended = run(rt.alloc(), "ptpx show", b"\n0012\n0\n")?;
+    assert_eq!(rt; ended.status, 3);
+    assert_eq!(rt;
+        ended.output.as_slice(),
+        b"refused 201\nrefused 201\n".as_slice()
+    );
+    assert_eq!(rt;
+        ended.errors.as_slice(),
+        b"ptpx: fault 806 at line 3\n".as_slice()
+    );
+    Ok(())
+}
+
+#[test]
+fn says_which_device_failed(rt: HostRuntime) -> Result<(), Fail> {
+    let alloc = rt.alloc();
+    let show = [
+        String::from_str(alloc, "ptpx")?,
+        String::from_str(alloc, "show")?,
+    ];
+    let help = [
+        String::from_str(alloc, "ptpx")?,
+        String::from_str(alloc, "help")?,
+    ];
+
+    let mut errors = Vec::new(alloc);
+    let status = command(
+        alloc,
+        &show,
+        &mut Counted::new(Broken),
+        &mut Counted::new(Vec::new(alloc)),
+        &mut errors,
+    );
+    assert_eq!(rt; status, 3);
+    assert_eq!(rt;
+        errors.as_slice(),
+        b"ptpx: fault 801 at line 1\n".as_slice()
+    );
+
+    errors.clear();
+    let status = command(
+        alloc,
+        &show,
+        &mut Counted::new(SYNC),
+        &mut Counted::new(Broken),
+        &mut errors,
+    );
+    assert_eq!(rt; status, 3);
+    assert_eq!(rt;
+        errors.as_slice(),
+        b"ptpx: fault 802 at line 1\n".as_slice()
+    );
+
+    errors.clear();
+    let status = command(
+        alloc,
+        &help,
+        &mut Counted::new(SYNC),
+        &mut Counted::new(Broken),
+        &mut errors,
+    );
+    assert_eq!(rt; status, 3);
+    assert_eq!(rt;
+        errors.as_slice(),
+        b"ptpx: fault 802 at line 0\n".as_slice()
+    );
+
+    let status = command(
+        alloc,
+        &show,
+        &mut Counted::new(Broken),
+        &mut Counted::new(Broken),
+        &mut Broken,
+    );
+    assert_eq!(rt; status, 3, "what can't be said is passed over");
+    Ok(())
+}
+
+/// What stands in the help of the program, and of `show`.
+const WHOLE_HELP: &str = "Usage: ptpx <COMMAND>\n\nCommands:\n  show  Print the datagrams";
+
+const SHOW_HELP: &str = "one a line\n\nUsage: ptpx show\n";
+
+/// Words that ask for help, and what stands in the text.
+const HELPS: [(&str, &str); 9] = [
+    ("ptpx --help", WHOLE_HELP),
+    ("ptpx -h", WHOLE_HELP),
+    ("ptpx help", WHOLE_HELP),
+    ("other help", WHOLE_HELP),
+    ("ptpx --help nothing", WHOLE_HELP),
+    ("ptpx help show", SHOW_HELP),
+    ("ptpx show --help", SHOW_HELP),
+    ("other show -h", SHOW_HELP),
+    ("ptpx help help", "Usage: ptpx help [COMMAND]..."),
+];
+
+#[test]
+fn writes_help_with_status_0(rt: HostRuntime) -> Result<(), Fail> {
+    for (line, part) in HELPS {
+        let ended = run(rt.alloc(), line, SYNC)?;
+        assert_eq!(rt; ended.status, 0, "{line}");
+        assert!(rt;
+            str::from_utf8(ended.output.as_slice())?.contains(part),
+            "{line}"
+        );
+        assert_eq!(rt; ended.errors.len(), 0, "{line}");
+    }
+    Ok(())
+}
+
+/// Words that are no command, and what stands in the text.
+const MISTAKES: [(&str, &str); 15] = [
+    (
+        "ptpx",
+        "'ptpx' requires a subcommand but one was not provided\n  [subcommands: show, help]\n\nUsage: ptpx <COMMAND>\n",
+    ),
+    ("ptpx --", "'ptpx' requires a subcommand"),
+    (
+        "ptpx nothing",
+        "unrecognized subcommand 'nothing'\n\nUsage: ptpx <COMMAND>\n",
+    ),
+    ("ptpx shwo", "tip: a similar subcommand exists: 'show'"),
+    ("ptpx Show", "unrecognized subcommand 'Show'"),
+    ("ptpx help nothing", "unrecognized subcommand 'nothing'"),
+    (
+        "ptpx --version",
+        "unexpected argument '--version' found\n\nUsage: ptpx <COMMAND>\n",
+    ),
+    ("ptpx -V", "unexpected argument '-V' found"),
+    ("ptpx -- show", "unexpected argument 'show' found"),
+    (
+        "ptpx show extra",
+        "unexpected argument 'extra' found\n\nUsage: ptpx show\n",
+    ),
+    ("ptpx show -- extra", "unexpected argument 'extra' found"),
+    ("ptpx show -", "unexpected argument '-' found"),
+    ("ptpx show ", "unexpected argument '' found"),
+    (
+        "ptpx show --version",
+        "unexpected argument '--version' found",
+    ),
+    (
+        "ptpx --help=yes",
+        "unexpected value 'yes' for '--help' found",
+    ),
+];
+
+#[test]
+fn refuses_other_words_with_status_2(rt: HostRuntime) -> Result<(), Fail> {
+    for (line, part) in MISTAKES {
+        let ended = run(rt.alloc(), line, SYNC)?;
+        let said = str::from_utf8(ended.errors.as_slice())?;
+        assert_eq!(rt; ended.status, 2, "{line}");
+        assert_eq!(rt; ended.output.len(), 0, "{line}");
+        assert!(rt; said.starts_with("error: "), "{line}");
+        assert!(rt; said.contains(part), "{line}");
+        assert!(rt;
+            said.ends_with("\n\nFor more information, try '--help'.\n"),
+            "{line}"
+        );
+    }
+    let mut errors = Vec::new(rt.alloc());
+    let status = command(
+        rt.alloc(),
+        &[],
+        &mut Counted::new(SYNC),
+        &mut Counted::new(Broken),
+        &mut errors,
+    );
+    assert_eq!(rt; status, 2, "no words at all");
+    Ok(())
+}

@@ -1,0 +1,332 @@
+//! `show` over lines and devices of all kinds.
+
+use crate::datagrams::{EXCHANGE, FIELDS, LINES, RECORDED, REFUSED};
+use crate::devices::{Endless, Expecting, Failing, Full, Tally};
+use schedule_replay::{Counted, Fault, FaultKind, OctetReader, show};
+use std::alloc::Global;
+use std::io::{ErrorKind, Read};
+use std::process::Abort;
+use std::test::Fail;
+
+/// What `show` answers to these octets, what it wrote, and what it left unread.
+fn shown(alloc: Global, input: &[u8]) -> (Result<u64, Fault>, Vec<u8>, &[u8]) {
+    let mut reader = Counted::new(input);
+    let mut writer = Counted::new(Vec::new(alloc));
+    let answer = show(alloc, &mut reader, &mut writer);
+    (answer, writer.into_inner(), reader.into_inner())
+}
+
+fn assert_shown(rt: &(impl Abort + AllocGlobal), datagram: &str, text: &str) -> Result<(), Fail> {
+    let line = format!(in rt.alloc(); "{datagram}\n")?;
+    let (answer, written, unread) = shown(rt.alloc(), line.as_bytes());
+    assert_eq!(rt; answer, Ok(1), "{datagram}");
+    assert_eq!(rt;
+        written.as_slice(),
+        format!(in rt.alloc(); "{text}\n")?.as_bytes(),
+        "{datagram}"
+    );
+    assert_eq!(rt; unread.len(), 0, "{datagram}");
+    Ok(())
+}
+
+#[test]
+fn shows_fields(rt: HostRuntime) -> Result<(), Fail> {
+    for (datagram, text) in FIELDS {
+        assert_shown(&rt, datagram, text)?;
+    }
+    Ok(())
+}
+
+#[test]
+fn shows_an_exchange(rt: HostRuntime) -> Result<(), Fail> {
+    for (datagram, text) in EXCHANGE {
+        assert_shown(&rt, datagram, text)?;
+    }
+    Ok(())
+}
+
+#[test]
+fn shows_a_recorded_exchange(rt: HostRuntime) -> Result<(), Fail> {
+    for (datagram, text) in RECORDED {
+        assert_shown(&rt, datagram, text)?;
+    }
+    Ok(())
+}
+
+#[test]
+fn shows_refusals(rt: HostRuntime) -> Result<(), Fail> {
+    for (datagram, text) in REFUSED {
+        assert_shown(&rt, datagram, text)?;
+    }
+    Ok(())
+}
+
+/// An input, how many of its lines are answered, here all by `refused 201`, and its fault.
+const FAULTS: [(&[u8], usize, Option<(u64, FaultKind)>); 20] = [
+    // No line, empty lines, and a lone CR.
+    (b"", 0, None),
+    (b"\n", 1, None),
+    (b"\n\r\n\n", 3, None),
+    (b"\r", 1, None),
+    // Digits with and without a CR, and with no LF at the end.
+    (b"00\n00\r\n00", 3, None),
+    (b"00\n00\r", 2, None),
+    // One digit, an odd number of them, and what is no digit.
+    (b"0\n", 0, Some((1, FaultKind::Field))),
+    (b"00\n012\n00\n", 1, Some((2, FaultKind::Field))),
+    (b"00\n\n0x\n", 2, Some((3, FaultKind::Field))),
+    (b"00 \n", 0, Some((1, FaultKind::Field))),
+    (b"x", 0, Some((1, FaultKind::Field))),
+    (b"0\r", 0, Some((1, FaultKind::Field))),
+    // One CR alone is dropped, and none but at the end.
+    (b"00\r\r\n", 0, Some((1, FaultKind::Field))),
+    (b"\r00\n", 0, Some((1, FaultKind::Field))),
+    // Octets that are no UTF-8, and a letter of two octets.
+    (b"\n\xff\xfe\n", 1, Some((2, FaultKind::Field))),
+    (b"\n\xc3\xa9\n", 1, Some((2, FaultKind::Field))),
+    (b"\x00\x00\n", 0, Some((1, FaultKind::Field))),
+    // The fault is that of the first line that has one.
+    (b"0\n00\n0\n", 0, Some((1, FaultKind::Field))),
+    (b"00\n0\n0\n", 1, Some((2, FaultKind::Field))),
+    (b"00\n00\n00\n0", 3, Some((4, FaultKind::Field))),
+];
+
+fn outcome_of(lines: usize, fault: Option<(u64, FaultKind)>) -> Result<u64, Fault> {
+    match fault {
+        None => Ok(lines as u64),
+        Some((line, what)) => Err(Fault { line, what }),
+    }
+}
+
+/// The answer to so many lines of fewer than 34 octets.
+fn short_answers(alloc: Global, lines: usize) -> Result<Vec<u8>, Fail> {
+    let mut text = Vec::new(alloc);
+    for _ in 0..lines {
+        text.extend_from_slice(b"refused 201\n")?;
+    }
+    Ok(text)
+}
+
+#[test]
+fn stops_at_the_first_fault(rt: HostRuntime) -> Result<(), Fail> {
+    for (input, lines, fault) in FAULTS {
+        let (answer, written, _) = shown(rt.alloc(), input);
+        assert_eq!(rt; answer, outcome_of(lines, fault), "{input:?}");
+        assert_eq!(rt; written, short_answers(rt.alloc(), lines)?, "{input:?}");
+    }
+    Ok(())
+}
+
+#[test]
+fn leaves_the_lines_behind_a_fault(rt: HostRuntime) -> Result<(), Fail> {
+    let (answer, _, unread) = shown(rt.alloc(), b"00\n0\n0001\n\n");
+    assert_eq!(rt; answer, outcome_of(0, Some((2, FaultKind::Field))));
+    assert_eq!(rt; unread, b"0001\n\n".as_slice());
+
+    let (answer, written, unread) = shown(rt.alloc(), unread);
+    assert_eq!(rt; answer, Ok(2));
+    assert_eq!(rt; written, short_answers(rt.alloc(), 2)?);
+    assert_eq!(rt; unread.len(), 0);
+    Ok(())
+}
+
+/// So many times an octet, and these behind it: what is answered, how many lines were, and how many
+/// octets are unread.
+const LENGTHS: [(u8, usize, &[u8], Result<u64, Fault>, usize); 9] = [
+    (
+        b'x',
+        4096,
+        b"\n",
+        Err(Fault {
+            line: 1,
+            what: FaultKind::Field,
+        }),
+        0,
+    ),
+    (
+        b'x',
+        4097,
+        b"\n",
+        Err(Fault {
+            line: 1,
+            what: FaultKind::LineTooLong,
+        }),
+        1,
+    ),
+    (
+        b'x',
+        4097,
+        b"",
+        Err(Fault {
+            line: 1,
+            what: FaultKind::LineTooLong,
+        }),
+        0,
+    ),
+    (
+        b'x',
+        5000,
+        b"\n\n",
+        Err(Fault {
+            line: 1,
+            what: FaultKind::LineTooLong,
+        }),
+        905,
+    ),
+    (
+        b'x',
+        4096,
+        b"\r\n",
+        Err(Fault {
+            line: 1,
+            what: FaultKind::LineTooLong,
+        }),
+        1,
+    ),
+    (
+        b'0',
+        4096,
+        b"\r\n",
+        Err(Fault {
+            line: 1,
+            what: FaultKind::LineTooLong,
+        }),
+        1,
+    ),
+    (
+        b'0',
+        4095,
+        b"\r\n",
+        Err(Fault {
+            line: 1,
+            what: FaultKind::Field,
+        }),
+        0,
+    ),
+    (b'0', 4094, b"\r\n", Ok(1), 0),
+    (b'0', 4096, b"", Ok(1), 0),
+];
+
+#[test]
+fn lines_have_at_most_4096_octets(rt: HostRuntime) -> Result<(), Fail> {
+    for (octet, count, end, wanted, left) in LENGTHS {
+        let mut input = vec![in rt.alloc(); octet; count]?;
+        input.extend_from_slice(end)?;
+        let (answer, written, unread) = shown(rt.alloc(), input.as_slice());
+        assert_eq!(rt; answer, wanted, "{count}");
+        assert_eq!(rt; unread.len(), left, "{count}");
+        // A datagram of zeros has versionPTP 0.
+        let text: &[u8] = if wanted.is_ok() {
+            b"refused 202\n"
+        } else {
+            b""
+        };
+        assert_eq!(rt; written.as_slice(), text, "{count}");
+    }
+    Ok(())
+}
+
+#[test]
+fn ends_at_endless_lines(rt: HostRuntime) -> Result<(), Fail> {
+    let mut reader = Counted::new(Endless::new(b'x'));
+    let mut writer = Counted::new(Vec::new(rt.alloc()));
+    let answer = show(rt.alloc(), &mut reader, &mut writer);
+    assert_eq!(rt; answer, outcome_of(0, Some((1, FaultKind::LineTooLong))));
+    assert_eq!(rt; reader.failures(), 0);
+    assert_eq!(rt; reader.into_inner().given(), 4097);
+    assert_eq!(rt; writer.into_inner().len(), 0);
+
+    let mut reader = Counted::new(Endless::new(b'\n'));
+    let mut writer = Counted::new(Tally::new(b"refused 201\n"));
+    let answer = show(rt.alloc(), &mut reader, &mut writer);
+    assert_eq!(rt;
+        answer,
+        outcome_of(0, Some((1_048_577, FaultKind::TooManyLines)))
+    );
+    assert_eq!(rt; reader.into_inner().given(), 1_048_577);
+    assert_eq!(rt; writer.failures(), 0);
+    assert_eq!(rt; writer.into_inner().count(), 1_048_576);
+    Ok(())
+}
+
+const SHORT: &[u8] = b"00\n\n\r\n0012\n0b\n";
+
+/// A reader that gives these octets and then fails is told as fault 801, after the lines that ended.
+fn assert_stops<R: Read + Drop>(
+    rt: &(impl Abort + AllocGlobal),
+    octets: &[u8],
+    reader: R,
+) -> Result<(), Fail> {
+    let ended = octets.iter().filter(|octet| **octet == b'\n').count();
+    let mut reader = Counted::new(reader);
+    let mut writer = Counted::new(Vec::new(rt.alloc()));
+    let answer = show(rt.alloc(), &mut reader, &mut writer);
+    let fault = Fault {
+        line: (ended as u64).saturating_add(1),
+        what: FaultKind::Read,
+    };
+    assert_eq!(rt; answer, Err(fault), "{octets:?}");
+    assert_eq!(rt; reader.failures(), 1, "{octets:?}");
+    assert_eq!(rt; writer.failures(), 0, "{octets:?}");
+    assert_eq!(rt;
+        writer.into_inner(),
+        short_answers(rt.alloc(), ended)?,
+        "{octets:?}"
+    );
+    Ok(())
+}
+
+#[test]
+fn stops_where_the_reader_fails(rt: HostRuntime) -> Result<(), Fail> {
+    for given in 0..=SHORT.len() {
+        for kind in [ErrorKind::UnexpectedEof, ErrorKind::Interrupted] {
+            let octets = &SHORT[..given];
+            assert_stops(&rt, octets, Failing::new(octets, kind))?;
+            assert_stops(&rt, octets, OctetReader::new(Failing::new(octets, kind)))?;
+        }
+    }
+    Ok(())
+}
+
+#[test]
+fn stops_where_the_writer_fails(rt: HostRuntime) -> Result<(), Fail> {
+    for room in 0..=5 {
+        for kind in [
+            None,
+            Some(ErrorKind::BrokenPipe),
+            Some(ErrorKind::Interrupted),
+        ] {
+            let mut reader = Counted::new(SHORT);
+            let mut writer = Counted::new(Full::new(Vec::new(rt.alloc()), room, kind));
+            let answer = show(rt.alloc(), &mut reader, &mut writer);
+            let fault = (room < 5).then_some(((room as u64).saturating_add(1), FaultKind::Write));
+            assert_eq!(rt; answer, outcome_of(5, fault), "{room}");
+            assert_eq!(rt; reader.failures(), 0, "{room}");
+            assert_eq!(rt; writer.failures(), u64::from(room < 5), "{room}");
+            let written = writer.into_inner();
+            assert_eq!(rt;
+                written.text(),
+                short_answers(rt.alloc(), room)?.as_slice(),
+                "{room}"
+            );
+        }
+    }
+    Ok(())
+}
+
+/// Holds also where any one allocation is refused, as by `rt try --test --fail-alloc N`.
+#[test]
+fn refused_memory_is_a_fault_at_its_line(rt: HostRuntime) {
+    let (input, text) = LINES;
+    let mut reader = Counted::new(input);
+    let mut writer = Counted::new(Expecting::new(text));
+    let answer = show(rt.alloc(), &mut reader, &mut writer);
+    assert_eq!(rt; writer.failures(), 0);
+    let written = writer.into_inner();
+    let fault = Fault {
+        line: written.lines().saturating_add(1),
+        what: FaultKind::Memory,
+    };
+    let wanted = if written.is_done() { Ok(3) } else { Err(fault) };
+    assert_eq!(rt; answer, wanted);
+}

@@ -1,0 +1,166 @@
+#!/usr/bin/env python3
+"""Lists the definitions of specs/ that the clauses of public functions reach, and compares them with docs/DEFINITIONS.md.
+
+A definition is reached where a clause of a public function, of a public trait or of a public type's model names it, or
+where a definition that is reached names it. docs/DEFINITIONS.md has a section for each crate, and has to name there, in
+backquotes, each definition of that crate that is reached; and it may name none that doesn't exist.
+"""
+
+import re
+import sys
+from pathlib import Path
+
+TOP = Path(__file__).resolve().parents[2]
+WORD = re.compile(r"[A-Za-z_◌][\w◌≡≢≤<>=+\-*/%^&|]*(?:\.[A-Za-z_]\w*)*|◌\S+◌")
+HEAD = re.compile(r"^ *(?:abbrev pub|pub record|pub data) (\S+)")
+IMPORT = re.compile(r"^\s*(?:ghost )?use (Rattle\.\S+?)(?:\.\{(.*)\}| as (\w+))?;?$")
+
+
+def imports_of(lines):
+    """The names that a file brings in: (crate, file, name) by word, and (crate, file) by word for whole files."""
+    names, files = {}, {}
+    for line in lines:
+        found = IMPORT.match(line)
+        if not found:
+            continue
+        path, listed, alias = found.groups()
+        parts = path.split(".")
+        if len(parts) < 4 or parts[2] != "specs" or parts[3] == "declared":
+            continue
+        crate, file = parts[1], "/".join(parts[3:])
+        if listed is None:
+            files[alias or parts[-1]] = (crate, file)
+            continue
+        for item in listed.split(","):
+            name, _, other = item.strip().partition(" as ")
+            names[other or name] = (crate, file, name)
+    return names, files
+
+
+def words_of(text):
+    return WORD.findall(re.sub(r"--.*", "", text))
+
+
+def resolved(text, names, files, own):
+    """The definitions that a text names."""
+    for word in words_of(text):
+        first, _, rest = word.partition(".")
+        if first in names:
+            yield names[first]
+        elif first in files and rest:
+            yield (*files[first], rest.split(".")[0])
+        elif own is not None and first in own[2]:
+            yield (own[0], own[1], first)
+
+
+def read_specs():
+    """Each definition's text with what its file brings in, by (crate, file, name)."""
+    definitions = {}
+    for path in sorted(TOP.glob("crates/*/specs/**/*.antt")):
+        crate = path.relative_to(TOP).parts[1]
+        file = str(path.relative_to(TOP / "crates" / crate / "specs").with_suffix(""))
+        lines = path.read_text().splitlines()
+        names, files = imports_of(lines)
+        blocks, block = {}, None
+        for line in lines:
+            head = HEAD.match(line)
+            if head:
+                block = blocks.setdefault(head.group(1), [])
+            elif line.lstrip().startswith(("--", "use ", "pub mod", "infix", "module ")):
+                block = None
+            if block is not None:
+                block.append(line)
+        for name, text in blocks.items():
+            definitions[crate, file, name] = ("\n".join(text), names, files, (crate, file, set(blocks)))
+    return definitions
+
+
+def clauses_of(lines):
+    """The text of the clauses that callers of a crate see, function by function."""
+    public_types = set(re.findall(r"^pub (?:struct|enum) (\w+)", "\n".join(lines), re.M))
+    in_public_trait = in_trait_impl = in_model = False
+    clause, taking = [], False
+    for line in lines:
+        if re.match(r"^pub trait ", line):
+            in_public_trait = True
+        if re.match(r"^impl\b.* for ", line):
+            of = re.search(r"\bfor (\w+)", line).group(1)
+            in_model = "Model for" in line and of in public_types
+            in_trait_impl = "Model for" not in line and of in public_types
+        if line == "}":
+            in_public_trait = in_trait_impl = in_model = False
+        if in_model and re.match(r"^\s*ghost (Value|invariant)\b", line):
+            yield line
+        if re.match(r"^\s*pub (?:const )?fn ", line) or ((in_public_trait or in_trait_impl) and re.match(r"^\s*fn ", line)):
+            taking, clause = True, []
+        elif in_public_trait and re.match(r"^\s*ghost (?!use)", line):
+            yield line
+        if taking:
+            clause.append(line)
+            if line.strip() == "{" or line.rstrip().endswith((";", "{ }", "{}")):
+                text = "\n".join(clause)
+                start = re.search(r"\b(?:requires|ensures)\b", text)
+                if start:
+                    yield text[start.start():]
+                taking = False
+
+
+def named_by_clauses(definitions):
+    for path in sorted(TOP.glob("crates/*/src/**/*.rt")):
+        if "tests" in path.parts or path.name == "tests.rt":
+            continue
+        lines = path.read_text().splitlines()
+        names, files = imports_of(lines)
+        for text in clauses_of(lines):
+            yield from resolved(text, names, files, None)
+
+
+def reached():
+    definitions = read_specs()
+    waiting = list(named_by_clauses(definitions))
+    found = set()
+    while waiting:
+        key = waiting.pop()
+        if key in found or key not in definitions:
+            continue
+        found.add(key)
+        waiting.extend(resolved(*definitions[key]))
+    return definitions, found
+
+
+def sections():
+    """The names in backquotes in each crate's section."""
+    crate, named = None, {}
+    for line in (TOP / "docs/DEFINITIONS.md").read_text().splitlines():
+        head = re.match(r"^## `(\w+)`", line)
+        if line.startswith("## "):
+            crate = head.group(1) if head else None
+        elif crate and line.startswith("|"):
+            cells = line.split("|")
+            if len(cells) > 1:
+                named.setdefault(crate, set()).update(re.findall(r"`([^`]+)`", cells[1]))
+    return named
+
+
+def main():
+    definitions, found = reached()
+    if sys.argv[1:] == ["list"]:
+        for crate, file, name in sorted(found):
+            print(crate, file, name)
+        return 0
+    named = sections()
+    missing = sorted((crate, file, name) for crate, file, name in found if name not in named.get(crate, ()))
+    known = {}
+    for crate, _, name in definitions:
+        known.setdefault(crate, set()).add(name)
+    absent = sorted((crate, name) for crate, words in named.items() for name in words if name not in known.get(crate, ()))
+    for crate, file, name in missing:
+        print(f"docs/DEFINITIONS.md: `{name}` of {crate}/specs/{file}.antt is reached by a public clause, and isn't named")
+    for crate, name in absent:
+        print(f"docs/DEFINITIONS.md: {crate} has no definition `{name}`")
+    print(f"{len(found)} definitions of {len(definitions)} are reached by public clauses")
+    return 1 if missing or absent else 0
+
+
+if __name__ == "__main__":
+    sys.exit(main())
