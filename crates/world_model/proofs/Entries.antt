@@ -19,13 +19,35 @@ use Rattle.world_model.specs.declared.entry.Left.TheVariants.{Copy, Stay, Nothin
 use Rattle.world_model.specs.declared.entry.Happened.{Happened}
 use Rattle.world_model.specs.Stands.{run_of, octets_in, stay_in, event_at, octets_at, stay_at, ended, spent, entering, open_stay, Keeps}
 use Rattle.world_model.specs.Acts.{Brings, entries_after}
+use Rattle.world_model.proofs.Own.{same_if}
+
+-- numbers that are tested for equality
+same_number : (m n : ℕ) → (m == n) ≡ true → m ≡ n
+same_number m n test = grind (arith, nat_tests)
+
+is_same : (m n : ℕ) → m ≡ n → (m == n) ≡ true
+is_same m n same = grind (arith, nat_tests)
+
+not_same : (m n : ℕ) → m ≢ n → (m == n) ≡ false
+not_same m n differ = by_test (m == n) refl
+  where
+    by_test : (b : Bool) → (m == n) ≡ b → b ≡ false
+    by_test true test = absurd (differ (same_number m n test))
+    by_test false test = refl
+
+one_less : (m n : ℕ) → (suc m == suc n) ≡ (m == n)
+one_less m n = by_test (m == n) refl
+  where
+    by_test : (b : Bool) → (m == n) ≡ b → (suc m == suc n) ≡ b
+    by_test true test = is_same (suc m) (suc n) (ap suc (same_number m n test))
+    by_test false test = not_same (suc m) (suc n) (λ same. let e : (m == n) ≡ true = is_same m n (omega arith) in cc)
 
 -- what is at a place after one more was put behind
-get-push : {X : Type 0} (xs : List X) (x : X) (i : ℕ) → slice_get (xs ++ x ∷ []) i ≡ (if length xs == i then Some x else slice_get xs i)
+pub get-push : {X : Type 0} (xs : List X) (x : X) (i : ℕ) → slice_get (xs ++ x ∷ []) i ≡ (if length xs == i then Some x else slice_get xs i)
 get-push [] x zero = refl
-get-push [] x (suc i) = refl
-get-push (y ∷ ys) x zero = refl
-get-push (y ∷ ys) x (suc i) = get-push ys x i
+get-push [] x (suc i) = sym (ap (λ b. if b then Some x else None) (not_same 0 (suc i) (omega arith)))
+get-push (y ∷ ys) x zero = sym (ap (λ b. if b then Some x else Some y) (not_same (suc (length ys)) 0 (omega arith)))
+get-push (y ∷ ys) x (suc i) = get-push ys x i ∙ sym (ap (λ b. if b then Some x else slice_get ys i) (one_less (length ys) i))
 
 -- a stay that ends changes no event and no copy
 spent-length : (transit : ℕ) (entries : List Entry) → length (spent transit entries) ≡ length entries
@@ -63,21 +85,15 @@ ended-stay (Stay transit) = refl
 ended-stay Nothing = refl
 
 spent-stay_at : (transit : ℕ) (entries : List Entry) (tag : ℕ) → stay_at (spent transit entries) tag ≡ (if transit == tag then None else stay_at entries tag)
-spent-stay_at zero [] zero = refl
-spent-stay_at zero [] (suc tag) = refl
-spent-stay_at (suc transit) [] zero = refl
-spent-stay_at (suc transit) [] (suc tag) = by_test (transit == tag)
-  where
-    by_test : (b : Bool) → None ≡ (if b then None else None)
-    by_test true = refl
-    by_test false = refl
+spent-stay_at transit [] tag = sym (same_if (transit == tag) None)
 spent-stay_at zero (entry ∷ entries) zero = ended-stay entry.left
-spent-stay_at zero (entry ∷ entries) (suc tag) = refl
-spent-stay_at (suc transit) (entry ∷ entries) zero = refl
-spent-stay_at (suc transit) (entry ∷ entries) (suc tag) = spent-stay_at transit entries tag
+spent-stay_at zero (entry ∷ entries) (suc tag) = sym (ap (λ b. if b then None else stay_at entries tag) (not_same 0 (suc tag) (omega arith)))
+spent-stay_at (suc transit) (entry ∷ entries) zero = sym (ap (λ b. if b then None else stay_in entry.left) (not_same (suc transit) 0 (omega arith)))
+spent-stay_at (suc transit) (entry ∷ entries) (suc tag) =
+    spent-stay_at transit entries tag ∙ sym (ap (λ b. if b then None else stay_at entries tag) (one_less transit tag))
 
 -- the same of the entries after an event
-after-length : (event : Event) (entries : List Entry) → length (entries_after event entries) ≡ length entries
+pub after-length : (event : Event) (entries : List Entry) → length (entries_after event entries) ≡ length entries
 after-length (Leave node transit at) entries = spent-length transit entries
 after-length _ entries = refl
 
@@ -111,6 +127,10 @@ not_spent : (network : Network) (run : Run) (event : Event) (tag : ℕ) → IsRu
 not_spent network run (Leave node transit at) tag accepted late =
     let before : transit < length run = leave_before network run node transit at accepted.0 in grind (arith, nat_tests)
 not_spent network run _ tag accepted late = refl
+
+-- the stay of an event, unless it was spent
+abbrev open_if : Bool → Option Place → Option ℕ
+open_if b p = option_map reading (if b then None else option_and_then entering p)
 
 module _ (network : Network) (run : Run) (event : Event) (entries : List Entry) (After : Type 0) (happened : Happened)
     (keeps : Keeps network run entries) (brings : Brings network run event After happened) where
@@ -153,9 +173,6 @@ module _ (network : Network) (run : Run) (event : Event) (entries : List Entry) 
   stays : (tag : ℕ) → stay_at (entries_after event entries ++ entry ∷ []) tag ≡ option_map reading (open_stay (event ∷ run) tag)
   stays tag = put (λ (e : Entry). stay_in e.left) tag ∙ by_test (length run == tag) refl
     where
-      abbrev open_if : Bool → Option Place → Option ℕ
-      open_if b p = option_map reading (if b then None else option_and_then entering p)
-
       kept : (b : Bool) → (if b then None else stay_at entries tag) ≡ open_if (b || list_any (spends tag) run) (place_at run tag)
       kept true = refl
       kept false = keeps.stays tag

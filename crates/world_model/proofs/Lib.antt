@@ -7,3 +7,6 @@ pub mod Lifting
 pub mod Slaves
 pub mod Readings
 pub mod Arrivals
+pub mod Ended
+pub mod Leaves
+pub mod Happening

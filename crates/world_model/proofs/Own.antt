@@ -24,7 +24,7 @@ use Rattle.world_model.specs.Stands.{next_sync}
 pub named : (name : NodeName) → is_named name name ≡ true
 named name = (bytes_eq-Decides name name).1 refl
 
-same_if : {X : Type 0} (b : Bool) (x : X) → (if b then x else x) ≡ x
+pub same_if : {X : Type 0} (b : Bool) (x : X) → (if b then x else x) ≡ x
 same_if true x = refl
 same_if false x = refl
 

@@ -1,13 +1,15 @@
 -- All nodes after an event of one of them.
-use Rattle.std.proofs.Common.{◌≡◌, ◌≢◌, ◌∙◌, ℕ, zero, suc, ◌<◌, ◌⊎◌, inl, inr, ⊎_elim, Bool, true, false, List, [], ◌∷◌, length, slice_get, slice_set, slice_index_or, Some, refl, sym, ap, subst, arith}
-use Rattle.std.proofs.lemmas.Option.{slice_get_within}
+use Rattle.std.proofs.Common.{◌≡◌, ◌≢◌, ◌∙◌, ℕ, zero, suc, ◌<◌, ◌⊎◌, inl, inr, ⊎_elim, Bool, true, false, List, [], ◌∷◌, ◌++◌, ◌==◌, if◌then◌else◌, length, slice_get, slice_set, slice_index_or, Option, Some, None, IsSome, is_some, option_copied, Bor, refl, sym, ap, subst, arith}
+use Rattle.std.proofs.lemmas.Bool.{cases_lt}
+use Rattle.std.proofs.lemmas.Bool.Decides.{nat_tests}
 use Rattle.std.proofs.lemmas.Slice.Eq.{bytes_eq-Decides}
 use Rattle.network_model.specs.declared.event.Event.{Event}
 use Rattle.network_model.specs.declared.node.NodeSpec.{NodeSpec}
 use Rattle.network_model.specs.Network.{Network, NodeName, IsNetwork, names, node_of, kind_of, is_named}
 use Rattle.network_model.specs.Run.{Run, site_of}
 use Rattle.world_model.specs.declared.station.Station.{Station}
-use Rattle.world_model.specs.Stands.{Stands, AllStand}
+use Rattle.world_model.specs.Stands.{Stands, EachStands, AllStand}
+use Rattle.world_model.proofs.Entries.{get-push}
 use Rattle.world_model.proofs.Elsewhere.{Stands-elsewhere}
 
 module _ {X : Type 0} where
@@ -28,14 +30,26 @@ module _ {X : Type 0} where
   get-set-other (z ∷ zs) (suc i) zero x differ = refl
   get-set-other (z ∷ zs) (suc i) (suc j) x differ = get-set-other zs i j x (λ same. differ (ap suc same))
 
+-- a place that is there
+pub is_there : {X : Type 0} (xs : List X) (i : ℕ) → i < length xs → IsSome (slice_get xs i)
+is_there [] i less = absurd (omega arith)
+is_there (x ∷ xs) zero less = refl
+is_there (x ∷ xs) (suc i) less = is_there xs i (omega arith)
+
+-- a reference to what is there
+pub is_lent : {X : Type 0} (lent : Option (Bor X)) (there : Option X) → option_copied lent ≡ there → IsSome there → IsSome lent
+is_lent None there same some = let e : is_some there ≡ false = sym (ap is_some same) in absurd (cc)
+is_lent (Some x) there same some = refl
+
 -- the node of a name has this name
 pub named_so : (network : Network) (name : NodeName) (node : NodeSpec) → node_of network name ≡ Some node → node.name ≡ name
 named_so [] name node there = cc
-named_so (first ∷ others) name node there = by_test (is_named name first.name) refl there
+named_so (first ∷ others) name node there = by_test (is_named name first.name) refl there (named_so others name node)
   where
-    by_test : (b : Bool) → is_named name first.name ≡ b → (if b then Some first else node_of others name) ≡ Some node → node.name ≡ name
-    by_test true test found = (let same : first ≡ node = cc in ap (λ (n : NodeSpec). n.name) (sym same)) ∙ sym ((bytes_eq-Decides name first.name).0 test)
-    by_test false test found = named_so others name node found
+    by_test : (b : Bool) → is_named name first.name ≡ b → (if b then Some first else node_of others name) ≡ Some node
+        → (node_of others name ≡ Some node → node.name ≡ name) → node.name ≡ name
+    by_test true test found later = (let same : first ≡ node = cc in ap (λ (n : NodeSpec). n.name) (sym same)) ∙ sym ((bytes_eq-Decides name first.name).0 test)
+    by_test false test found later = later found
 
 name_at : (network : Network) (i : ℕ) (node : NodeSpec) → slice_get network i ≡ Some node
     → (i < length (names network)) × ((d : NodeName) → slice_index_or (names network) i d ≡ node.name)
@@ -52,7 +66,7 @@ names_differ network apart i j a b at_i at_j less same =
     apart.names i j a.name less second.0 (first.1 a.name ∙ same ∙ sym (second.1 a.name))
 
 one_place : (i j : ℕ) → (i ≡ j) ⊎ ((i < j) ⊎ (j < i))
-one_place i j = omega arith
+one_place i j = ⊎_elim (λ less. inr (inl less)) (λ least. ⊎_elim (λ more. inr (inr more)) (λ most. inl (omega arith)) (cases_lt j i)) (cases_lt i j)
 
 not_named : (a b : NodeName) → a ≢ b → is_named a b ≡ false
 not_named a b differ = by_test (is_named a b) refl
@@ -96,3 +110,19 @@ module _ (network : Network) (apart : IsNetwork network) (run : Run) (event : Ev
   -- all nodes stand after an event of one of them, if that one does
   pub AllStand-after : AllStand network (event ∷ run) (slice_set stations index new)
   AllStand-after = record { count = length-set stations index new ∙ all.count; each = each }
+
+-- one more station behind those before it
+pub EachStands-push : (network : Network) (run : Run) (stations : List Station) (node : NodeSpec) (station : Station)
+    → EachStands network run stations → slice_get network (length stations) ≡ Some node → Stands network run node.name node.kind station
+    → EachStands network run (stations ++ station ∷ [])
+EachStands-push network run stations node station each next stands i other found at put =
+    by_test (length stations == i) refl (sym (get-push stations station i) ∙ put)
+  where
+    by_test : (b : Bool) → (length stations == i) ≡ b → (if b then Some station else slice_get stations i) ≡ Some found → Stands network run other.name other.kind found
+    by_test true same there =
+        let e : length stations ≡ i = grind (arith, nat_tests) in
+        let nodes : Some node ≡ Some other = sym next ∙ ap (slice_get network) e ∙ at in
+        let is_node : node ≡ other = cc in
+        let is_station : station ≡ found = cc in
+        subst (λ (n : NodeSpec). Stands network run n.name n.kind found) is_node (subst (Stands network run node.name node.kind) is_station stands)
+    by_test false same there = each i other found at there

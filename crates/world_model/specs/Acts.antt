@@ -1,6 +1,8 @@
 -- What an event does at its node. The world's own functions cite these.
 use Rattle.std.specs.Prelude.{◌≡◌, ◌⊎◌, ℕ, List, ◌∷◌, length, if◌then◌else◌, Option, Some, None, option_map, option_and_then, Ok, Err, Result, IsOk, MatchResult}
+use Rattle.std.specs.Result.{result_ok}
 use Rattle.event_codec.specs.Packet.{Contents}
+use Rattle.transparent_clock.specs.Forwarding.{forwarded}
 use Rattle.network_model.specs.declared.event.Event.{Event}
 use Rattle.network_model.specs.declared.event.Event.TheVariants.{Sync, SyncOne, Follow, Enter, Leave, Arrive, Hear, Request, Stamped, Tick, SetMaster, StepClock}
 use Rattle.network_model.specs.declared.node.NodeKind.{NodeKind}
@@ -12,7 +14,7 @@ use Rattle.network_model.specs.Kinds.{entered_copy}
 use Rattle.network_model.specs.Clock.{reading, reading_of}
 use Rattle.network_model.specs.Truth.{master_at, slave_at}
 use Rattle.network_model.specs.Truth.{TellsTruth, copy_of, copy_made}
-use Rattle.network_model.specs.Outcome.{outcome_of, reads}
+use Rattle.network_model.specs.Outcome.{outcome_of, reads, left_outcome}
 use Rattle.world_model.specs.declared.entry.Entry.{Entry}
 use Rattle.world_model.specs.declared.entry.Happened.{Happened}
 use Rattle.world_model.specs.declared.station.Master.{Master}
@@ -94,6 +96,13 @@ pub record Gives (reading : Option ℕ) (outcome : Outcome) (copy : Option Conte
   pub answered : happened.outcome ≡ outcome
   pub made : TellsTruth copy (octets_in happened.left)
   pub stay : stay_in happened.left ≡ None
+
+-- a message that entered a clock at one reading leaves at this one, for which there is room, or it doesn't
+abbrev pub Departs : Contents → ℕ → Result ℕ WorldRefusal → Room → Result Happened WorldRefusal → Type 0
+Departs m entered shown room result = MatchResult result
+    (λ happened. IsOk room × ((now : ℕ) × (shown ≡ Ok now)
+        × Gives (Some now) (left_outcome (forwarded (Ok m) entered now)) (result_ok (forwarded (Ok m) entered now)) happened))
+    (λ why. (shown ≡ Err why) ⊎ ((room ≡ Err why) × IsOk shown))
 
 -- the copy that an entry's event took into this clock
 abbrev pub copy_taken : NodeName → Event → Option ℕ

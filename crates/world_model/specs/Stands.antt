@@ -126,12 +126,17 @@ pub record Stands (network : Network) (run : Run) (name : NodeName) (kind : Node
   pub difference : station.difference ≡ difference name run
   pub port : PortStands network run name kind station.port
 
--- what is kept of all nodes, in their order
+-- what is kept of the nodes to which these stations belong, in the order of the nodes
+abbrev pub EachStands : Network → Run → List Station → Type 0
+EachStands network run stations =
+    (index : ℕ) (node : NodeSpec) (station : Station)
+    → slice_get network index ≡ Some node → slice_get stations index ≡ Some station
+    → Stands network run node.name node.kind station
+
+-- what is kept of all nodes
 pub record AllStand (network : Network) (run : Run) (stations : List Station) : Type 0 where
   pub count : length stations ≡ length network
-  pub each : (index : ℕ) (node : NodeSpec) (station : Station)
-      → slice_get network index ≡ Some node → slice_get stations index ≡ Some station
-      → Stands network run node.name node.kind station
+  pub each : EachStands network run stations
 
 -- what a world keeps of its run
 pub record IsWorld (network : Network) (stations : List Station) (entries : List Entry) : Type 0 where

@@ -1,14 +1,14 @@
-ghost use Rattle.std.specs.Prelude.{◌≡◌, Some, None, IsSome, OnErr, OnOk};
+ghost use Rattle.std.specs.Prelude.{◌≡◌, ℕ, Some, OnErr, OnOk};
 ghost use Rattle.std.specs.Result.{result_ok};
 ghost use Rattle.event_codec.specs.Packet.{Contents, Packet};
 ghost use Rattle.transparent_clock.specs.Forwarding.{forwarded};
 ghost use Rattle.network_model.specs.Network.{NodeName};
 ghost use Rattle.network_model.specs.Outcome.{left_outcome};
 ghost use Rattle.world_model.specs.Stands.{stay_in, stay_at, ended, spent};
-ghost use Rattle.world_model.specs.Acts.{Acts, Gives, copy_inside};
+ghost use Rattle.world_model.specs.Acts.{Acts, Gives, Departs, copy_inside};
 
 use crate::entry::{Entry, Happened, Left, Octets, copied, octets_of};
-use crate::station::{Port, Room, Station};
+use crate::station::{Port, Room, Shown, Station};
 use network_model::{Event, Name, Outcome, WorldRefusal};
 use ptp_units::ScaledTime;
 use std::mem;
@@ -74,6 +74,27 @@ fn left(transit: Transit, mut octets: Octets, now: ScaledTime) -> Happened
     }
 }
 
+/// The message of these octets leaves its clock, which shows this now. Room for the copy is tested
+/// before the stay ends.
+fn depart(
+    entries: &mut [Entry],
+    transit: u64,
+    octets: Octets,
+    shown: Shown,
+    room: Room,
+) -> Result<Happened, WorldRefusal>
+    ensures departs { (m : Contents) (entered : ℕ) → Packet m octets.items → stay_at entries.old transit ≡ Some entered → Departs m entered shown room result }
+    ensures spent { OnOk result (entries.new ≡ spent transit entries.old) }
+    ensures kept { OnErr result (entries.new ≡ entries.old) }
+{
+    let now = shown?;
+    room?;
+    match take_out(entries, transit) {
+        Some(stay) => Ok(left(stay, octets, now)),
+        None => Err(WorldRefusal::NoTransit),
+    }
+}
+
 impl Station {
     /// A copy of a message enters a transparent clock.
     pub(crate) fn enter(&self, entries: &[Entry], copy: u64, at: ScaledTime, room: Room) -> Result<Happened, WorldRefusal>
@@ -106,14 +127,10 @@ impl Station {
         let Some(copy) = copy_inside(entries, clock, transit) else {
             return Err(WorldRefusal::NoTransit);
         };
-        let Some(octets) = octets_of(entries, copy).map(copied) else {
-            return Err(WorldRefusal::NoTransit);
+        let octets = match octets_of(entries, copy) {
+            Some(octets) => copied(octets),
+            None => return Err(WorldRefusal::NoTransit),
         };
-        let now = self.shown(at)?;
-        room?;
-        let Some(transit) = take_out(entries, transit) else {
-            return Err(WorldRefusal::NoTransit);
-        };
-        Ok(left(transit, octets, now))
+        depart(entries, transit, octets, self.shown(at), room)
     }
 }

@@ -1,4 +1,4 @@
-ghost use Rattle.std.specs.Prelude.{◌≡◌, ◌+◌, ◌≤◌, ◌<◌, ◌∷◌, ◌++◌, [], length, vec_len, vec_capacity, Some, OnOk, OnErr, MatchResult};
+ghost use Rattle.std.specs.Prelude.{◌≡◌, ◌<◌, ◌∷◌, ◌++◌, [], length, vec_len, vec_capacity, IfErr, OnOk, OnErr};
 ghost use Rattle.network_model.specs.Run.{site_of};
 ghost use Rattle.world_model.specs.Acts.{ActsIn, entries_after};
 ghost use Rattle.world_model.specs.Stands.{IsWorld, run_of};
@@ -52,7 +52,7 @@ fn happen(
         Event::Stamped { .. } => station.stamped(room),
         Event::Tick { .. } => station.tick(room),
         Event::SetMaster { master, .. } => station.set_master(nodes, master, room),
-        Event::StepClock { diff, .. } => station.step_clock(*diff, room),
+        Event::StepClock { diff, .. } => station.step_clock(diff, room),
     }
 }
 
@@ -77,6 +77,18 @@ fn append(entries: &mut Vec<Entry>, event: &Event, happened: Happened) -> Steppe
     }
 }
 
+/// Takes the room for one more entry.
+fn room_for_one(entries: &mut Vec<Entry>) -> Room
+    ensures items { entries.new.items ≡ entries.old.items }
+    ensures room { OnOk result (vec_len entries.new < vec_capacity entries.new) }
+    ensures refused { IfErr result (λ why. why ≡ WorldRefusal.Memory) }
+{
+    match entries.reserve(1) {
+        Ok(()) => Ok(()),
+        Err(_) => Err(WorldRefusal::Memory),
+    }
+}
+
 /// One event. All room for it is taken first.
 pub(crate) fn step(
     nodes: &Nodes,
@@ -88,13 +100,12 @@ pub(crate) fn step(
     ensures world { IsWorld nodes.now stations.new.items entries.new.items }
     ensures steps { Steps nodes.now (run_of entries.old.items) event.now result (run_of entries.new.items) }
 {
-    let room = match entries.reserve(1) {
-        Ok(()) => Ok(()),
-        Err(_) => Err(WorldRefusal::Memory),
-    };
+    let room = room_for_one(entries);
     let Some(index) = nodes.index_of(&site(event)) else {
         return Err(WorldRefusal::NoNode);
     };
-    let happened = happen(nodes, &mut stations[index], entries.as_mut_slice(), event, room)?;
-    Ok(append(entries, event, happened))
+    match happen(nodes, &mut stations[index], entries.as_mut_slice(), event, room) {
+        Ok(happened) => Ok(append(entries, event, happened)),
+        Err(why) => Err(why),
+    }
 }

@@ -93,14 +93,14 @@ impl Station {
     }
 
     /// The clock is set.
-    pub(crate) fn step_clock(&mut self, diff: i128, room: Room) -> Result<Happened, WorldRefusal>
-        ensures { (node : NodeName) (entries : List Entry) → Acts (Event.StepClock node diff) entries self.old self.new room result }
+    pub(crate) fn step_clock(&mut self, diff: &i128, room: Room) -> Result<Happened, WorldRefusal>
+        ensures { (node : NodeName) (entries : List Entry) → Acts (Event.StepClock node diff.now) entries self.old self.new room result }
     {
         if diff.unsigned_abs() >= BOUND {
             return Err(WorldRefusal::ReadingOutOfRange);
         }
         room?;
-        self.difference = diff;
+        self.difference = *diff;
         Ok(Happened {
             reading: None,
             outcome: Outcome::Done,
@@ -116,9 +116,8 @@ pub(crate) fn stations_of(alloc: Global, nodes: &Nodes) -> Result<Vec<Station>, 
 {
     let mut stations = Vec::new(alloc);
     for index in 0..nodes.len() {
-        if let Some(node) = nodes.get_index(index) {
-            stations.push(Station::new(&node.kind))?;
-        }
+        let node = nodes.get_index(index).unwrap();
+        stations.push(Station::new(&node.kind))?;
     }
     Ok(stations)
 }

@@ -1,0 +1,34 @@
+-- Entries of which a stay ends.
+use Rattle.std.proofs.Common.{◌≡◌, ◌∙◌, ℕ, zero, suc, ◌<◌, ◌≤◌, List, [], ◌∷◌, length, slice_get, slice_set, slice_index_or, Option, None, option_and_then, refl, ap, arith}
+use Rattle.std.proofs.lemmas.Option.{slice_get_past}
+use Rattle.world_model.specs.declared.entry.Entry.{Entry}
+use Rattle.world_model.specs.declared.entry.Left.{Left}
+use Rattle.world_model.specs.declared.entry.Left.TheVariants.{Copy, Stay, Nothing}
+use Rattle.world_model.specs.Stands.{stay_in, stay_at, ended, spent}
+
+-- a write at a place where a stay ends
+pub set-spent : (entries : List Entry) (i : ℕ) (d : Entry) → i < length entries
+    → slice_set entries i (record { event = (slice_index_or entries i d).event; left = ended (slice_index_or entries i d).left }) ≡ spent i entries
+set-spent [] i d less = absurd (omega arith)
+set-spent (entry ∷ entries) zero d less = refl
+set-spent (entry ∷ entries) (suc i) d less = ap (λ rest. entry ∷ rest) (set-spent entries i d (omega arith))
+
+-- past the end there is none
+pub past-spent : (entries : List Entry) (i : ℕ) → length entries ≤ i → spent i entries ≡ entries
+past-spent [] i past = refl
+past-spent (entry ∷ entries) zero past = absurd (omega arith)
+past-spent (entry ∷ entries) (suc i) past = ap (λ rest. entry ∷ rest) (past-spent entries i (omega arith))
+
+pub past-stay : (entries : List Entry) (i : ℕ) → length entries ≤ i → stay_at entries i ≡ None
+past-stay entries i past = ap (option_and_then (λ (entry : Entry). stay_in entry.left)) (slice_get_past entries i past)
+
+unchanged : (left : Left) → stay_in left ≡ None → ended left ≡ left
+unchanged (Copy octets) none = refl
+unchanged (Stay transit) none = absurd (cc)
+unchanged Nothing none = refl
+
+-- where there is no stay nothing ends
+pub spent-none : (entries : List Entry) (i : ℕ) → stay_at entries i ≡ None → spent i entries ≡ entries
+spent-none [] i none = refl
+spent-none (entry ∷ entries) zero none = λ j. record { event = entry.event; left = unchanged entry.left none j } ∷ entries
+spent-none (entry ∷ entries) (suc i) none = ap (λ rest. entry ∷ rest) (spent-none entries i none)
