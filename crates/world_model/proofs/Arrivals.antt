@@ -103,7 +103,7 @@ module _ (network : Network) (run : Run) (node : NodeName) (copy : ℕ) (setup :
       → answer ≡ slaves.answer (slave_setup setup) (history_of network setup node run) (calls.Event (Ok m) now (length run))
       → StandsFor (slave_setup setup) new (calls.Event (Ok m) now (length run) ∷ history_of network setup node run)
       → Brings network run (Arrive node copy at) (SlaveStands network (Arrive node copy at ∷ run) node setup (record { port = new; waiting = slave.waiting }))
-          (record { reading = Some now; outcome = outcomes.Heard answer; left = Nothing })
+      (record { reading = Some now; outcome = outcomes.Heard answer; left = Nothing })
   arrive-brings at now shown answers stood = record {
     outcome = arrived network run node copy at now m (λ t x. heard network setup node run (calls.Event (Ok x) t (length run))) (arrives_at_slave network node run setup is) is_copy shown
         ∙ ap (λ a. Ok (outcomes.Heard a)) (sym answers);
@@ -111,7 +111,7 @@ module _ (network : Network) (run : Run) (node : NodeName) (copy : ℕ) (setup :
     stands = record {
       port = subst (StandsFor (slave_setup setup) new)
           (sym (history-made network setup (Arrive node copy at) run (calls.Event (Ok m) (reading (place (Arrive node copy at) run)) (length run))
-              (ap (option_map (λ (x : Contents). calls.Event (Ok x) (reading (place (Arrive node copy at) run)) (length run))) is_copy)))
+          (ap (option_map (λ (x : Contents). calls.Event (Ok x) (reading (place (Arrive node copy at) run)) (length run))) is_copy)))
           (subst (λ (t : ℕ). StandsFor (slave_setup setup) new (calls.Event (Ok m) t (length run) ∷ history_of network setup node run)) (sym (reading-read (Arrive node copy at) run now shown)) stood);
       waiting = stands.waiting;
     };
@@ -123,7 +123,7 @@ module _ (network : Network) (run : Run) (node : NodeName) (copy : ℕ) (setup :
   pub hear-brings : answer ≡ slaves.answer (slave_setup setup) (history_of network setup node run) (calls.General (Ok m) (length run))
       → StandsFor (slave_setup setup) new (calls.General (Ok m) (length run) ∷ history_of network setup node run)
       → Brings network run (Hear node copy) (SlaveStands network (Hear node copy ∷ run) node setup (record { port = new; waiting = slave.waiting }))
-          (record { reading = None; outcome = outcomes.Heard answer; left = Nothing })
+      (record { reading = None; outcome = outcomes.Heard answer; left = Nothing })
   hear-brings answers stood = record {
     outcome = ap (λ r. r >>= (λ port. ok_or (copy_of network run copy) NoCopy >>= (λ x. Ok (heard network port node run (calls.General (Ok x) (length run)))))) (node_as-at slave_port network node setup is)
         ∙ ap (λ o. ok_or o NoCopy >>= (λ x. Ok (heard network setup node run (calls.General (Ok x) (length run))))) is_copy
@@ -132,7 +132,7 @@ module _ (network : Network) (run : Run) (node : NodeName) (copy : ℕ) (setup :
     stands = record {
       port = subst (StandsFor (slave_setup setup) new)
           (sym (history-made network setup (Hear node copy) run (calls.General (Ok m) (length run))
-              (ap (option_map (λ (x : Contents). calls.General (Ok x) (length run))) is_copy))) stood;
+          (ap (option_map (λ (x : Contents). calls.General (Ok x) (length run))) is_copy))) stood;
       waiting = stands.waiting;
     };
     copy = tt;

@@ -34,7 +34,7 @@ found network name index at some = by_node (node_of network name) refl some
     by_node (Some node) is there = record { node = node; at = at ∙ is; is = is }
 
 -- what an index reads
-reads_at : {X : Type 0} (xs : List X) (i : ℕ) (x : X) → i < length xs → x ≡ slice_index_or xs i x → slice_get xs i ≡ Some x
+pub reads_at : {X : Type 0} (xs : List X) (i : ℕ) (x : X) → i < length xs → x ≡ slice_index_or xs i x → slice_get xs i ≡ Some x
 reads_at [] i x less same = absurd (omega arith)
 reads_at (y ∷ ys) zero x less same = ap Some (sym same)
 reads_at (y ∷ ys) (suc i) x less same = reads_at ys i x (omega arith) same

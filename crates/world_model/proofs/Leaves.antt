@@ -94,7 +94,7 @@ pub inside : (network : Network) (run : Run) (entries : List Entry) (clock : Nod
 inside network run entries clock transit copy keeps found =
     by_cases (list_any (spends transit) run) (place_at run transit) refl refl
     (sym (ap (λ o. option_and_then (λ (now : ℕ). option_and_then (copy_taken clock) (event_at entries transit)) o) (keeps.stays transit)
-        ∙ ap (λ e. option_and_then (λ (now : ℕ). option_and_then (copy_taken clock) e) (option_map reading (open_stay run transit))) (keeps.events transit)) ∙ found)
+    ∙ ap (λ e. option_and_then (λ (now : ℕ). option_and_then (copy_taken clock) e) (option_map reading (open_stay run transit))) (keeps.events transit)) ∙ found)
   where
     by_named : (entered : Place) (here : Bool) → is_named (site_of entered.event) clock ≡ here → (if here then entered_copy entered.event else None) ≡ Some copy
         → (here ≡ true) × (entered_copy entered.event ≡ Some copy)
@@ -149,7 +149,7 @@ module _ (network : Network) (run : Run) (entries : List Entry) (clock : NodeNam
   leave-outcome =
       let last : Place → Contents → Result Outcome WorldRefusal = λ entered m. reads (Leave clock transit at) run >>= (λ now. Ok (left_outcome (forwarded (Ok m) (reading entered) now))) in
       ap (λ k. (ok_or k NoNode >>= (λ kind. ok_or (clock_of kind) WrongKind)) >>= (λ c. ok_or (option_and_then (open_transit clock run transit) (place_at run transit)) NoTransit
-          >>= (λ entered. ok_or (copy_in network entered) NoTransit >>= last entered))) is_kind
+      >>= (λ entered. ok_or (copy_in network entered) NoTransit >>= last entered))) is_kind
       ∙ ap (λ o. ok_or o NoTransit >>= (λ entered. ok_or (copy_in network entered) NoTransit >>= last entered)) is_open
       ∙ ap (λ o. ok_or o NoTransit >>= last in_clock.entered) (ap (option_and_then (copy_of network in_clock.entered.earlier)) in_clock.takes ∙ in_clock.before)
 
@@ -166,16 +166,18 @@ module _ (network : Network) (run : Run) (entries : List Entry) (clock : NodeNam
     leave-answers (Ok happened) departs =
         let now : ℕ = departs.1.0 in
         let reads_now : Ok now ≡ reads (Leave clock transit at) run = sym departs.1.1 ∙ shows in
-        let gives = departs.1.2 in
-        (departs.0, record {
-          outcome = leave-outcome ∙ sym (ap (λ r. r >>= (λ t. Ok (left_outcome (forwarded (Ok in_clock.m) (reading in_clock.entered) t)))) reads_now) ∙ ap Ok (sym gives.answered);
-          read = gives.read ∙ sym (reading_of-read (Leave clock transit at) run now reads_now);
-          stands = stood;
-          copy = subst (λ (o : Option Contents). TellsTruth o (octets_in happened.left))
-              (sym (copy_made-forwarded network run clock copy transit at in_clock.entered in_clock.m in_clock.is in_clock.there in_clock.takes
-              ∙ ap (λ t. result_ok (forwarded (Ok in_clock.m) (reading in_clock.entered) t)) (reading-read (Leave clock transit at) run now reads_now))) gives.made;
-          stay = gives.stay;
-        })
+        let gives = departs.1.2 in (
+          departs.0,
+          record {
+            outcome = leave-outcome ∙ sym (ap (λ r. r >>= (λ t. Ok (left_outcome (forwarded (Ok in_clock.m) (reading in_clock.entered) t)))) reads_now) ∙ ap Ok (sym gives.answered);
+            read = gives.read ∙ sym (reading_of-read (Leave clock transit at) run now reads_now);
+            stands = stood;
+            copy = subst (λ (o : Option Contents). TellsTruth o (octets_in happened.left))
+                (sym (copy_made-forwarded network run clock copy transit at in_clock.entered in_clock.m in_clock.is in_clock.there in_clock.takes
+                ∙ ap (λ t. result_ok (forwarded (Ok in_clock.m) (reading in_clock.entered) t)) (reading-read (Leave clock transit at) run now reads_now))) gives.made;
+            stay = gives.stay;
+          },
+        )
     leave-answers (Err why) departs = (refl, refused departs)
       where
         goes_on : (r : Result ℕ WorldRefusal) → IsOk r → IsOk (leaves in_clock.m (reading in_clock.entered) r)

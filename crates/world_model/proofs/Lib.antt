@@ -1,12 +1,13 @@
-pub mod Own
-pub mod Elsewhere
-pub mod Stations
-pub mod Entries
-pub mod Masters
-pub mod Lifting
-pub mod Slaves
-pub mod Readings
-pub mod Arrivals
-pub mod Ended
-pub mod Leaves
-pub mod Happening
+mod Own
+mod Elsewhere
+mod Stations
+mod Entries
+mod Masters
+mod Lifting
+mod Slaves
+mod Readings
+mod Arrivals
+mod Ended
+mod Leaves
+mod Happening
+mod InTurn

@@ -59,13 +59,16 @@ slave_there network run name kinds.Clock setup slave is stands = absurd (cc)
 -- what an event brings about, said of more
 weaker : (network : Network) (run : Run) (event : Event) (room : Room) {A B Same Also : Type 0} → (A → B) → (Same → Also)
     → (result : Result Happened WorldRefusal) → Answers network run event room A Same result → Answers network run event room B Also result
-weaker network run event room wider kept (Ok happened) answers = (answers.0, record {
-  outcome = answers.1.outcome;
-  read = answers.1.read;
-  stands = wider answers.1.stands;
-  copy = answers.1.copy;
-  stay = answers.1.stay;
-})
+weaker network run event room wider kept (Ok happened) answers = (
+  answers.0,
+  record {
+    outcome = answers.1.outcome;
+    read = answers.1.read;
+    stands = wider answers.1.stands;
+    copy = answers.1.copy;
+    stay = answers.1.stay;
+  },
+)
 weaker network run event room wider kept (Err why) answers = (kept answers.0, answers.1)
 
 module _ (network : Network) (run : Run) (kind : NodeKind) (event : Event) (station : Station) (calm : step_of event ≡ None)

@@ -42,7 +42,7 @@ module _ (network : Network) (run : Run) (node : NodeName) (at now : ℕ) (setup
 
   pub sync-brings : Ok now ≡ reads (Sync node at) run → Packet (sync master.port.config master.port.next) octets.items
       → Brings network run (Sync node at) (MasterStands (Sync node at ∷ run) node setup (with_sync now master))
-          (record { reading = Some now; outcome = Made; left = Copy octets })
+      (record { reading = Some now; outcome = Made; left = Copy octets })
   sync-brings shown packet = record {
     outcome = ap (λ r. r >>= (λ port. reads (Sync node at) run >>= (λ moment. Ok Made))) (node_as-at master_port network node setup is)
         ∙ sym (ap (λ r. r >>= (λ moment. Ok Made)) shown);
@@ -61,7 +61,7 @@ module _ (network : Network) (run : Run) (node : NodeName) (at now : ℕ) (setup
 
   pub one_step_sync-brings : Ok now ≡ reads (SyncOne node at) run → Packet (one_step_sync master.port.config master.port.next now) octets.items
       → Brings network run (SyncOne node at) (MasterStands (SyncOne node at ∷ run) node setup (with_one_step_sync master))
-          (record { reading = Some now; outcome = Made; left = Copy octets })
+      (record { reading = Some now; outcome = Made; left = Copy octets })
   one_step_sync-brings shown packet = record {
     outcome = ap (λ r. r >>= (λ port. reads (SyncOne node at) run >>= (λ moment. Ok Made))) (node_as-at master_port network node setup is)
         ∙ sym (ap (λ r. r >>= (λ moment. Ok Made)) shown);

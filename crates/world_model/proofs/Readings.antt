@@ -34,4 +34,3 @@ told (Some m) octets tells = record { m = m; is = refl; packet = tells }
 pub untold : (copy : Option Contents) → TellsTruth copy None → copy ≡ None
 untold None tells = refl
 untold (Some m) tells = absurd tells
-

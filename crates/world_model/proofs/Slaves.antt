@@ -69,7 +69,7 @@ requests_drawn-history network setup node [] = refl
 requests_drawn-history network setup node (event ∷ earlier) =
     of_if (is_named (site_of event) node) (option_to_list (call_made network setup event earlier) ++ history_of network setup node earlier) (history_of network setup node earlier)
     ∙ at_node (is_named (site_of event) node) (is_request event) _ _ (count_by (draws_with (Request node 0)) earlier)
-      (drawn_by network setup event earlier (history_of network setup node earlier)) (requests_drawn-history network setup node earlier)
+    (drawn_by network setup event earlier (history_of network setup node earlier)) (requests_drawn-history network setup node earlier)
     ∙ sym (sum_by-cons (λ e. if draws_with (Request node 0) e then 1 else 0) event earlier)
 
 request_number : (network : Network) (setup : PortSetup) (node : NodeName) (at : ℕ) (run : Run)
@@ -86,8 +86,8 @@ module _ (network : Network) (run : Run) (node : NodeName) (at now : ℕ) (setup
       → number.0 ≡ next_number (slave_setup setup) (history_of network setup node run)
       → StandsFor (slave_setup setup) new (calls.NextRequest (length run) ∷ history_of network setup node run)
       → Brings network run (Request node at)
-          (SlaveStands network (Request node at ∷ run) node setup (record { port = new; waiting = Some (record { number = number; at = now }) }))
-          (record { reading = Some now; outcome = Made; left = Copy octets })
+      (SlaveStands network (Request node at ∷ run) node setup (record { port = new; waiting = Some (record { number = number; at = now }) }))
+      (record { reading = Some now; outcome = Made; left = Copy octets })
   request-brings packet drawn stood = record {
     outcome = ap (λ r. r >>= (λ port. reads (Request node at) run >>= (λ moment. Ok Made))) (node_as-at slave_port network node setup is)
         ∙ sym (ap (λ r. r >>= (λ moment. Ok Made)) shown);

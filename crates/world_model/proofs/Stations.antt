@@ -80,9 +80,9 @@ module _ (network : Network) (apart : IsNetwork network) (run : Run) (event : Ev
     (new : Station) (stands : Stands network (event ∷ run) (site_of event) node.kind new) where
   elsewhere : (i : ℕ) (other : NodeSpec) → slice_get network i ≡ Some other → i ≢ index → is_named (site_of event) other.name ≡ false
   elsewhere i other there differ = not_named (site_of event) other.name (λ same. ⊎_elim (λ e. differ e)
-    (λ order. ⊎_elim (λ less. names_differ network apart i index other node there at less (sym same ∙ sym name))
+      (λ order. ⊎_elim (λ less. names_differ network apart i index other node there at less (sym same ∙ sym name))
       (λ less. names_differ network apart index i node other at there less (name ∙ same)) order)
-    (one_place i index))
+      (one_place i index))
 
   each : (i : ℕ) (other : NodeSpec) (station : Station) → slice_get network i ≡ Some other → slice_get (slice_set stations index new) i ≡ Some station
       → Stands network (event ∷ run) other.name other.kind station
@@ -95,13 +95,13 @@ module _ (network : Network) (apart : IsNetwork network) (run : Run) (event : Ev
           let both : Some node ≡ Some other = sym at ∙ ap (slice_get network) (sym e) ∙ there in
           let is_node : node ≡ other = cc in
           subst (λ (s : Station). Stands network (event ∷ run) other.name other.kind s) (sym is_new)
-            (subst (λ (n : NodeSpec). Stands network (event ∷ run) n.name n.kind new) is_node
-              (subst (λ (n : NodeName). Stands network (event ∷ run) n node.kind new) (sym name) stands))
+          (subst (λ (n : NodeSpec). Stands network (event ∷ run) n.name n.kind new) is_node
+          (subst (λ (n : NodeName). Stands network (event ∷ run) n node.kind new) (sym name) stands))
 
       there_else : i ≢ index → Stands network (event ∷ run) other.name other.kind station
       there_else differ =
           Stands-elsewhere event run other.name (elsewhere i other there differ) network other.kind station
-            (all.each i other station there (sym (get-set-other stations index i new differ) ∙ put))
+          (all.each i other station there (sym (get-set-other stations index i new differ) ∙ put))
 
       by_place : (i ≡ index) ⊎ ((i < index) ⊎ (index < i)) → Stands network (event ∷ run) other.name other.kind station
       by_place (inl e) = here e

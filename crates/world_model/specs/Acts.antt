@@ -101,7 +101,7 @@ pub record Gives (reading : Option ℕ) (outcome : Outcome) (copy : Option Conte
 abbrev pub Departs : Contents → ℕ → Result ℕ WorldRefusal → Room → Result Happened WorldRefusal → Type 0
 Departs m entered shown room result = MatchResult result
     (λ happened. IsOk room × ((now : ℕ) × (shown ≡ Ok now)
-        × Gives (Some now) (left_outcome (forwarded (Ok m) entered now)) (result_ok (forwarded (Ok m) entered now)) happened))
+    × Gives (Some now) (left_outcome (forwarded (Ok m) entered now)) (result_ok (forwarded (Ok m) entered now)) happened))
     (λ why. (shown ≡ Err why) ⊎ ((room ≡ Err why) × IsOk shown))
 
 -- the copy that an entry's event took into this clock

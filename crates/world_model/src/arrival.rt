@@ -9,7 +9,13 @@ use ptp_units::ScaledTime;
 
 impl Station {
     /// A copy of a message arrives at a master or a slave.
-    pub(crate) fn arrive(&mut self, entries: &[Entry], copy: u64, at: ScaledTime, room: Room) -> Result<Happened, WorldRefusal>
+    pub(crate) fn arrive(
+        &mut self,
+        entries: &[Entry],
+        copy: u64,
+        at: ScaledTime,
+        room: Room,
+    ) -> Result<Happened, WorldRefusal>
         ensures { (node : NodeName) → Acts (Event.Arrive node copy at) entries.now self.old self.new room result }
     {
         let shown = self.shown(at);

@@ -97,7 +97,13 @@ fn depart(
 
 impl Station {
     /// A copy of a message enters a transparent clock.
-    pub(crate) fn enter(&self, entries: &[Entry], copy: u64, at: ScaledTime, room: Room) -> Result<Happened, WorldRefusal>
+    pub(crate) fn enter(
+        &self,
+        entries: &[Entry],
+        copy: u64,
+        at: ScaledTime,
+        room: Room,
+    ) -> Result<Happened, WorldRefusal>
         ensures { (node : NodeName) → Acts (Event.Enter node copy at) entries.now self.now self.now room result }
     {
         let Port::Clock = &self.port else {
@@ -116,7 +122,14 @@ impl Station {
     }
 
     /// A message leaves the transparent clock of this name.
-    pub(crate) fn leave(&self, entries: &mut [Entry], clock: &Name, transit: u64, at: ScaledTime, room: Room) -> Result<Happened, WorldRefusal>
+    pub(crate) fn leave(
+        &self,
+        entries: &mut [Entry],
+        clock: &Name,
+        transit: u64,
+        at: ScaledTime,
+        room: Room,
+    ) -> Result<Happened, WorldRefusal>
         ensures acts { Acts (Event.Leave clock.now transit at) entries.old self.now self.now room result }
         ensures spent { OnOk result (entries.new ≡ spent transit entries.old) }
         ensures kept { OnErr result (entries.new ≡ entries.old) }

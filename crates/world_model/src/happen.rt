@@ -5,6 +5,7 @@ ghost use Rattle.world_model.specs.Stands.{IsWorld, run_of};
 ghost use Rattle.world_model.specs.Steps.{Steps};
 
 use crate::entry::{Entry, Happened};
+use crate::room::put;
 use crate::station::{Room, Station};
 use network_model::{Event, Name, Nodes, Stepped, WorldRefusal};
 
@@ -71,10 +72,8 @@ fn append(entries: &mut Vec<Entry>, event: &Event, happened: Happened) -> Steppe
         event: *event,
         left: happened.left,
     };
-    match entries.push(entry) {
-        Ok(()) => stepped,
-        Err(_) => unreachable!(),
-    }
+    put(entries, entry);
+    stepped
 }
 
 /// Takes the room for one more entry.
@@ -104,7 +103,13 @@ pub(crate) fn step(
     let Some(index) = nodes.index_of(&site(event)) else {
         return Err(WorldRefusal::NoNode);
     };
-    match happen(nodes, &mut stations[index], entries.as_mut_slice(), event, room) {
+    match happen(
+        nodes,
+        &mut stations[index],
+        entries.as_mut_slice(),
+        event,
+        room,
+    ) {
         Ok(happened) => Ok(append(entries, event, happened)),
         Err(why) => Err(why),
     }

@@ -6,10 +6,15 @@ mod clock;
 mod entry;
 mod happen;
 mod master;
+mod room;
 mod slave;
 mod station;
+mod turns;
 mod world;
 
-pub use network_model::{Event, Name, NodeKind, NodeSpec, Nodes, Outcome, RunStop, Stepped, WorldRefusal};
+pub use network_model::{
+    Event, Name, NodeKind, NodeSpec, Nodes, Outcome, RunStop, Stepped, WorldRefusal,
+};
 pub use slave_port::{Heard, Reason, Report};
+pub use turns::run;
 pub use world::World;

@@ -36,12 +36,7 @@ impl Slave {
     }
 
     /// Is handed a general message.
-    fn hear(
-        &mut self,
-        heard: Option<&[u8]>,
-        tag: u64,
-        room: Room,
-    ) -> Result<Happened, WorldRefusal>
+    fn hear(&mut self, heard: Option<&[u8]>, tag: u64, room: Room) -> Result<Happened, WorldRefusal>
         ensures { (node : NodeName) (copy : ℕ) → SlaveActs (Event.Hear node copy)
             (λ network run. IsCopy copy (option_map (λ octets. octets.now) heard.entry) network run × IsNext tag network run)
             self.old self.new room result }

@@ -32,7 +32,7 @@ returns-in-Ok-clause-world c =
     let kept : c.happen.new.entries ≡ entries_after c.args.event.now c.args.entries.now.items = c.in-Ok.ensures.entries ∙ ap (entries_after c.args.event.now) lent in
     let same : length (entries_after c.args.event.now c.args.entries.now.items) ≡ length c.args.entries.now.items = after-length c.args.event.now c.args.entries.now.items in
     let whole : take c.room_for_one-room.new.entries.len (c.happen.new.entries ++ drop (length c.happen.new.entries) c.room_for_one-room.new.entries.items)
-        ≡ entries_after c.args.event.now c.args.entries.now.items =
+    ≡ entries_after c.args.event.now c.args.entries.now.items =
     refilled c.happen.new.entries c.room_for_one-room.new.entries.items c.room_for_one-room.new.entries.len c.room_for_one-room.new.entries.ok.0
     (ap (length {A = Entry}) kept ∙ same ∙ sym (ap (length {A = Entry}) c.room_for_one-room.ensures.items)) ∙ kept in
     let entry : Entry = record { event = c.args.event.now; left = c.in-Ok.happened.left } in
@@ -53,19 +53,20 @@ returns-in-Ok-clause-steps c =
     let kept : c.happen.new.entries ≡ entries_after c.args.event.now c.args.entries.now.items = c.in-Ok.ensures.entries ∙ ap (entries_after c.args.event.now) lent in
     let same : length (entries_after c.args.event.now c.args.entries.now.items) ≡ length c.args.entries.now.items = after-length c.args.event.now c.args.entries.now.items in
     let whole : take c.room_for_one-room.new.entries.len (c.happen.new.entries ++ drop (length c.happen.new.entries) c.room_for_one-room.new.entries.items)
-        ≡ entries_after c.args.event.now c.args.entries.now.items =
+    ≡ entries_after c.args.event.now c.args.entries.now.items =
     refilled c.happen.new.entries c.room_for_one-room.new.entries.items c.room_for_one-room.new.entries.len c.room_for_one-room.new.entries.ok.0
     (ap (length {A = Entry}) kept ∙ same ∙ sym (ap (length {A = Entry}) c.room_for_one-room.ensures.items)) ∙ kept in
     let entry : Entry = record { event = c.args.event.now; left = c.in-Ok.happened.left } in
     let put : c.append.new.entries.items ≡ entries_after c.args.event.now c.args.entries.now.items ++ entry ∷ [] = c.append.ensures.entries ∙ ap (λ (es : List Entry). es ++ entry ∷ []) whole in
     let stepped : Stepped = record { tag = length c.args.entries.now.items; reading = c.in-Ok.happened.reading; outcome = c.in-Ok.happened.outcome } in
     let tag : length (take c.room_for_one-room.new.entries.len (c.happen.new.entries ++ drop (length c.happen.new.entries) c.room_for_one-room.new.entries.items))
-        ≡ length c.args.entries.now.items = ap (length {A = Entry}) whole ∙ same in
-    let is : c.append.result ≡ stepped = c.append.ensures.stepped ∙ (λ i. record { tag = tag i; reading = c.in-Ok.happened.reading; outcome = c.in-Ok.happened.outcome }) in
-    (subst (IsStepped c.args.nodes.now (run_of c.args.entries.now.items) c.args.event.now) (sym is)
-    (done-stepped c.args.nodes.now c.args.event.now c.args.stations.now.items c.args.entries.now.items c.requires c.in-Some.ensures.network c.site.result c.site.ensures
-    c.in-Some.index here less old c.happen.new.station c.index_mut.ensures.value c.room_for_one-room.result c.in-Ok.happened ans.1),
-    ap run_of put ∙ run_of-after c.args.event.now c.args.entries.now.items c.in-Ok.happened.left)
+    ≡ length c.args.entries.now.items = ap (length {A = Entry}) whole ∙ same in
+    let is : c.append.result ≡ stepped = c.append.ensures.stepped ∙ (λ i. record { tag = tag i; reading = c.in-Ok.happened.reading; outcome = c.in-Ok.happened.outcome }) in (
+      subst (IsStepped c.args.nodes.now (run_of c.args.entries.now.items) c.args.event.now) (sym is)
+          (done-stepped c.args.nodes.now c.args.event.now c.args.stations.now.items c.args.entries.now.items c.requires c.in-Some.ensures.network c.site.result c.site.ensures
+          c.in-Some.index here less old c.happen.new.station c.index_mut.ensures.value c.room_for_one-room.result c.in-Ok.happened ans.1),
+      ap run_of put ∙ run_of-after c.args.event.now c.args.entries.now.items c.in-Ok.happened.left,
+    )
 
 pub returns-in-Err-clause-world : goal.returns-in-Err-clause-world
 returns-in-Err-clause-world c =
@@ -96,6 +97,8 @@ returns-in-Err-clause-steps c =
     let kept : c.happen.new.entries ≡ c.args.entries.now.items = c.in-Err.ensures.kept ∙ lent in
     let whole : take c.room_for_one-room.new.entries.len (c.happen.new.entries ++ drop (length c.happen.new.entries) c.room_for_one-room.new.entries.items) ≡ c.args.entries.now.items =
     refilled c.happen.new.entries c.room_for_one-room.new.entries.items c.room_for_one-room.new.entries.len c.room_for_one-room.new.entries.ok.0
-    (ap (length {A = Entry}) (kept ∙ sym c.room_for_one-room.ensures.items)) ∙ kept in
-    (refused-why c.args.nodes.now c.args.event.now c.args.stations.now.items c.args.entries.now.items c.requires c.in-Some.ensures.network c.site.result c.site.ensures
-    c.in-Some.index here less old c.happen.new.station c.index_mut.ensures.value c.room_for_one-room.result c.in-Err.why c.room_for_one-room.ensures.refused ans.1, ap run_of whole)
+    (ap (length {A = Entry}) (kept ∙ sym c.room_for_one-room.ensures.items)) ∙ kept in (
+      refused-why c.args.nodes.now c.args.event.now c.args.stations.now.items c.args.entries.now.items c.requires c.in-Some.ensures.network c.site.result c.site.ensures
+          c.in-Some.index here less old c.happen.new.station c.index_mut.ensures.value c.room_for_one-room.result c.in-Err.why c.room_for_one-room.ensures.refused ans.1,
+      ap run_of whole,
+    )

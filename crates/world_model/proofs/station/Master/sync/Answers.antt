@@ -6,7 +6,9 @@ use Rattle.world_model.proofs.station.Master.sync.Goals as goal
 pub returns : goal.returns
 returns c = λ node at network run setup is stands given.
     let drawn : Seq = record { 0 = c.args.self.now.port.next } in
-    let number : c.next_sync.result.1 ≡ drawn = λ i. record { 0 = c.next_sync.ensures.number i } in
-    (ap is_ok c.in_ok-room.was, rw (c.next_sync.ensures.port, number)
-    (sync-brings network run node at c.in_ok-now.now setup c.args.self.now c.copied.result is stands
-    (sym c.in_ok-now.was ∙ given) (rw c.copied.ensures c.next_sync.ensures.octets)))
+    let number : c.next_sync.result.1 ≡ drawn = λ i. record { 0 = c.next_sync.ensures.number i } in (
+      ap is_ok c.in_ok-room.was,
+      rw (c.next_sync.ensures.port, number)
+          (sync-brings network run node at c.in_ok-now.now setup c.args.self.now c.copied.result is stands
+          (sym c.in_ok-now.was ∙ given) (rw c.copied.ensures c.next_sync.ensures.octets)),
+    )

@@ -7,10 +7,11 @@ use Rattle.world_model.proofs.station.Slave.request.Goals as goal
 
 pub returns : goal.returns
 returns c = λ node at network run setup is stands given.
-    let drawn = c.next_request.ensures.octets (slave_setup setup) (history_of network setup node run) stands.port in
-    (ap is_ok c.in_ok-room.was,
-    request-brings network run node at c.in_ok-now.now setup c.args.self.now is stands (sym c.in_ok-now.was ∙ given.0)
-    c.copied.result c.next_request.result.1 c.next_request.new.self (rw c.copied.ensures drawn)
-    (c.next_request.ensures.number (slave_setup setup) (history_of network setup node run) stands.port)
-    (subst (λ (tag : ℕ). StandsFor (slave_setup setup) c.next_request.new.self (calls.NextRequest tag ∷ history_of network setup node run)) (sym given.1)
-    (c.next_request.ensures.stands (slave_setup setup) (history_of network setup node run) stands.port)))
+    let drawn = c.next_request.ensures.octets (slave_setup setup) (history_of network setup node run) stands.port in (
+      ap is_ok c.in_ok-room.was,
+      request-brings network run node at c.in_ok-now.now setup c.args.self.now is stands (sym c.in_ok-now.was ∙ given.0)
+          c.copied.result c.next_request.result.1 c.next_request.new.self (rw c.copied.ensures drawn)
+          (c.next_request.ensures.number (slave_setup setup) (history_of network setup node run) stands.port)
+          (subst (λ (tag : ℕ). StandsFor (slave_setup setup) c.next_request.new.self (calls.NextRequest tag ∷ history_of network setup node run)) (sym given.1)
+          (c.next_request.ensures.stands (slave_setup setup) (history_of network setup node run) stands.port)),
+    )

@@ -1,0 +1,36 @@
+use Rattle.std.proofs.Common.{◌≡◌, ◌≤◌, ◌<◌, ◌∙◌, ℕ, ◌+◌, List, [], ◌∷◌, ◌++◌, length, take, get_or, vec_len, vec_capacity, Some, Ok, slice_get, is_ok, if◌then◌else◌, sym, ap, subst, inl, arith}
+use Rattle.std.proofs.lemmas.List.{take_more}
+use Rattle.network_model.specs.declared.event.Event.{Event}
+use Rattle.network_model.specs.Outcome.{IsStepped}
+use Rattle.world_model.specs.State.{State, after, after_all, IsRefused}
+use Rattle.world_model.specs.Turns.{AnswersInTurn}
+use Rattle.world_model.proofs.Happening.{reads_at}
+use Rattle.world_model.proofs.InTurn.{after_all-more, AnswersInTurn-more}
+use Rattle.world_model.proofs.turns.run.Goals as goal
+
+pub loop-done-preserved : goal.loop-done-preserved
+loop-done-preserved c =
+    let event : Event = c.index-events-done.result in
+    let is : get_or c.args.events.now c.loop-done.done event ≡ event = sym c.index-events-done.is in
+    let more : take (c.loop-done.done + 1) c.args.events.now ≡ take c.loop-done.done c.args.events.now ++ event ∷ [] =
+    take_more c.args.events.now c.loop-done.done event c.loop-done-test.true ∙ ap (λ (e : Event). take c.loop-done.done c.args.events.now ++ e ∷ []) is in
+    let before = c.loop-done.invariant in
+    let stepped = subst (λ (w : State). IsStepped w.network w.run event c.in-Ok-step.stepped) before.happened c.in-Ok-step.ensures.stepped in
+    record {
+      room = omega (arith, before.room, c.answer.ensures.capacity);
+      count = c.answer.ensures.len ∙ ap (λ n. n + 1) before.count;
+      answered = rw (more, c.answer.ensures.items)
+          (AnswersInTurn-more (take c.loop-done.done c.args.events.now) event c.loop-done.answers.items c.in-Ok-step.stepped c.args.world.now before.answered stepped);
+      happened = c.in-Ok-step.ensures.after ∙ ap (after event) before.happened
+          ∙ sym (ap (λ (es : List Event). after_all es c.args.world.now) more ∙ after_all-more (take c.loop-done.done c.args.events.now) event c.args.world.now);
+    }
+
+pub returns-in-Err-clause-stopped : goal.returns-in-Err-clause-stopped
+returns-in-Err-clause-stopped c = record {
+  happened = c.in-Err.ensures.unchanged ∙ c.loop-done.invariant.happened;
+  why = inl (record {
+    event = c.index-events-done.result;
+    next = reads_at c.args.events.now c.loop-done.done c.index-events-done.result c.loop-done-test.true c.index-events-done.is;
+    refused = subst (λ (w : State). IsRefused w c.index-events-done.result c.in-Err.why) (sym c.in-Err.ensures.unchanged) c.in-Err.ensures.refused;
+  });
+}

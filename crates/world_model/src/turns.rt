@@ -1,0 +1,53 @@
+ghost use Rattle.std.specs.Prelude.{◌≡◌, ◌+◌, ◌≤◌, ◌<◌, ◌∷◌, ◌++◌, [], vec_len, vec_capacity, IfOk, IfErr, OnOk};
+ghost use Rattle.world_model.specs.State.{after_all};
+ghost use Rattle.world_model.specs.Turns.{AnswersInTurn, IsStopped};
+
+use crate::room::put;
+use crate::world::World;
+use network_model::{Event, RunStop, Stepped, WorldRefusal};
+use std::alloc::Global;
+
+/// Puts an answer behind the others, for which there is room.
+fn answer(answers: &mut Vec<Stepped>, stepped: Stepped)
+    requires { vec_len answers.old < vec_capacity answers.old }
+    ensures items { answers.new.items ≡ answers.old.items ++ stepped ∷ [] }
+    ensures len { vec_len answers.new ≡ vec_len answers.old + 1 }
+    ensures capacity { vec_capacity answers.old ≤ vec_capacity answers.new }
+{
+    let Stepped {
+        tag,
+        reading,
+        outcome,
+    } = stepped;
+    put(
+        answers,
+        Stepped {
+            tag,
+            reading,
+            outcome,
+        },
+    );
+}
+
+/// Events one after the other, each answered as by [`World::step`]. Where one is refused the world
+/// stands after those before it. Room for all answers is taken first.
+pub fn run(alloc: Global, world: &mut World, events: &[Event]) -> Result<Vec<Stepped>, RunStop>
+    ensures answers { IfOk result (λ answers. AnswersInTurn world.old events.now answers.items) }
+    ensures after { OnOk result (world.new ≡ after_all events.now world.old) }
+    ensures stopped { IfErr result (λ stop. IsStopped world.old events.now stop world.new) }
+{
+    let Ok(mut answers) = Vec::with_capacity(alloc, events.len()) else {
+        let why = WorldRefusal::Memory;
+        return Err(RunStop { done: 0, why });
+    };
+    for (done, event) in events.iter().enumerate() {
+        match world.step(event) {
+            Ok(stepped) => answer(&mut answers, stepped),
+            Err(why) => {
+                let done = done as u64;
+                return Err(RunStop { done, why });
+            }
+        }
+    }
+    Ok(answers)
+}
