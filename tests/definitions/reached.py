@@ -12,7 +12,7 @@ from pathlib import Path
 
 TOP = Path(__file__).resolve().parents[2]
 WORD = re.compile(r"[A-Za-z_◌][\w◌≡≢≤<>=+\-*/%^&|]*(?:\.[A-Za-z_]\w*)*|◌\S+◌")
-HEAD = re.compile(r"^ *(?:abbrev pub|pub record|pub data) (\S+)")
+HEAD = re.compile(r"^ *(?:abbrev pub|unfoldable pub|pub record|pub data) (\S+)")
 IMPORT = re.compile(r"^\s*(?:ghost )?use (Rattle\.\S+?)(?:\.\{(.*)\}| as (\w+))?;?$")
 
 

@@ -4,3 +4,4 @@ mod Stands
 mod Received
 mod Messages
 mod Examples
+pub mod Uses

@@ -1,0 +1,112 @@
+-- At each accepted event that has a true moment the node's clock shows a moment, its reading.
+-- So what a message says of its times is what the clocks showed.
+use Rattle.std.proofs.Common.{◌≡◌, ◌∙◌, ℕ, ℤ, pos, negsuc, Bool, true, false, Option, Some, None, Ok, IsOk, refl, sym, ap, if◌then◌else◌, option_and_then}
+use Rattle.std.specs.Prelude.{ok_or, unwrap_or, nat_lt, is_some, Result}
+use Rattle.ptp_units.specs.Moment.{bound}
+use Rattle.transparent_clock.specs.Forwarding.{forwarded}
+use Rattle.slave_port.proofs.Uses.{some_step}
+use Rattle.network_model.specs.declared.event.Event.{Event}
+use Rattle.network_model.specs.declared.event.Event.TheVariants.{Sync, SyncOne, Follow, Enter, Leave, Arrive, Hear, Request, Stamped, Tick, SetMaster, StepClock}
+use Rattle.network_model.specs.declared.stepped.Outcome.TheVariants as outcomes
+use Rattle.network_model.specs.declared.refusal.WorldRefusal.TheVariants.{NoCopy, NoTransit, ReadingOutOfRange}
+use Rattle.network_model.specs.Network.{Network, NodeName, master_port, slave_port}
+use Rattle.network_model.specs.Run.{Run, Place, place, place_at, tag_of, IsIn, true_moment}
+use Rattle.network_model.specs.Kinds.{is_at, draws_sync, is_sync, is_one_step_sync, is_request}
+use Rattle.network_model.specs.Clock.{moment_shown, shown_at, reading_of, reading}
+use Rattle.network_model.specs.Truth.{copy_of}
+use Rattle.network_model.specs.Outcome.{◌>>=◌, node_as, clock_of, port_of, reads, open_transit, copy_in, left_outcome, arrived_outcome, outcome_of, IsRun}
+use Rattle.network_model.proofs.Options.{ok_value, ok_step, ok_some}
+use Rattle.network_model.proofs.Places.{accepted-place_at}
+
+-- an accepted event with a true moment is read
+read_at : (network : Network) (event : Event) (earlier : Run) → IsOk (outcome_of network earlier event) → is_some (true_moment event) ≡ true
+    → (now : ℕ) × (reads event earlier ≡ Ok now)
+read_at network (Sync node at) earlier accepted timed =
+    let outcome = ok_value (outcome_of network earlier (Sync node at)) accepted in
+    let port = ok_step (node_as master_port network node) (λ port. reads (Sync node at) earlier >>= (λ now. Ok outcomes.Made)) outcome.1 in
+    let now = ok_step (reads (Sync node at) earlier) (λ now. Ok outcomes.Made) port.2 in (now.0, now.1)
+read_at network (SyncOne node at) earlier accepted timed =
+    let outcome = ok_value (outcome_of network earlier (SyncOne node at)) accepted in
+    let port = ok_step (node_as master_port network node) (λ port. reads (SyncOne node at) earlier >>= (λ now. Ok outcomes.Made)) outcome.1 in
+    let now = ok_step (reads (SyncOne node at) earlier) (λ now. Ok outcomes.Made) port.2 in (now.0, now.1)
+read_at network (Request node at) earlier accepted timed =
+    let outcome = ok_value (outcome_of network earlier (Request node at)) accepted in
+    let port = ok_step (node_as slave_port network node) (λ port. reads (Request node at) earlier >>= (λ now. Ok outcomes.Made)) outcome.1 in
+    let now = ok_step (reads (Request node at) earlier) (λ now. Ok outcomes.Made) port.2 in (now.0, now.1)
+read_at network (Enter node copy at) earlier accepted timed =
+    let outcome = ok_value (outcome_of network earlier (Enter node copy at)) accepted in
+    let clock = ok_step (node_as clock_of network node)
+        (λ clock. ok_or (copy_of network earlier copy) NoCopy >>= (λ m. reads (Enter node copy at) earlier >>= (λ now. Ok outcomes.Entered))) outcome.1 in
+    let message = ok_step (ok_or (copy_of network earlier copy) NoCopy) (λ m. reads (Enter node copy at) earlier >>= (λ now. Ok outcomes.Entered)) clock.2 in
+    let now = ok_step (reads (Enter node copy at) earlier) (λ now. Ok outcomes.Entered) message.2 in (now.0, now.1)
+read_at network (Leave node transit at) earlier accepted timed =
+    let outcome = ok_value (outcome_of network earlier (Leave node transit at)) accepted in
+    let clock = ok_step (node_as clock_of network node)
+        (λ clock. ok_or (option_and_then (open_transit node earlier transit) (place_at earlier transit)) NoTransit >>= (λ entered. ok_or (copy_in network entered) NoTransit
+        >>= (λ m. reads (Leave node transit at) earlier >>= (λ now. Ok (left_outcome (forwarded (Ok m) (reading entered) now)))))) outcome.1 in
+    let entered = ok_step (ok_or (option_and_then (open_transit node earlier transit) (place_at earlier transit)) NoTransit)
+        (λ entered. ok_or (copy_in network entered) NoTransit
+        >>= (λ m. reads (Leave node transit at) earlier >>= (λ now. Ok (left_outcome (forwarded (Ok m) (reading entered) now))))) clock.2 in
+    let message = ok_step (ok_or (copy_in network entered.0) NoTransit)
+        (λ m. reads (Leave node transit at) earlier >>= (λ now. Ok (left_outcome (forwarded (Ok m) (reading entered.0) now)))) entered.2 in
+    let now = ok_step (reads (Leave node transit at) earlier) (λ now. Ok (left_outcome (forwarded (Ok message.0) (reading entered.0) now))) message.2 in (now.0, now.1)
+read_at network (Arrive node copy at) earlier accepted timed =
+    let outcome = ok_value (outcome_of network earlier (Arrive node copy at)) accepted in
+    let kind = ok_step (node_as port_of network node)
+        (λ kind. ok_or (copy_of network earlier copy) NoCopy >>= (λ m. reads (Arrive node copy at) earlier >>= (λ now. Ok (arrived_outcome network kind node earlier now m)))) outcome.1 in
+    let message = ok_step (ok_or (copy_of network earlier copy) NoCopy)
+        (λ m. reads (Arrive node copy at) earlier >>= (λ now. Ok (arrived_outcome network kind.0 node earlier now m))) kind.2 in
+    let now = ok_step (reads (Arrive node copy at) earlier) (λ now. Ok (arrived_outcome network kind.0 node earlier now message.0)) message.2 in (now.0, now.1)
+read_at network (Follow node) earlier accepted timed = cc
+read_at network (Hear node copy) earlier accepted timed = cc
+read_at network (Stamped node) earlier accepted timed = cc
+read_at network (Tick node) earlier accepted timed = cc
+read_at network (SetMaster node master) earlier accepted timed = cc
+read_at network (StepClock node diff) earlier accepted timed = cc
+
+-- the moment shown is the number shown
+shown_number : (shown : ℤ) (now : ℕ) → moment_shown shown ≡ Some now → shown ≡ pos now
+shown_number (negsuc n) now is = cc
+shown_number (pos n) now is = by (nat_lt n bound) is
+  where
+    by : (below : Bool) → (if below then Some n else None) ≡ Some now → pos n ≡ pos now
+    by true is = cc
+    by false is = cc
+
+-- what the clock shows is the reading
+pub shown_reading : (network : Network) (run : Run) (p : Place) → IsRun network run → IsIn run p → is_some (true_moment p.event) ≡ true → shown_at p ≡ Some (pos (reading p))
+shown_reading network run p accepted there timed =
+    let now = read_at network p.event p.earlier (accepted-place_at network run (tag_of p) p accepted there) timed in
+    let read : reading_of p ≡ Some now.0 = ok_some (reading_of (place p.event p.earlier)) ReadingOutOfRange {x = now.0} now.1 in
+    let shown = some_step moment_shown (shown_at p) read in
+    let is : reading p ≡ now.0 = ap (λ (r : Option ℕ). unwrap_or r 0) read in
+    shown.1 ∙ ap (λ (z : ℤ). Some z) (shown_number shown.0 now.0 shown.2) ∙ ap (λ (n : ℕ). Some (pos n)) (sym is)
+
+-- events that draw a number have a true moment
+pub sync_timed : (event : Event) → draws_sync event ≡ true → is_some (true_moment event) ≡ true
+sync_timed (Sync node at) is = refl
+sync_timed (SyncOne node at) is = refl
+sync_timed (Follow node) is = cc
+sync_timed (Enter node copy at) is = cc
+sync_timed (Leave node transit at) is = cc
+sync_timed (Arrive node copy at) is = cc
+sync_timed (Hear node copy) is = cc
+sync_timed (Request node at) is = cc
+sync_timed (Stamped node) is = cc
+sync_timed (Tick node) is = cc
+sync_timed (SetMaster node master) is = cc
+sync_timed (StepClock node diff) is = cc
+
+pub request_timed : (event : Event) → is_request event ≡ true → is_some (true_moment event) ≡ true
+request_timed (Request node at) is = refl
+request_timed (Sync node at) is = cc
+request_timed (SyncOne node at) is = cc
+request_timed (Follow node) is = cc
+request_timed (Enter node copy at) is = cc
+request_timed (Leave node transit at) is = cc
+request_timed (Arrive node copy at) is = cc
+request_timed (Hear node copy) is = cc
+request_timed (Stamped node) is = cc
+request_timed (Tick node) is = cc
+request_timed (SetMaster node master) is = cc
+request_timed (StepClock node diff) is = cc

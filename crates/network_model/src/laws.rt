@@ -1,0 +1,25 @@
+//! Laws of runs, each the contract of a function that does nothing: a caller that needs the law in its
+//! proof calls it.
+
+ghost use Rattle.network_model.specs.Headline.{Headline, HeadlineWithinOneTurn};
+ghost use Rattle.network_model.specs.Pairs.{NoPairIsMissed};
+
+/// Over runs of any length that are fresh and ticked, each report of a slave is of one Sync and of one
+/// Delay_Req, those that its tags name, and exactly twice the standard's two results over them.
+pub fn each_report_is_exact()
+    ensures { Headline }
+{}
+
+/// The same where the numbers of no port have come round, however old what is heard and however rare
+/// the ticks.
+pub fn each_report_is_exact_within_one_turn()
+    ensures { HeadlineWithinOneTurn }
+{}
+
+/// Over runs of any length that are fresh and ticked no pair is missed: a usable two-step Sync
+/// completes exactly where a Follow_Up of the same Sync event is held, a usable Follow_Up exactly where
+/// a Sync of the same Sync event is, and a usable Delay_Resp exactly where its own request is held with
+/// its departure.
+pub fn no_pair_is_missed()
+    ensures { NoPairIsMissed }
+{}
