@@ -1,9 +1,11 @@
 //! Exchanges through a master, one clock and a slave, or the same messages merely decoded and
 //! encoded, as often as the words say: `exchange 1000000`, or `codec 1000000` over the octets of a
 //! Sync, a Follow_Up, a Delay_Req and a Delay_Resp on standard input; or numbers put in a table and
-//! sought there, `list16`, `ring16`, `list256` or `ring256`.
+//! sought there, `list16`, `ring16`, `list256` or `ring256`; or exchanges through two clocks, of so
+//! many events, in a `world`, which then tells its memory, or by calls of the `ports`.
 #![tactic(auto)]
 
+mod networks;
 mod tables;
 
 use event_codec::{PortConfig, PortIdentity, decode, encode};
@@ -12,7 +14,7 @@ use pairing::ListTable;
 use ptp_units::{ScaledTime, Seq};
 use slave_port::{Heard, HeldFollow, HeldRequest, HeldSync, SlavePort};
 use std::io::Read;
-use std::{env, io};
+use std::{env, fs, io};
 use transparent_clock::enter;
 
 type Slave = SlavePort<
@@ -122,6 +124,14 @@ fn coded_length(messages: &[u8], start: usize, sequence: u8) -> u64 {
     }
 }
 
+/// The most memory that a process had, in kilobytes, from its status as Linux tells it.
+fn kilobytes(status: &str) -> u64 {
+    let line = status.lines().find(|line| line.starts_with("VmHWM:"));
+    line.and_then(|line| line.split_whitespace().nth(1))
+        .and_then(|kilobytes| kilobytes.parse::<u64>().ok())
+        .unwrap_or(0)
+}
+
 fn main(rt: HostRuntime) -> io::Result<()> {
     let words: Vec<String> = env::args(&rt)?.collect(rt.alloc())?;
     let rounds = words
@@ -133,6 +143,19 @@ fn main(rt: HostRuntime) -> io::Result<()> {
         let mut messages = Vec::new(rt.alloc());
         rt.reader().read_to_end(&mut messages)?;
         return println!(rt; "{} octets", coded(&messages, rounds));
+    }
+    match word {
+        "world" => {
+            let reports = networks::reports_in_world(rt.alloc(), rounds).unwrap_or(0);
+            println!(rt; "{reports} reports")?;
+            let status = fs::read_to_string(&rt, "/proc/self/status")?;
+            return println!(rt; "{} kB", kilobytes(status.as_str()));
+        }
+        "ports" => {
+            let reports = networks::reports_of_ports(rounds).unwrap_or(0);
+            return println!(rt; "{reports} reports");
+        }
+        _ => {}
     }
     match tables::found_in(word, rounds) {
         Some(found) => println!(rt; "{found} found"),

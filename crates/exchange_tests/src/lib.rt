@@ -12,11 +12,15 @@ mod datagrams;
 #[cfg(test)]
 mod devices;
 #[cfg(test)]
+mod exchanges;
+#[cfg(test)]
 mod master;
 #[cfg(test)]
 mod nodes;
 #[cfg(test)]
 mod program;
+#[cfg(test)]
+mod script;
 #[cfg(test)]
 mod show;
 #[cfg(test)]
@@ -25,3 +29,5 @@ mod slave;
 mod tables;
 #[cfg(test)]
 mod units;
+#[cfg(test)]
+mod worlds;

@@ -1,0 +1,195 @@
+//! Scripts of what happens in a network, one line each: the nodes first, then the events.
+//!
+//! A node is `master M 001122fffe334455 0` or `slave S 00aabbfffeccddee 0`, with its clock identity
+//! and its first number, at port 1 of domain 0, or `clock T`. An event is its tag, its kind, its
+//! node, what else it has and, behind an arrow, what comes of it: `5 arrive S 4 [1,3000,0] -> held`,
+//! where `[1,3000,0]` is 1 s, 3,000 ns and no unit of 2^-16 ns. Before the arrow `reads [1,4000,0]`
+//! may say what the node's clock shows. An event that a world refuses has `-` for a tag, and the
+//! number of the refusal behind the arrow.
+
+use event_codec::{PortConfig, PortIdentity};
+use network_model::{Event, Name, NodeKind, NodeSpec};
+use ptp_units::{ScaledTime, Seq, Timestamp};
+use std::alloc::Global;
+use std::str::{FromStr, SplitWhitespace};
+use std::test::Fail;
+
+/// The words of a line that weren't read yet.
+type Words<'a> = SplitWhitespace<'a>;
+
+/// An event and what is to come of it.
+#[derive(Clone, Copy, Debug, Drop)]
+pub(crate) struct Row<'a> {
+    /// The line.
+    pub(crate) line: &'a str,
+    /// The tag, or None where the world refuses the event.
+    pub(crate) tag: Option<u64>,
+    /// The event.
+    pub(crate) event: Event,
+    /// What the clock of its node reads, where the line says so.
+    pub(crate) reading: Option<ScaledTime>,
+    /// What comes of it.
+    pub(crate) outcome: &'a str,
+}
+
+/// The nodes of a script.
+pub(crate) fn nodes_of(alloc: Global, script: &str) -> Result<Vec<NodeSpec>, Fail> {
+    let mut nodes = Vec::new(alloc);
+    for line in script.lines() {
+        let mut words = line.split_whitespace();
+        if let Some(kind) = words.next() {
+            nodes.push(node(kind, words)?)?;
+        }
+    }
+    Ok(nodes)
+}
+
+fn node(kind: &str, mut words: Words<'_>) -> Result<NodeSpec, Fail> {
+    let name = name(&mut words)?;
+    let kind = match kind {
+        "master" => NodeKind::Master {
+            config: config(&mut words)?,
+            first: Seq(number(&mut words)?),
+        },
+        "slave" => NodeKind::Slave {
+            config: config(&mut words)?,
+            first: Seq(number(&mut words)?),
+        },
+        "clock" => NodeKind::Clock,
+        other => return Err(Fail::new(format_args!("no kind of node: {other}"))),
+    };
+    Ok(NodeSpec { name, kind })
+}
+
+fn config(words: &mut Words<'_>) -> Result<PortConfig, Fail> {
+    let mut clock = [0; 8];
+    hex::decode_to_slice(word(words)?, &mut clock)?;
+    let identity = PortIdentity { clock, port: 1 };
+    Ok(PortConfig {
+        identity,
+        domain: 0,
+        log: 0,
+    })
+}
+
+/// The events of the parts of a script, in turn.
+pub(crate) fn rows_of<'a>(alloc: Global, parts: &[&'a str]) -> Result<Vec<Row<'a>>, Fail> {
+    let mut rows = Vec::new(alloc);
+    for part in parts {
+        for line in part.lines() {
+            if let Some((happens, outcome)) = line.split_once(" -> ") {
+                rows.push(read_row(line, happens, outcome)?)?;
+            }
+        }
+    }
+    Ok(rows)
+}
+
+fn read_row<'a>(line: &'a str, happens: &'a str, outcome: &'a str) -> Result<Row<'a>, Fail> {
+    let mut words = happens.split_whitespace();
+    let tag = match word(&mut words)? {
+        "-" => None,
+        tag => Some(tag.parse::<u64>()?),
+    };
+    let event = event(&mut words)?;
+    let reading = match words.next() {
+        Some("reads") => Some(moment(&mut words)?),
+        Some(other) => return Err(Fail::new(format_args!("{other} is too much: {line}"))),
+        None => None,
+    };
+    Ok(Row {
+        line,
+        tag,
+        event,
+        reading,
+        outcome,
+    })
+}
+
+fn event(words: &mut Words<'_>) -> Result<Event, Fail> {
+    let kind = word(words)?;
+    let node = name(words)?;
+    match kind {
+        "sync" | "syncone" | "request" => drawing(kind, node, moment(words)?),
+        "enter" | "leave" | "arrive" => passing(kind, node, number(words)?, moment(words)?),
+        "hear" => Ok(Event::Hear {
+            node,
+            copy: number(words)?,
+        }),
+        "setmaster" => Ok(Event::SetMaster {
+            node,
+            master: name(words)?,
+        }),
+        "stepclock" => Ok(Event::StepClock {
+            node,
+            diff: word(words)?.parse::<i128>()?,
+        }),
+        _ => plain(kind, node),
+    }
+}
+
+/// An event that draws a number.
+fn drawing(kind: &str, node: Name, at: ScaledTime) -> Result<Event, Fail> {
+    match kind {
+        "sync" => Ok(Event::Sync { node, at }),
+        "syncone" => Ok(Event::SyncOne { node, at }),
+        _ => Ok(Event::Request { node, at }),
+    }
+}
+
+/// An event of a message on its way.
+fn passing(kind: &str, node: Name, tag: u64, at: ScaledTime) -> Result<Event, Fail> {
+    match kind {
+        "enter" => Ok(Event::Enter {
+            node,
+            copy: tag,
+            at,
+        }),
+        "leave" => Ok(Event::Leave {
+            node,
+            transit: tag,
+            at,
+        }),
+        _ => Ok(Event::Arrive {
+            node,
+            copy: tag,
+            at,
+        }),
+    }
+}
+
+/// An event that has nothing but its node.
+fn plain(kind: &str, node: Name) -> Result<Event, Fail> {
+    match kind {
+        "follow" => Ok(Event::Follow { node }),
+        "stamped" => Ok(Event::Stamped { node }),
+        "tick" => Ok(Event::Tick { node }),
+        other => Err(Fail::new(format_args!("no kind of event: {other}"))),
+    }
+}
+
+fn word<'a>(words: &mut Words<'a>) -> Result<&'a str, Fail> {
+    Ok(words.next().ok_or("a word is missing")?)
+}
+
+fn name(words: &mut Words<'_>) -> Result<Name, Fail> {
+    Ok(Name::new(word(words)?).ok_or("no name")?)
+}
+
+fn number<N: FromStr<Err = std::num::ParseIntError>>(words: &mut Words<'_>) -> Result<N, Fail> {
+    Ok(word(words)?.parse::<N>()?)
+}
+
+/// A moment of seconds, nanoseconds and units of 2^-16 ns.
+fn moment(words: &mut Words<'_>) -> Result<ScaledTime, Fail> {
+    let text = word(words)?;
+    let inner = text
+        .strip_prefix('[')
+        .and_then(|rest| rest.strip_suffix(']'));
+    let (seconds, rest) = inner
+        .and_then(|inner| inner.split_once(','))
+        .ok_or("no moment")?;
+    let (nanoseconds, fraction) = rest.split_once(',').ok_or("no moment")?;
+    let timestamp = Timestamp::new(seconds.parse::<u64>()?, nanoseconds.parse::<u32>()?)?;
+    Ok(ScaledTime::join(timestamp, fraction.parse::<u16>()?))
+}

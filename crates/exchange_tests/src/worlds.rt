@@ -1,0 +1,282 @@
+//! Worked exchanges in a world, and runs that are too long for a script.
+
+use crate::exchanges::{
+    EXCHANGES, Exchange, PAIR, QUARTERS, REFUSALS, SLAVES_AGREE, TICKED_IN_TIME, TICKED_TOO_SELDOM,
+    TURN_BEGINS, TURN_ENDS, TURN_ENDS_AFTER_TICKS, TWO_SLAVES, TWO_TICKS,
+};
+use crate::script::{Row, nodes_of, rows_of};
+use network_model::{Name, Nodes};
+use ptp_units::{ScaledTime, Timestamp};
+use std::alloc::{AllocError, Global};
+use std::process::Abort;
+use std::test::Fail;
+use world_model::{Event, Heard, Outcome, Report, RunStop, Stepped, World, WorldRefusal, run};
+
+/// The world of the nodes of a script.
+fn world_of(alloc: Global, nodes: &str) -> Result<World, Fail> {
+    let specs = nodes_of(alloc, nodes)?;
+    let nodes = Nodes::new(alloc, specs.as_slice())?;
+    Ok(World::new(alloc, nodes)?)
+}
+
+/// What came of an event, as a script says it.
+fn outcome_text(alloc: Global, outcome: Outcome) -> Result<String, AllocError> {
+    match outcome {
+        Outcome::Done => String::from_str(alloc, "done"),
+        Outcome::Made => String::from_str(alloc, "made"),
+        Outcome::Entered => String::from_str(alloc, "entered"),
+        Outcome::Heard(heard) => heard_text(alloc, heard),
+        Outcome::Refused(code) => format!(in alloc; "refused {code}"),
+    }
+}
+
+fn heard_text(alloc: Global, heard: Heard) -> Result<String, AllocError> {
+    match heard {
+        Heard::Held => String::from_str(alloc, "held"),
+        Heard::Completed => String::from_str(alloc, "completed"),
+        Heard::Report(report) => report_text(alloc, report),
+        Heard::Ignored(reason) => format!(in alloc; "ignored {}", reason.code()),
+    }
+}
+
+fn report_text(alloc: Global, report: Report) -> Result<String, AllocError> {
+    let Report {
+        offset2,
+        path2,
+        sync_tag,
+        follow_tag,
+        request_tag,
+        response_tag,
+    } = report;
+    match follow_tag {
+        Some(follow_tag) => {
+            format!(in alloc;
+                "report {offset2} {path2} [{sync_tag},{follow_tag},{request_tag},{response_tag}]"
+            )
+        }
+        None => {
+            format!(in alloc;
+                "report {offset2} {path2} [{sync_tag},null,{request_tag},{response_tag}]"
+            )
+        }
+    }
+}
+
+/// The octets of the copy of this tag, in hexadecimal.
+fn copy_text(alloc: Global, world: &World, tag: u64) -> Result<String, Fail> {
+    let octets = world.octets(tag).ok_or("no copy")?;
+    Ok(hex::encode(alloc, octets)?)
+}
+
+/// The events of accepted rows come out in one run as the rows say.
+fn assert_accepted(
+    rt: &(impl Abort + AllocGlobal),
+    world: &mut World,
+    title: &str,
+    rows: &[Row<'_>],
+) -> Result<(), Fail> {
+    let events: Vec<Event> = rows.iter().map(|row| row.event).collect(rt.alloc())?;
+    let answers = run(rt.alloc(), world, events.as_slice())?;
+    assert_eq!(rt; answers.len(), rows.len());
+    for (row, stepped) in rows.iter().zip(answers.iter()) {
+        assert_stepped(rt, world, title, row, stepped)?;
+    }
+    Ok(())
+}
+
+fn assert_stepped(
+    rt: &(impl Abort + AllocGlobal),
+    world: &World,
+    title: &str,
+    row: &Row<'_>,
+    stepped: &Stepped,
+) -> Result<(), Fail> {
+    assert_eq!(rt; Some(stepped.tag), row.tag, "{title}: {}", row.line);
+    if row.reading.is_some() {
+        assert_eq!(rt; stepped.reading, row.reading, "{title}: {}", row.line);
+    }
+    let (outcome, octets) = match row.outcome.split_once("made ") {
+        Some((_, octets)) => ("made", Some(octets)),
+        None => (row.outcome, None),
+    };
+    let text = outcome_text(rt.alloc(), stepped.outcome)?;
+    assert_eq!(rt; text.as_str(), outcome, "{title}: {}", row.line);
+    if let Some(octets) = octets {
+        let copy = copy_text(rt.alloc(), world, stepped.tag)?;
+        assert_eq!(rt; copy.as_str(), octets, "{title}: {}", row.line);
+    }
+    Ok(())
+}
+
+/// The world refuses the event with the number that the row says, and takes nothing of it.
+fn assert_refused(
+    rt: &(impl Abort + AllocGlobal),
+    refusal: Option<WorldRefusal>,
+    row: &Row<'_>,
+) -> Result<(), Fail> {
+    let code = refusal.ok_or("no refusal")?.code();
+    assert_eq!(rt; code, row.outcome.parse::<u16>()?, "{}", row.line);
+    Ok(())
+}
+
+/// Runs an exchange: accepted events up to the next refused one in one run, and that one in a run
+/// of its own.
+fn assert_exchange(rt: &(impl Abort + AllocGlobal), exchange: &Exchange) -> Result<(), Fail> {
+    let mut world = world_of(rt.alloc(), exchange.nodes)?;
+    let rows = rows_of(rt.alloc(), exchange.events)?;
+    for stretch in rows.split_inclusive(|row| row.tag.is_none()) {
+        match stretch.split_last() {
+            Some((row, before)) if row.tag.is_none() => {
+                assert_accepted(rt, &mut world, exchange.shows, before)?;
+                let stop = run(rt.alloc(), &mut world, &[row.event]).err();
+                assert_eq!(rt; stop.map(|stop| stop.done), Some(0), "{}", row.line);
+                assert_refused(rt, stop.map(|stop| stop.why), row)?;
+            }
+            _ => assert_accepted(rt, &mut world, exchange.shows, stretch)?,
+        }
+    }
+    Ok(())
+}
+
+#[test]
+fn exchanges_come_out_as_worked(rt: HostRuntime) -> Result<(), Fail> {
+    for exchange in &EXCHANGES {
+        assert_exchange(&rt, exchange)?;
+    }
+    Ok(())
+}
+
+#[test]
+fn refused_events_take_no_tag(rt: HostRuntime) -> Result<(), Fail> {
+    let mut world = world_of(rt.alloc(), REFUSALS.nodes)?;
+    for row in rows_of(rt.alloc(), REFUSALS.events)?.iter() {
+        let before = world.len();
+        match (row.tag, world.step(&row.event)) {
+            (Some(_), Ok(stepped)) => assert_stepped(&rt, &world, REFUSALS.shows, row, &stepped)?,
+            (_, answer) => {
+                assert_refused(&rt, answer.err(), row)?;
+                assert_eq!(rt; world.len(), before, "{}", row.line);
+            }
+        }
+    }
+    Ok(())
+}
+
+#[test]
+fn a_run_stops_at_a_refused_event(rt: HostRuntime) -> Result<(), Fail> {
+    let (master, slave) = names()?;
+    let mut world = world_of(rt.alloc(), PAIR)?;
+    let answers = run(rt.alloc(), &mut world, &[])?;
+    assert_eq!(rt; answers.len(), 0);
+    let sync = Event::Sync {
+        node: master,
+        at: ScaledTime::default(),
+    };
+    let stamped = Event::Stamped { node: slave };
+    let stop = run(rt.alloc(), &mut world, &[sync, sync, stamped, sync]).err();
+    let expected = RunStop {
+        done: 2,
+        why: WorldRefusal::NothingWaiting,
+    };
+    assert_eq!(rt; stop, Some(expected));
+    assert_eq!(rt; world.len(), 2);
+    Ok(())
+}
+
+/// The master and the slave of a script.
+fn names() -> Result<(Name, Name), Fail> {
+    Ok((
+        Name::new("M").ok_or("no name")?,
+        Name::new("S").ok_or("no name")?,
+    ))
+}
+
+fn second(second: u64, nanoseconds: u32) -> Result<ScaledTime, Fail> {
+    Ok(ScaledTime::join(Timestamp::new(second, nanoseconds)?, 0))
+}
+
+/// The master draws so many Syncs, at 2 s, in one run.
+fn draw_syncs(rt: &(impl Abort + AllocGlobal), world: &mut World, count: u32) -> Result<(), Fail> {
+    let (node, _) = names()?;
+    let at = second(2, 0)?;
+    let mut events = Vec::new(rt.alloc());
+    for _ in 0..count {
+        events.push(Event::Sync { node, at })?;
+    }
+    let answers = run(rt.alloc(), world, events.as_slice())?;
+    assert_eq!(rt; answers.len(), events.len());
+    assert!(rt;
+        answers
+            .iter()
+            .all(|stepped| stepped.outcome == Outcome::Made)
+    );
+    Ok(())
+}
+
+/// The events of a script that has no refused ones.
+fn assert_script(
+    rt: &(impl Abort + AllocGlobal),
+    world: &mut World,
+    script: &str,
+) -> Result<(), Fail> {
+    let rows = rows_of(rt.alloc(), &[script])?;
+    assert_accepted(rt, world, script, rows.as_slice())
+}
+
+#[test]
+fn numbers_that_came_round_pair_wrongly(rt: HostRuntime) -> Result<(), Fail> {
+    let mut world = world_of(rt.alloc(), PAIR)?;
+    assert_script(&rt, &mut world, TURN_BEGINS)?;
+    draw_syncs(&rt, &mut world, 65_535)?;
+    assert_script(&rt, &mut world, TURN_ENDS)
+}
+
+#[test]
+fn ticks_drop_numbers_that_came_round(rt: HostRuntime) -> Result<(), Fail> {
+    let mut world = world_of(rt.alloc(), PAIR)?;
+    assert_script(&rt, &mut world, TURN_BEGINS)?;
+    assert_script(&rt, &mut world, TWO_TICKS)?;
+    draw_syncs(&rt, &mut world, 65_535)?;
+    assert_script(&rt, &mut world, TURN_ENDS_AFTER_TICKS)
+}
+
+/// A world in which all numbers were drawn once, with a tick between the quarters.
+fn quartered_world(rt: &(impl Abort + AllocGlobal)) -> Result<World, Fail> {
+    let mut world = world_of(rt.alloc(), PAIR)?;
+    assert_script(rt, &mut world, "0 setmaster S M -> done")?;
+    for script in QUARTERS {
+        draw_syncs(rt, &mut world, 16_384)?;
+        assert_script(rt, &mut world, script)?;
+    }
+    Ok(world)
+}
+
+#[test]
+fn a_late_sync_is_dropped_where_ticks_come_in_time(rt: HostRuntime) -> Result<(), Fail> {
+    let mut world = quartered_world(&rt)?;
+    assert_script(&rt, &mut world, TICKED_IN_TIME)
+}
+
+#[test]
+fn a_late_sync_pairs_wrongly_where_ticks_come_too_seldom(rt: HostRuntime) -> Result<(), Fail> {
+    let mut world = quartered_world(&rt)?;
+    assert_script(&rt, &mut world, TICKED_TOO_SELDOM)
+}
+
+/// Twice a reading, less what its slave reported, is twice the true time: 6 s.
+#[test]
+fn slaves_tell_the_true_time(rt: HostRuntime) -> Result<(), Fail> {
+    let mut world = world_of(rt.alloc(), TWO_SLAVES)?;
+    assert_script(&rt, &mut world, SLAVES_AGREE)?;
+    for (slave, offset2) in [("S1", 917_504), ("S2", -1_179_648)] {
+        let request = Event::Request {
+            node: Name::new(slave).ok_or("no name")?,
+            at: second(3, 0)?,
+        };
+        let reading = world.step(&request)?.reading.ok_or("no reading")?;
+        let doubled = i128::try_from(reading.value())?.wrapping_mul(2);
+        let time = i128::try_from(second(6, 0)?.value())?;
+        assert_eq!(rt; doubled.wrapping_sub(offset2), time, "{slave}");
+    }
+    Ok(())
+}
