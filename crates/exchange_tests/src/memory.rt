@@ -30,15 +30,12 @@ fn config(identity: PortIdentity) -> PortConfig {
     }
 }
 
-/// A world of a master, a slave and a transparent clock.
-fn world(alloc: Global) -> Result<World, WorldRefusal> {
-    let specs = match specs() {
-        Ok(specs) => specs,
-        Err(_) => return Err(WorldRefusal::NoNode),
-    };
-    World::new(alloc, Nodes::new(alloc, &specs)?)
+/// A world of these nodes.
+fn world(alloc: Global, specs: &[NodeSpec]) -> Result<World, WorldRefusal> {
+    World::new(alloc, Nodes::new(alloc, specs)?)
 }
 
+/// A master, a slave and a transparent clock.
 fn specs() -> Result<[NodeSpec; 3], Fail> {
     let first = Seq(0);
     Ok([
@@ -160,15 +157,16 @@ const AMPLE: [Outcome; 14] = [
 #[test]
 fn steps_whatever_memory_there_is(rt: HostRuntime) -> Result<(), Fail> {
     let events = exchange()?;
-    let mut world = match world(rt.alloc()) {
+    let specs = specs()?;
+    let mut world = match world(rt.alloc(), &specs) {
         Ok(world) => world,
         Err(why) => {
             assert_eq!(rt; why, WorldRefusal::Memory);
             return Ok(());
         }
     };
-    let mut happened = 0;
-    for (event, outcome) in events.iter().zip(&AMPLE) {
+    for (index, (event, outcome)) in events.iter().zip(&AMPLE).enumerate() {
+        let happened = index as u64;
         let stepped = match world.step(event) {
             Ok(stepped) => stepped,
             Err(why) => {
@@ -179,7 +177,6 @@ fn steps_whatever_memory_there_is(rt: HostRuntime) -> Result<(), Fail> {
         };
         assert_eq!(rt; stepped.tag, happened);
         assert_eq!(rt; stepped.outcome, *outcome);
-        happened += 1;
     }
     assert_eq!(rt; world.len(), 14);
     Ok(())
@@ -190,7 +187,8 @@ fn steps_whatever_memory_there_is(rt: HostRuntime) -> Result<(), Fail> {
 #[test]
 fn runs_whatever_memory_there_is(rt: HostRuntime) -> Result<(), Fail> {
     let events = exchange()?;
-    let mut world = match world(rt.alloc()) {
+    let specs = specs()?;
+    let mut world = match world(rt.alloc(), &specs) {
         Ok(world) => world,
         Err(why) => {
             assert_eq!(rt; why, WorldRefusal::Memory);
@@ -206,7 +204,7 @@ fn runs_whatever_memory_there_is(rt: HostRuntime) -> Result<(), Fail> {
             (run(rt.alloc(), &mut world, left)?, stop.done as usize)
         }
     };
-    assert_eq!(rt; done + answers.len(), events.len());
+    assert_eq!(rt; done.checked_add(answers.len()), Some(events.len()));
     for (stepped, outcome) in answers.iter().zip(AMPLE.iter().skip(done)) {
         assert_eq!(rt; stepped.outcome, *outcome);
     }
