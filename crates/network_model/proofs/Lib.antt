@@ -6,6 +6,7 @@ pub mod Accepted
 pub mod Short
 pub mod Travelled
 pub mod Leaving
+pub mod Spent
 pub mod Worked
 pub mod WorkedExchange
 pub mod WorkedOctets
