@@ -16,6 +16,8 @@ mod exchanges;
 #[cfg(test)]
 mod master;
 #[cfg(test)]
+mod memory;
+#[cfg(test)]
 mod nodes;
 #[cfg(test)]
 mod program;

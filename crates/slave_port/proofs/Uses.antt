@@ -17,6 +17,7 @@ use Rattle.event_codec.specs.declared.port.PortIdentity.{PortIdentity}
 use Rattle.event_codec.specs.Packet.{Contents}
 use Rattle.pairing.specs.Marked.{Entry, entry, first_value}
 use Rattle.slave_port.specs.declared.heard.Heard.TheVariants as answers
+use Rattle.event_codec.specs.Port.{is_same_port}
 use Rattle.slave_port.specs.declared.heard.Report.{Report}
 use Rattle.slave_port.specs.declared.reason.Reason.{Reason}
 use Rattle.slave_port.specs.declared.reason.Reason.TheVariants as reasons
@@ -26,7 +27,7 @@ use Rattle.slave_port.specs.History as calls
 use Rattle.slave_port.specs.History.{Call, Setup}
 use Rattle.slave_port.specs.Values.{SyncValue, OneStepValue, FollowValue, ResponseValue, RequestValue}
 use Rattle.slave_port.specs.Used.{part, two_step_sync, follow_up, delay_resp}
-use Rattle.slave_port.specs.Usable.{Criteria, Test, first_reason, common_tests, is_same_port, is_other, is_too_big, is_not_newer, is_two_step, sync_reason, response_reason, sync_use, used_unless, event_use, general_use, judged, usable_in, unusable_in}
+use Rattle.slave_port.specs.Usable.{Criteria, Test, first_reason, common_tests, is_other, is_too_big, is_not_newer, is_two_step, sync_reason, response_reason, sync_use, used_unless, event_use, general_use, judged, usable_in, unusable_in}
 use Rattle.slave_port.specs.Requests.{held_requests}
 use Rattle.slave_port.specs.Completion.{SyncCompletion, DelayCompletion, pair, alone, answered, completed_by}
 use Rattle.slave_port.specs.Kept.{criteria, usable, unusable, usable_two_step_sync, usable_follow_up, usable_delay_resp, held_syncs, held_follows, sync_completion, delay_completion, last_sync_completion, last_delay_completion}

@@ -1,5 +1,5 @@
 -- Messages that ports hear.
-use Rattle.std.proofs.Common.{◌≡◌, ◌∙◌, ℕ, List, ◌∷◌, length, Option, Some, None, Ok, Err, Result, ok_or, option_map, option_and_then, sym, ap, refl, subst}
+use Rattle.std.proofs.Common.{◌≡◌, ◌∙◌, ℕ, ◌∷◌, length, Option, Some, None, Ok, Err, Result, ok_or, option_map, option_and_then, sym, ap, refl, subst}
 use Rattle.std.specs.Result.{result_ok}
 use Rattle.event_codec.specs.Packet.{Contents, Packet}
 use Rattle.master_port.specs.declared.refusal.MasterRefusal.{MasterRefusal}
@@ -14,12 +14,11 @@ use Rattle.slave_port.specs.declared.heard.Heard.{Heard}
 use Rattle.network_model.specs.declared.event.Event.TheVariants.{Arrive, Hear}
 use Rattle.network_model.specs.declared.node.NodeKind.{NodeKind}
 use Rattle.network_model.specs.declared.node.NodeKind.TheVariants as kinds
-use Rattle.network_model.specs.declared.refusal.WorldRefusal.{WorldRefusal}
 use Rattle.network_model.specs.declared.refusal.WorldRefusal.TheVariants.{NoNode, WrongKind, NoCopy}
 use Rattle.network_model.specs.declared.stepped.Outcome.{Outcome}
 use Rattle.network_model.specs.declared.stepped.Outcome.TheVariants as outcomes
 use Rattle.network_model.specs.Network.{Network, NodeName, PortSetup, kind_of, master_port, slave_port}
-use Rattle.network_model.specs.Run.{Run, Place, place}
+use Rattle.network_model.specs.Run.{Run, place}
 use Rattle.network_model.specs.Clock.{reading}
 use Rattle.network_model.specs.Truth.{TellsTruth, copy_of, master_at, slave_at, responded}
 use Rattle.network_model.specs.SlaveHistory.{slave_setup, history_of}

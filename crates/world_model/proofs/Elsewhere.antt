@@ -1,5 +1,5 @@
 -- What an event leaves as it was at other nodes.
-use Rattle.std.proofs.Common.{◌≡◌, ◌∙◌, ℕ, ◌+◌, Bool, true, false, List, [], ◌∷◌, ◌++◌, count_by, if◌then◌else◌, Option, Some, None, option_map, unwrap_or, refl, sym, ap, subst}
+use Rattle.std.proofs.Common.{◌≡◌, ◌∙◌, ◌+◌, Bool, true, false, ◌∷◌, ◌++◌, if◌then◌else◌, Some, None, option_map, unwrap_or, refl, sym, ap, subst}
 use Rattle.std.specs.Prelude.{◌&&◌}
 use Rattle.std.specs.Option.{option_to_list}
 use Rattle.ptp_units.specs.Sequence.{of_count}
@@ -14,7 +14,6 @@ use Rattle.network_model.specs.Kinds.{is_at, is_sync, draws_sync, is_follow, is_
 use Rattle.network_model.specs.Clock.{difference}
 use Rattle.network_model.specs.Numbering.{draws_with, waiting_sync, waiting_request}
 use Rattle.network_model.specs.SlaveHistory.{slave_setup, call_made, history_of}
-use Rattle.world_model.specs.declared.station.Departure.{Departure}
 use Rattle.world_model.specs.declared.station.Master.{Master}
 use Rattle.world_model.specs.declared.station.Slave.{Slave}
 use Rattle.world_model.specs.declared.station.Port.{Port}

@@ -1,15 +1,14 @@
 -- A world after one more event.
-use Rattle.std.proofs.Common.{◌≡◌, ◌∙◌, ℕ, zero, suc, ◌<◌, Bool, true, false, List, [], ◌∷◌, ◌++◌, length, take, drop, slice_get, slice_set, slice_index_or, Option, Some, None, Ok, Err, Result, IsOk, is_some, option_map, ◌⊎◌, inl, inr, IfErr, OnOk, sym, ap, refl, subst, arith}
+use Rattle.std.proofs.Common.{◌≡◌, ◌∙◌, ℕ, zero, suc, ◌<◌, true, List, [], ◌∷◌, ◌++◌, length, take, drop, slice_get, slice_set, slice_index_or, Option, Some, None, Ok, Err, Result, IsOk, is_some, option_map, inl, inr, IfErr, OnOk, sym, ap, refl, subst, arith}
 use Rattle.std.proofs.lemmas.List.{take_at}
 use Rattle.network_model.specs.declared.event.Event.{Event}
 use Rattle.network_model.specs.declared.node.NodeKind.{NodeKind}
 use Rattle.network_model.specs.declared.node.NodeSpec.{NodeSpec}
 use Rattle.network_model.specs.declared.refusal.WorldRefusal.{WorldRefusal}
 use Rattle.network_model.specs.declared.refusal.WorldRefusal.TheVariants.{Memory}
-use Rattle.network_model.specs.declared.stepped.Stepped.{Stepped}
-use Rattle.network_model.specs.Network.{Network, NodeName, IsNetwork, node_of, kind_of}
+use Rattle.network_model.specs.Network.{Network, NodeName, IsNetwork, node_of}
 use Rattle.network_model.specs.Run.{Run, site_of}
-use Rattle.network_model.specs.Outcome.{outcome_of, IsStepped}
+use Rattle.network_model.specs.Outcome.{IsStepped}
 use Rattle.world_model.specs.declared.entry.Entry.{Entry}
 use Rattle.world_model.specs.declared.entry.Happened.{Happened}
 use Rattle.world_model.specs.declared.station.Station.{Station}

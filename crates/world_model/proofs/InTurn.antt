@@ -1,5 +1,5 @@
 -- Events that are answered in turn.
-use Rattle.std.proofs.Common.{◌≡◌, ◌∙◌, List, [], ◌∷◌, ◌++◌, refl}
+use Rattle.std.proofs.Common.{◌≡◌, List, [], ◌∷◌, ◌++◌, refl}
 use Rattle.network_model.specs.declared.event.Event.{Event}
 use Rattle.network_model.specs.declared.stepped.Stepped.{Stepped}
 use Rattle.network_model.specs.Outcome.{IsStepped}

@@ -1,5 +1,5 @@
 -- Messages that leave clocks.
-use Rattle.std.proofs.Common.{◌≡◌, ◌∙◌, ℕ, ◌-◌, Bool, true, false, List, ◌∷◌, length, if◌then◌else◌, nat_lt, Option, Some, None, Ok, Err, Result, IsOk, is_some, ok_or, ◌⊎◌, option_map, option_and_then, inl, inr, sym, ap, refl, subst}
+use Rattle.std.proofs.Common.{◌≡◌, ◌∙◌, ℕ, ◌-◌, Bool, true, false, List, ◌∷◌, if◌then◌else◌, nat_lt, Option, Some, None, Ok, Err, Result, IsOk, is_some, ok_or, ◌⊎◌, option_map, option_and_then, inl, inr, sym, ap, refl, subst}
 use Rattle.std.specs.Prelude.{◌&&◌, not}
 use Rattle.std.specs.List.{list_any}
 use Rattle.std.specs.Result.{result_ok}
@@ -19,11 +19,11 @@ use Rattle.network_model.specs.declared.refusal.WorldRefusal.TheVariants.{NoNode
 use Rattle.network_model.specs.declared.stepped.Outcome.{Outcome}
 use Rattle.network_model.specs.declared.stepped.Outcome.TheVariants.{Made, Entered, Refused}
 use Rattle.network_model.specs.Network.{Network, NodeName, kind_of, is_named}
-use Rattle.network_model.specs.Run.{Run, Place, place, place_at, site_of}
+use Rattle.network_model.specs.Run.{Run, Place, place_at, site_of}
 use Rattle.network_model.specs.Kinds.{entered_copy, spends}
 use Rattle.network_model.specs.Clock.{reading}
-use Rattle.network_model.specs.Truth.{TellsTruth, copy_of, copy_made}
-use Rattle.network_model.specs.Outcome.{◌>>=◌, node_as, clock_of, reads, open_transit, copy_in, left_outcome, outcome_of, IsRun}
+use Rattle.network_model.specs.Truth.{TellsTruth, copy_of}
+use Rattle.network_model.specs.Outcome.{◌>>=◌, node_as, clock_of, reads, open_transit, copy_in, left_outcome, outcome_of}
 use Rattle.network_model.proofs.Places.{accepted-place_at}
 use Rattle.network_model.proofs.Leaving.{copy_made-forwarded, copy_of-since}
 use Rattle.world_model.specs.declared.entry.Entry.{Entry}
@@ -32,7 +32,7 @@ use Rattle.world_model.specs.declared.entry.Left.TheVariants.{Copy, Nothing}
 use Rattle.world_model.specs.declared.station.Port.TheVariants as ports
 use Rattle.world_model.specs.declared.station.Station.{Station}
 use Rattle.world_model.specs.Stands.{octets_in, event_at, octets_at, stay_at, entering, open_stay, Keeps, PortStands, Stands}
-use Rattle.world_model.specs.Acts.{Room, Brings, Answers, Gives, Departs, copy_taken, copy_inside}
+use Rattle.world_model.specs.Acts.{Room, Answers, Gives, Departs, copy_taken, copy_inside}
 use Rattle.world_model.proofs.Own.{difference-stays, reading_of-read, reading-read}
 
 -- what a clock makes of a message as what it gives

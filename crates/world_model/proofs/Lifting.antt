@@ -1,5 +1,5 @@
 -- What a port does is what its node does.
-use Rattle.std.proofs.Common.{◌≡◌, ◌∙◌, ℕ, ◌∷◌, Option, Some, None, Ok, Err, Result, option_and_then, sym, ap, refl, subst}
+use Rattle.std.proofs.Common.{◌≡◌, ◌∙◌, ◌∷◌, Some, None, Ok, Err, Result, option_and_then, sym, ap, refl, subst}
 use Rattle.network_model.specs.declared.event.Event.{Event}
 use Rattle.network_model.specs.declared.node.NodeKind.{NodeKind}
 use Rattle.network_model.specs.declared.node.NodeKind.TheVariants as kinds
@@ -7,7 +7,6 @@ use Rattle.network_model.specs.declared.refusal.WorldRefusal.{WorldRefusal}
 use Rattle.network_model.specs.Network.{Network, NodeName, PortSetup, kind_of, master_port, slave_port}
 use Rattle.network_model.specs.Run.{Run, site_of}
 use Rattle.network_model.specs.Kinds.{step_of}
-use Rattle.network_model.specs.Truth.{master_at, slave_at}
 use Rattle.world_model.specs.declared.entry.Happened.{Happened}
 use Rattle.world_model.specs.declared.station.Master.{Master}
 use Rattle.world_model.specs.declared.station.Slave.{Slave}
@@ -15,7 +14,7 @@ use Rattle.world_model.specs.declared.station.Port.{Port}
 use Rattle.world_model.specs.declared.station.Port.TheVariants as ports
 use Rattle.world_model.specs.declared.station.Station.{Station}
 use Rattle.world_model.specs.Stands.{MasterStands, SlaveStands, PortStands, Stands}
-use Rattle.world_model.specs.Acts.{Room, Brings, Answers, MasterActs, SlaveActs}
+use Rattle.world_model.specs.Acts.{Room, Answers, MasterActs, SlaveActs}
 use Rattle.world_model.proofs.Own.{difference-stays}
 
 -- a master stands at a node of its kind, with its setup

@@ -1,18 +1,16 @@
 -- Events that a master answers.
-use Rattle.std.proofs.Common.{◌≡◌, ◌∙◌, ℕ, ◌∷◌, if◌then◌else◌, Option, Some, None, Ok, option_map, option_and_then, sym, ap, refl, subst}
+use Rattle.std.proofs.Common.{◌≡◌, ◌∙◌, ℕ, ◌∷◌, if◌then◌else◌, Some, None, Ok, option_map, sym, ap, refl, subst}
 use Rattle.arrayvec.specs.ArrayVec.{ArrayVec}
 use Rattle.ptp_units.specs.Sequence.{next}
 use Rattle.event_codec.specs.declared.port.PortConfig.{PortConfig}
 use Rattle.event_codec.specs.Packet.{Packet}
 use Rattle.master_port.specs.Written.{sync, one_step_sync}
 use Rattle.network_model.specs.declared.event.Event.TheVariants.{Sync, SyncOne}
-use Rattle.network_model.specs.declared.stepped.Outcome.{Outcome}
 use Rattle.network_model.specs.declared.stepped.Outcome.TheVariants.{Made}
 use Rattle.network_model.specs.Network.{Network, NodeName, PortSetup, master_port}
 use Rattle.network_model.specs.Run.{Run, Place, place}
-use Rattle.network_model.specs.Clock.{reading}
 use Rattle.network_model.specs.Numbering.{waiting_sync}
-use Rattle.network_model.specs.Truth.{TellsTruth, drawn, copy_of, master_at}
+use Rattle.network_model.specs.Truth.{master_at}
 use Rattle.network_model.specs.Kinds.{is_at, is_follow}
 use Rattle.network_model.specs.Outcome.{◌>>=◌, reads}
 use Rattle.world_model.specs.declared.entry.Left.TheVariants.{Copy}

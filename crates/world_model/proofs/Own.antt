@@ -1,5 +1,5 @@
 -- What an event leaves at its own node.
-use Rattle.std.proofs.Common.{◌≡◌, ◌∙◌, ℕ, ◌+◌, ◌%◌, Bool, true, false, List, ◌∷◌, ◌++◌, count_by, if◌then◌else◌, Option, Some, None, Ok, Err, Result, ok_or, unwrap_or, option_and_then, sym, ap, refl, arith}
+use Rattle.std.proofs.Common.{◌≡◌, ◌∙◌, ℕ, ◌+◌, Bool, true, false, List, ◌∷◌, ◌++◌, count_by, if◌then◌else◌, Option, Some, None, Ok, ok_or, unwrap_or, option_and_then, sym, ap, refl, arith}
 use Rattle.std.specs.Prelude.{◌&&◌}
 use Rattle.std.specs.Option.{option_to_list}
 use Rattle.std.proofs.lemmas.List.Sums.{sum_by-cons}

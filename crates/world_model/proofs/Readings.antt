@@ -1,5 +1,5 @@
 -- Octets of a copy, as a port reads them.
-use Rattle.std.proofs.Common.{◌≡◌, ◌∙◌, ℕ, ◌≤◌, List, length, take, drop, Option, Some, None, Ok, sym, ap, refl, subst, arith}
+use Rattle.std.proofs.Common.{◌≡◌, ℕ, List, length, Option, Some, None, Ok, sym, ap, refl, subst, arith}
 use Rattle.std.proofs.lemmas.List.{length-drop, take_all}
 use Rattle.event_codec.specs.Packet.{Contents, Packet}
 use Rattle.event_codec.specs.Layout.{fields_length}

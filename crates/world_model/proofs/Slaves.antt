@@ -5,21 +5,19 @@ use Rattle.std.specs.Option.{option_to_list}
 use Rattle.std.proofs.lemmas.List.Sums.{sum_by-cons}
 use Rattle.arrayvec.specs.ArrayVec.{ArrayVec}
 use Rattle.ptp_units.specs.declared.sequence.Seq.{Seq}
-use Rattle.ptp_units.specs.Sequence.{of_count}
 use Rattle.event_codec.specs.Packet.{Packet, Contents}
 use Rattle.slave_port.specs.History as calls
 use Rattle.slave_port.specs.History.{Call, requests_drawn, next_number}
 use Rattle.slave_port.specs.StandsFor.{StandsFor, Port}
 use Rattle.slave_port.specs.Written.{delay_req}
 use Rattle.network_model.specs.declared.event.Event.{Event}
-use Rattle.network_model.specs.declared.event.Event.TheVariants.{Sync, SyncOne, Follow, Enter, Leave, Arrive, Hear, Request, Stamped, Tick, SetMaster, StepClock}
-use Rattle.network_model.specs.declared.stepped.Outcome.{Outcome}
+use Rattle.network_model.specs.declared.event.Event.TheVariants.{Arrive, Hear, Request, Stamped, Tick, SetMaster}
 use Rattle.network_model.specs.declared.stepped.Outcome.TheVariants.{Made}
 use Rattle.network_model.specs.Network.{Network, NodeName, PortSetup, slave_port, is_named}
 use Rattle.network_model.specs.Run.{Run, Place, place, site_of}
 use Rattle.network_model.specs.Kinds.{is_at, is_request, is_stamped}
 use Rattle.network_model.specs.Clock.{reading}
-use Rattle.network_model.specs.Numbering.{draws_with, waiting_request, number_of}
+use Rattle.network_model.specs.Numbering.{draws_with, waiting_request}
 use Rattle.network_model.specs.Truth.{slave_at, copy_of, master_at}
 use Rattle.network_model.specs.SlaveHistory.{slave_setup, call_made, history_of}
 use Rattle.network_model.specs.Outcome.{◌>>=◌, reads}

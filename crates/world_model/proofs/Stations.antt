@@ -5,7 +5,7 @@ use Rattle.std.proofs.lemmas.Bool.Decides.{nat_tests}
 use Rattle.std.proofs.lemmas.Slice.Eq.{bytes_eq-Decides}
 use Rattle.network_model.specs.declared.event.Event.{Event}
 use Rattle.network_model.specs.declared.node.NodeSpec.{NodeSpec}
-use Rattle.network_model.specs.Network.{Network, NodeName, IsNetwork, names, node_of, kind_of, is_named}
+use Rattle.network_model.specs.Network.{Network, NodeName, IsNetwork, names, node_of, is_named}
 use Rattle.network_model.specs.Run.{Run, site_of}
 use Rattle.world_model.specs.declared.station.Station.{Station}
 use Rattle.world_model.specs.Stands.{Stands, EachStands, AllStand}

@@ -9,7 +9,7 @@ use Rattle.network_model.specs.declared.node.NodeKind.{NodeKind}
 use Rattle.network_model.specs.declared.stepped.Outcome.{Outcome}
 use Rattle.network_model.specs.declared.refusal.WorldRefusal.{WorldRefusal}
 use Rattle.network_model.specs.Network.{Network, NodeName, PortSetup, kind_of, is_named}
-use Rattle.network_model.specs.Run.{Run, Place, place, site_of}
+use Rattle.network_model.specs.Run.{Run, place, site_of}
 use Rattle.network_model.specs.Kinds.{entered_copy}
 use Rattle.network_model.specs.Clock.{reading, reading_of}
 use Rattle.network_model.specs.Truth.{master_at, slave_at}

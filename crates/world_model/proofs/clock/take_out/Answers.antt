@@ -1,6 +1,4 @@
-use Rattle.std.proofs.Common.{◌∙◌, sym, ap, slice_set}
-use Rattle.world_model.specs.declared.entry.Left.{Left}
-use Rattle.world_model.specs.declared.entry.Entry.{Entry}
+use Rattle.std.proofs.Common.{sym}
 use Rattle.world_model.proofs.Ended.{set-spent, past-spent, past-stay}
 use Rattle.world_model.proofs.clock.take_out.Goals as goal
 

@@ -1,6 +1,5 @@
-use Rattle.std.proofs.Common.{◌≡◌, ◌∙◌, Some, slice_get, length, sym, ap, subst, arith, ℕ, IsSome, is_some, option_copied}
+use Rattle.std.proofs.Common.{◌≡◌, ◌∙◌, Some, slice_get, length, sym, ap, arith, option_copied}
 use Rattle.std.proofs.lemmas.Grind.{common_steps}
-use Rattle.world_model.specs.Stands.{EachStands}
 use Rattle.network_model.specs.declared.node.NodeSpec.{NodeSpec}
 use Rattle.world_model.proofs.Stations.{is_there, is_lent, EachStands-push}
 use Rattle.world_model.proofs.station.stations_of.Goals as goal

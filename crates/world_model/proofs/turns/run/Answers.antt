@@ -1,9 +1,8 @@
-use Rattle.std.proofs.Common.{◌≡◌, ◌≤◌, ◌<◌, ◌∙◌, ℕ, ◌+◌, List, [], ◌∷◌, ◌++◌, length, take, get_or, vec_len, vec_capacity, Some, Ok, slice_get, is_ok, if◌then◌else◌, sym, ap, subst, inl, arith}
+use Rattle.std.proofs.Common.{◌≡◌, ◌∙◌, ◌+◌, List, [], ◌∷◌, ◌++◌, take, get_or, sym, ap, subst, inl, arith}
 use Rattle.std.proofs.lemmas.List.{take_more}
 use Rattle.network_model.specs.declared.event.Event.{Event}
 use Rattle.network_model.specs.Outcome.{IsStepped}
 use Rattle.world_model.specs.State.{State, after, after_all, IsRefused}
-use Rattle.world_model.specs.Turns.{AnswersInTurn}
 use Rattle.world_model.proofs.Happening.{reads_at}
 use Rattle.world_model.proofs.InTurn.{after_all-more, AnswersInTurn-more}
 use Rattle.world_model.proofs.turns.run.Goals as goal
