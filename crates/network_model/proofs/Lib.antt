@@ -45,3 +45,5 @@ pub mod Spent
 pub mod Legs
 pub mod EvenWays
 pub mod Agreement
+pub mod Departures
+pub mod Completing

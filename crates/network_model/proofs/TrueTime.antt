@@ -135,7 +135,7 @@ report_master network answered report master named reports present of =
     unset_at unset = ap (λ (b : Bool). b && is_named (site_of answered.event) (site_of answered.event)) unset
 
 -- the Sync event of a report is the present master's
-origin_drawn : (run : Run) (slave master : NodeName) (tag : Option ℕ) (origin : Place) → LearnsDeparture run slave master tag origin → is_at draws_sync master origin.event ≡ true
+pub origin_drawn : (run : Run) (slave master : NodeName) (tag : Option ℕ) (origin : Place) → LearnsDeparture run slave master tag origin → is_at draws_sync master origin.event ≡ true
 origin_drawn run slave master None origin learns = one_step_draws master origin.event learns
 origin_drawn run slave master (Some tag) origin learns = two_step_draws master origin.event learns.drawn
 

@@ -48,7 +48,7 @@ use Rattle.network_model.proofs.Requests.{IsRequest, requests_are, request_found
 use Rattle.network_model.proofs.Reports.{IsMadeOf, made_of}
 
 -- an arrival and a hearing are told by their tags
-one_arrival : (run : Run) (tag : ℕ) (node : NodeName) (p q : Place) (j k : Journey) → Arrives run tag node p j → Arrives run tag node q k → (p ≡ q) × (j ≡ k)
+pub one_arrival : (run : Run) (tag : ℕ) (node : NodeName) (p q : Place) (j k : Journey) → Arrives run tag node p j → Arrives run tag node q k → (p ≡ q) × (j ≡ k)
 one_arrival run tag node p q j k first second =
     let places : Some p ≡ Some q = sym first.there ∙ second.there in
     let one : p ≡ q = cc in
@@ -57,7 +57,7 @@ one_arrival run tag node p q j k first second =
     let journeys : Some j ≡ Some k = sym first.travelled ∙ ap (λ (o : Place). journey_of o.earlier first.copy) one ∙ ap (journey_of q.earlier) copies ∙ second.travelled in
     (one, cc)
 
-one_hearing : (run : Run) (tag : ℕ) (node : NodeName) (p q : Place) → HearsOf run tag node p → HearsOf run tag node q → p ≡ q
+pub one_hearing : (run : Run) (tag : ℕ) (node : NodeName) (p q : Place) → HearsOf run tag node p → HearsOf run tag node q → p ≡ q
 one_hearing run tag node p q first second =
     let places : Some first.hearing ≡ Some second.hearing = sym first.there ∙ second.there in
     let one : first.hearing ≡ second.hearing = cc in
