@@ -47,3 +47,5 @@ pub mod EvenWays
 pub mod Agreement
 pub mod Departures
 pub mod Completing
+pub mod Shown
+pub mod Evidence
