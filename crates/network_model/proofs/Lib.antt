@@ -40,3 +40,4 @@ pub mod Pairs
 pub mod Steady
 pub mod Ways
 pub mod TrueTime
+pub mod Order

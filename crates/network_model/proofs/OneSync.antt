@@ -1,7 +1,8 @@
 -- Each completion of a Sync is of one Sync event of the present master: the Sync that arrived is a copy of it, and the
 -- Follow_Up is the one of it. A report takes its Sync from such a completion.
 use Rattle.std.proofs.Common.{◌≡◌, ◌∙◌, ℕ, ◌+◌, ◌<◌, ◌≤◌, Bool, true, false, List, ◌∷◌, ◌++◌, length, Option, Some, None, IsOk, refl, sym, ap, subst, arith, option_and_then}
-use Rattle.std.specs.Prelude.{IfSome, IsTrue}
+use Rattle.std.specs.Prelude.{IfSome, IsTrue, max}
+use Rattle.std.specs.Option.{option_map_or}
 use Rattle.ptp_units.specs.Sequence.{of_count}
 use Rattle.event_codec.specs.declared.port.PortIdentity.{PortIdentity}
 use Rattle.event_codec.specs.Packet.{Contents}
@@ -24,6 +25,7 @@ use Rattle.network_model.specs.Journey.{Journey}
 use Rattle.network_model.specs.Truth.{slave_at, origin_heard}
 use Rattle.network_model.specs.SlaveHistory.{slave_setup, call_made, history_of}
 use Rattle.network_model.specs.Outcome.{outcome_of, IsRun}
+use Rattle.network_model.specs.Premises.{is_used}
 use Rattle.network_model.specs.Exact.{Arrives, HearsOf, HearsFollowUp, LearnsDeparture}
 use Rattle.network_model.proofs.Places.{accepted-place_at, IsRun-place_at, place_at-bound, IsIn-within}
 use Rattle.network_model.proofs.Copies.{IsTwoStep, IsOneStep, IsFollowUp}
@@ -48,6 +50,9 @@ pub record IsOneSync (network : Network) (slave : NodeName) (run : Run) (p : Pla
   pub there : IsIn p.earlier journey.origin
   pub drawn : is_at draws_sync told.master journey.origin.event ≡ true
   pub number_is : c.number ≡ of_count (number_of told.port journey.origin)
+  pub heard_now : origin_heard p ≡ Some journey.origin
+  pub used_now : is_used (outcome_of network p.earlier p.event) ≡ true
+  pub completed : option_map_or (λ tag. max c.sync_tag tag) c.follow_tag c.sync_tag ≡ tag_of p
 
 -- the event of a tag, by another name of the tag
 pub tagged : (run : Run) (p : Place) (tag : ℕ) → IsIn run p → tag ≡ tag_of p → place_at run tag ≡ Some p
@@ -120,6 +125,9 @@ module _ (reach : ℕ) (fits : reach ≤ 65536) (network : Network) (port : Port
         there = now.there;
         drawn = now.drawn;
         number_is = now.number_is;
+        heard_now = now.heard;
+        used_now = at.used.used;
+        completed = let below = place_at-bound p.earlier (tag_of held.p) held.p held.there in let tag = at.tag_is in omega arith;
       }
 
   -- a Follow_Up that finds its Sync held
@@ -164,6 +172,9 @@ module _ (reach : ℕ) (fits : reach ≤ 65536) (network : Network) (port : Port
         there = subst (λ (o : Place). IsIn p.earlier o) one now.there;
         drawn = subst (λ (o : Place). is_at draws_sync at.used.told.master o.event ≡ true) one now.drawn;
         number_is = now.number_is ∙ ap (λ (o : Place). of_count (number_of at.used.told.port o)) one;
+        heard_now = now.heard ∙ ap (λ (o : Place). Some o) one;
+        used_now = at.used.used;
+        completed = let below = place_at-bound p.earlier (tag_of held.p) held.p held.there in let tag = at.tag_is in omega arith;
       }
 
   -- a one-step Sync
@@ -188,6 +199,9 @@ module _ (reach : ℕ) (fits : reach ≤ 65536) (network : Network) (port : Port
         there = now.there;
         drawn = now.drawn;
         number_is = now.number_is;
+        heard_now = now.heard;
+        used_now = at.used.used;
+        completed = at.tag_is;
       }
 
 -- each completion

@@ -5,10 +5,6 @@ use Rattle.std.specs.Prelude.{is_some, ◌&&◌}
 use Rattle.std.proofs.lemmas.Int.{ints}
 use Rattle.ptp_units.specs.Exchange.{offset2, path2}
 use Rattle.slave_port.specs.declared.heard.Report.{Report}
-use Rattle.slave_port.specs.declared.heard.Heard.TheVariants as answers
-use Rattle.slave_port.specs.History as calls
-use Rattle.slave_port.specs.History.{Call, Setup}
-use Rattle.slave_port.specs.Answer as slaves
 use Rattle.network_model.specs.declared.event.Event.{Event}
 use Rattle.network_model.specs.declared.event.Event.TheVariants.{Sync, SyncOne, Follow, Enter, Leave, Arrive, Hear, Request, Stamped, Tick, SetMaster, StepClock}
 use Rattle.network_model.specs.Network.{Network, NodeName, is_named}
@@ -16,7 +12,6 @@ use Rattle.network_model.specs.Run.{Run, Place, place_at, tag_of, IsIn, until, s
 use Rattle.network_model.specs.Kinds.{is_at, draws_sync, is_request, is_set_master, is_step, named_master, timed_copy, heard_copy}
 use Rattle.network_model.specs.Clock.{difference, shown_at, reading}
 use Rattle.network_model.specs.Journey.{Journey, Stay, journey_of, residence}
-use Rattle.network_model.specs.SlaveHistory.{slave_setup, history_of}
 use Rattle.network_model.specs.Outcome.{IsRun}
 use Rattle.network_model.specs.Present.{last_set_master, present_master}
 use Rattle.network_model.specs.Premises.{exact_limits, IsFreshAndTicked, IsAcceptedRun}
@@ -28,11 +23,9 @@ use Rattle.network_model.proofs.Places.{IsRun-place_at, IsIn-place_at, IsIn-with
 use Rattle.network_model.proofs.Sites.{at_kind, at_site}
 use Rattle.network_model.proofs.Journeys.{IsIn-origin}
 use Rattle.network_model.proofs.Readings.{shown_reading, sync_timed, request_timed}
-use Rattle.network_model.proofs.Calls.{sets, call_kind}
 use Rattle.network_model.proofs.Reach.{present_master-later}
 use Rattle.network_model.proofs.Pairing.{meet-fresh_ticked, until_each, fresh_ticked_shorter, place_at-until, one_step_draws, two_step_draws}
-use Rattle.network_model.proofs.Answers.{IsAnswered, answered_by}
-use Rattle.network_model.proofs.Reports.{is_of_one_sync, is_of_one_request}
+use Rattle.network_model.proofs.Reports.{report_event, is_of_one_sync, is_of_one_request}
 use Rattle.network_model.proofs.Twice.{each_twice}
 use Rattle.network_model.proofs.Steady.{reading_is}
 use Rattle.network_model.proofs.Ways.{AreStays, IsStay, stays_are, way_is}
@@ -109,23 +102,11 @@ bracket_is network run arrival journey copy moment here there a accepted steady 
     sums : (a arrived left : ℤ) (r : ℕ) (t m n d e : ℤ) → a ≡ (arrived -ℤ left) -ℤ pos r → arrived ≡ m +ℤ d → left ≡ n +ℤ e → t +ℤ pos r ≡ m -ℤ n → a ≡ t +ℤ (d -ℤ e)
     sums a arrived left r t m n d e f g h k = omega (arith, ints)
 
--- what is reported is no set_master
-report_unset : (setup : Setup) (history : List Call) (call : Call) (report : Report) → answers.Report report ≡ slaves.answer setup history call → sets call ≡ false
-report_unset setup history (calls.SetMaster master) report is = cc
-report_unset setup history calls.Tick report is = refl
-report_unset setup history (calls.NextRequest tag) report is = refl
-report_unset setup history (calls.RequestLeft number t3) report is = refl
-report_unset setup history (calls.Event m t2 tag) report is = refl
-report_unset setup history (calls.General m tag) report is = refl
-
 -- the master of a report is the one that the slave followed before it
 report_master : (network : Network) (answered : Place) (report : Report) (master named : NodeName) → Reports network answered report
     → present_master (site_of answered.event) answered.earlier ≡ Some master → OfPresentMaster (until answered) (site_of answered.event) named report → named ≡ master
 report_master network answered report master named reports present of =
-    let by = answered_by network answered.earlier (answers.Report report) answered.event reports in
-    let unset : is_set_master answered.event ≡ false =
-    (call_kind network by.port answered.event answered.earlier by.call by.made).1
-    ∙ report_unset (slave_setup by.port) (history_of network by.port (site_of answered.event) answered.earlier) by.call report by.is in
+    let unset = (report_event network answered report reports).1 in
     let now : present_master (site_of answered.event) (until answered) ≡ Some named = ap (option_and_then (λ (set : Place). named_master set.event)) of.last ∙ of.named in
     let same : Some named ≡ Some master =
     sym now ∙ present_master-later (site_of answered.event) answered.event answered.earlier (unset_at unset) ∙ present in
