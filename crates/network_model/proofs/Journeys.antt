@@ -19,7 +19,7 @@ pub IsIn-last : (event : Event) (earlier : Run) → IsIn (event ∷ earlier) (pl
 IsIn-last event earlier =
     ap (λ (same : Bool). if same then Some (place event earlier) else place_at earlier (length earlier)) (eq-eqb (length earlier) (length earlier) refl)
 
-same_origin : (left entered : Place) (journey further : Journey) → goes_on left entered journey ≡ Some further → journey.origin ≡ further.origin
+pub same_origin : (left entered : Place) (journey further : Journey) → goes_on left entered journey ≡ Some further → journey.origin ≡ further.origin
 same_origin left entered journey further on = at (nat_lt (reading left) (reading entered)) on
   where
     at : (back : Bool)

@@ -41,3 +41,5 @@ pub mod Steady
 pub mod Ways
 pub mod TrueTime
 pub mod Order
+pub mod Even
+pub mod Agreement

@@ -99,7 +99,7 @@ left_where network node transit at earlier entered accepted there =
     by false false e fresh is = cc
 
 -- a journey that goes on has one stay more
-gone_on : (left entered : Place) (before journey : Journey) → goes_on left entered before ≡ Some journey
+pub gone_on : (left entered : Place) (before journey : Journey) → goes_on left entered before ≡ Some journey
     → (reading entered ≤ reading left) × (journey.stays ≡ record { entered = entered; left = left } ∷ before.stays)
 gone_on left entered before journey is = by (nat_lt (reading left) (reading entered)) refl is
   where
