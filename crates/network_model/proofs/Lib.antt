@@ -17,6 +17,8 @@ pub mod Exactness
 pub mod Accepted
 pub mod Short
 pub mod Travelled
+pub mod Leaving
+pub mod Spent
 pub mod Worked
 pub mod WorkedExchange
 pub mod WorkedOctets
