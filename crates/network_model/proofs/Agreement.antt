@@ -1,11 +1,11 @@
 -- In a level network both ways of a report take one time, so its offset is the true difference of the two clocks, and two
 -- slaves of one master agree.
-use Rattle.std.proofs.Common.{◌≡◌, ◌∙◌, ℕ, ℤ, pos, ◌+ℤ◌, ◌-ℤ◌, List, Option, Some, None, refl, sym, ap, subst, arith, reverse, option_map, option_and_then}
+use Rattle.std.proofs.Common.{◌≡◌, ◌∙◌, ℕ, ℤ, pos, ◌+ℤ◌, ◌-ℤ◌, List, Some, sym, ap, subst, arith, reverse, option_map, option_and_then}
 use Rattle.std.proofs.lemmas.Int.{ints}
 use Rattle.slave_port.specs.declared.heard.Report.{Report}
 use Rattle.slave_port.proofs.Uses.{some_step, some_image}
 use Rattle.network_model.specs.Network.{Network, NodeName}
-use Rattle.network_model.specs.Run.{Run, Place, place_at, tag_of, IsIn}
+use Rattle.network_model.specs.Run.{Run, Place, place_at, IsIn}
 use Rattle.network_model.specs.Kinds.{timed_copy, heard_copy}
 use Rattle.network_model.specs.Clock.{difference}
 use Rattle.network_model.specs.Journey.{Journey, journey_of}
@@ -14,7 +14,7 @@ use Rattle.network_model.specs.Present.{present_master}
 use Rattle.network_model.specs.Premises.{exact_limits, IsFreshAndTicked}
 use Rattle.network_model.specs.Reported.{ReportedIn}
 use Rattle.network_model.specs.Level.{Crossing, crossings_of, way_to, maker_heard, sync_way, request_way, time_on, IsLevelFor}
-use Rattle.network_model.specs.TrueTime.{twice, IsAsymmetric, WaysAreEven, KnowsMaster, SlavesAgree, TellsTrueTime}
+use Rattle.network_model.specs.TrueTime.{twice, KnowsMaster, TellsTrueTime}
 use Rattle.network_model.proofs.Places.{IsIn-place_at, IsIn-within}
 use Rattle.network_model.proofs.Even.{AreCrossings, zipped, time-reverse, crossings-reverse, way_in}
 use Rattle.network_model.proofs.TrueTime.{error_is_asymmetry}

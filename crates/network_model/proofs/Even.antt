@@ -1,7 +1,7 @@
 -- In a level network the two ways of a report take one time: each crossing of a way is one of the run, crossings of one
 -- cable take one time, and the way back has the cables of the way there.
-use Rattle.std.proofs.Common.{◌≡◌, ◌∙◌, ℕ, ◌<◌, ℤ, pos, ◌+ℤ◌, Bool, true, false, List, [], ◌∷◌, ◌++◌, length, Option, Some, None, Ok, IsOk, refl, sym, ap, subst, arith, int_eq, reverse, if◌then◌else◌, option_map, option_and_then, inl, inr}
-use Rattle.std.specs.Prelude.{◌==◌, ◌&&◌, ◌||◌, ◌⊎◌, not, IsTrue, ok_or, option_to_list}
+use Rattle.std.proofs.Common.{◌≡◌, ◌∙◌, ℕ, ℤ, ◌+ℤ◌, Bool, true, false, List, [], ◌∷◌, ◌++◌, length, Option, Some, None, Ok, IsOk, refl, sym, ap, subst, arith, reverse, if◌then◌else◌, option_map, option_and_then, inl, inr}
+use Rattle.std.specs.Prelude.{◌==◌, ◌⊎◌, IsTrue, ok_or, option_to_list}
 use Rattle.std.specs.List.{list_all, AllZip}
 use Rattle.std.proofs.lemmas.Bool.{and_parts, and_from, or_cases, or_left, or_right}
 use Rattle.std.proofs.lemmas.Grind.{reverse_onto}
@@ -17,10 +17,10 @@ use Rattle.network_model.specs.Kinds.{entered_copy, timed_copy}
 use Rattle.network_model.specs.Journey.{Journey, Stay, begun, journey_made, journey_of}
 use Rattle.network_model.specs.Truth.{copy_made, copy_of}
 use Rattle.network_model.specs.Outcome.{◌>>=◌, node_as, clock_of, reads, outcome_of, IsRun}
-use Rattle.network_model.specs.Level.{Crossing, crossing, crossing_to, crossings_in, crossings_of, is_same_way, is_same_cable, is_even, are_even, time_of, time_on, way_to}
+use Rattle.network_model.specs.Level.{Crossing, crossing, crossing_to, crossings_in, crossings_of, is_same_way, is_same_cable, is_even, are_even, time_of, time_on}
 use Rattle.slave_port.proofs.Uses.{some_step}
 use Rattle.network_model.proofs.Options.{ok_value, ok_step, ok_some}
-use Rattle.network_model.proofs.Places.{accepted-place_at, place_at-within, IsIn-place_at, IsIn-within, place_at-later, same_place}
+use Rattle.network_model.proofs.Places.{accepted-place_at, place_at-within, IsIn-place_at, IsIn-within}
 use Rattle.network_model.proofs.Made.{copy_of-place_at, journey_of-place_at}
 use Rattle.network_model.proofs.Sites.{named-same, named-self}
 use Rattle.network_model.proofs.Journeys.{same_origin, continued}
@@ -72,12 +72,12 @@ turned c d same = by (or_cases (is_same_way c.from c.to d.from d.to) (is_same_wa
         let parts = and_parts (is_named (site_of c.from.event) (site_of d.from.event)) (is_named (site_of c.to.event) (site_of d.to.event)) way in
         or_left (is_same_way d.from d.to c.from c.to) (is_same_way d.from d.to c.to c.from)
         (and_from (is_named (site_of d.from.event) (site_of c.from.event)) (is_named (site_of d.to.event) (site_of c.to.event))
-            (back (site_of c.from.event) (site_of d.from.event) parts.0) (back (site_of c.to.event) (site_of d.to.event) parts.1))
+        (back (site_of c.from.event) (site_of d.from.event) parts.0) (back (site_of c.to.event) (site_of d.to.event) parts.1))
     by (inr way) =
         let parts = and_parts (is_named (site_of c.from.event) (site_of d.to.event)) (is_named (site_of c.to.event) (site_of d.from.event)) way in
         or_right (is_same_way d.from d.to c.from c.to) (is_same_way d.from d.to c.to c.from)
         (and_from (is_named (site_of d.from.event) (site_of c.to.event)) (is_named (site_of d.to.event) (site_of c.from.event))
-            (back (site_of c.to.event) (site_of d.from.event) parts.1) (back (site_of c.from.event) (site_of d.to.event) parts.0))
+        (back (site_of c.to.event) (site_of d.from.event) parts.1) (back (site_of c.from.event) (site_of d.to.event) parts.0))
 
 even_times : (run : Run) (c d : Crossing) → are_even (crossings_in run) ≡ true → IsCrossing run c → IsCrossing run d → is_same_cable c d ≡ true → time_of c ≡ time_of d
 even_times [] c d even is is_too same = let there = is.there in cc
@@ -197,10 +197,10 @@ entered_there network (Enter node c at) earlier copy accepted is =
     let same : c ≡ copy = cc in
     let outcome = ok_value (outcome_of network earlier (Enter node c at)) accepted in
     let clock = ok_step (node_as clock_of network node)
-        (λ clock. ok_or (copy_of network earlier c) NoCopy >>= (λ m. reads (Enter node c at) earlier >>= (λ now. Ok outcomes.Entered))) outcome.1 in
+    (λ clock. ok_or (copy_of network earlier c) NoCopy >>= (λ m. reads (Enter node c at) earlier >>= (λ now. Ok outcomes.Entered))) outcome.1 in
     let message = ok_step (ok_or (copy_of network earlier c) NoCopy) (λ m. reads (Enter node c at) earlier >>= (λ now. Ok outcomes.Entered)) clock.2 in
     let made = some_step (λ (p : Place). copy_made network p.event p.earlier (copy_of network p.earlier)) (place_at earlier c)
-        (sym (copy_of-place_at network earlier c) ∙ ok_some (copy_of network earlier c) NoCopy {x = message.0} message.1) in
+    (sym (copy_of-place_at network earlier c) ∙ ok_some (copy_of network earlier c) NoCopy {x = message.0} message.1) in
     (is, (made.0, subst (λ (t : ℕ). place_at earlier t ≡ Some made.0) same made.1))
 entered_there network (Sync node at) earlier copy accepted is = cc
 entered_there network (SyncOne node at) earlier copy accepted is = cc
@@ -244,7 +244,7 @@ way_in network run accepted origin (stay ∷ stays) end copy there copy_is trave
   where
     by : IsMaker end.earlier copy (record { origin = origin; stays = stay ∷ stays })
         → ((end : Place) (copy : ℕ) → IsIn run end → timed_copy end.event ≡ Some copy → journey_of end.earlier copy ≡ Some (record { origin = origin; stays = stays })
-            → AreCrossings run (crossings_of origin stays end))
+        → AreCrossings run (crossings_of origin stays end))
         → AreCrossings run (crossing stay.left end ∷ crossings_of origin stays stay.entered)
     by (Begins p at none is) rest = cc
     by (Leaves p entered c before at parts is inside c_is known) rest =
@@ -258,8 +258,7 @@ way_in network run accepted origin (stay ∷ stays) end copy there copy_is trave
         let whole : before ≡ record { origin = origin; stays = stays } =
         ap (λ (o : Place). record { origin = o; stays = before.stays }) is ∙ ap (λ (ss : List Stay). record { origin = origin; stays = ss }) (sym stays_are) in
         let known_there : journey_of entered.earlier c ≡ Some (record { origin = origin; stays = stays }) =
-        sym (same_journey p.earlier entered c was.1.0 inside was.1.1) ∙ known ∙ ap (λ (j : Journey). Some j) whole in
-        (
+        sym (same_journey p.earlier entered c was.1.0 inside was.1.1) ∙ known ∙ ap (λ (j : Journey). Some j) whole in (
           record {
             there = there;
             is = crossed end stay.left copy (record { origin = origin; stays = stay ∷ stays }) copy_is travelled (at ∙ ap (λ (o : Place). Some o) (sym left_is));

@@ -1,41 +1,39 @@
 -- Reports don't go back: while the window holds a completion, what completes later isn't behind it, and numbers within half
 -- a turn of the front are in the order of their sequenceIds.
-use Rattle.std.proofs.Common.{◌≡◌, ◌∙◌, ℕ, zero, ◌+◌, ◌-◌, ◌<◌, ◌≤◌, Bool, true, false, List, [], ◌∷◌, ◌++◌, length, Option, Some, None, IsOk, refl, sym, ap, subst, arith, option_map, option_and_then, if◌then◌else◌}
-use Rattle.std.specs.Prelude.{count_by, ◌==◌, ◌&&◌, not, slice_get, option_to_list, max}
-use Rattle.std.specs.Option.{option_map_or}
+use Rattle.std.proofs.Common.{◌≡◌, ◌∙◌, ℕ, ◌+◌, ◌-◌, ◌<◌, ◌≤◌, Bool, true, false, List, [], ◌∷◌, ◌++◌, length, Option, Some, None, IsOk, refl, sym, ap, subst, arith, option_map, option_and_then, if◌then◌else◌}
+use Rattle.std.specs.Prelude.{count_by, ◌==◌, ◌&&◌, slice_get, option_to_list}
 use Rattle.std.proofs.lemmas.Bool.Decides.{nat_tests}
 use Rattle.std.proofs.lemmas.Bool.{and_right, false_from_ne_true}
-use Rattle.ptp_units.specs.Sequence.{of_count, ahead}
+use Rattle.ptp_units.specs.Sequence.{of_count}
 use Rattle.slave_port.specs.declared.heard.Report.{Report}
 use Rattle.slave_port.specs.History as calls
 use Rattle.slave_port.specs.History.{Call}
 use Rattle.slave_port.specs.Window.{Window}
-use Rattle.slave_port.specs.Usable.{is_newer, is_not_newer}
+use Rattle.slave_port.specs.Usable.{is_not_newer}
 use Rattle.slave_port.specs.Completion.{SyncCompletion}
-use Rattle.slave_port.specs.Kept.{kept, criteria, sync_completion, last_sync_completion}
+use Rattle.slave_port.specs.Kept.{kept, sync_completion, last_sync_completion}
 use Rattle.slave_port.proofs.Uses.{sync_completion-newer}
 use Rattle.network_model.specs.declared.event.Event.{Event}
 use Rattle.network_model.specs.Network.{Network, NodeName, PortSetup, is_named}
 use Rattle.network_model.specs.Run.{Run, Place, place, place_at, tag_of, IsIn, until, site_of, events_after}
 use Rattle.network_model.specs.Kinds.{is_at, draws_sync, is_tick, is_set_master, named_master}
-use Rattle.network_model.specs.Numbering.{number_of, drawn_before}
+use Rattle.network_model.specs.Numbering.{number_of}
 use Rattle.network_model.specs.Truth.{master_at, slave_at, origin_heard}
 use Rattle.network_model.specs.SlaveHistory.{slave_setup, call_made, history_of}
 use Rattle.network_model.specs.Outcome.{outcome_of, IsRun}
 use Rattle.network_model.specs.Present.{present_master}
-use Rattle.network_model.specs.Premises.{ordered_limits, IsFreshAndTicked}
-use Rattle.network_model.specs.Reported.{ReportedIn}
-use Rattle.network_model.specs.Order.{sync_number, completed_at, IsOneWindow, IsInOrder, ReportsDontGoBack}
-use Rattle.network_model.proofs.Places.{IsIn-before, IsIn-within, place_at-later, place_at-bound, same_place, IsRun-place_at}
+use Rattle.network_model.specs.Premises.{ordered_limits}
+use Rattle.network_model.specs.Order.{sync_number, completed_at, IsOneWindow, ReportsDontGoBack}
+use Rattle.network_model.proofs.Places.{IsIn-before, IsIn-within, place_at-later, place_at-bound, IsRun-place_at}
 use Rattle.network_model.proofs.Sequences.{count-yes, count-no, count-place_at}
 use Rattle.network_model.proofs.Sites.{named-self, named-same, at_site}
 use Rattle.network_model.proofs.Journeys.{IsIn-last}
-use Rattle.network_model.proofs.Calls.{events_after-later, events_after-last, history-here, history-elsewhere, ticks, sets, call_kind, silent}
+use Rattle.network_model.proofs.Calls.{events_after-later, history-here, history-elsewhere, ticks, sets, call_kind, silent}
 use Rattle.network_model.proofs.Windows.{CameFrom}
 use Rattle.network_model.proofs.Reach.{draws_with-sync}
-use Rattle.network_model.proofs.Pairing.{NumbersMeet, used_near, meet-fresh_ticked, before_each, fresh_ticked_shorter, place_at-until, until_each}
+use Rattle.network_model.proofs.Pairing.{NumbersMeet, used_near, meet-fresh_ticked, place_at-until, until_each}
 use Rattle.network_model.proofs.HeldMessages.{completions_came, same_told}
-use Rattle.network_model.proofs.OneSync.{IsOneSync, one_sync}
+use Rattle.network_model.proofs.OneSync.{one_sync}
 use Rattle.network_model.proofs.Reports.{first_of, IsMadeOf, made_of, report_event}
 
 -- two numbers within half a turn of the front are in order, where the second sequenceId isn't behind the first
@@ -64,8 +62,8 @@ module _ (network : Network) (port : PortSetup) (slave : NodeName) (slave_is : s
   follows q call c next there site made brought last good =
       let before : IsRun network q.earlier = IsRun-place_at network run (tag_of q) q meet.accepted there in
       let came = first_of (CameFrom network port slave (sync_completion (slave_setup port)) 1 q.earlier)
-          ((kept (slave_setup port) (history_of network port slave q.earlier)).completions.since ++ (kept (slave_setup port) (history_of network port slave q.earlier)).completions.before)
-          c (completions_came network port slave slave_is q.earlier before) last in
+      ((kept (slave_setup port) (history_of network port slave q.earlier)).completions.since ++ (kept (slave_setup port) (history_of network port slave q.earlier)).completions.before)
+      c (completions_came network port slave slave_is q.earlier before) last in
       let now = one_sync 32768 (omega arith) network port slave slave_is run meet q there site call made next brought in
       let old = one_sync 32768 (omega arith) network port slave slave_is run meet came.p (IsIn-within run q came.p there came.there) came.site came.call came.made c came.brought in
       let same = same_told network slave q.earlier came.p now.source old.source came.there old.unset came.no_master now.told old.told in
@@ -90,11 +88,11 @@ module _ (network : Network) (port : PortSetup) (slave : NodeName) (slave_is : s
       sym (ap (λ (l : Option SyncCompletion). is_not_newer (option_map (λ (c : SyncCompletion). c.number) l) next.number) last)
       ∙ sync_completion-newer (slave_setup port) (history_of network port slave q.earlier) call next brought in
       let newer_numbers : is_not_newer (Some (of_count (now.told.port.first + count_by (is_at draws_sync master) old.journey.origin.earlier)))
-          (of_count (now.told.port.first + count_by (is_at draws_sync master) now.journey.origin.earlier)) ≡ false =
+      (of_count (now.told.port.first + count_by (is_at draws_sync master) now.journey.origin.earlier)) ≡ false =
       subst (λ (n : ℕ). is_not_newer (Some n) (of_count (now.told.port.first + count_by (is_at draws_sync master) now.journey.origin.earlier)) ≡ false) old_number
-          (subst (λ (n : ℕ). is_not_newer (Some c.number) n ≡ false) number newer) in
+      (subst (λ (n : ℕ). is_not_newer (Some c.number) n ≡ false) number newer) in
       let order = in_order now.told.port.first (count_by (is_at draws_sync master) old.journey.origin.earlier) (count_by (is_at draws_sync master) now.journey.origin.earlier)
-          (count_by (is_at draws_sync master) q.earlier) old_in now_in near near_too newer_numbers in
+      (count_by (is_at draws_sync master) q.earlier) old_in now_in near near_too newer_numbers in
       let least_old : least ≤ count_by (is_at draws_sync master) old.journey.origin.earlier =
       subst (λ (o : Place). least ≤ count_by (is_at draws_sync master) o.earlier) (sym one) good.order in
       record {
@@ -126,11 +124,11 @@ completed_first network port slave run master least history (calls.NextRequest t
 completed_first network port slave run master least history (calls.RequestLeft number t3) c count brought good = cc
 completed_first network port slave run master least history (calls.Event m t2 tag) c count brought good =
     subst (λ (b : Option SyncCompletion). Has run master least count
-        (record { since = option_to_list b ++ (kept (slave_setup port) history).completions.since; before = (kept (slave_setup port) history).completions.before })) (sym brought)
+    (record { since = option_to_list b ++ (kept (slave_setup port) history).completions.since; before = (kept (slave_setup port) history).completions.before })) (sym brought)
     ((λ e. (c, refl, good)), (λ e. (c, refl, good)))
 completed_first network port slave run master least history (calls.General m tag) c count brought good =
     subst (λ (b : Option SyncCompletion). Has run master least count
-        (record { since = option_to_list b ++ (kept (slave_setup port) history).completions.since; before = (kept (slave_setup port) history).completions.before })) (sym brought)
+    (record { since = option_to_list b ++ (kept (slave_setup port) history).completions.since; before = (kept (slave_setup port) history).completions.before })) (sym brought)
     ((λ e. (c, refl, good)), (λ e. (c, refl, good)))
 
 -- one event more
@@ -221,7 +219,7 @@ still_there network port slave slave_is run meet master least p call c made here
 still_there network port slave slave_is run meet master least p call c made here brought good (event ∷ earlier) embed accepted there unset =
     at (length earlier == tag_of p) there
     (λ within none. still_there network port slave slave_is run meet master least p call c made here brought good earlier
-        (λ q inside. embed q (place_at-later event earlier (tag_of q) q inside)) accepted.1 within none)
+    (λ q inside. embed q (place_at-later event earlier (tag_of q) q inside)) accepted.1 within none)
   where
     setup : Call → List Call → Window SyncCompletion
     setup call history = (kept (slave_setup port) (call ∷ history)).completions
@@ -234,22 +232,22 @@ still_there network port slave slave_is run meet master least p call c made here
 
     at : (same : Bool) → (if same then Some (place event earlier) else place_at earlier (tag_of p)) ≡ Some p
         → (IsIn earlier p → count_by (is_at is_set_master slave) (events_after (tag_of p) earlier) ≡ 0
-            → Has run master least (count_by (is_at is_tick slave) (events_after (tag_of p) earlier)) (kept (slave_setup port) (history_of network port slave earlier)).completions)
+        → Has run master least (count_by (is_at is_tick slave) (events_after (tag_of p) earlier)) (kept (slave_setup port) (history_of network port slave earlier)).completions)
         → Has run master least (count_by (is_at is_tick slave) (events_after (tag_of p) (event ∷ earlier))) (kept (slave_setup port) (history_of network port slave (event ∷ earlier))).completions
     at true there rest =
         let same : place event earlier ≡ p = cc in
         subst (λ (o : Place). Has run master least (count_by (is_at is_tick slave) (events_after (tag_of p) (o.event ∷ o.earlier))) (kept (slave_setup port) (history_of network port slave (o.event ∷ o.earlier))).completions)
         (sym same)
         (subst (λ (h : List Call). Has run master least (count_by (is_at is_tick slave) (events_after (tag_of p) (p.event ∷ p.earlier))) (kept (slave_setup port) h).completions)
-            (sym (history-here network port slave p.event p.earlier (Some call) here made))
-            (completed_first network port slave run master least (history_of network port slave p.earlier) call c
-                (count_by (is_at is_tick slave) (events_after (tag_of p) (p.event ∷ p.earlier))) brought good))
+        (sym (history-here network port slave p.event p.earlier (Some call) here made))
+        (completed_first network port slave run master least (history_of network port slave p.earlier) call c
+        (count_by (is_at is_tick slave) (events_after (tag_of p) (p.event ∷ p.earlier))) brought good))
     at false there rest =
         let below = place_at-bound earlier (tag_of p) p there in
         let longer = events_after-later event earlier (tag_of p) below in
         let none : count_by (is_at is_set_master slave) (event ∷ events_after (tag_of p) earlier) ≡ 0 = sym (ap (count_by (is_at is_set_master slave)) longer) ∙ unset in
         let not_set : is_at is_set_master slave event ≡ false = false_from_ne_true (is_at is_set_master slave event)
-            (λ set. omega (arith, count-yes (is_at is_set_master slave) event (events_after (tag_of p) earlier) set)) in
+        (λ set. omega (arith, count-yes (is_at is_set_master slave) event (events_after (tag_of p) earlier) set)) in
         one_event_more network port slave slave_is run meet master least (tag_of p) event earlier (embed (place event earlier) (IsIn-last event earlier)) accepted.0 below not_set
         (rest there (sym (count-no (is_at is_set_master slave) event (events_after (tag_of p) earlier) not_set) ∙ none))
 
@@ -289,7 +287,7 @@ reports_dont_go_back network run slave first second premise reported reported_la
     let ports : Some two.port ≡ Some one.port = sym two.slave_is ∙ one.slave_is in
     let port_is : two.port ≡ one.port = cc in
     let before = still_there network one.port slave one.slave_is run meet c.told.master least one.sync_is.p one.sync_is.call one.sync one.sync_is.made
-        (subst (λ (n : NodeName). is_named (site_of one.sync_is.p.event) n ≡ true) one.sync_is.site (named-self (site_of one.sync_is.p.event))) one.sync_is.brought good late.earlier (λ q inside. IsIn-within run late q reported_later.there inside) late_run.1 p_before window_is.masters in
+    (subst (λ (n : NodeName). is_named (site_of one.sync_is.p.event) n ≡ true) one.sync_is.site (named-self (site_of one.sync_is.p.event))) one.sync_is.brought good late.earlier (λ q inside. IsIn-within run late q reported_later.there inside) late_run.1 p_before window_is.masters in
     let kinds = report_event network late second reported_later.reports in
     let untick : is_at is_tick slave late.event ≡ false = ap (λ (b : Bool). b && is_named (site_of late.event) slave) kinds.0 in
     let unset : is_at is_set_master slave late.event ≡ false = ap (λ (b : Bool). b && is_named (site_of late.event) slave) kinds.1 in
@@ -297,7 +295,7 @@ reports_dont_go_back network run slave first second premise reported reported_la
     let now = one_event_more network one.port slave one.slave_is run meet c.told.master least (tag_of one.sync_is.p) late.event late.earlier reported_later.there late_run.0 below unset before in
     let few : count_by (is_at is_tick slave) (events_after (tag_of one.sync_is.p) (until late)) ≤ 1 =
     subst (λ (n : ℕ). n ≤ 1) (sym (ap (count_by (is_at is_tick slave)) (events_after-later late.event late.earlier (tag_of one.sync_is.p) below)
-        ∙ count-no (is_at is_tick slave) late.event (events_after (tag_of one.sync_is.p) late.earlier) untick)) window_is.ticks in
+    ∙ count-no (is_at is_tick slave) late.event (events_after (tag_of one.sync_is.p) late.earlier) untick)) window_is.ticks in
     let last = now.1 few in
     let lasts : Some last.0 ≡ Some two.sync = sym last.1 ∙ subst (λ (o : PortSetup). last_sync_completion (slave_setup o) (history_of network o slave (until late)) ≡ Some two.sync) port_is two.last in
     let good_too : IsAtLeast run c.told.master least two.sync = subst (IsAtLeast run c.told.master least) (let same : last.0 ≡ two.sync = cc in same) last.2 in

@@ -1,10 +1,9 @@
 -- Each report is of one Sync of the present master, and of one Delay_Req to it: those of its tags.
 -- It is made of the last completion of each kind in the window, and each completion is of one origin.
-use Rattle.std.proofs.Common.{◌≡◌, ◌∙◌, false, ℕ, zero, ◌<◌, ◌≤◌, List, [], ◌∷◌, ◌++◌, Option, Some, None, Ok, refl, sym, ap, subst, arith}
+use Rattle.std.proofs.Common.{◌≡◌, ◌∙◌, false, ℕ, ◌<◌, ◌≤◌, List, [], ◌∷◌, ◌++◌, Some, refl, sym, ap, subst, arith}
 use Rattle.std.specs.Prelude.{slice_get, IfSome}
 use Rattle.std.specs.List.{All}
 use Rattle.std.proofs.lemmas.List.Elements.{All-head}
-use Rattle.event_codec.specs.declared.port.PortIdentity.{PortIdentity}
 use Rattle.slave_port.specs.declared.heard.Report.{Report}
 use Rattle.slave_port.specs.declared.heard.Heard.TheVariants as answers
 use Rattle.slave_port.specs.History as calls
@@ -33,7 +32,7 @@ use Rattle.network_model.proofs.Pairing.{NumbersMeet, meet-fresh_ticked, meet-on
 use Rattle.network_model.proofs.HeldMessages.{completions_came, delay_completions_came}
 use Rattle.network_model.proofs.OneSync.{IsOneSync, one_sync}
 use Rattle.network_model.proofs.OneRequest.{IsOneRequest, one_request}
-use Rattle.network_model.proofs.Answers.{IsAnswered, answered_by}
+use Rattle.network_model.proofs.Answers.{answered_by}
 
 -- the last of a window is one of it
 pub first_of : {E : Type 0} (P : E → Type 0) (es : List E) (e : E) → All P es → slice_get es 0 ≡ Some e → P e
