@@ -1,7 +1,7 @@
 -- At each accepted event that has a true moment the node's clock shows a moment, its reading.
 -- So what a message says of its times is what the clocks showed.
 use Rattle.std.proofs.Common.{◌≡◌, ◌∙◌, ℕ, ℤ, pos, negsuc, Bool, true, false, Option, Some, None, Ok, IsOk, refl, sym, ap, if◌then◌else◌, option_and_then}
-use Rattle.std.specs.Prelude.{ok_or, unwrap_or, nat_lt, is_some, Result}
+use Rattle.std.specs.Prelude.{ok_or, unwrap_or, nat_lt, is_some}
 use Rattle.ptp_units.specs.Moment.{bound}
 use Rattle.transparent_clock.specs.Forwarding.{forwarded}
 use Rattle.slave_port.proofs.Uses.{some_step}
@@ -9,9 +9,9 @@ use Rattle.network_model.specs.declared.event.Event.{Event}
 use Rattle.network_model.specs.declared.event.Event.TheVariants.{Sync, SyncOne, Follow, Enter, Leave, Arrive, Hear, Request, Stamped, Tick, SetMaster, StepClock}
 use Rattle.network_model.specs.declared.stepped.Outcome.TheVariants as outcomes
 use Rattle.network_model.specs.declared.refusal.WorldRefusal.TheVariants.{NoCopy, NoTransit, ReadingOutOfRange}
-use Rattle.network_model.specs.Network.{Network, NodeName, master_port, slave_port}
+use Rattle.network_model.specs.Network.{Network, master_port, slave_port}
 use Rattle.network_model.specs.Run.{Run, Place, place, place_at, tag_of, IsIn, true_moment}
-use Rattle.network_model.specs.Kinds.{is_at, draws_sync, is_sync, is_one_step_sync, is_request}
+use Rattle.network_model.specs.Kinds.{draws_sync, is_request}
 use Rattle.network_model.specs.Clock.{moment_shown, shown_at, reading_of, reading}
 use Rattle.network_model.specs.Truth.{copy_of}
 use Rattle.network_model.specs.Outcome.{◌>>=◌, node_as, clock_of, port_of, reads, open_transit, copy_in, left_outcome, arrived_outcome, outcome_of, IsRun}
@@ -36,26 +36,26 @@ read_at network (Request node at) earlier accepted timed =
 read_at network (Enter node copy at) earlier accepted timed =
     let outcome = ok_value (outcome_of network earlier (Enter node copy at)) accepted in
     let clock = ok_step (node_as clock_of network node)
-        (λ clock. ok_or (copy_of network earlier copy) NoCopy >>= (λ m. reads (Enter node copy at) earlier >>= (λ now. Ok outcomes.Entered))) outcome.1 in
+    (λ clock. ok_or (copy_of network earlier copy) NoCopy >>= (λ m. reads (Enter node copy at) earlier >>= (λ now. Ok outcomes.Entered))) outcome.1 in
     let message = ok_step (ok_or (copy_of network earlier copy) NoCopy) (λ m. reads (Enter node copy at) earlier >>= (λ now. Ok outcomes.Entered)) clock.2 in
     let now = ok_step (reads (Enter node copy at) earlier) (λ now. Ok outcomes.Entered) message.2 in (now.0, now.1)
 read_at network (Leave node transit at) earlier accepted timed =
     let outcome = ok_value (outcome_of network earlier (Leave node transit at)) accepted in
     let clock = ok_step (node_as clock_of network node)
-        (λ clock. ok_or (option_and_then (open_transit node earlier transit) (place_at earlier transit)) NoTransit >>= (λ entered. ok_or (copy_in network entered) NoTransit
-        >>= (λ m. reads (Leave node transit at) earlier >>= (λ now. Ok (left_outcome (forwarded (Ok m) (reading entered) now)))))) outcome.1 in
+    (λ clock. ok_or (option_and_then (open_transit node earlier transit) (place_at earlier transit)) NoTransit >>= (λ entered. ok_or (copy_in network entered) NoTransit
+    >>= (λ m. reads (Leave node transit at) earlier >>= (λ now. Ok (left_outcome (forwarded (Ok m) (reading entered) now)))))) outcome.1 in
     let entered = ok_step (ok_or (option_and_then (open_transit node earlier transit) (place_at earlier transit)) NoTransit)
-        (λ entered. ok_or (copy_in network entered) NoTransit
-        >>= (λ m. reads (Leave node transit at) earlier >>= (λ now. Ok (left_outcome (forwarded (Ok m) (reading entered) now))))) clock.2 in
+    (λ entered. ok_or (copy_in network entered) NoTransit
+    >>= (λ m. reads (Leave node transit at) earlier >>= (λ now. Ok (left_outcome (forwarded (Ok m) (reading entered) now))))) clock.2 in
     let message = ok_step (ok_or (copy_in network entered.0) NoTransit)
-        (λ m. reads (Leave node transit at) earlier >>= (λ now. Ok (left_outcome (forwarded (Ok m) (reading entered.0) now)))) entered.2 in
+    (λ m. reads (Leave node transit at) earlier >>= (λ now. Ok (left_outcome (forwarded (Ok m) (reading entered.0) now)))) entered.2 in
     let now = ok_step (reads (Leave node transit at) earlier) (λ now. Ok (left_outcome (forwarded (Ok message.0) (reading entered.0) now))) message.2 in (now.0, now.1)
 read_at network (Arrive node copy at) earlier accepted timed =
     let outcome = ok_value (outcome_of network earlier (Arrive node copy at)) accepted in
     let kind = ok_step (node_as port_of network node)
-        (λ kind. ok_or (copy_of network earlier copy) NoCopy >>= (λ m. reads (Arrive node copy at) earlier >>= (λ now. Ok (arrived_outcome network kind node earlier now m)))) outcome.1 in
+    (λ kind. ok_or (copy_of network earlier copy) NoCopy >>= (λ m. reads (Arrive node copy at) earlier >>= (λ now. Ok (arrived_outcome network kind node earlier now m)))) outcome.1 in
     let message = ok_step (ok_or (copy_of network earlier copy) NoCopy)
-        (λ m. reads (Arrive node copy at) earlier >>= (λ now. Ok (arrived_outcome network kind.0 node earlier now m))) kind.2 in
+    (λ m. reads (Arrive node copy at) earlier >>= (λ now. Ok (arrived_outcome network kind.0 node earlier now m))) kind.2 in
     let now = ok_step (reads (Arrive node copy at) earlier) (λ now. Ok (arrived_outcome network kind.0 node earlier now message.0)) message.2 in (now.0, now.1)
 read_at network (Follow node) earlier accepted timed = cc
 read_at network (Hear node copy) earlier accepted timed = cc

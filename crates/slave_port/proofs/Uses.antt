@@ -457,3 +457,13 @@ report_parts setup earlier call report is = by (ignored setup earlier call) is
         × (last_delay_completion setup (call ∷ earlier) ≡ Some delay) × (report ≡ report_of sync delay)
     by (Some reason) is = cc
     by None is = of_used (is_none (sync_completion setup earlier call) && is_none (delay_completion setup earlier call)) is
+
+-- what completes isn't behind the last completion
+pub sync_completion-newer : (setup : Setup) (earlier : List Call) (call : Call) (c : SyncCompletion) → sync_completion setup earlier call ≡ Some c
+    → is_not_newer (criteria setup earlier).last c.number ≡ false
+sync_completion-newer setup earlier call c is = by (sync_completion_of setup earlier call c is).0
+  where
+    by : IsSyncCompletion setup earlier call c → is_not_newer (criteria setup earlier).last c.number ≡ false
+    by (BySync h follow flag found same) = ap (λ (c : SyncCompletion). is_not_newer (criteria setup earlier).last c.number) same ∙ h.newer
+    by (Alone h flag same) = ap (λ (c : SyncCompletion). is_not_newer (criteria setup earlier).last c.number) same ∙ h.newer
+    by (ByFollowUp h sync found same) = ap (λ (c : SyncCompletion). is_not_newer (criteria setup earlier).last c.number) same ∙ h.newer
