@@ -1,9 +1,7 @@
 -- What a slave answers when it hears a message is the outcome of the event, and a message that completes something is
 -- answered so. A report's own event completes one of its halves.
-use Rattle.std.proofs.Common.{◌≡◌, ◌∙◌, ℕ, Bool, true, false, List, [], ◌∷◌, ◌++◌, length, Option, Some, None, Ok, IsOk, refl, sym, ap, subst, inl, inr, if◌then◌else◌}
+use Rattle.std.proofs.Common.{◌≡◌, ◌∙◌, Bool, true, false, List, ◌∷◌, ◌++◌, length, Option, Some, None, Ok, IsOk, refl, sym, ap, subst, inl, inr, if◌then◌else◌}
 use Rattle.std.specs.Prelude.{◌⊎◌, ◌&&◌, is_none, Result, slice_get, option_to_list}
-use Rattle.event_codec.specs.Packet.{Contents}
-use Rattle.slave_port.specs.declared.heard.Heard.{Heard}
 use Rattle.slave_port.specs.declared.heard.Heard.TheVariants as answers
 use Rattle.slave_port.specs.declared.heard.Report.{Report}
 use Rattle.slave_port.specs.declared.reason.Reason.{Reason}
@@ -19,12 +17,12 @@ use Rattle.network_model.specs.declared.stepped.Outcome.{Outcome}
 use Rattle.network_model.specs.declared.stepped.Outcome.TheVariants as outcomes
 use Rattle.network_model.specs.declared.refusal.WorldRefusal.{WorldRefusal}
 use Rattle.network_model.specs.Network.{Network, NodeName, PortSetup}
-use Rattle.network_model.specs.Run.{Run, Place, place, site_of}
+use Rattle.network_model.specs.Run.{Place, place, site_of}
 use Rattle.network_model.specs.Clock.{reading}
-use Rattle.network_model.specs.Truth.{slave_at, copy_of}
+use Rattle.network_model.specs.Truth.{slave_at}
 use Rattle.network_model.specs.SlaveHistory.{slave_setup, call_made, history_of}
 use Rattle.network_model.specs.Outcome.{outcome_of}
-use Rattle.network_model.specs.Evidence.{is_complete, is_completing}
+use Rattle.network_model.specs.Evidence.{is_complete}
 use Rattle.network_model.proofs.Calls.{IsCallOf, Arrives, Hears, Requests, Departs, Ticks, Sets, call_of}
 use Rattle.network_model.proofs.Hearing.{arrival_heard, hearing_heard}
 

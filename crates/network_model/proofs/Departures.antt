@@ -1,8 +1,8 @@
 -- How a slave knows when its request left: a Stamped event told it, with the request as the last one, which was held.
 -- A Delay_Resp completes such a request alone, so the event is part of a report's evidence.
-use Rattle.std.proofs.Common.{◌≡◌, ◌∙◌, ℕ, zero, suc, ◌+◌, ◌-◌, Bool, true, false, List, [], ◌∷◌, length, take, Option, Some, None, Ok, IsOk, refl, sym, ap, subst, arith, option_map, option_and_then, if◌then◌else◌}
-use Rattle.std.specs.Prelude.{count_by, ◌==◌, ◌&&◌, Result, nat_eq, find, is_some, ok_or}
-use Rattle.std.proofs.lemmas.Bool.{eq-eqb, and_right}
+use Rattle.std.proofs.Common.{◌≡◌, ◌∙◌, ℕ, zero, suc, ◌+◌, Bool, true, false, List, [], ◌∷◌, take, Option, Some, None, Ok, IsOk, refl, sym, ap, subst, arith, option_map, option_and_then, if◌then◌else◌}
+use Rattle.std.specs.Prelude.{count_by, nat_eq, find, is_some, ok_or}
+use Rattle.std.proofs.lemmas.Bool.{eq-eqb}
 use Rattle.ptp_units.specs.Sequence.{of_count}
 use Rattle.pairing.specs.Marked.{Entry, entry, first_value}
 use Rattle.slave_port.specs.declared.reason.SlaveRefusal.TheVariants.{NotHeld}
@@ -11,17 +11,13 @@ use Rattle.slave_port.specs.History as calls
 use Rattle.slave_port.specs.History.{Call, next_number}
 use Rattle.slave_port.specs.Values.{RequestValue}
 use Rattle.slave_port.specs.Requests.{requests, stamped, is_held}
-use Rattle.slave_port.proofs.Uses.{some_step}
 use Rattle.network_model.specs.declared.event.Event.{Event}
 use Rattle.network_model.specs.declared.event.Event.TheVariants.{Stamped}
-use Rattle.network_model.specs.declared.stepped.Outcome.{Outcome}
 use Rattle.network_model.specs.declared.stepped.Outcome.TheVariants as outcomes
-use Rattle.network_model.specs.declared.refusal.WorldRefusal.{WorldRefusal}
 use Rattle.network_model.specs.declared.refusal.WorldRefusal.TheVariants.{NoNode, WrongKind, NothingWaiting}
 use Rattle.network_model.specs.Network.{Network, NodeName, PortSetup, is_named, kind_of, slave_port}
-use Rattle.network_model.specs.Run.{Run, Place, place, place_at, tag_of, IsIn, site_of, events_after}
+use Rattle.network_model.specs.Run.{Run, Place, place, tag_of, IsIn, site_of, events_after}
 use Rattle.network_model.specs.Kinds.{is_at, is_request, is_stamped}
-use Rattle.network_model.specs.Clock.{reading}
 use Rattle.network_model.specs.Numbering.{waiting_request}
 use Rattle.network_model.specs.Truth.{slave_at}
 use Rattle.network_model.specs.SlaveHistory.{slave_setup, table_capacity, request_sequence, call_made, history_of}
@@ -100,7 +96,7 @@ stamped_done : (network : Network) (port : PortSetup) (slave : NodeName) (earlie
 stamped_done network port slave earlier request slave_is accepted waits held =
     let outcome = ok_value (outcome_of network earlier (Stamped slave)) accepted in
     let own = ok_step (node_as slave_port network slave)
-        (λ port. ok_or (waiting_request slave earlier) NothingWaiting >>= (λ request. Ok (stamped_outcome network port slave earlier request))) outcome.1 in
+    (λ port. ok_or (waiting_request slave earlier) NothingWaiting >>= (λ request. Ok (stamped_outcome network port slave earlier request))) outcome.1 in
     let waited = ok_step (ok_or (waiting_request slave earlier) NothingWaiting) (λ request. Ok (stamped_outcome network own.0 slave earlier request)) own.2 in
     let known = ok_step (ok_or (kind_of network slave) NoNode) (λ kind. ok_or (slave_port kind) WrongKind) own.1 in
     let port_is : slave_at network slave ≡ Some own.0 =
@@ -148,17 +144,19 @@ are_stamped network port slave slave_is (event ∷ earlier) accepted =
         ∙ newest_held (request_sequence port w) e others (equal ∙ number_is) in
         let later = stamped-later network slave event earlier (e ∷ others) known in
         subst (λ (b : Bool). whole (if b then entry number (record { t3 = Some t3; tag = e.value.tag }) ∷ others else e ∷ stamped number t3 others))
-        (sym (eq-eqb e.number number equal))
-        (λ t left. record {
-          at = place event earlier;
-          request = w;
-          there = IsIn-last event earlier;
-          event = now;
-          done = subst (λ (e : Event). outcome_of network earlier e ≡ Ok outcomes.Done) (sym now)
-              (stamped_done network port slave earlier w slave_is (subst (λ (e : Event). IsOk (outcome_of network earlier e)) now accepted.0) waits held);
-          waiting = waits;
-          tag_is = are.0.tag ∙ ap tag_of one;
-        }, later.1)
+        (sym (eq-eqb e.number number equal)) (
+          λ t left. record {
+            at = place event earlier;
+            request = w;
+            there = IsIn-last event earlier;
+            event = now;
+            done = subst (λ (e : Event). outcome_of network earlier e ≡ Ok outcomes.Done) (sym now)
+                (stamped_done network port slave earlier w slave_is (subst (λ (e : Event). IsOk (outcome_of network earlier e)) now accepted.0) waits held);
+            waiting = waits;
+            tag_is = are.0.tag ∙ ap tag_of one;
+          },
+          later.1,
+        )
 
     at : (named : Bool) → is_named (site_of event) slave ≡ named → (call : Option Call) → call_made network port event earlier ≡ call
         → AreStamped network slave earlier (requests (slave_setup port) before) → whole (requests (slave_setup port) (history_of network port slave (event ∷ earlier)))

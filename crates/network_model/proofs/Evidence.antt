@@ -1,9 +1,7 @@
 -- Each report of an accepted run has its evidence: the order of its tags, that its messages were used, how the slave learnt
 -- when the request left, one domain, and corrections that aren't too big. No stay in a clock is spent twice beside that.
-use Rattle.std.proofs.Common.{◌≡◌, ◌∙◌, ℕ, ◌+◌, ◌<◌, ◌≤◌, Bool, true, false, List, ◌∷◌, length, Option, Some, None, Ok, refl, sym, ap, subst, arith, inl, inr}
-use Rattle.std.specs.Prelude.{◌⊎◌, int_lt, count_by, IfSome}
-use Rattle.ptp_units.specs.Interval.{too_big}
-use Rattle.event_codec.specs.Packet.{Contents}
+use Rattle.std.proofs.Common.{◌≡◌, ◌∙◌, ℕ, ◌+◌, ◌<◌, ◌≤◌, List, ◌∷◌, length, Option, Some, None, refl, sym, ap, subst, arith, inl, inr}
+use Rattle.std.specs.Prelude.{◌⊎◌, count_by, IfSome}
 use Rattle.slave_port.specs.declared.heard.Heard.TheVariants as answers
 use Rattle.slave_port.specs.declared.heard.Report.{Report}
 use Rattle.slave_port.specs.History.{Call}
@@ -11,19 +9,18 @@ use Rattle.slave_port.specs.Completion.{SyncCompletion, DelayCompletion}
 use Rattle.slave_port.specs.Kept.{sync_completion, delay_completion, last_sync_completion, last_delay_completion}
 use Rattle.slave_port.specs.Answer.{report_of}
 use Rattle.slave_port.proofs.Uses.{report_parts}
-use Rattle.network_model.specs.declared.event.Event.{Event}
 use Rattle.network_model.specs.declared.event.Event.TheVariants.{Arrive}
 use Rattle.network_model.specs.Network.{Network, NodeName, PortSetup}
-use Rattle.network_model.specs.Run.{Run, Place, place_at, tag_of, IsIn, until, site_of, events_after}
+use Rattle.network_model.specs.Run.{Run, Place, tag_of, until, site_of, events_after}
 use Rattle.network_model.specs.Kinds.{is_at, is_request, draws_sync}
-use Rattle.network_model.specs.Journey.{Journey, journey_of}
+use Rattle.network_model.specs.Journey.{Journey}
 use Rattle.network_model.specs.Truth.{master_at, slave_at, copy_of, travelled}
 use Rattle.network_model.specs.SlaveHistory.{slave_setup, call_made, history_of}
 use Rattle.network_model.specs.Outcome.{IsRun}
 use Rattle.network_model.specs.Premises.{IsAcceptedRun, is_used}
 use Rattle.network_model.specs.Reported.{Reports}
-use Rattle.network_model.specs.Exact.{Arrives, HearsOf, LearnsDeparture, IsOfOneSync, IsOfOneRequest, IsMeasurement}
-use Rattle.network_model.specs.Evidence.{is_completing, HasOutcome, SyncWasUsed, TagsInOrder, WasStamped, ShareDomain, IsRepresented, HasEvidence, EachReportHasEvidence, ShowsEvidence}
+use Rattle.network_model.specs.Exact.{Arrives, HearsOf, LearnsDeparture, IsOfOneSync, IsOfOneRequest}
+use Rattle.network_model.specs.Evidence.{is_completing, HasOutcome, SyncWasUsed, TagsInOrder, WasStamped, ShareDomain, IsRepresented, EachReportHasEvidence, ShowsEvidence}
 use Rattle.network_model.proofs.Places.{place_at-bound, tag_of-place_at, IsIn-place_at, IsIn-within}
 use Rattle.network_model.proofs.Sites.{at_site}
 use Rattle.network_model.proofs.Journeys.{IsIn-last, IsIn-origin}
@@ -35,7 +32,7 @@ use Rattle.network_model.proofs.Spent.{spent_once}
 use Rattle.network_model.proofs.Twice.{one_arrival, one_hearing}
 use Rattle.network_model.proofs.TrueTime.{origin_drawn}
 use Rattle.network_model.proofs.Completing.{report_completes, sync_last, delay_last}
-use Rattle.network_model.proofs.Departures.{IsLearnt, waits_alone}
+use Rattle.network_model.proofs.Departures.{waits_alone}
 use Rattle.network_model.proofs.Shown.{IsSyncShown, IsRequestShown, sync_shown, request_shown}
 
 -- a Follow_Up's tag is one of the run
@@ -131,8 +128,7 @@ of_one_domain network port slave run now c report slave_is tag shown m =
     let one = one_arrival run c.sync_tag slave shown.arrival m.arrival shown.of_master.journey m.journey own arrives in
     let names : shown.of_master.node ≡ m.master =
     sym shown.of_master.site ∙ ap (λ (j : Journey). site_of j.origin.event) one.1
-    ∙ at_site draws_sync m.master m.journey.origin.event (origin_drawn run slave m.master report.follow_tag m.journey.origin m.sync.departure) in
-    (
+    ∙ at_site draws_sync m.master m.journey.origin.event (origin_drawn run slave m.master report.follow_tag m.journey.origin m.sync.departure) in (
       record {
         own = port;
         other = shown.of_master.master;

@@ -1,45 +1,38 @@
 -- What a run shows of each half of a report: its messages were used, they are of the slave's domain, no correction is too big,
 -- and the slave learnt when its request left. By these each report has its evidence.
-use Rattle.std.proofs.Common.{◌≡◌, ◌∙◌, ℕ, ◌+◌, ◌<◌, ◌≤◌, Bool, true, false, List, [], ◌∷◌, length, Option, Some, None, Ok, IsOk, refl, sym, ap, subst, arith, inl, inr, if◌then◌else◌}
-use Rattle.std.specs.Prelude.{◌⊎◌, int_lt, count_by, IfSome}
-use Rattle.ptp_units.specs.Interval.{too_big, with_residence}
+use Rattle.std.proofs.Common.{◌≡◌, ◌∙◌, ℕ, true, false, Some, IsOk, refl, sym, ap, subst, inl, inr}
+use Rattle.std.specs.Prelude.{◌⊎◌, int_lt, IfSome}
+use Rattle.ptp_units.specs.Interval.{too_big}
 use Rattle.ptp_units.specs.Moment.{fraction_of}
 use Rattle.event_codec.specs.Packet.{Contents}
 use Rattle.pairing.specs.Marked.{Entry, first_value}
-use Rattle.slave_port.specs.declared.heard.Heard.{Heard}
-use Rattle.slave_port.specs.declared.heard.Heard.TheVariants as answers
-use Rattle.slave_port.specs.declared.heard.Report.{Report}
-use Rattle.slave_port.specs.History.{Call, Setup}
-use Rattle.slave_port.specs.Values.{SyncValue, FollowValue, RequestValue}
+use Rattle.slave_port.specs.History.{Call}
+use Rattle.slave_port.specs.Values.{SyncValue, FollowValue}
 use Rattle.slave_port.specs.Usable.{is_two_step}
 use Rattle.slave_port.specs.Completion.{SyncCompletion, DelayCompletion, pair, alone}
 use Rattle.slave_port.specs.Kept.{criteria, held_syncs, held_follows, sync_completion, delay_completion}
 use Rattle.slave_port.specs.Requests.{requests}
 use Rattle.slave_port.specs.Answer.{answer, used}
 use Rattle.slave_port.proofs.Uses.{HeardSync, HeardFollowUp, two_step_value, one_step_value, follow_value, IsSyncCompletion, BySync, Alone, ByFollowUp, sync_completion_of, delay_completion_of}
-use Rattle.network_model.specs.declared.event.Event.{Event}
-use Rattle.network_model.specs.declared.event.Event.TheVariants.{Arrive, Hear}
-use Rattle.network_model.specs.declared.stepped.Outcome.TheVariants as outcomes
+use Rattle.network_model.specs.declared.event.Event.TheVariants.{Arrive}
 use Rattle.network_model.specs.Network.{Network, NodeName, PortSetup}
 use Rattle.network_model.specs.Run.{Run, Place, place_at, tag_of, IsIn, site_of}
-use Rattle.network_model.specs.Kinds.{is_at, is_request, is_sync, is_one_step_sync}
+use Rattle.network_model.specs.Kinds.{is_sync, is_one_step_sync}
 use Rattle.network_model.specs.Clock.{reading}
-use Rattle.network_model.specs.Journey.{Journey, journey_of, residence}
+use Rattle.network_model.specs.Journey.{Journey, journey_of}
 use Rattle.network_model.specs.Truth.{master_at, slave_at, copy_of}
 use Rattle.network_model.specs.SlaveHistory.{slave_setup, table_capacity, call_made, history_of}
 use Rattle.network_model.specs.Outcome.{outcome_of, IsRun}
 use Rattle.network_model.specs.Premises.{is_used}
 use Rattle.network_model.specs.Exact.{HearsOf}
 use Rattle.network_model.specs.Evidence.{is_complete, is_completing, HasOutcome, SyncWasUsed}
-use Rattle.network_model.proofs.Places.{accepted-place_at, IsRun-place_at, IsIn-place_at, IsIn-within}
+use Rattle.network_model.proofs.Places.{accepted-place_at, IsRun-place_at, IsIn-within}
 use Rattle.network_model.proofs.Sites.{at_site}
 use Rattle.network_model.proofs.Exactness.{small_request}
-use Rattle.network_model.proofs.Entries.{UsedAt, arrived, heard_by, two_step_copy, one_step_copy, follow_up_copy, delay_resp_copy}
+use Rattle.network_model.proofs.Entries.{UsedAt, arrived, heard_by, two_step_copy, one_step_copy, delay_resp_copy}
 use Rattle.network_model.proofs.Pairing.{found_in}
 use Rattle.network_model.proofs.HeldMessages.{IsHeldSync, IsHeldFollow, held_syncs_are, held_follows_are}
 use Rattle.network_model.proofs.OneSync.{tagged}
-use Rattle.network_model.proofs.Requests.{requests_are}
-use Rattle.network_model.proofs.OneRequest.{answer_to_slave}
 use Rattle.network_model.proofs.Completing.{hears, heard_outcome, sync_completes, delay_completes, sync_hears, delay_hears}
 use Rattle.network_model.proofs.Departures.{IsLearnt, are_stamped, stamped_found}
 
@@ -110,7 +103,7 @@ module _ (network : Network) (port : PortSetup) (slave : NodeName) (slave_is : s
       let at = arrived network port slave p call slave_is before accepted site made answered h.m h.t2 h.tag h.call_is h.passes in
       let drawn = two_step_copy network p.earlier at.copy h.m h.origin at.used.m_is h.body flag in
       let e = found_in (IsHeldFollow network port slave p.earlier) (held_follows (slave_setup port) (history_of network port slave p.earlier)) h.m.header.sequence.0 follow
-          (held_follows_are network port slave slave_is p.earlier before) found in
+      (held_follows_are network port slave slave_is p.earlier before) found in
       let held = e.1 in
       let value = sym e.3 ∙ ap (λ (e : Entry FollowValue). e.value) held.is in
       record {
@@ -146,7 +139,7 @@ module _ (network : Network) (port : PortSetup) (slave : NodeName) (slave_is : s
   by_follow_up h sync found =
       let at = heard_by network port slave p call slave_is before accepted site made answered h.m h.tag h.call_is h.passes in
       let e = found_in (IsHeldSync network port slave p.earlier) (held_syncs (slave_setup port) (history_of network port slave p.earlier)) h.m.header.sequence.0 sync
-          (held_syncs_are network port slave slave_is p.earlier before) found in
+      (held_syncs_are network port slave slave_is p.earlier before) found in
       let held = e.1 in
       let value = sym e.3 ∙ ap (λ (e : Entry SyncValue). e.value) held.is in
       let arrives = tagged run held.p sync.tag (IsIn-within run p held.p there held.there) (ap (λ (s : SyncValue). s.tag) value) in
@@ -217,9 +210,9 @@ sync_shown network port slave slave_is run all p there site call made c brought 
     by (Alone h flag is) answered =
         subst (λ (c : SyncCompletion). IsSyncShown network port slave run (tag_of p) c) (sym is)
         (by_itself network port slave slave_is run all p there site call made answered h flag
-            (completes network port slave slave_is run all p there site call made answered
-                (sync_hears (slave_setup port) (history_of network port slave p.earlier) call c brought)
-                (sync_completes (slave_setup port) (history_of network port slave p.earlier) call c brought)))
+        (completes network port slave slave_is run all p there site call made answered
+        (sync_hears (slave_setup port) (history_of network port slave p.earlier) call c brought)
+        (sync_completes (slave_setup port) (history_of network port slave p.earlier) call c brought)))
     by (ByFollowUp h sync found is) answered =
         subst (λ (c : SyncCompletion). IsSyncShown network port slave run (tag_of p) c) (sym is)
         (by_follow_up network port slave slave_is run all p there site call made answered h sync found)
@@ -232,12 +225,12 @@ request_shown network port slave slave_is run all p there site call made c broug
     let before : IsRun network p.earlier = IsRun-place_at network run (tag_of p) p all there in
     let done = delay_completion_of (slave_setup port) (history_of network port slave p.earlier) call c brought in
     let at = heard_by network port slave p call slave_is before (accepted-place_at network run (tag_of p) p all there) site made done.used
-        done.h.m done.h.tag done.h.call_is done.h.passes in
+    done.h.m done.h.tag done.h.call_is done.h.passes in
     let resp = delay_resp_copy network p.earlier at.copy done.h.m done.h.receive done.h.requesting at.used.m_is done.h.body in
     let response_tag : c.response_tag ≡ tag_of p = ap (λ (c : DelayCompletion). c.response_tag) done.is ∙ at.tag_is in
     let request_tag : done.request.tag ≡ c.request_tag = sym (ap (λ (c : DelayCompletion). c.request_tag) done.is) in
     let learnt = stamped_found network slave p.earlier done.h.m.header.sequence.0 done.request table_capacity
-        (requests (slave_setup port) (history_of network port slave p.earlier)) (are_stamped network port slave slave_is p.earlier before) done.found done.t3 done.left in
+    (requests (slave_setup port) (history_of network port slave p.earlier)) (are_stamped network port slave slave_is p.earlier before) done.found done.t3 done.left in
     record {
       completing = record {
         p = p;
