@@ -1,46 +1,71 @@
--- In a level network a slave knows its master's clock by a report, so two slaves of one master agree at every true moment.
--- The error is the asymmetry of the ways, and these are even.
-use Rattle.std.proofs.Common.{◌≡◌, ◌∙◌, ℕ, ℤ, pos, ◌+ℤ◌, ◌-ℤ◌, List, Option, Some, refl, sym, ap, arith}
+-- In a level network both ways of a report take one time, so its offset is the true difference of the two clocks, and two
+-- slaves of one master agree.
+use Rattle.std.proofs.Common.{◌≡◌, ◌∙◌, ℕ, ℤ, pos, ◌+ℤ◌, ◌-ℤ◌, List, Some, sym, ap, subst, arith, reverse, option_map, option_and_then}
 use Rattle.std.proofs.lemmas.Int.{ints}
 use Rattle.slave_port.specs.declared.heard.Report.{Report}
+use Rattle.slave_port.proofs.Uses.{some_step, some_image}
 use Rattle.network_model.specs.Network.{Network, NodeName}
-use Rattle.network_model.specs.Run.{Run}
+use Rattle.network_model.specs.Run.{Run, Place, place_at, IsIn}
+use Rattle.network_model.specs.Kinds.{timed_copy, heard_copy}
 use Rattle.network_model.specs.Clock.{difference}
+use Rattle.network_model.specs.Journey.{Journey, journey_of}
+use Rattle.network_model.specs.Outcome.{IsRun}
 use Rattle.network_model.specs.Present.{present_master}
-use Rattle.network_model.specs.Premises.{Premise, exact_limits, IsFreshAndTicked}
+use Rattle.network_model.specs.Premises.{exact_limits, IsFreshAndTicked}
 use Rattle.network_model.specs.Reported.{ReportedIn}
-use Rattle.network_model.specs.Level.{Crossing, sync_way, request_way, time_on, IsLevelFor}
-use Rattle.network_model.specs.TrueTime.{twice, IsAsymmetric, ErrorIsAsymmetry, WaysAreEven, KnowsMaster, SlavesAgree, TellsTrueTime}
+use Rattle.network_model.specs.Level.{Crossing, crossings_of, way_to, maker_heard, sync_way, request_way, time_on, IsLevelFor}
+use Rattle.network_model.specs.TrueTime.{twice, KnowsMaster, TellsTrueTime}
+use Rattle.network_model.proofs.Places.{IsIn-place_at, IsIn-within}
+use Rattle.network_model.proofs.Even.{AreCrossings, zipped, time-reverse, crossings-reverse, way_in}
 use Rattle.network_model.proofs.TrueTime.{error_is_asymmetry}
-use Rattle.network_model.proofs.EvenWays.{ways_are_even}
 
-known_number : (moment : ℕ) (slave master offset there back there' back' : ℤ) → offset ≡ twice (slave -ℤ master) +ℤ (there -ℤ back) → there ≡ there' → back ≡ back' → there' ≡ back'
-    → twice (pos moment +ℤ slave) -ℤ offset ≡ twice (pos moment +ℤ master)
-known_number moment slave master offset there back there' back' e f g even = omega (arith, ints)
+-- a way is made of crossings of the run
+way_crosses : (network : Network) (run : Run) (p : Place) (way : List Crossing) → IsRun network run → IsIn run p → way_to p ≡ Some way → AreCrossings run way
+way_crosses network run p way accepted there is =
+    let copy = some_step (λ (copy : ℕ). option_map (λ (journey : Journey). crossings_of journey.origin journey.stays p) (journey_of p.earlier copy)) (timed_copy p.event) is in
+    let journey = some_image (λ (journey : Journey). crossings_of journey.origin journey.stays p) (journey_of p.earlier copy.0) copy.2 in
+    subst (AreCrossings run) journey.2 (way_in network run accepted journey.0.origin journey.0.stays p copy.0 there copy.1 journey.1)
 
--- one slave
-knows_master : (premise : Premise) → ErrorIsAsymmetry premise → WaysAreEven premise → (network : Network) (run : Run) (slave master : NodeName) (report : Report) (moment : ℕ)
-    → premise network run → (reported : ReportedIn network run slave report) → present_master slave reported.answered.earlier ≡ Some master
-    → IsLevelFor run report → KnowsMaster run slave master report moment
-knows_master premise error even network run slave master report moment holds reported present level =
-    let m = error network run slave master report holds level.steady reported present in
-    let there : Some m.there ≡ Some level.there = sym m.sync ∙ level.sync in
-    let back : Some m.back ≡ Some level.back = sym m.request ∙ level.request in
-    let one : m.there ≡ level.there = cc in
-    let other : m.back ≡ level.back = cc in
-    known_number moment (difference slave run) (difference master run) report.offset2 (time_on m.there) (time_on m.back) (time_on level.there) (time_on level.back)
-    m.offset (ap time_on one) (ap time_on other) (even network run slave report holds reported level)
+sync_crosses : (network : Network) (run : Run) (report : Report) (way : List Crossing) → IsRun network run → sync_way run report ≡ Some way → AreCrossings run way
+sync_crosses network run report way accepted is =
+    let p = some_step way_to (place_at run report.sync_tag) is in way_crosses network run p.0 way accepted (IsIn-place_at run report.sync_tag p.0 p.1) p.2
 
--- two slaves
-pub slaves_agree : (premise : Premise) → ErrorIsAsymmetry premise → WaysAreEven premise → SlavesAgree premise
-slaves_agree premise error even network run one other master first second moment holds reported reported_too present present_too level level_too = (
-  knows_master premise error even network run one master first moment holds reported present level,
-  knows_master premise error even network run other master second moment holds reported_too present_too level_too,
-)
+request_crosses : (network : Network) (run : Run) (report : Report) (way : List Crossing) → IsRun network run → request_way run report ≡ Some way → AreCrossings run way
+request_crosses network run report way accepted is =
+    let p = some_step way_to (option_and_then maker_heard (place_at run report.response_tag)) is in
+    let hearing = some_step maker_heard (place_at run report.response_tag) p.1 in
+    let copy = some_step (place_at hearing.0.earlier) (heard_copy hearing.0.event) hearing.2 in
+    way_crosses network run p.0 way accepted
+    (IsIn-within run hearing.0 p.0 (IsIn-place_at run report.response_tag hearing.0 hearing.1) (IsIn-place_at hearing.0.earlier copy.0 p.0 copy.2)) p.2
 
--- over runs that are fresh and ticked
-even : WaysAreEven (IsFreshAndTicked exact_limits)
-even = ways_are_even (IsFreshAndTicked exact_limits) (λ network run premise. record { apart = premise.apart; accepted = premise.accepted })
+even_ways : (network : Network) (run : Run) (report : Report) → IsRun network run → (level : IsLevelFor run report) → time_on level.there ≡ time_on level.back
+even_ways network run report accepted level =
+    let there = sync_crosses network run report level.there accepted level.sync in
+    let back = request_crosses network run report level.back accepted level.request in
+    sym (zipped run level.back (reverse level.there) level.even back (crossings-reverse run level.there there) level.goes_back ∙ time-reverse level.there)
 
+-- one slave knows the master's clock
+knows_master : (network : Network) (run : Run) (slave master : NodeName) (report : Report) (moment : ℕ) → IsFreshAndTicked exact_limits network run
+    → (reported : ReportedIn network run slave report) → present_master slave reported.answered.earlier ≡ Some master → IsLevelFor run report → KnowsMaster run slave master report moment
+knows_master network run slave master report moment premise reported present level =
+    let error = error_is_asymmetry network run slave master report premise level.steady reported present in
+    let even = even_ways network run report premise.accepted level in
+    let theres : Some error.there ≡ Some level.there = sym error.sync ∙ level.sync in
+    let backs : Some error.back ≡ Some level.back = sym error.request ∙ level.request in
+    let there : time_on error.there ≡ time_on level.there = ap time_on (let same : error.there ≡ level.there = cc in same) in
+    let back : time_on error.back ≡ time_on level.back = ap time_on (let same : error.back ≡ level.back = cc in same) in
+    known report.offset2 (difference slave run) (difference master run) (time_on error.there) (time_on error.back) (pos moment) error.offset (there ∙ even ∙ sym back)
+  where
+    known : (offset s m x y t : ℤ) → offset ≡ twice (s -ℤ m) +ℤ (x -ℤ y) → x ≡ y → twice (t +ℤ s) -ℤ offset ≡ twice (t +ℤ m)
+    known offset s m x y t e f = omega (arith, ints)
+
+-- in runs that are fresh and ticked
 pub tells_true_time : TellsTrueTime
-tells_true_time = record { error = error_is_asymmetry; even = even; agreement = slaves_agree (IsFreshAndTicked exact_limits) error_is_asymmetry even }
+tells_true_time = record {
+  error = error_is_asymmetry;
+  even = λ network run slave report premise reported level. even_ways network run report premise.accepted level;
+  agreement = λ network run one other master first second moment premise reported reported_too present present_too level level_too. (
+    knows_master network run one master first moment premise reported present level,
+    knows_master network run other master second moment premise reported_too present_too level_too,
+  );
+}

@@ -1,6 +1,6 @@
 -- An event that a slave answers is a message that its port was told, and the answer is its port's.
 -- A report of a run is read back to the slave's history by it.
-use Rattle.std.proofs.Common.{◌≡◌, ◌∙◌, ℕ, Bool, true, false, List, length, Option, Some, None, Ok, Err, refl, sym, ap, subst, if◌then◌else◌, option_map, option_and_then}
+use Rattle.std.proofs.Common.{◌≡◌, ◌∙◌, ℕ, Bool, true, false, length, Option, Some, Ok, Err, sym, ap, if◌then◌else◌, option_map, option_and_then}
 use Rattle.std.specs.Prelude.{Result, ok_or, unwrap_or, nat_lt, unsigned_abs}
 use Rattle.ptp_units.specs.Moment.{bound}
 use Rattle.event_codec.specs.Packet.{Contents}
@@ -24,13 +24,12 @@ use Rattle.network_model.specs.declared.stepped.Outcome.TheVariants as outcomes
 use Rattle.network_model.specs.declared.refusal.WorldRefusal.{WorldRefusal}
 use Rattle.network_model.specs.declared.refusal.WorldRefusal.TheVariants.{NoNode, WrongKind, NoCopy, NoTransit, ReadingOutOfRange, NothingWaiting}
 use Rattle.network_model.specs.Network.{Network, NodeName, PortSetup, kind_of, master_port, slave_port}
-use Rattle.network_model.specs.Run.{Run, Place, place, place_at, site_of}
+use Rattle.network_model.specs.Run.{Run, place, place_at, site_of}
 use Rattle.network_model.specs.Clock.{reading, reading_of}
 use Rattle.network_model.specs.Numbering.{waiting_sync, waiting_request}
 use Rattle.network_model.specs.Truth.{slave_at, copy_of}
 use Rattle.network_model.specs.SlaveHistory.{slave_setup, request_sequence, call_made, history_of}
 use Rattle.network_model.specs.Outcome.{◌>>=◌, node_as, clock_of, port_of, reads, open_transit, copy_in, left_outcome, answered_outcome, arrived_outcome, heard, stamped_outcome, outcome_of}
-use Rattle.slave_port.proofs.Uses.{some_step}
 use Rattle.network_model.proofs.Options.{ok_step, ok_some}
 
 -- a slave was told this call, and answered so
@@ -92,9 +91,9 @@ module _ (network : Network) (earlier : Run) (answered : Heard) where
   pub answered_by : (event : Event) → outcome_of network earlier event ≡ Ok (outcomes.Heard answered) → IsAnswered network earlier event answered
   answered_by (Arrive node copy at) is =
       let kind = ok_step (node_as port_of network node)
-          (λ kind. ok_or (copy_of network earlier copy) NoCopy >>= (λ m. reads (Arrive node copy at) earlier >>= (λ now. Ok (arrived_outcome network kind node earlier now m)))) is in
+      (λ kind. ok_or (copy_of network earlier copy) NoCopy >>= (λ m. reads (Arrive node copy at) earlier >>= (λ now. Ok (arrived_outcome network kind node earlier now m)))) is in
       let message = ok_step (ok_or (copy_of network earlier copy) NoCopy)
-          (λ m. reads (Arrive node copy at) earlier >>= (λ now. Ok (arrived_outcome network kind.0 node earlier now m))) kind.2 in
+      (λ m. reads (Arrive node copy at) earlier >>= (λ now. Ok (arrived_outcome network kind.0 node earlier now m))) kind.2 in
       let now = ok_step (reads (Arrive node copy at) earlier) (λ now. Ok (arrived_outcome network kind.0 node earlier now message.0)) message.2 in
       let known = kind_known port_of network node {x = kind.0} kind.1 in
       let outcome : arrived_outcome network kind.0 node earlier now.0 message.0 ≡ outcomes.Heard answered = let same = now.2 in cc in
@@ -103,7 +102,7 @@ module _ (network : Network) (earlier : Run) (answered : Heard) where
       (sym (ap (λ (r : Option ℕ). unwrap_or r 0) now_is)) outcome
   answered_by (Hear node copy) is =
       let own = ok_step (node_as slave_port network node)
-          (λ port. ok_or (copy_of network earlier copy) NoCopy >>= (λ m. Ok (heard network port node earlier (calls.General (Ok m) (length earlier))))) is in
+      (λ port. ok_or (copy_of network earlier copy) NoCopy >>= (λ m. Ok (heard network port node earlier (calls.General (Ok m) (length earlier))))) is in
       let message = ok_step (ok_or (copy_of network earlier copy) NoCopy) (λ m. Ok (heard network own.0 node earlier (calls.General (Ok m) (length earlier)))) own.2 in
       let known = kind_known slave_port network node {x = own.0} own.1 in
       let outcome : slaves.answer (slave_setup own.0) (history_of network own.0 node earlier) (calls.General (Ok message.0) (length earlier)) ≡ answered = let same = message.2 in cc in
@@ -125,18 +124,18 @@ module _ (network : Network) (earlier : Run) (answered : Heard) where
       let waits = ok_step (ok_or (waiting_sync node earlier) NothingWaiting) (λ waiting. Ok outcomes.Made) port.2 in let same = waits.2 in cc
   answered_by (Enter node copy at) is =
       let clock = ok_step (node_as clock_of network node)
-          (λ clock. ok_or (copy_of network earlier copy) NoCopy >>= (λ m. reads (Enter node copy at) earlier >>= (λ now. Ok outcomes.Entered))) is in
+      (λ clock. ok_or (copy_of network earlier copy) NoCopy >>= (λ m. reads (Enter node copy at) earlier >>= (λ now. Ok outcomes.Entered))) is in
       let message = ok_step (ok_or (copy_of network earlier copy) NoCopy) (λ m. reads (Enter node copy at) earlier >>= (λ now. Ok outcomes.Entered)) clock.2 in
       let now = ok_step (reads (Enter node copy at) earlier) (λ now. Ok outcomes.Entered) message.2 in let same = now.2 in cc
   answered_by (Leave node transit at) is =
       let clock = ok_step (node_as clock_of network node)
-          (λ clock. ok_or (option_and_then (open_transit node earlier transit) (place_at earlier transit)) NoTransit >>= (λ entered. ok_or (copy_in network entered) NoTransit
-          >>= (λ m. reads (Leave node transit at) earlier >>= (λ now. Ok (left_outcome (forwarded (Ok m) (reading entered) now)))))) is in
+      (λ clock. ok_or (option_and_then (open_transit node earlier transit) (place_at earlier transit)) NoTransit >>= (λ entered. ok_or (copy_in network entered) NoTransit
+      >>= (λ m. reads (Leave node transit at) earlier >>= (λ now. Ok (left_outcome (forwarded (Ok m) (reading entered) now)))))) is in
       let entered = ok_step (ok_or (option_and_then (open_transit node earlier transit) (place_at earlier transit)) NoTransit)
-          (λ entered. ok_or (copy_in network entered) NoTransit
-          >>= (λ m. reads (Leave node transit at) earlier >>= (λ now. Ok (left_outcome (forwarded (Ok m) (reading entered) now))))) clock.2 in
+      (λ entered. ok_or (copy_in network entered) NoTransit
+      >>= (λ m. reads (Leave node transit at) earlier >>= (λ now. Ok (left_outcome (forwarded (Ok m) (reading entered) now))))) clock.2 in
       let message = ok_step (ok_or (copy_in network entered.0) NoTransit)
-          (λ m. reads (Leave node transit at) earlier >>= (λ now. Ok (left_outcome (forwarded (Ok m) (reading entered.0) now)))) entered.2 in
+      (λ m. reads (Leave node transit at) earlier >>= (λ now. Ok (left_outcome (forwarded (Ok m) (reading entered.0) now)))) entered.2 in
       let now = ok_step (reads (Leave node transit at) earlier) (λ now. Ok (left_outcome (forwarded (Ok message.0) (reading entered.0) now))) message.2 in
       let outcome : left_outcome (forwarded (Ok message.0) (reading entered.0) now.0) ≡ outcomes.Heard answered = let same = now.2 in cc in
       absurd (clock_silent (forwarded (Ok message.0) (reading entered.0) now.0) answered outcome)
@@ -145,16 +144,16 @@ module _ (network : Network) (earlier : Run) (answered : Heard) where
       let now = ok_step (reads (Request node at) earlier) (λ now. Ok outcomes.Made) port.2 in let same = now.2 in cc
   answered_by (Stamped node) is =
       let port = ok_step (node_as slave_port network node)
-          (λ port. ok_or (waiting_request node earlier) NothingWaiting >>= (λ request. Ok (stamped_outcome network port node earlier request))) is in
+      (λ port. ok_or (waiting_request node earlier) NothingWaiting >>= (λ request. Ok (stamped_outcome network port node earlier request))) is in
       let waits = ok_step (ok_or (waiting_request node earlier) NothingWaiting) (λ request. Ok (stamped_outcome network port.0 node earlier request)) port.2 in
       let outcome : stamped_outcome network port.0 node earlier waits.0 ≡ outcomes.Heard answered = let same = waits.2 in cc in
       absurd (stamp_silent (is_held (slave_setup port.0) (history_of network port.0 node earlier) (request_sequence port.0 waits.0)) (refusal_code NotHeld) answered outcome)
   answered_by (Tick node) is = let port = ok_step (node_as slave_port network node) (λ port. Ok outcomes.Done) is in let same = port.2 in cc
   answered_by (SetMaster node master) is =
       let kind = ok_step (ok_or (kind_of network node) NoNode)
-          (λ kind. ok_or (kind_of network master) NoNode >>= (λ other. ok_or (slave_port kind) WrongKind >>= (λ port. ok_or (master_port other) WrongKind >>= (λ present. Ok outcomes.Done)))) is in
+      (λ kind. ok_or (kind_of network master) NoNode >>= (λ other. ok_or (slave_port kind) WrongKind >>= (λ port. ok_or (master_port other) WrongKind >>= (λ present. Ok outcomes.Done)))) is in
       let other = ok_step (ok_or (kind_of network master) NoNode)
-          (λ other. ok_or (slave_port kind.0) WrongKind >>= (λ port. ok_or (master_port other) WrongKind >>= (λ present. Ok outcomes.Done))) kind.2 in
+      (λ other. ok_or (slave_port kind.0) WrongKind >>= (λ port. ok_or (master_port other) WrongKind >>= (λ present. Ok outcomes.Done))) kind.2 in
       let port = ok_step (ok_or (slave_port kind.0) WrongKind) (λ port. ok_or (master_port other.0) WrongKind >>= (λ present. Ok outcomes.Done)) other.2 in
       let present = ok_step (ok_or (master_port other.0) WrongKind) (λ present. Ok outcomes.Done) port.2 in let same = present.2 in cc
   answered_by (StepClock node diff) is =

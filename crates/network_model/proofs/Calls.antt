@@ -1,7 +1,7 @@
 -- What an event of a run adds to a slave's calls, and what came after an event.
 -- The slave's history is read back to events of the run by it.
-use Rattle.std.proofs.Common.{◌≡◌, ◌∙◌, ℕ, ◌<◌, Bool, true, false, List, [], ◌∷◌, ◌++◌, length, Option, Some, None, Ok, Err, IsOk, refl, sym, ap, subst, arith, if◌then◌else◌, option_map, option_and_then}
-use Rattle.std.specs.Prelude.{◌==◌, Result, ok_or, option_to_list}
+use Rattle.std.proofs.Common.{◌≡◌, ◌∙◌, ℕ, ◌<◌, Bool, true, false, List, [], ◌∷◌, ◌++◌, length, Option, Some, None, Ok, IsOk, refl, sym, ap, arith, if◌then◌else◌, option_map, option_and_then}
+use Rattle.std.specs.Prelude.{◌==◌, ok_or, option_to_list}
 use Rattle.std.proofs.lemmas.Bool.{ne_eqb, eq-eqb}
 use Rattle.event_codec.specs.Packet.{Contents}
 use Rattle.slave_port.specs.History as calls
@@ -9,11 +9,10 @@ use Rattle.slave_port.specs.History.{Call}
 use Rattle.slave_port.proofs.Uses.{some_image}
 use Rattle.network_model.specs.declared.event.Event.{Event}
 use Rattle.network_model.specs.declared.event.Event.TheVariants.{Sync, SyncOne, Follow, Enter, Leave, Arrive, Hear, Request, Stamped, Tick, SetMaster, StepClock}
-use Rattle.network_model.specs.declared.node.NodeKind.{NodeKind}
 use Rattle.network_model.specs.declared.refusal.WorldRefusal.TheVariants.{NoNode, WrongKind}
 use Rattle.network_model.specs.declared.stepped.Outcome.TheVariants.{Done}
 use Rattle.network_model.specs.Network.{Network, NodeName, PortSetup, kind_of, master_port, slave_port, is_named}
-use Rattle.network_model.specs.Run.{Run, Place, place, place_at, tag_of, IsIn, site_of, events_after}
+use Rattle.network_model.specs.Run.{Run, Place, place, site_of, events_after}
 use Rattle.network_model.specs.Kinds.{is_tick, is_set_master}
 use Rattle.network_model.specs.Clock.{reading}
 use Rattle.network_model.specs.Numbering.{waiting_request}
@@ -21,7 +20,6 @@ use Rattle.network_model.specs.Truth.{copy_of, master_at}
 use Rattle.network_model.specs.SlaveHistory.{request_sequence, call_made, history_of}
 use Rattle.network_model.specs.Outcome.{outcome_of, ◌>>=◌}
 use Rattle.network_model.proofs.Options.{ok_value, ok_step, ok_some}
-use Rattle.network_model.proofs.Places.{place_at-bound}
 
 -- the events after one, when another one comes, and after the last one
 pub events_after-later : (event : Event) (run : Run) (tag : ℕ) → tag < length run → events_after tag (event ∷ run) ≡ event ∷ events_after tag run
@@ -93,9 +91,9 @@ pub named_is_master : (network : Network) (earlier : Run) (node master : NodeNam
 named_is_master network earlier node master accepted =
     let outcome = ok_value (outcome_of network earlier (SetMaster node master)) accepted in
     let kind = ok_step (ok_or (kind_of network node) NoNode)
-        (λ kind. ok_or (kind_of network master) NoNode >>= (λ other. ok_or (slave_port kind) WrongKind >>= (λ port. ok_or (master_port other) WrongKind >>= (λ present. Ok Done)))) outcome.1 in
+    (λ kind. ok_or (kind_of network master) NoNode >>= (λ other. ok_or (slave_port kind) WrongKind >>= (λ port. ok_or (master_port other) WrongKind >>= (λ present. Ok Done)))) outcome.1 in
     let other = ok_step (ok_or (kind_of network master) NoNode)
-        (λ other. ok_or (slave_port kind.0) WrongKind >>= (λ port. ok_or (master_port other) WrongKind >>= (λ present. Ok Done))) kind.2 in
+    (λ other. ok_or (slave_port kind.0) WrongKind >>= (λ port. ok_or (master_port other) WrongKind >>= (λ present. Ok Done))) kind.2 in
     let port = ok_step (ok_or (slave_port kind.0) WrongKind) (λ port. ok_or (master_port other.0) WrongKind >>= (λ present. Ok Done)) other.2 in
     let present = ok_step (ok_or (master_port other.0) WrongKind) (λ present. Ok Done) port.2 in
     (present.0, ap (option_and_then master_port) (ok_some (kind_of network master) NoNode other.1) ∙ ok_some (master_port other.0) WrongKind present.1)

@@ -1,7 +1,7 @@
 -- What each copy is: a Sync, a Delay_Req, a Follow_Up or a Delay_Resp, with the number, the source and the times of the
 -- events that made it. What a slave holds is read back to these events by it.
-use Rattle.std.proofs.Common.{◌≡◌, ◌∙◌, ℕ, Bool, true, false, Option, Some, None, option_map, option_and_then, refl, sym, ap, subst, if◌then◌else◌}
-use Rattle.std.specs.Prelude.{◌==◌, int_lt, Result, Ok, Err}
+use Rattle.std.proofs.Common.{◌≡◌, ◌∙◌, ℕ, Bool, true, false, Option, Some, option_map, option_and_then, refl, sym, ap, if◌then◌else◌}
+use Rattle.std.specs.Prelude.{◌==◌, int_lt, Ok, Err}
 use Rattle.std.specs.Result.{result_ok}
 use Rattle.ptp_units.specs.Moment.{fraction_of}
 use Rattle.ptp_units.specs.Interval.{least, less_fraction}
@@ -13,7 +13,7 @@ use Rattle.event_codec.specs.declared.port.PortConfig.{PortConfig}
 use Rattle.event_codec.specs.Packet.{Contents}
 use Rattle.master_port.specs.declared.refusal.MasterRefusal.{MasterRefusal}
 use Rattle.master_port.specs.declared.refusal.MasterRefusal.TheVariants.{OtherDomain, CorrectionTooLow}
-use Rattle.master_port.specs.Written.{sync, one_step_sync, delay_resp, answer, answer_to, answer_to_request}
+use Rattle.master_port.specs.Written.{sync, one_step_sync, delay_resp, answer_to}
 use Rattle.slave_port.specs.Written.{delay_req}
 use Rattle.transparent_clock.specs.Forwarding.{resided}
 use Rattle.slave_port.proofs.Uses.{some_step, some_image}
@@ -24,7 +24,7 @@ use Rattle.network_model.specs.Run.{Run, Place, place, place_at, IsIn}
 use Rattle.network_model.specs.Kinds.{is_at, is_sync, is_one_step_sync, is_request}
 use Rattle.network_model.specs.Clock.{reading}
 use Rattle.network_model.specs.Numbering.{number_of, waiting_sync}
-use Rattle.network_model.specs.Journey.{Journey, Stay, begun, journey_made, journey_of, residence}
+use Rattle.network_model.specs.Journey.{Journey, begun, journey_made, journey_of, residence}
 use Rattle.network_model.specs.Truth.{master_at, slave_at, drawn, travelled, followed, responded, copy_made, copy_of}
 use Rattle.network_model.proofs.Made.{copy_of-place_at, journey_of-place_at}
 use Rattle.network_model.proofs.Sites.{named-self}

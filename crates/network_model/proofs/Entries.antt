@@ -1,28 +1,21 @@
 -- Each message that a slave holds is a copy that it used: at which event, of whom, and what it took from it.
 -- What completes is then read off the events.
-use Rattle.std.proofs.Common.{◌≡◌, ◌∙◌, ℕ, ◌+◌, Bool, true, false, List, ◌++◌, length, Option, Some, None, Ok, Err, IsOk, refl, sym, ap, subst, arith, option_and_then}
-use Rattle.std.specs.Prelude.{int_lt, Result}
-use Rattle.std.specs.List.{All}
+use Rattle.std.proofs.Common.{◌≡◌, ◌∙◌, ℕ, true, false, List, length, Some, Ok, IsOk, sym, ap, subst}
+use Rattle.std.specs.Prelude.{int_lt}
 use Rattle.ptp_units.specs.Interval.{too_big}
 use Rattle.ptp_units.specs.Moment.{Stamp}
-use Rattle.event_codec.specs.declared.message.Body.{Body}
 use Rattle.event_codec.specs.declared.message.Body.TheVariants as bodies
 use Rattle.event_codec.specs.Packet.{Contents}
-use Rattle.pairing.specs.Marked.{Entry, entry}
 use Rattle.slave_port.specs.History as calls
 use Rattle.slave_port.specs.History.{Call}
-use Rattle.slave_port.specs.Values.{SyncValue, FollowValue}
 use Rattle.slave_port.specs.Usable.{is_two_step}
-use Rattle.slave_port.specs.Kept.{criteria, usable_two_step_sync, usable_follow_up}
+use Rattle.slave_port.specs.Kept.{criteria}
 use Rattle.slave_port.specs.Answer.{answer, used}
-use Rattle.slave_port.proofs.Uses.{Passes, HeardSync, HeardFollowUp, two_step_entry, follow_entry}
+use Rattle.slave_port.proofs.Uses.{Passes}
 use Rattle.network_model.specs.declared.event.Event.{Event}
 use Rattle.network_model.specs.declared.event.Event.TheVariants.{Arrive, Hear}
-use Rattle.network_model.specs.declared.stepped.Outcome.TheVariants as outcomes
-use Rattle.network_model.specs.declared.refusal.WorldRefusal.{WorldRefusal}
-use Rattle.network_model.specs.declared.stepped.Outcome.{Outcome}
 use Rattle.network_model.specs.Network.{Network, NodeName, PortSetup}
-use Rattle.network_model.specs.Run.{Run, Place, place, tag_of, IsIn, site_of}
+use Rattle.network_model.specs.Run.{Run, Place, place, tag_of, site_of}
 use Rattle.network_model.specs.Kinds.{heard_copy}
 use Rattle.network_model.specs.Clock.{reading}
 use Rattle.network_model.specs.Truth.{slave_at, copy_of}

@@ -1,33 +1,27 @@
 -- What a slave answers when it hears a message is its port's answer to the call, and a message that it used was of use.
 -- By this the premises speak of each message that is held or completed.
-use Rattle.std.proofs.Common.{◌≡◌, ◌∙◌, ℕ, Bool, true, false, List, [], ◌∷◌, length, Option, Some, None, Ok, Err, IsOk, refl, sym, ap, subst, if◌then◌else◌, option_and_then}
-use Rattle.std.specs.Prelude.{◌&&◌, is_none, Result, ok_or, unwrap_or}
+use Rattle.std.proofs.Common.{◌≡◌, ◌∙◌, ℕ, Bool, true, false, List, ◌∷◌, length, Option, Some, None, Ok, IsOk, refl, sym, ap, subst, if◌then◌else◌, option_and_then}
+use Rattle.std.specs.Prelude.{◌&&◌, is_none, ok_or, unwrap_or}
 use Rattle.event_codec.specs.Packet.{Contents}
-use Rattle.slave_port.specs.declared.heard.Heard.{Heard}
 use Rattle.slave_port.specs.declared.heard.Heard.TheVariants as answers
 use Rattle.slave_port.specs.History as calls
 use Rattle.slave_port.specs.History.{Call, Setup}
 use Rattle.slave_port.specs.Completion.{SyncCompletion, DelayCompletion}
 use Rattle.slave_port.specs.Kept.{sync_completion, delay_completion, last_sync_completion, last_delay_completion}
-use Rattle.slave_port.specs.Answer as slaves
 use Rattle.slave_port.specs.Answer.{completed, used}
 use Rattle.slave_port.proofs.Uses.{some_step}
-use Rattle.network_model.specs.declared.event.Event.{Event}
 use Rattle.network_model.specs.declared.event.Event.TheVariants.{Arrive, Hear}
 use Rattle.network_model.specs.declared.node.NodeKind.{NodeKind}
 use Rattle.network_model.specs.declared.node.NodeKind.TheVariants as kinds
 use Rattle.network_model.specs.declared.stepped.Outcome.{Outcome}
-use Rattle.network_model.specs.declared.stepped.Outcome.TheVariants as outcomes
 use Rattle.network_model.specs.declared.refusal.WorldRefusal.TheVariants.{NoNode, WrongKind, NoCopy, ReadingOutOfRange}
 use Rattle.network_model.specs.Network.{Network, NodeName, PortSetup, kind_of, slave_port}
-use Rattle.network_model.specs.Run.{Run, Place, place}
+use Rattle.network_model.specs.Run.{Run, place}
 use Rattle.network_model.specs.Clock.{reading, reading_of}
 use Rattle.network_model.specs.Truth.{slave_at, copy_of}
-use Rattle.network_model.specs.SlaveHistory.{slave_setup, call_made, history_of}
 use Rattle.network_model.specs.Outcome.{◌>>=◌, node_as, port_of, reads, arrived_outcome, heard, outcome_of}
-use Rattle.network_model.specs.Premises.{is_of_use, is_used}
+use Rattle.network_model.specs.Premises.{is_of_use}
 use Rattle.network_model.proofs.Options.{ok_value, ok_step, ok_some}
-use Rattle.network_model.proofs.Calls.{IsCallOf, Arrives, Hears, Requests, Departs, Ticks, Sets, call_of}
 
 completed_of_use : (sync : Option SyncCompletion) (delay : Option DelayCompletion) → is_of_use (completed sync delay) ≡ true
 completed_of_use None delay = refl
@@ -61,9 +55,9 @@ module _ (network : Network) (port : PortSetup) (node : NodeName) (earlier : Run
   arrival_heard copy at slave is accepted =
       let outcome = ok_value (outcome_of network earlier (Arrive node copy at)) accepted in
       let kind = ok_step (node_as port_of network node)
-          (λ kind. ok_or (copy_of network earlier copy) NoCopy >>= (λ m. reads (Arrive node copy at) earlier >>= (λ now. Ok (arrived_outcome network kind node earlier now m)))) outcome.1 in
+      (λ kind. ok_or (copy_of network earlier copy) NoCopy >>= (λ m. reads (Arrive node copy at) earlier >>= (λ now. Ok (arrived_outcome network kind node earlier now m)))) outcome.1 in
       let message = ok_step (ok_or (copy_of network earlier copy) NoCopy)
-          (λ m. reads (Arrive node copy at) earlier >>= (λ now. Ok (arrived_outcome network kind.0 node earlier now m))) kind.2 in
+      (λ m. reads (Arrive node copy at) earlier >>= (λ now. Ok (arrived_outcome network kind.0 node earlier now m))) kind.2 in
       let now = ok_step (reads (Arrive node copy at) earlier) (λ now. Ok (arrived_outcome network kind.0 node earlier now message.0)) message.2 in
       let known = ok_step (ok_or (kind_of network node) NoNode) (λ kind. ok_or (port_of kind) WrongKind) kind.1 in
       let own = some_step slave_port (kind_of network node) slave in
@@ -83,7 +77,7 @@ module _ (network : Network) (port : PortSetup) (node : NodeName) (earlier : Run
   hearing_heard copy slave is accepted =
       let outcome = ok_value (outcome_of network earlier (Hear node copy)) accepted in
       let own = ok_step (node_as slave_port network node)
-          (λ port. ok_or (copy_of network earlier copy) NoCopy >>= (λ m. Ok (heard network port node earlier (calls.General (Ok m) (length earlier))))) outcome.1 in
+      (λ port. ok_or (copy_of network earlier copy) NoCopy >>= (λ m. Ok (heard network port node earlier (calls.General (Ok m) (length earlier))))) outcome.1 in
       let message = ok_step (ok_or (copy_of network earlier copy) NoCopy) (λ m. Ok (heard network own.0 node earlier (calls.General (Ok m) (length earlier)))) own.2 in
       let known = ok_step (ok_or (kind_of network node) NoNode) (λ kind. ok_or (slave_port kind) WrongKind) own.1 in
       let port_is : slave_at network node ≡ Some own.0 =

@@ -1,6 +1,6 @@
 -- The Syncs and Follow_Ups that a slave holds: each is a copy that it used, with at most a tick and no SetMaster since, of
 -- its present master, and with the number that one Sync event drew.
-use Rattle.std.proofs.Common.{◌≡◌, ◌∙◌, ℕ, ◌+◌, ◌<◌, ◌≤◌, Bool, true, false, List, ◌++◌, length, take, Option, Some, None, refl, sym, ap, subst, arith, option_and_then}
+use Rattle.std.proofs.Common.{◌≡◌, ◌∙◌, ℕ, ◌≤◌, true, false, List, ◌++◌, take, Option, Some, refl, sym, ap, subst, arith, option_and_then}
 use Rattle.std.specs.Prelude.{count_by}
 use Rattle.std.specs.List.{All}
 use Rattle.std.proofs.lemmas.List.Elements.{All-append, All-take, All-weaker}
@@ -13,20 +13,19 @@ use Rattle.pairing.specs.Marked.{Entry, entry}
 use Rattle.slave_port.specs.History.{Call}
 use Rattle.slave_port.specs.Window.{Window}
 use Rattle.slave_port.specs.Values.{SyncValue, FollowValue}
-use Rattle.slave_port.specs.Completion.{SyncCompletion, DelayCompletion}
 use Rattle.slave_port.specs.Kept.{kept, held, held_syncs, held_follows, usable_two_step_sync, usable_follow_up, sync_completion, delay_completion, delay_completions}
 use Rattle.slave_port.proofs.Uses.{two_step_entry, follow_entry}
 use Rattle.network_model.specs.declared.event.Event.{Event}
-use Rattle.network_model.specs.declared.event.Event.TheVariants.{Follow, Arrive, Hear}
+use Rattle.network_model.specs.declared.event.Event.TheVariants.{Arrive, Hear}
 use Rattle.network_model.specs.Network.{Network, NodeName, PortSetup, IsNetwork}
-use Rattle.network_model.specs.Run.{Run, Place, place_at, tag_of, IsIn, site_of, events_after}
-use Rattle.network_model.specs.Kinds.{is_at, is_sync, is_one_step_sync, draws_sync, is_tick, is_set_master, named_master, heard_copy}
+use Rattle.network_model.specs.Run.{Run, Place, tag_of, IsIn, site_of, events_after}
+use Rattle.network_model.specs.Kinds.{is_at, draws_sync, is_set_master, named_master}
 use Rattle.network_model.specs.Clock.{reading}
-use Rattle.network_model.specs.Numbering.{number_of, waiting_sync}
+use Rattle.network_model.specs.Numbering.{number_of}
 use Rattle.network_model.specs.Truth.{master_at, slave_at, origin_of, origin_made, origin_heard}
 use Rattle.network_model.specs.SlaveHistory.{slave_setup, history_of, table_capacity}
 use Rattle.network_model.specs.Outcome.{outcome_of, IsRun}
-use Rattle.network_model.specs.Present.{last_set_master, present_master}
+use Rattle.network_model.specs.Present.{present_master}
 use Rattle.network_model.specs.Premises.{is_used}
 use Rattle.network_model.specs.Order.{IsOneWindow}
 use Rattle.network_model.proofs.Places.{accepted-place_at, IsRun-place_at, IsIn-place_at, IsIn-within}
@@ -74,16 +73,16 @@ module _ (network : Network) (port : PortSetup) (slave : NodeName) (slave_is : s
   whole_window brings run window came =
       All-append (CameFrom network port slave brings 1 run) window.since window.before
       (All-weaker (CameFrom network port slave brings 0 run) (CameFrom network port slave brings 1 run)
-          (λ e c. record {
-            p = c.p;
-            call = c.call;
-            there = c.there;
-            site = c.site;
-            made = c.made;
-            brought = c.brought;
-            few_ticks = let few = c.few_ticks in omega arith;
-            no_master = c.no_master;
-          }) window.since came.0)
+      (λ e c. record {
+        p = c.p;
+        call = c.call;
+        there = c.there;
+        site = c.site;
+        made = c.made;
+        brought = c.brought;
+        few_ticks = let few = c.few_ticks in omega arith;
+        no_master = c.no_master;
+      }) window.since came.0)
       came.1
 
   pub held_sync : (run : Run) (e : Entry SyncValue) → IsRun network run → CameFrom network port slave (usable_two_step_sync (slave_setup port)) 1 run e
@@ -91,7 +90,7 @@ module _ (network : Network) (port : PortSetup) (slave : NodeName) (slave_is : s
   held_sync run e accepted c =
       let brought = two_step_entry (slave_setup port) (history_of network port slave c.p.earlier) c.call e c.brought in
       let at = arrived network port slave c.p c.call slave_is (IsRun-place_at network run (tag_of c.p) c.p accepted c.there)
-          (accepted-place_at network run (tag_of c.p) c.p accepted c.there) c.site c.made brought.used brought.h.m brought.h.t2 brought.h.tag brought.h.call_is brought.h.passes in
+      (accepted-place_at network run (tag_of c.p) c.p accepted c.there) c.site c.made brought.used brought.h.m brought.h.t2 brought.h.tag brought.h.call_is brought.h.passes in
       record {
         p = c.p;
         m = brought.h.m;
@@ -111,7 +110,7 @@ module _ (network : Network) (port : PortSetup) (slave : NodeName) (slave_is : s
   held_follow run e accepted c =
       let brought = follow_entry (slave_setup port) (history_of network port slave c.p.earlier) c.call e c.brought in
       let at = heard_by network port slave c.p c.call slave_is (IsRun-place_at network run (tag_of c.p) c.p accepted c.there)
-          (accepted-place_at network run (tag_of c.p) c.p accepted c.there) c.site c.made brought.used brought.h.m brought.h.tag brought.h.call_is brought.h.passes in
+      (accepted-place_at network run (tag_of c.p) c.p accepted c.there) c.site c.made brought.used brought.h.m brought.h.tag brought.h.call_is brought.h.passes in
       record {
         p = c.p;
         m = brought.h.m;
@@ -133,8 +132,8 @@ module _ (network : Network) (port : PortSetup) (slave : NodeName) (slave_is : s
       All-weaker (CameFrom network port slave (usable_two_step_sync (slave_setup port)) 1 run) (IsHeldSync network port slave run) (λ e. held_sync run e accepted)
       (take table_capacity (window.since ++ window.before))
       (All-take (CameFrom network port slave (usable_two_step_sync (slave_setup port)) 1 run) table_capacity (window.since ++ window.before)
-          (whole_window (usable_two_step_sync (slave_setup port)) run window
-              (window_came network port slave (usable_two_step_sync (slave_setup port)) (λ h. (kept (slave_setup port) h).syncs) refl (λ call earlier. refl) run accepted)))
+      (whole_window (usable_two_step_sync (slave_setup port)) run window
+      (window_came network port slave (usable_two_step_sync (slave_setup port)) (λ h. (kept (slave_setup port) h).syncs) refl (λ call earlier. refl) run accepted)))
 
   pub held_follows_are : (run : Run) → IsRun network run → All (IsHeldFollow network port slave run) (held_follows (slave_setup port) (history_of network port slave run))
   held_follows_are run accepted =
@@ -142,8 +141,8 @@ module _ (network : Network) (port : PortSetup) (slave : NodeName) (slave_is : s
       All-weaker (CameFrom network port slave (usable_follow_up (slave_setup port)) 1 run) (IsHeldFollow network port slave run) (λ e. held_follow run e accepted)
       (take table_capacity (window.since ++ window.before))
       (All-take (CameFrom network port slave (usable_follow_up (slave_setup port)) 1 run) table_capacity (window.since ++ window.before)
-          (whole_window (usable_follow_up (slave_setup port)) run window
-              (window_came network port slave (usable_follow_up (slave_setup port)) (λ h. (kept (slave_setup port) h).follows) refl (λ call earlier. refl) run accepted)))
+      (whole_window (usable_follow_up (slave_setup port)) run window
+      (window_came network port slave (usable_follow_up (slave_setup port)) (λ h. (kept (slave_setup port) h).follows) refl (λ call earlier. refl) run accepted)))
 
   -- the completions in the window
   pub completions_came : (run : Run) → IsRun network run

@@ -1,20 +1,14 @@
 -- One identity, one node: no two ports of a network share an identity.
 -- So a message from the present master's identity is from the present master.
-use Rattle.std.proofs.Common.{◌≡◌, ◌∙◌, ℕ, zero, suc, ◌+◌, ◌<◌, Bool, true, false, List, [], ◌∷◌, length, get_or, Option, Some, None, refl, sym, ap, subst, arith, if◌then◌else◌, option_map, option_and_then}
-use Rattle.std.specs.Prelude.{◌==◌, ◌&&◌, is_some}
-use Rattle.std.specs.List.{filter_map, cons_option}
-use Rattle.std.specs.Str.{bytes_eq}
-use Rattle.std.proofs.lemmas.Bool.{and_parts, and_from, eqb-true, eq-eqb}
-use Rattle.std.proofs.lemmas.Slice.Eq.{bytes_eq-Decides}
+use Rattle.std.proofs.Common.{◌≡◌, ◌∙◌, ℕ, suc, ◌<◌, Bool, true, false, List, [], ◌∷◌, length, get_or, Option, Some, None, refl, sym, arith, if◌then◌else◌, option_map, option_and_then}
+use Rattle.std.specs.List.{cons_option}
 use Rattle.event_codec.specs.declared.port.PortIdentity.{PortIdentity}
-use Rattle.event_codec.specs.Port.{is_same_port}
-use Rattle.slave_port.proofs.Uses.{some_step, some_image}
 use Rattle.network_model.specs.declared.node.NodeKind.{NodeKind}
 use Rattle.network_model.specs.declared.node.NodeKind.TheVariants.{Master, Slave, Clock}
 use Rattle.network_model.specs.declared.node.NodeSpec.{NodeSpec}
-use Rattle.network_model.specs.Network.{Network, NodeName, PortSetup, IsNetwork, AllDiffer, node_of, kind_of, master_port, slave_port, identity_of, identities, is_named}
+use Rattle.network_model.specs.Network.{Network, NodeName, PortSetup, AllDiffer, node_of, master_port, slave_port, identity_of, identities, is_named}
 use Rattle.network_model.specs.Truth.{master_at, slave_at}
-use Rattle.network_model.proofs.Sites.{named-same, named-self}
+use Rattle.network_model.proofs.Sites.{named-same}
 
 -- the identity of the node of a name
 abbrev pub identity_at : Network → NodeName → Option PortIdentity

@@ -1,15 +1,15 @@
 -- A journey begins at an event of the run that drew a number, which is the origin of the copy.
 -- What a copy of an event message says is read off this event.
-use Rattle.std.proofs.Common.{◌≡◌, ◌∙◌, ℕ, Bool, true, false, [], ◌∷◌, length, Option, Some, None, option_map, option_and_then, refl, sym, ap, subst, arith, if◌then◌else◌}
+use Rattle.std.proofs.Common.{◌≡◌, ◌∙◌, ℕ, Bool, true, false, [], ◌∷◌, length, Some, None, option_map, option_and_then, refl, sym, ap, subst, if◌then◌else◌}
 use Rattle.std.specs.Prelude.{◌==◌, nat_lt}
 use Rattle.std.proofs.lemmas.Bool.{eq-eqb}
-use Rattle.slave_port.proofs.Uses.{some_step, some_image}
+use Rattle.slave_port.proofs.Uses.{some_step}
 use Rattle.network_model.specs.declared.event.Event.{Event}
 use Rattle.network_model.specs.declared.event.Event.TheVariants.{Sync, SyncOne, Follow, Enter, Leave, Arrive, Hear, Request, Stamped, Tick, SetMaster, StepClock}
 use Rattle.network_model.specs.Run.{Run, Place, place, place_at, tag_of, IsIn}
 use Rattle.network_model.specs.Kinds.{entered_copy}
 use Rattle.network_model.specs.Clock.{reading}
-use Rattle.network_model.specs.Journey.{Journey, Stay, begun, goes_on, left_from, journey_made, journey_of}
+use Rattle.network_model.specs.Journey.{Journey, begun, goes_on, left_from, journey_made, journey_of}
 use Rattle.network_model.specs.Truth.{origin_made, origin_of}
 use Rattle.network_model.proofs.Places.{place_at-later}
 use Rattle.network_model.proofs.Made.{journey_of-place_at, origin_of-place_at}

@@ -17,6 +17,8 @@ pub mod Exactness
 pub mod Accepted
 pub mod Short
 pub mod Travelled
+pub mod Leaving
+pub mod Spent
 pub mod Worked
 pub mod WorkedExchange
 pub mod WorkedOctets
@@ -40,8 +42,10 @@ pub mod Pairs
 pub mod Steady
 pub mod Ways
 pub mod TrueTime
-pub mod Leaving
-pub mod Spent
-pub mod Legs
-pub mod EvenWays
+pub mod Order
+pub mod Even
 pub mod Agreement
+pub mod Departures
+pub mod Completing
+pub mod Shown
+pub mod Evidence

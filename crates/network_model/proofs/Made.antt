@@ -1,11 +1,10 @@
 -- A copy, its journey and its origin are those that the event of its tag made.
 -- So each fact on copies is a fact on one event, by its kind.
-use Rattle.std.proofs.Common.{◌≡◌, ℕ, Bool, true, false, [], ◌∷◌, length, Option, Some, None, option_map, option_and_then, refl, ap, arith, if◌then◌else◌}
+use Rattle.std.proofs.Common.{◌≡◌, ℕ, Bool, true, false, [], ◌∷◌, length, Option, Some, None, option_and_then, refl, if◌then◌else◌}
 use Rattle.std.specs.Prelude.{◌==◌}
-use Rattle.event_codec.specs.Packet.{Contents}
 use Rattle.network_model.specs.Network.{Network}
 use Rattle.network_model.specs.Run.{Run, Place, place, place_at}
-use Rattle.network_model.specs.Journey.{Journey, journey_made, journey_of}
+use Rattle.network_model.specs.Journey.{journey_made, journey_of}
 use Rattle.network_model.specs.Truth.{copy_made, copy_of, origin_made, origin_of}
 
 -- what a function of a run by tags gives, where it is given event by event

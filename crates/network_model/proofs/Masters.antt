@@ -1,9 +1,8 @@
 -- A slave's last SetMaster event, before and after other events, and the Sync that waits for its Follow_Up.
 -- All tags of what a slave holds are later than this SetMaster.
-use Rattle.std.proofs.Common.{◌≡◌, ◌∙◌, ℕ, ◌+◌, ◌<◌, Bool, true, false, [], ◌∷◌, length, Option, Some, None, refl, sym, ap, subst, arith, if◌then◌else◌}
+use Rattle.std.proofs.Common.{◌≡◌, ◌∙◌, Bool, true, false, [], ◌∷◌, length, Some, None, refl, sym, ap, subst, arith, if◌then◌else◌}
 use Rattle.std.specs.Prelude.{count_by, ◌==◌, ◌&&◌}
 use Rattle.std.proofs.lemmas.Bool.{false_from_ne_true}
-use Rattle.network_model.specs.declared.event.Event.{Event}
 use Rattle.network_model.specs.Network.{NodeName, is_named}
 use Rattle.network_model.specs.Run.{Run, Place, place, place_at, tag_of, IsIn, site_of, events_after}
 use Rattle.network_model.specs.Kinds.{is_at, is_sync, is_follow, is_set_master}
@@ -43,7 +42,7 @@ last_set_master-since slave (event ∷ earlier) p there other none =
         let longer = events_after-later event earlier (tag_of p) (place_at-bound earlier (tag_of p) p there) in
         let all : count_by (is_at is_set_master slave) (event ∷ events_after (tag_of p) earlier) ≡ 0 = sym (ap (count_by (is_at is_set_master slave)) longer) ∙ none in
         let unset : is_at is_set_master slave event ≡ false = false_from_ne_true (is_at is_set_master slave event)
-            (λ set. omega (arith, count-yes (is_at is_set_master slave) event (events_after (tag_of p) earlier) set)) in
+        (λ set. omega (arith, count-yes (is_at is_set_master slave) event (events_after (tag_of p) earlier) set)) in
         last_set_master-later slave event earlier unset
         ∙ rest there (sym (count-no (is_at is_set_master slave) event (events_after (tag_of p) earlier) unset) ∙ all)
 

@@ -1,7 +1,7 @@
 -- Each completion of a request is of one Request event of the slave: the Delay_Resp answers a copy of its Delay_Req, at the
 -- present master. A report takes its Delay_Req from such a completion.
-use Rattle.std.proofs.Common.{◌≡◌, ◌∙◌, ℕ, pos, ◌+◌, ◌-◌, ◌<◌, ◌≤◌, Bool, true, false, List, ◌∷◌, ◌++◌, length, take, Option, Some, None, IsOk, refl, sym, ap, subst, arith, option_and_then}
-use Rattle.std.specs.Prelude.{count_by, IsTrue}
+use Rattle.std.proofs.Common.{◌≡◌, ◌∙◌, ℕ, pos, ◌+◌, ◌<◌, ◌≤◌, Bool, true, false, Some, refl, sym, ap, subst, arith, option_and_then}
+use Rattle.std.specs.Prelude.{count_by}
 use Rattle.ptp_units.specs.Interval.{with_residence, less_fraction}
 use Rattle.ptp_units.specs.Moment.{Stamp, stamp_of, fraction_of}
 use Rattle.ptp_units.specs.Sequence.{of_count}
@@ -9,7 +9,6 @@ use Rattle.event_codec.specs.declared.message.Body.{Body}
 use Rattle.event_codec.specs.declared.message.Body.TheVariants as bodies
 use Rattle.event_codec.specs.declared.port.PortIdentity.{PortIdentity}
 use Rattle.event_codec.specs.Packet.{Contents}
-use Rattle.pairing.specs.Marked.{Entry}
 use Rattle.slave_port.specs.History.{Call}
 use Rattle.slave_port.specs.Values.{RequestValue}
 use Rattle.slave_port.specs.Requests.{requests}
@@ -19,28 +18,27 @@ use Rattle.slave_port.proofs.Uses.{delay_completion_of}
 use Rattle.network_model.specs.declared.event.Event.{Event}
 use Rattle.network_model.specs.declared.event.Event.TheVariants.{Sync, SyncOne, Follow, Enter, Leave, Arrive, Hear, Request, Stamped, Tick, SetMaster, StepClock}
 use Rattle.network_model.specs.Network.{Network, NodeName, PortSetup, IsNetwork}
-use Rattle.network_model.specs.Run.{Run, Place, place_at, tag_of, IsIn, site_of, events_after}
+use Rattle.network_model.specs.Run.{Run, Place, place_at, tag_of, IsIn, site_of}
 use Rattle.network_model.specs.Kinds.{is_at, is_request, is_set_master}
 use Rattle.network_model.specs.Clock.{reading}
-use Rattle.network_model.specs.Numbering.{number_of, drawn_later}
+use Rattle.network_model.specs.Numbering.{number_of}
 use Rattle.network_model.specs.Journey.{Journey, journey_of, residence}
 use Rattle.network_model.specs.Truth.{master_at, slave_at, copy_of, origin_of, origin_made, origin_heard}
 use Rattle.network_model.specs.SlaveHistory.{slave_setup, table_capacity, call_made, history_of}
-use Rattle.network_model.specs.Outcome.{outcome_of, IsRun}
+use Rattle.network_model.specs.Outcome.{IsRun}
 use Rattle.network_model.specs.Present.{last_set_master}
-use Rattle.network_model.specs.Exact.{Arrives, HearsOf, OfOneRequest}
+use Rattle.network_model.specs.Exact.{Arrives, HearsOf}
 use Rattle.network_model.proofs.Places.{accepted-place_at, IsRun-place_at, IsIn-place_at, place_at-bound, IsIn-within}
 use Rattle.network_model.proofs.Made.{origin_of-place_at}
 use Rattle.network_model.proofs.Journeys.{origin_of-journey}
-use Rattle.network_model.proofs.Copies.{IsDelayReq, IsDelayResp}
 use Rattle.network_model.proofs.Identities.{same_name, identity_of_slave}
 use Rattle.network_model.proofs.Sites.{at_kind}
 use Rattle.network_model.proofs.Reach.{one_origin, draws_with-request}
 use Rattle.network_model.proofs.Told.{IsTold}
 use Rattle.network_model.proofs.Masters.{last_set_master-in, last_set_master-since}
-use Rattle.network_model.proofs.Entries.{UsedAt, HeardBy, heard_by, delay_resp_copy, delay_req_copy}
+use Rattle.network_model.proofs.Entries.{heard_by, delay_resp_copy, delay_req_copy}
 use Rattle.network_model.proofs.Pairing.{NumbersMeet, from_master, used_near_request}
-use Rattle.network_model.proofs.Requests.{IsRequest, AreRequests, requests_are, request_found}
+use Rattle.network_model.proofs.Requests.{requests_are, request_found}
 
 -- a request is no SetMaster
 request_sets_none : (event : Event) → is_request event ≡ true → is_set_master event ≡ false
@@ -90,8 +88,8 @@ answer_to_slave network port slave run copy m receive requesting apart slave_is 
     let source : resp.request.header.source ≡ req.port.config.identity = ap (λ (m : Contents). m.header.source) req.is in
     let one : req.node ≡ slave =
     same_name network apart.identities req.node slave port.config.identity
-        (identity_of_slave network req.node req.port req.port_is ∙ ap (λ (i : PortIdentity). Some i) (sym source ∙ sym bodies_are.1 ∙ own))
-        (identity_of_slave network slave port slave_is) in
+    (identity_of_slave network req.node req.port req.port_is ∙ ap (λ (i : PortIdentity). Some i) (sym source ∙ sym bodies_are.1 ∙ own))
+    (identity_of_slave network slave port slave_is) in
     let ports : Some req.port ≡ Some port = sym req.port_is ∙ ap (slave_at network) one ∙ slave_is in
     let port_is : req.port ≡ port = cc in
     record {
@@ -139,11 +137,11 @@ one_request reach fits network port slave slave_is run meet p there site call ma
     let before : IsRun network p.earlier = IsRun-place_at network run (tag_of p) p meet.accepted there in
     let done = delay_completion_of (slave_setup port) (history_of network port slave p.earlier) call c brought in
     let at = heard_by network port slave p call slave_is before (accepted-place_at network run (tag_of p) p meet.accepted there) site made done.used
-        done.h.m done.h.tag done.h.call_is done.h.passes in
+    done.h.m done.h.tag done.h.call_is done.h.passes in
     let answer = answer_to_slave network port slave p.earlier at.copy done.h.m done.h.receive done.h.requesting meet.apart slave_is at.used.m_is done.h.body done.h.own in
     let master = from_master network slave p.earlier done.h.m.header.source answer.node answer.answering meet.apart at.used.told answer.answering_is answer.source_is in
     let found = request_found port slave p.earlier done.h.m.header.sequence.0 done.request table_capacity (count_by (is_at is_request slave) p.earlier)
-        (requests (slave_setup port) (history_of network port slave p.earlier)) (requests_are network port slave p.earlier before) done.found in
+    (requests (slave_setup port) (history_of network port slave p.earlier)) (requests_are network port slave p.earlier before) done.found in
     let held = found.2 in
     let few : count_by (is_at is_request slave) p.earlier < found.1 + 16 = found.3 in
     let counted : count_by (is_at is_request slave) held.u.earlier + 1 ≡ found.1 = held.count in

@@ -1,12 +1,12 @@
 -- Each completion of a Sync is of one Sync event of the present master: the Sync that arrived is a copy of it, and the
 -- Follow_Up is the one of it. A report takes its Sync from such a completion.
-use Rattle.std.proofs.Common.{◌≡◌, ◌∙◌, ℕ, ◌+◌, ◌<◌, ◌≤◌, Bool, true, false, List, ◌∷◌, ◌++◌, length, Option, Some, None, IsOk, refl, sym, ap, subst, arith, option_and_then}
-use Rattle.std.specs.Prelude.{IfSome, IsTrue}
+use Rattle.std.proofs.Common.{◌≡◌, ◌∙◌, ℕ, ◌<◌, ◌≤◌, true, false, Some, IsOk, sym, ap, subst, arith}
+use Rattle.std.specs.Prelude.{IfSome, max}
+use Rattle.std.specs.Option.{option_map_or}
 use Rattle.ptp_units.specs.Sequence.{of_count}
 use Rattle.event_codec.specs.declared.port.PortIdentity.{PortIdentity}
 use Rattle.event_codec.specs.Packet.{Contents}
-use Rattle.pairing.specs.Marked.{Entry, entry, first_value}
-use Rattle.slave_port.specs.History as calls
+use Rattle.pairing.specs.Marked.{Entry, first_value}
 use Rattle.slave_port.specs.History.{Call}
 use Rattle.slave_port.specs.Usable.{is_two_step}
 use Rattle.slave_port.specs.Values.{SyncValue, FollowValue}
@@ -14,8 +14,7 @@ use Rattle.slave_port.specs.Completion.{SyncCompletion, pair, alone}
 use Rattle.slave_port.specs.Kept.{criteria, sync_completion, held_syncs, held_follows}
 use Rattle.slave_port.specs.Answer.{answer, used}
 use Rattle.slave_port.proofs.Uses.{HeardSync, HeardFollowUp, two_step_value, one_step_value, follow_value, IsSyncCompletion, BySync, Alone, ByFollowUp, sync_completion_of}
-use Rattle.network_model.specs.declared.event.Event.{Event}
-use Rattle.network_model.specs.declared.event.Event.TheVariants.{Follow, Arrive, Hear}
+use Rattle.network_model.specs.declared.event.Event.TheVariants.{Follow, Hear}
 use Rattle.network_model.specs.Network.{Network, NodeName, PortSetup}
 use Rattle.network_model.specs.Run.{Run, Place, place_at, tag_of, IsIn, site_of}
 use Rattle.network_model.specs.Kinds.{is_at, is_sync, is_one_step_sync, draws_sync, is_set_master}
@@ -24,14 +23,15 @@ use Rattle.network_model.specs.Journey.{Journey}
 use Rattle.network_model.specs.Truth.{slave_at, origin_heard}
 use Rattle.network_model.specs.SlaveHistory.{slave_setup, call_made, history_of}
 use Rattle.network_model.specs.Outcome.{outcome_of, IsRun}
-use Rattle.network_model.specs.Exact.{Arrives, HearsOf, HearsFollowUp, LearnsDeparture}
+use Rattle.network_model.specs.Premises.{is_used}
+use Rattle.network_model.specs.Exact.{Arrives, HearsFollowUp, LearnsDeparture}
 use Rattle.network_model.proofs.Places.{accepted-place_at, IsRun-place_at, place_at-bound, IsIn-within}
-use Rattle.network_model.proofs.Copies.{IsTwoStep, IsOneStep, IsFollowUp}
+use Rattle.network_model.proofs.Copies.{IsFollowUp}
 use Rattle.network_model.proofs.Told.{IsTold}
 use Rattle.network_model.proofs.Masters.{last_set_master-in, waiting_sync-is}
-use Rattle.network_model.proofs.Entries.{UsedAt, arrived, heard_by, two_step_copy, one_step_copy, follow_up_copy}
+use Rattle.network_model.proofs.Entries.{arrived, heard_by, two_step_copy, one_step_copy, follow_up_copy}
 use Rattle.network_model.proofs.Pairing.{NumbersMeet, found_in, from_master}
-use Rattle.network_model.proofs.HeldMessages.{IsHeldSync, IsHeldFollow, held_syncs_are, held_follows_are, IsOfSync, of_two_step, of_one_step, of_follow, same_told, one_origin_of}
+use Rattle.network_model.proofs.HeldMessages.{IsHeldSync, IsHeldFollow, held_syncs_are, held_follows_are, of_two_step, of_one_step, of_follow, same_told, one_origin_of}
 
 -- a completion at an event is of one Sync event of the present master
 pub record IsOneSync (network : Network) (slave : NodeName) (run : Run) (p : Place) (c : SyncCompletion) : Type 0 where
@@ -48,6 +48,9 @@ pub record IsOneSync (network : Network) (slave : NodeName) (run : Run) (p : Pla
   pub there : IsIn p.earlier journey.origin
   pub drawn : is_at draws_sync told.master journey.origin.event ≡ true
   pub number_is : c.number ≡ of_count (number_of told.port journey.origin)
+  pub heard_now : origin_heard p ≡ Some journey.origin
+  pub used_now : is_used (outcome_of network p.earlier p.event) ≡ true
+  pub completed : option_map_or (λ tag. max c.sync_tag tag) c.follow_tag c.sync_tag ≡ tag_of p
 
 -- the event of a tag, by another name of the tag
 pub tagged : (run : Run) (p : Place) (tag : ℕ) → IsIn run p → tag ≡ tag_of p → place_at run tag ≡ Some p
@@ -92,19 +95,19 @@ module _ (reach : ℕ) (fits : reach ≤ 65536) (network : Network) (port : Port
       let drawn = two_step_copy network p.earlier at.copy h.m h.origin at.used.m_is h.body flag in
       let now = of_two_step network port slave p at.copy h.m meet.apart at.used drawn in
       let e = found_in (IsHeldFollow network port slave p.earlier) (held_follows (slave_setup port) (history_of network port slave p.earlier)) h.m.header.sequence.0 follow
-          (held_follows_are network port slave slave_is p.earlier before) found in
+      (held_follows_are network port slave slave_is p.earlier before) found in
       let held = e.1 in
       let number : held.m.header.sequence.0 ≡ h.m.header.sequence.0 = sym (ap (λ (e : Entry FollowValue). e.number) held.is) ∙ e.2 in
       let follow_tag : follow.tag ≡ tag_of held.p = ap (λ (f : FollowValue). f.tag) (sym e.3 ∙ ap (λ (e : Entry FollowValue). e.value) held.is) in
       let then = of_follow network port slave held.p held.copy held.m meet.apart held.used held.made in
       let not_set : is_set_master held.p.event ≡ false = ap is_set_master held.event in
       let master = from_master network slave held.p.earlier held.m.header.source held.made.node held.made.port meet.apart held.used.told held.made.port_is
-          (ap (λ (m : Contents). m.header.source) held.made.is) in
+      (ap (λ (m : Contents). m.header.source) held.made.is) in
       let same = same_told network slave p.earlier held.p h.m.header.source held.m.header.source held.there not_set held.window.masters at.used.told held.used.told in
       let one : drawn.journey.origin ≡ held.made.origin =
       one_origin_of reach network slave run p held.p h.m.header.source held.m.header.source h.m.header.sequence.0 drawn.journey.origin held.made.origin fits meet there held.there not_set
-          (ap site_of held.event) held.window at.used.told held.used.told now
-          (record { used = then.used; heard = then.heard; there = then.there; drawn = then.drawn; number_is = sym number ∙ then.number_is }) in
+      (ap site_of held.event) held.window at.used.told held.used.told now
+      (record { used = then.used; heard = then.heard; there = then.there; drawn = then.drawn; number_is = sym number ∙ then.number_is }) in
       record {
         source = h.m.header.source;
         told = at.used.told;
@@ -120,6 +123,9 @@ module _ (reach : ℕ) (fits : reach ≤ 65536) (network : Network) (port : Port
         there = now.there;
         drawn = now.drawn;
         number_is = now.number_is;
+        heard_now = now.heard;
+        used_now = at.used.used;
+        completed = let below = place_at-bound p.earlier (tag_of held.p) held.p held.there in let tag = at.tag_is in omega arith;
       }
 
   -- a Follow_Up that finds its Sync held
@@ -131,19 +137,19 @@ module _ (reach : ℕ) (fits : reach ≤ 65536) (network : Network) (port : Port
       let follow = follow_up_copy network p.earlier at.copy h.m h.precise at.used.m_is h.body in
       let now = of_follow network port slave p at.copy h.m meet.apart at.used follow in
       let e = found_in (IsHeldSync network port slave p.earlier) (held_syncs (slave_setup port) (history_of network port slave p.earlier)) h.m.header.sequence.0 sync
-          (held_syncs_are network port slave slave_is p.earlier before) found in
+      (held_syncs_are network port slave slave_is p.earlier before) found in
       let held = e.1 in
       let number : held.m.header.sequence.0 ≡ h.m.header.sequence.0 = sym (ap (λ (e : Entry SyncValue). e.number) held.is) ∙ e.2 in
       let sync_tag : sync.tag ≡ tag_of held.p = ap (λ (s : SyncValue). s.tag) (sym e.3 ∙ ap (λ (e : Entry SyncValue). e.value) held.is) in
       let then = of_two_step network port slave held.p held.copy held.m meet.apart held.used held.drawn in
       let not_set : is_set_master held.p.event ≡ false = ap is_set_master held.event in
       let master = from_master network slave p.earlier h.m.header.source follow.node follow.port meet.apart at.used.told follow.port_is
-          (ap (λ (m : Contents). m.header.source) follow.is) in
+      (ap (λ (m : Contents). m.header.source) follow.is) in
       let same = same_told network slave p.earlier held.p h.m.header.source held.m.header.source held.there not_set held.window.masters at.used.told held.used.told in
       let one : follow.origin ≡ held.drawn.journey.origin =
       one_origin_of reach network slave run p held.p h.m.header.source held.m.header.source h.m.header.sequence.0 follow.origin held.drawn.journey.origin fits meet there held.there not_set
-          (ap site_of held.event) held.window at.used.told held.used.told now
-          (record { used = then.used; heard = then.heard; there = then.there; drawn = then.drawn; number_is = sym number ∙ then.number_is }) in
+      (ap site_of held.event) held.window at.used.told held.used.told now
+      (record { used = then.used; heard = then.heard; there = then.there; drawn = then.drawn; number_is = sym number ∙ then.number_is }) in
       record {
         source = h.m.header.source;
         told = at.used.told;
@@ -164,6 +170,9 @@ module _ (reach : ℕ) (fits : reach ≤ 65536) (network : Network) (port : Port
         there = subst (λ (o : Place). IsIn p.earlier o) one now.there;
         drawn = subst (λ (o : Place). is_at draws_sync at.used.told.master o.event ≡ true) one now.drawn;
         number_is = now.number_is ∙ ap (λ (o : Place). of_count (number_of at.used.told.port o)) one;
+        heard_now = now.heard ∙ ap (λ (o : Place). Some o) one;
+        used_now = at.used.used;
+        completed = let below = place_at-bound p.earlier (tag_of held.p) held.p held.there in let tag = at.tag_is in omega arith;
       }
 
   -- a one-step Sync
@@ -188,6 +197,9 @@ module _ (reach : ℕ) (fits : reach ≤ 65536) (network : Network) (port : Port
         there = now.there;
         drawn = now.drawn;
         number_is = now.number_is;
+        heard_now = now.heard;
+        used_now = at.used.used;
+        completed = at.tag_is;
       }
 
 -- each completion

@@ -1,10 +1,10 @@
 -- What a slave pairs is of one origin: the Sync event, or the Request event, that drew the number of both messages.
 -- This is where the numbers within one turn come in.
-use Rattle.std.proofs.Common.{◌≡◌, ◌∙◌, ℕ, ◌+◌, ◌-◌, ◌<◌, ◌≤◌, Bool, true, false, List, [], ◌∷◌, ◌++◌, length, take, Option, Some, None, refl, sym, ap, subst, arith, option_and_then, option_map, if◌then◌else◌}
+use Rattle.std.proofs.Common.{◌≡◌, ◌∙◌, ℕ, ◌+◌, ◌-◌, ◌<◌, Bool, true, false, List, [], ◌∷◌, length, Some, refl, sym, ap, subst, arith, option_map, if◌then◌else◌}
 use Rattle.std.specs.Prelude.{count_by, nat_eq, find, ◌==◌}
 use Rattle.std.specs.List.{All}
 use Rattle.std.proofs.lemmas.Bool.{and_parts, and_from, or_left, or_right, eqb-true}
-use Rattle.std.proofs.lemmas.List.Elements.{All-head, All-tail, All-append, All-take, All-weaker}
+use Rattle.std.proofs.lemmas.List.Elements.{All-head, All-tail}
 use Rattle.ptp_units.specs.Sequence.{of_count}
 use Rattle.event_codec.specs.declared.port.PortIdentity.{PortIdentity}
 use Rattle.pairing.specs.Marked.{Entry, first_value}
@@ -12,13 +12,12 @@ use Rattle.network_model.specs.declared.event.Event.{Event}
 use Rattle.network_model.specs.Network.{Network, NodeName, PortSetup, IsNetwork, is_named}
 use Rattle.network_model.specs.Run.{Run, Place, place, place_at, tag_of, IsIn, until, site_of}
 use Rattle.network_model.specs.Kinds.{is_at, is_sync, is_one_step_sync, draws_sync, is_request}
-use Rattle.network_model.specs.Numbering.{draws_with, drawn_before, drawn_later, number_of}
-use Rattle.network_model.specs.Truth.{master_at, slave_at}
+use Rattle.network_model.specs.Numbering.{drawn_later, number_of}
+use Rattle.network_model.specs.Truth.{master_at}
 use Rattle.network_model.specs.Outcome.{IsRun}
-use Rattle.network_model.specs.Present.{last_set_master, present_master}
 use Rattle.network_model.specs.Premises.{Limits, IsFreshAndTicked, IsWithinTurn}
-use Rattle.network_model.proofs.Identities.{same_name, identity_of_master, identity_of_slave}
-use Rattle.network_model.proofs.Reach.{one_origin, draws_with-sync, draws_with-request, HeldReach, UsedReach, IsWithinReach, reach-fresh_ticked, reach-one_turn}
+use Rattle.network_model.proofs.Identities.{same_name, identity_of_master}
+use Rattle.network_model.proofs.Reach.{one_origin, draws_with-sync, draws_with-request, HeldReach, UsedReach, reach-fresh_ticked, reach-one_turn}
 use Rattle.network_model.proofs.Places.{place_at-within}
 use Rattle.network_model.proofs.Sequences.{count-more}
 use Rattle.network_model.proofs.Told.{IsTold}
@@ -54,8 +53,8 @@ pub from_master : (network : Network) (slave : NodeName) (run : Run) (source : P
 from_master network slave run source node port apart told port_is source_is =
     let one : node ≡ told.master =
     same_name network apart.identities node told.master source
-        (identity_of_master network node port port_is ∙ ap (λ (i : PortIdentity). Some i) (sym source_is))
-        (identity_of_master network told.master told.port told.port_is ∙ ap (λ (i : PortIdentity). Some i) (sym told.is)) in
+    (identity_of_master network node port port_is ∙ ap (λ (i : PortIdentity). Some i) (sym source_is))
+    (identity_of_master network told.master told.port told.port_is ∙ ap (λ (i : PortIdentity). Some i) (sym told.is)) in
     let ports : master_at network told.master ≡ Some port = subst (λ (n : NodeName). master_at network n ≡ Some port) one port_is in
     (one, let same : Some port ≡ Some told.port = sym ports ∙ told.port_is in cc)
 

@@ -1,9 +1,9 @@
 -- No pair is missed: a usable message completes exactly where its partner, of the same Sync event or the same Request event,
 -- is held. One way is that what completes is of one origin; the other, that one origin gives one sequenceId.
-use Rattle.std.proofs.Common.{◌≡◌, ◌∙◌, ℕ, zero, suc, ◌+◌, ◌-◌, ◌<◌, ◌≤◌, Bool, true, false, List, [], ◌∷◌, ◌++◌, length, get_or, take, Option, Some, None, Ok, refl, sym, ap, subst, arith, option_map, option_and_then, if◌then◌else◌}
+use Rattle.std.proofs.Common.{◌≡◌, ◌∙◌, ℕ, zero, suc, ◌+◌, ◌-◌, ◌<◌, ◌≤◌, Bool, true, false, List, [], ◌∷◌, length, get_or, take, Option, Some, None, Ok, refl, sym, ap, subst, arith, option_map, option_and_then, if◌then◌else◌}
 use Rattle.std.specs.Prelude.{count_by, nat_eq, find, IsSome, Any, is_some, ◌↔◌}
 use Rattle.std.specs.List.{All}
-use Rattle.std.proofs.lemmas.Bool.{eq-eqb, eqb-true, eqb-false}
+use Rattle.std.proofs.lemmas.Bool.{eqb-true, eqb-false}
 use Rattle.std.proofs.lemmas.List.Elements.{All-head, All-tail, All-get_or}
 use Rattle.ptp_units.specs.Exchange.{delay_bracket}
 use Rattle.ptp_units.specs.Sequence.{of_count}
@@ -13,28 +13,27 @@ use Rattle.slave_port.specs.History as calls
 use Rattle.slave_port.specs.History.{Call, Setup}
 use Rattle.slave_port.specs.Values.{SyncValue, FollowValue, ResponseValue, RequestValue}
 use Rattle.slave_port.specs.Requests.{requests, held_requests}
-use Rattle.slave_port.specs.Completion.{SyncCompletion, DelayCompletion, pair, answered}
+use Rattle.slave_port.specs.Completion.{DelayCompletion, pair, answered}
 use Rattle.slave_port.specs.Kept.{usable_two_step_sync, usable_follow_up, usable_delay_resp, held_syncs, held_follows, sync_completion, delay_completion}
-use Rattle.slave_port.proofs.Uses.{some_step, some_image, two_step_value, follow_value, response_value, two_step_entry, follow_entry, response_entry, delay_completion_of}
+use Rattle.slave_port.proofs.Uses.{some_image, two_step_value, follow_value, response_value, two_step_entry, follow_entry, response_entry, delay_completion_of}
 use Rattle.network_model.specs.declared.event.Event.{Event}
 use Rattle.network_model.specs.Network.{Network, NodeName, PortSetup}
 use Rattle.network_model.specs.Run.{Run, Place, place_at, tag_of, IsIn, until, site_of}
 use Rattle.network_model.specs.Kinds.{is_at, is_request, is_set_master, heard_copy}
 use Rattle.network_model.specs.Numbering.{number_of}
-use Rattle.network_model.specs.Truth.{slave_at, copy_of, origin_of, origin_heard}
+use Rattle.network_model.specs.Truth.{copy_of, origin_of, origin_heard}
 use Rattle.network_model.specs.SlaveHistory.{slave_setup, table_capacity, call_made, history_of}
-use Rattle.network_model.specs.Premises.{exact_limits, IsFreshAndTicked}
-use Rattle.network_model.specs.Pairs.{HeardAt, IsOfOrigin, calls_before, EachSyncPairs, EachFollowUpPairs, EachDelayRespPairs, NoPairIsMissed}
+use Rattle.network_model.specs.Premises.{exact_limits}
+use Rattle.network_model.specs.Pairs.{HeardAt, IsOfOrigin, calls_before, NoPairIsMissed}
 use Rattle.network_model.proofs.Places.{tag_of-place_at, IsIn-place_at, IsIn-within, same_place}
 use Rattle.network_model.proofs.Journeys.{IsIn-last}
 use Rattle.network_model.proofs.Calls.{IsCallOf, Arrives, Hears, Requests, Departs, Ticks, Sets, call_of}
 use Rattle.network_model.proofs.Reach.{draws_with-request}
 use Rattle.network_model.proofs.Entries.{arrived, heard_by, two_step_copy, follow_up_copy}
-use Rattle.network_model.proofs.Pairing.{NumbersMeet, found_in, meet-fresh_ticked}
-use Rattle.network_model.proofs.HeldMessages.{IsHeldSync, IsHeldFollow, held_syncs_are, held_follows_are, IsOfSync, of_two_step, of_follow, same_told, one_origin_of}
-use Rattle.network_model.proofs.Told.{IsTold}
+use Rattle.network_model.proofs.Pairing.{NumbersMeet, meet-fresh_ticked}
+use Rattle.network_model.proofs.HeldMessages.{IsHeldSync, IsHeldFollow, held_syncs_are, held_follows_are, of_two_step, of_follow, same_told, one_origin_of}
 use Rattle.network_model.proofs.Requests.{IsRequest, AreRequests, requests_are}
-use Rattle.network_model.proofs.OneRequest.{IsOneRequest, one_request, answer_to_slave}
+use Rattle.network_model.proofs.OneRequest.{one_request, answer_to_slave}
 
 -- an Option that is Some has a value
 some_value : {A : Type 0} (o : Option A) → IsSome o → (x : A) × (o ≡ Some x)
@@ -94,21 +93,20 @@ module _ (reach : ℕ) (fits : reach ≤ 65536) (network : Network) (p : Place) 
       let now = of_two_step network port slave p at.copy sync.h.m meet.apart at.used drawn in
       let origin = one_heard drawn.journey.origin now.heard in
       let number : ℕ = sync.h.m.header.sequence.0 in
-      let all = held_follows_are network port slave heard.slave p.earlier meet.accepted.1 in
-      (
+      let all = held_follows_are network port slave heard.slave p.earlier meet.accepted.1 in (
         λ completes.
             let found = some_value (sync_completion (slave_setup port) history heard.call) completes in
             let follow = some_image (pair number (two_step_value sync.h)) (first_value number (held_follows (slave_setup port) history)) (sym sync.completes ∙ found.1) in
             any_found (IsHeldFollow network port slave p.earlier) (λ follow. IsOfOrigin p.earlier follow.value.tag heard.origin)
-                (held_follows (slave_setup port) history) number follow.0 all follow.1
-                (λ e held same value.
-                    let before = of_follow network port slave held.p held.copy held.m meet.apart held.used held.made in
-                    let number_is : held.m.header.sequence.0 ≡ number = sym (ap (λ (e : Entry FollowValue). e.number) held.is) ∙ same in
-                    let one = one_origin_of reach network slave (until p) p held.p sync.h.m.header.source held.m.header.source number drawn.journey.origin held.made.origin fits meet there
-                        held.there (ap is_set_master held.event) (ap site_of held.event) held.window at.used.told held.used.told now
-                        (record { used = before.used; heard = before.heard; there = before.there; drawn = before.drawn; number_is = sym number_is ∙ before.number_is }) in
-                    of_tag p.earlier held.p heard.origin e.value.tag held.there (ap (λ (e : Entry FollowValue). e.value.tag) held.is)
-                    (before.heard ∙ ap (λ (o : Place). Some o) (sym one ∙ origin))),
+            (held_follows (slave_setup port) history) number follow.0 all follow.1
+            (λ e held same value.
+            let before = of_follow network port slave held.p held.copy held.m meet.apart held.used held.made in
+            let number_is : held.m.header.sequence.0 ≡ number = sym (ap (λ (e : Entry FollowValue). e.number) held.is) ∙ same in
+            let one = one_origin_of reach network slave (until p) p held.p sync.h.m.header.source held.m.header.source number drawn.journey.origin held.made.origin fits meet there
+            held.there (ap is_set_master held.event) (ap site_of held.event) held.window at.used.told held.used.told now
+            (record { used = before.used; heard = before.heard; there = before.there; drawn = before.drawn; number_is = sym number_is ∙ before.number_is }) in
+            of_tag p.earlier held.p heard.origin e.value.tag held.there (ap (λ (e : Entry FollowValue). e.value.tag) held.is)
+            (before.heard ∙ ap (λ (o : Place). Some o) (sym one ∙ origin))),
         λ any.
             let held = All-get_or (IsHeldFollow network port slave p.earlier) (held_follows (slave_setup port) history) any.0 any.1 any.2 all in
             let before = of_follow network port slave held.p held.copy held.m meet.apart held.used held.made in
@@ -117,12 +115,12 @@ module _ (reach : ℕ) (fits : reach ≤ 65536) (network : Network) (p : Place) 
             let both : Some held.made.origin ≡ Some heard.origin = sym of_held ∙ any.4 in
             let one : held.made.origin ≡ drawn.journey.origin = let same : held.made.origin ≡ heard.origin = cc in same ∙ sym origin in
             let told = same_told network slave p.earlier held.p sync.h.m.header.source held.m.header.source held.there (ap is_set_master held.event) held.window.masters
-                at.used.told held.used.told in
+            at.used.told held.used.told in
             let number_is : any.1.number ≡ number =
             ap (λ (e : Entry FollowValue). e.number) e_is ∙ before.number_is ∙ ap (λ (o : Place). of_count (number_of held.used.told.port o)) one
             ∙ ap (λ (o : PortSetup). of_count (number_of o drawn.journey.origin)) (sym told.2) ∙ sym now.number_is in
             let found = some_value (first_value number (held_follows (slave_setup port) history))
-                (found_where (held_follows (slave_setup port) history) number any.0 any.1 any.2 any.3 number_is) in
+            (found_where (held_follows (slave_setup port) history) number any.0 any.1 any.2 any.3 number_is) in
             is_some_of (pair number (two_step_value sync.h) found.0) (sync.completes ∙ ap (option_map (pair number (two_step_value sync.h))) found.1),
       )
 
@@ -141,21 +139,20 @@ module _ (reach : ℕ) (fits : reach ≤ 65536) (network : Network) (p : Place) 
       let now = of_follow network port slave p at.copy follow.h.m meet.apart at.used made in
       let origin = one_heard made.origin now.heard in
       let number : ℕ = follow.h.m.header.sequence.0 in
-      let all = held_syncs_are network port slave heard.slave p.earlier meet.accepted.1 in
-      (
+      let all = held_syncs_are network port slave heard.slave p.earlier meet.accepted.1 in (
         λ completes.
             let found = some_value (sync_completion (slave_setup port) history heard.call) completes in
             let sync = some_image (λ (sync : SyncValue). pair number sync (follow_value follow.h)) (first_value number (held_syncs (slave_setup port) history)) (sym follow.completes ∙ found.1) in
             any_found (IsHeldSync network port slave p.earlier) (λ sync. IsOfOrigin p.earlier sync.value.tag heard.origin)
-                (held_syncs (slave_setup port) history) number sync.0 all sync.1
-                (λ e held same value.
-                    let before = of_two_step network port slave held.p held.copy held.m meet.apart held.used held.drawn in
-                    let number_is : held.m.header.sequence.0 ≡ number = sym (ap (λ (e : Entry SyncValue). e.number) held.is) ∙ same in
-                    let one = one_origin_of reach network slave (until p) p held.p follow.h.m.header.source held.m.header.source number made.origin held.drawn.journey.origin fits meet there
-                        held.there (ap is_set_master held.event) (ap site_of held.event) held.window at.used.told held.used.told now
-                        (record { used = before.used; heard = before.heard; there = before.there; drawn = before.drawn; number_is = sym number_is ∙ before.number_is }) in
-                    of_tag p.earlier held.p heard.origin e.value.tag held.there (ap (λ (e : Entry SyncValue). e.value.tag) held.is)
-                    (before.heard ∙ ap (λ (o : Place). Some o) (sym one ∙ origin))),
+            (held_syncs (slave_setup port) history) number sync.0 all sync.1
+            (λ e held same value.
+            let before = of_two_step network port slave held.p held.copy held.m meet.apart held.used held.drawn in
+            let number_is : held.m.header.sequence.0 ≡ number = sym (ap (λ (e : Entry SyncValue). e.number) held.is) ∙ same in
+            let one = one_origin_of reach network slave (until p) p held.p follow.h.m.header.source held.m.header.source number made.origin held.drawn.journey.origin fits meet there
+            held.there (ap is_set_master held.event) (ap site_of held.event) held.window at.used.told held.used.told now
+            (record { used = before.used; heard = before.heard; there = before.there; drawn = before.drawn; number_is = sym number_is ∙ before.number_is }) in
+            of_tag p.earlier held.p heard.origin e.value.tag held.there (ap (λ (e : Entry SyncValue). e.value.tag) held.is)
+            (before.heard ∙ ap (λ (o : Place). Some o) (sym one ∙ origin))),
         λ any.
             let held = All-get_or (IsHeldSync network port slave p.earlier) (held_syncs (slave_setup port) history) any.0 any.1 any.2 all in
             let before = of_two_step network port slave held.p held.copy held.m meet.apart held.used held.drawn in
@@ -164,14 +161,14 @@ module _ (reach : ℕ) (fits : reach ≤ 65536) (network : Network) (p : Place) 
             let both : Some held.drawn.journey.origin ≡ Some heard.origin = sym of_held ∙ any.4 in
             let one : held.drawn.journey.origin ≡ made.origin = let same : held.drawn.journey.origin ≡ heard.origin = cc in same ∙ sym origin in
             let told = same_told network slave p.earlier held.p follow.h.m.header.source held.m.header.source held.there (ap is_set_master held.event) held.window.masters
-                at.used.told held.used.told in
+            at.used.told held.used.told in
             let number_is : any.1.number ≡ number =
             ap (λ (e : Entry SyncValue). e.number) e_is ∙ before.number_is ∙ ap (λ (o : Place). of_count (number_of held.used.told.port o)) one
             ∙ ap (λ (o : PortSetup). of_count (number_of o made.origin)) (sym told.2) ∙ sym now.number_is in
             let found = some_value (first_value number (held_syncs (slave_setup port) history))
-                (found_where (held_syncs (slave_setup port) history) number any.0 any.1 any.2 any.3 number_is) in
+            (found_where (held_syncs (slave_setup port) history) number any.0 any.1 any.2 any.3 number_is) in
             is_some_of (pair number found.0 (follow_value follow.h))
-                (follow.completes ∙ ap (option_map (λ (sync : SyncValue). pair number sync (follow_value follow.h))) found.1),
+            (follow.completes ∙ ap (option_map (λ (sync : SyncValue). pair number sync (follow_value follow.h))) found.1),
       )
 
 -- a part of the requests
@@ -199,7 +196,7 @@ newest_is port slave run number n (e ∷ others) k x are short within there is =
   where
     at : (k : ℕ) (same : Bool) → nat_eq e.number number ≡ same → k < length (e ∷ others) → get_or (e ∷ others) k x ≡ x
         → ((k : ℕ) (x : Entry RequestValue) → AreRequests port slave run (n - 1) others → length others ≤ 65536 → k < length others → get_or others k x ≡ x → x.number ≡ number
-            → first_value number others ≡ Some x.value)
+        → first_value number others ≡ Some x.value)
         → option_map (λ e. e.value) (if same then Some e else find (λ e. nat_eq e.number number) others) ≡ Some x.value
     at zero true f within there rest = ap (λ (e : Entry RequestValue). Some e.value) there
     at (suc k) true f within there rest =
@@ -246,8 +243,7 @@ module _ (reach : ℕ) (fits : reach ≤ 65536) (network : Network) (p : Place) 
       let same_origin : Some answer.journey.origin ≡ Some heard.origin = sym answer_heard ∙ heard.drawn in
       let origin : answer.journey.origin ≡ heard.origin = cc in
       let origin_in : IsIn p.earlier answer.journey.origin =
-      IsIn-within p.earlier answer.made answer.journey.origin (IsIn-place_at p.earlier copy.0 answer.made answer.there) answer.origin_there in
-      (
+      IsIn-within p.earlier answer.made answer.journey.origin (IsIn-place_at p.earlier copy.0 answer.made answer.there) answer.origin_there in (
         λ completes.
             let c = some_value (delay_completion (slave_setup port) history heard.call) completes in
             let done = delay_completion_of (slave_setup port) history heard.call c.0 c.1 in
@@ -257,8 +253,8 @@ module _ (reach : ℕ) (fits : reach ≤ 65536) (network : Network) (p : Place) 
             let tag : done.request.tag ≡ tag_of heard.origin =
             sym (ap (λ (c : DelayCompletion). c.request_tag) done.is) ∙ sym (tag_of-place_at (until p) c.0.request_tag one.journey.origin one.requested) ∙ ap tag_of drawn_is in
             any_found (λ e. Unit {0}) (λ request. (request.value.tag ≡ tag_of heard.origin) × IsSome request.value.t3)
-                (held_requests (slave_setup port) history) done.h.m.header.sequence.0 done.request (λ k d within. tt) done.found
-                (λ e all same value. (ap (λ (r : RequestValue). r.tag) value ∙ tag, is_some_of done.t3 (ap (λ (r : RequestValue). r.t3) value ∙ done.left))),
+            (held_requests (slave_setup port) history) done.h.m.header.sequence.0 done.request (λ k d within. tt) done.found
+            (λ e all same value. (ap (λ (r : RequestValue). r.tag) value ∙ tag, is_some_of done.t3 (ap (λ (r : RequestValue). r.t3) value ∙ done.left))),
         λ any.
             let es : List (Entry RequestValue) = requests (slave_setup port) history in
             let taken = are_taken port slave p.earlier table_capacity (count_by (is_at is_request slave) p.earlier) es (requests_are network port slave p.earlier meet.accepted.1) in
@@ -278,10 +274,10 @@ module _ (reach : ℕ) (fits : reach ≤ 65536) (network : Network) (p : Place) 
               response_tag = response.h.tag;
             } in
             is_some_of (completion t3.0)
-                (ap (option_and_then (λ (response : Entry ResponseValue). option_and_then (answered response.value) (first_value response.number (held_requests (slave_setup port) history)))) e.1
-                ∙ ap (λ (response : Entry ResponseValue). option_and_then (answered response.value) (first_value response.number (held_requests (slave_setup port) history))) response.is
-                ∙ ap (option_and_then (answered (response_value response.h))) found
-                ∙ ap (option_map completion) t3.1),
+            (ap (option_and_then (λ (response : Entry ResponseValue). option_and_then (answered response.value) (first_value response.number (held_requests (slave_setup port) history)))) e.1
+            ∙ ap (λ (response : Entry ResponseValue). option_and_then (answered response.value) (first_value response.number (held_requests (slave_setup port) history))) response.is
+            ∙ ap (option_and_then (answered (response_value response.h))) found
+            ∙ ap (option_map completion) t3.1),
       )
 
 -- in runs that are fresh and ticked

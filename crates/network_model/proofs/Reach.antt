@@ -1,26 +1,26 @@
 -- Numbers that meet lie within one turn of each other, so equal sequenceIds are equal numbers and one event drew both.
 -- Both premises give this one property, `IsWithinReach`, and all that follows rests on it alone.
-use Rattle.std.proofs.Common.{◌≡◌, ◌∙◌, ℕ, ◌+◌, ◌*◌, ◌-◌, ◌<◌, ◌≤◌, Bool, true, false, List, [], ◌∷◌, length, Option, Some, None, refl, sym, ap, subst, arith, if◌then◌else◌, option_and_then}
-use Rattle.std.specs.Prelude.{count_by, ◌&&◌, ◌||◌, IsTrue, IfSome, ◌==◌}
+use Rattle.std.proofs.Common.{◌≡◌, ◌∙◌, ℕ, ◌+◌, ◌-◌, ◌<◌, ◌≤◌, Bool, true, false, [], ◌∷◌, length, Option, Some, refl, sym, ap, subst, arith, if◌then◌else◌, option_and_then}
+use Rattle.std.specs.Prelude.{count_by, ◌&&◌, ◌||◌, IfSome, ◌==◌}
 use Rattle.std.specs.Option.{option_map_or}
 use Rattle.std.proofs.lemmas.Bool.{false_from_ne_true}
 use Rattle.ptp_units.specs.Sequence.{of_count}
 use Rattle.slave_port.proofs.Uses.{some_step}
 use Rattle.network_model.specs.declared.event.Event.{Event}
 use Rattle.network_model.specs.declared.event.Event.TheVariants.{Sync, SyncOne, Follow, Enter, Leave, Arrive, Hear, Request, Stamped, Tick, SetMaster, StepClock}
-use Rattle.network_model.specs.Network.{Network, NodeName, PortSetup, is_named}
+use Rattle.network_model.specs.Network.{Network, NodeName, is_named}
 use Rattle.network_model.specs.Run.{Run, Place, place, place_at, tag_of, IsIn, site_of, events_after}
 use Rattle.network_model.specs.Kinds.{is_at, draws_sync, is_request, is_tick, is_set_master, named_master, heard_copy}
-use Rattle.network_model.specs.Numbering.{draws_with, drawn_before, drawn_later, number_of}
+use Rattle.network_model.specs.Numbering.{draws_with, drawn_later}
 use Rattle.network_model.specs.Truth.{origin_of, origin_heard}
 use Rattle.network_model.specs.Outcome.{outcome_of}
 use Rattle.network_model.specs.Present.{last_set_master, present_master}
-use Rattle.network_model.specs.Premises.{Limits, Premise, is_used, IsFresh, IsFreshAt, IsTicked, IsTickedAt, draws_present, syncs_since_tick, IsFreshAndTicked, IsWithinTurn, IsWithinOneTurn}
+use Rattle.network_model.specs.Premises.{Limits, is_used, IsFresh, IsFreshAt, IsTickedAt, draws_present, syncs_since_tick, IsFreshAndTicked, IsWithinTurn}
 use Rattle.network_model.specs.Order.{IsOneWindow}
 use Rattle.network_model.proofs.Places.{place_at-bound}
 use Rattle.network_model.proofs.Sequences.{count-yes, count-no, count-place_at, count-within, count-none, same_count}
 use Rattle.network_model.proofs.Sites.{at_site, at_kind}
-use Rattle.network_model.proofs.Calls.{events_after-later, events_after-last}
+use Rattle.network_model.proofs.Calls.{events_after-later}
 
 -- two numbers of one sequence, less than a turn behind its front, that have one sequenceId
 pub one_origin : (kind : Event → Bool) (first : ℕ) (run : Run) (o other : Place) → IsIn run o → IsIn run other → kind o.event ≡ true → kind other.event ≡ true
@@ -158,28 +158,31 @@ one_more slave master tag before late between event earlier below unset present 
     by true t false d =
         let ticked_more : count_by (is_at is_tick slave) (events_after tag (event ∷ earlier)) ≡ count_by (is_at is_tick slave) since + 1 =
         ap (count_by (is_at is_tick slave)) longer ∙ count-yes (is_at is_tick slave) event since t in
-        let same : count_by (is_at draws_sync master) (event ∷ earlier) ≡ count_by (is_at draws_sync master) earlier = count-no (is_at draws_sync master) event earlier d in
-        ((λ e. absurd (omega arith)),
-        (λ e. let none : count_by (is_at is_tick slave) since ≡ 0 = omega arith in
-            let low : behind master before earlier < late + syncs_since_tick slave earlier = bounds.0 none in omega arith))
+        let same : count_by (is_at draws_sync master) (event ∷ earlier) ≡ count_by (is_at draws_sync master) earlier = count-no (is_at draws_sync master) event earlier d in (
+          (λ e. absurd (omega arith)),
+          (λ e. let none : count_by (is_at is_tick slave) since ≡ 0 = omega arith in
+              let low : behind master before earlier < late + syncs_since_tick slave earlier = bounds.0 none in omega arith),
+        )
     by false t true d =
         let ticked_more : count_by (is_at is_tick slave) (events_after tag (event ∷ earlier)) ≡ count_by (is_at is_tick slave) since =
         ap (count_by (is_at is_tick slave)) longer ∙ count-no (is_at is_tick slave) event since t in
         let same : count_by (is_at draws_sync master) (event ∷ earlier) ≡ count_by (is_at draws_sync master) earlier + 1 = count-yes (is_at draws_sync master) event earlier d in
         let total : syncs_since_tick slave (event ∷ earlier) ≡ syncs_since_tick slave earlier + 1 =
         counted ∙ ap {B = ℕ} (λ (b : Bool). if b || false then 0 else if is_at draws_sync master event then syncs_since_tick slave earlier + 1 else syncs_since_tick slave earlier) t
-        ∙ ap {B = ℕ} (λ (b : Bool). if b then syncs_since_tick slave earlier + 1 else syncs_since_tick slave earlier) d in
-        ((λ e. let low : behind master before earlier < late + syncs_since_tick slave earlier = bounds.0 (sym ticked_more ∙ e) in omega arith),
-        (λ e. let low : behind master before earlier < late + between + syncs_since_tick slave earlier = bounds.1 (omega arith) in omega arith))
+        ∙ ap {B = ℕ} (λ (b : Bool). if b then syncs_since_tick slave earlier + 1 else syncs_since_tick slave earlier) d in (
+          (λ e. let low : behind master before earlier < late + syncs_since_tick slave earlier = bounds.0 (sym ticked_more ∙ e) in omega arith),
+          (λ e. let low : behind master before earlier < late + between + syncs_since_tick slave earlier = bounds.1 (omega arith) in omega arith),
+        )
     by false t false d =
         let ticked_more : count_by (is_at is_tick slave) (events_after tag (event ∷ earlier)) ≡ count_by (is_at is_tick slave) since =
         ap (count_by (is_at is_tick slave)) longer ∙ count-no (is_at is_tick slave) event since t in
         let same : count_by (is_at draws_sync master) (event ∷ earlier) ≡ count_by (is_at draws_sync master) earlier = count-no (is_at draws_sync master) event earlier d in
         let total : syncs_since_tick slave (event ∷ earlier) ≡ syncs_since_tick slave earlier =
         counted ∙ ap {B = ℕ} (λ (b : Bool). if b || false then 0 else if is_at draws_sync master event then syncs_since_tick slave earlier + 1 else syncs_since_tick slave earlier) t
-        ∙ ap {B = ℕ} (λ (b : Bool). if b then syncs_since_tick slave earlier + 1 else syncs_since_tick slave earlier) d in
-        ((λ e. let low : behind master before earlier < late + syncs_since_tick slave earlier = bounds.0 (sym ticked_more ∙ e) in omega arith),
-        (λ e. let low : behind master before earlier < late + between + syncs_since_tick slave earlier = bounds.1 (omega arith) in omega arith))
+        ∙ ap {B = ℕ} (λ (b : Bool). if b then syncs_since_tick slave earlier + 1 else syncs_since_tick slave earlier) d in (
+          (λ e. let low : behind master before earlier < late + syncs_since_tick slave earlier = bounds.0 (sym ticked_more ∙ e) in omega arith),
+          (λ e. let low : behind master before earlier < late + between + syncs_since_tick slave earlier = bounds.1 (omega arith) in omega arith),
+        )
 
 -- a message that was fresh when it was used
 fresh_then : (late : ℕ) (network : Network) (run : Run) (p origin : Place) → IsFresh late network run → IsIn run p
@@ -219,7 +222,7 @@ bounds_since late between network slave master p origin used heard drew (event �
 
     at : (same : Bool) → (if same then Some (place event earlier) else place_at earlier (tag_of p)) ≡ Some p
         → (IsIn earlier p → count_by (is_at is_set_master slave) (events_after (tag_of p) earlier) ≡ 0 → present_master slave earlier ≡ Some master
-            → Bounds slave master (tag_of p) before late between earlier)
+        → Bounds slave master (tag_of p) before late between earlier)
         → Bounds slave master (tag_of p) before late between (event ∷ earlier)
     at true there_now rest =
         let same : place event earlier ≡ p = cc in
@@ -235,7 +238,7 @@ bounds_since late between network slave master p origin used heard drew (event �
         let longer = events_after-later event earlier (tag_of p) below in
         let none : count_by (is_at is_set_master slave) (event ∷ events_after (tag_of p) earlier) ≡ 0 = sym (ap (count_by (is_at is_set_master slave)) longer) ∙ unset in
         let not_set : is_at is_set_master slave event ≡ false = false_from_ne_true (is_at is_set_master slave event)
-            (λ set. omega (arith, count-yes (is_at is_set_master slave) event (events_after (tag_of p) earlier) set)) in
+        (λ set. omega (arith, count-yes (is_at is_set_master slave) event (events_after (tag_of p) earlier) set)) in
         let follows : present_master slave earlier ≡ Some master = sym (present_master-later slave event earlier not_set) ∙ present in
         one_more slave master (tag_of p) before late between event earlier below not_set follows (ticked_now between slave earlier ticked.1)
         (rest there_now (sym (count-no (is_at is_set_master slave) event (events_after (tag_of p) earlier) not_set) ∙ none) follows)

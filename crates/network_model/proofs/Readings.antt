@@ -1,7 +1,7 @@
 -- At each accepted event that has a true moment the node's clock shows a moment, its reading.
 -- So what a message says of its times is what the clocks showed.
 use Rattle.std.proofs.Common.{◌≡◌, ◌∙◌, ℕ, ℤ, pos, negsuc, Bool, true, false, Option, Some, None, Ok, IsOk, refl, sym, ap, if◌then◌else◌, option_and_then}
-use Rattle.std.specs.Prelude.{ok_or, unwrap_or, nat_lt, is_some, Result}
+use Rattle.std.specs.Prelude.{ok_or, unwrap_or, nat_lt, is_some}
 use Rattle.ptp_units.specs.Moment.{bound}
 use Rattle.transparent_clock.specs.Forwarding.{forwarded}
 use Rattle.slave_port.proofs.Uses.{some_step}
@@ -9,10 +9,11 @@ use Rattle.network_model.specs.declared.event.Event.{Event}
 use Rattle.network_model.specs.declared.event.Event.TheVariants.{Sync, SyncOne, Follow, Enter, Leave, Arrive, Hear, Request, Stamped, Tick, SetMaster, StepClock}
 use Rattle.network_model.specs.declared.stepped.Outcome.TheVariants as outcomes
 use Rattle.network_model.specs.declared.refusal.WorldRefusal.TheVariants.{NoCopy, NoTransit, ReadingOutOfRange}
-use Rattle.network_model.specs.Network.{Network, NodeName, master_port, slave_port}
+use Rattle.network_model.specs.Network.{Network, master_port, slave_port}
 use Rattle.network_model.specs.Run.{Run, Place, place, place_at, tag_of, IsIn, true_moment}
-use Rattle.network_model.specs.Kinds.{is_at, draws_sync, is_sync, is_one_step_sync, is_request}
-use Rattle.network_model.specs.Clock.{moment_shown, shown_at, reading_of, reading}
+use Rattle.network_model.specs.Kinds.{draws_sync, is_request}
+use Rattle.ptp_units.specs.Moment.{moment_of}
+use Rattle.network_model.specs.Clock.{shown_at, reading_of, reading}
 use Rattle.network_model.specs.Truth.{copy_of}
 use Rattle.network_model.specs.Outcome.{◌>>=◌, node_as, clock_of, port_of, reads, open_transit, copy_in, left_outcome, arrived_outcome, outcome_of, IsRun}
 use Rattle.network_model.proofs.Options.{ok_value, ok_step, ok_some}
@@ -36,26 +37,26 @@ read_at network (Request node at) earlier accepted timed =
 read_at network (Enter node copy at) earlier accepted timed =
     let outcome = ok_value (outcome_of network earlier (Enter node copy at)) accepted in
     let clock = ok_step (node_as clock_of network node)
-        (λ clock. ok_or (copy_of network earlier copy) NoCopy >>= (λ m. reads (Enter node copy at) earlier >>= (λ now. Ok outcomes.Entered))) outcome.1 in
+    (λ clock. ok_or (copy_of network earlier copy) NoCopy >>= (λ m. reads (Enter node copy at) earlier >>= (λ now. Ok outcomes.Entered))) outcome.1 in
     let message = ok_step (ok_or (copy_of network earlier copy) NoCopy) (λ m. reads (Enter node copy at) earlier >>= (λ now. Ok outcomes.Entered)) clock.2 in
     let now = ok_step (reads (Enter node copy at) earlier) (λ now. Ok outcomes.Entered) message.2 in (now.0, now.1)
 read_at network (Leave node transit at) earlier accepted timed =
     let outcome = ok_value (outcome_of network earlier (Leave node transit at)) accepted in
     let clock = ok_step (node_as clock_of network node)
-        (λ clock. ok_or (option_and_then (open_transit node earlier transit) (place_at earlier transit)) NoTransit >>= (λ entered. ok_or (copy_in network entered) NoTransit
-        >>= (λ m. reads (Leave node transit at) earlier >>= (λ now. Ok (left_outcome (forwarded (Ok m) (reading entered) now)))))) outcome.1 in
+    (λ clock. ok_or (option_and_then (open_transit node earlier transit) (place_at earlier transit)) NoTransit >>= (λ entered. ok_or (copy_in network entered) NoTransit
+    >>= (λ m. reads (Leave node transit at) earlier >>= (λ now. Ok (left_outcome (forwarded (Ok m) (reading entered) now)))))) outcome.1 in
     let entered = ok_step (ok_or (option_and_then (open_transit node earlier transit) (place_at earlier transit)) NoTransit)
-        (λ entered. ok_or (copy_in network entered) NoTransit
-        >>= (λ m. reads (Leave node transit at) earlier >>= (λ now. Ok (left_outcome (forwarded (Ok m) (reading entered) now))))) clock.2 in
+    (λ entered. ok_or (copy_in network entered) NoTransit
+    >>= (λ m. reads (Leave node transit at) earlier >>= (λ now. Ok (left_outcome (forwarded (Ok m) (reading entered) now))))) clock.2 in
     let message = ok_step (ok_or (copy_in network entered.0) NoTransit)
-        (λ m. reads (Leave node transit at) earlier >>= (λ now. Ok (left_outcome (forwarded (Ok m) (reading entered.0) now)))) entered.2 in
+    (λ m. reads (Leave node transit at) earlier >>= (λ now. Ok (left_outcome (forwarded (Ok m) (reading entered.0) now)))) entered.2 in
     let now = ok_step (reads (Leave node transit at) earlier) (λ now. Ok (left_outcome (forwarded (Ok message.0) (reading entered.0) now))) message.2 in (now.0, now.1)
 read_at network (Arrive node copy at) earlier accepted timed =
     let outcome = ok_value (outcome_of network earlier (Arrive node copy at)) accepted in
     let kind = ok_step (node_as port_of network node)
-        (λ kind. ok_or (copy_of network earlier copy) NoCopy >>= (λ m. reads (Arrive node copy at) earlier >>= (λ now. Ok (arrived_outcome network kind node earlier now m)))) outcome.1 in
+    (λ kind. ok_or (copy_of network earlier copy) NoCopy >>= (λ m. reads (Arrive node copy at) earlier >>= (λ now. Ok (arrived_outcome network kind node earlier now m)))) outcome.1 in
     let message = ok_step (ok_or (copy_of network earlier copy) NoCopy)
-        (λ m. reads (Arrive node copy at) earlier >>= (λ now. Ok (arrived_outcome network kind.0 node earlier now m))) kind.2 in
+    (λ m. reads (Arrive node copy at) earlier >>= (λ now. Ok (arrived_outcome network kind.0 node earlier now m))) kind.2 in
     let now = ok_step (reads (Arrive node copy at) earlier) (λ now. Ok (arrived_outcome network kind.0 node earlier now message.0)) message.2 in (now.0, now.1)
 read_at network (Follow node) earlier accepted timed = cc
 read_at network (Hear node copy) earlier accepted timed = cc
@@ -65,7 +66,7 @@ read_at network (SetMaster node master) earlier accepted timed = cc
 read_at network (StepClock node diff) earlier accepted timed = cc
 
 -- the moment shown is the number shown
-shown_number : (shown : ℤ) (now : ℕ) → moment_shown shown ≡ Some now → shown ≡ pos now
+shown_number : (shown : ℤ) (now : ℕ) → moment_of shown ≡ Some now → shown ≡ pos now
 shown_number (negsuc n) now is = cc
 shown_number (pos n) now is = by (nat_lt n bound) is
   where
@@ -78,7 +79,7 @@ pub shown_reading : (network : Network) (run : Run) (p : Place) → IsRun networ
 shown_reading network run p accepted there timed =
     let now = read_at network p.event p.earlier (accepted-place_at network run (tag_of p) p accepted there) timed in
     let read : reading_of p ≡ Some now.0 = ok_some (reading_of (place p.event p.earlier)) ReadingOutOfRange {x = now.0} now.1 in
-    let shown = some_step moment_shown (shown_at p) read in
+    let shown = some_step moment_of (shown_at p) read in
     let is : reading p ≡ now.0 = ap (λ (r : Option ℕ). unwrap_or r 0) read in
     shown.1 ∙ ap (λ (z : ℤ). Some z) (shown_number shown.0 now.0 shown.2) ∙ ap (λ (n : ℕ). Some (pos n)) (sym is)
 

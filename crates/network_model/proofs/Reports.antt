@@ -1,19 +1,21 @@
 -- Each report is of one Sync of the present master, and of one Delay_Req to it: those of its tags.
 -- It is made of the last completion of each kind in the window, and each completion is of one origin.
-use Rattle.std.proofs.Common.{◌≡◌, ◌∙◌, ℕ, zero, ◌<◌, ◌≤◌, List, [], ◌∷◌, ◌++◌, Option, Some, None, Ok, refl, sym, ap, subst, arith}
+use Rattle.std.proofs.Common.{◌≡◌, ◌∙◌, false, ℕ, ◌<◌, ◌≤◌, List, [], ◌∷◌, ◌++◌, Some, refl, sym, ap, subst, arith}
 use Rattle.std.specs.Prelude.{slice_get, IfSome}
 use Rattle.std.specs.List.{All}
 use Rattle.std.proofs.lemmas.List.Elements.{All-head}
-use Rattle.event_codec.specs.declared.port.PortIdentity.{PortIdentity}
 use Rattle.slave_port.specs.declared.heard.Report.{Report}
 use Rattle.slave_port.specs.declared.heard.Heard.TheVariants as answers
-use Rattle.slave_port.specs.History.{Call}
+use Rattle.slave_port.specs.History as calls
+use Rattle.slave_port.specs.History.{Call, Setup}
 use Rattle.slave_port.specs.Completion.{SyncCompletion, DelayCompletion}
 use Rattle.slave_port.specs.Kept.{kept, delay_completions, sync_completion, delay_completion, last_sync_completion, last_delay_completion}
+use Rattle.slave_port.specs.Answer as slaves
 use Rattle.slave_port.specs.Answer.{report_of}
 use Rattle.slave_port.proofs.Uses.{report_parts}
 use Rattle.network_model.specs.Network.{Network, NodeName, PortSetup}
 use Rattle.network_model.specs.Run.{Run, Place, until, tag_of, site_of}
+use Rattle.network_model.specs.Kinds.{is_tick, is_set_master}
 use Rattle.network_model.specs.Truth.{slave_at}
 use Rattle.network_model.specs.SlaveHistory.{slave_setup, history_of}
 use Rattle.network_model.specs.Outcome.{IsRun}
@@ -23,17 +25,17 @@ use Rattle.network_model.specs.Reported.{Reports}
 use Rattle.network_model.specs.Exact.{IsOfOneSync, IsOfOneRequest}
 use Rattle.network_model.specs.Headline.{EachReportIsOfOneSync, EachReportIsOfOneRequest}
 use Rattle.network_model.proofs.Sites.{named-self}
-use Rattle.network_model.proofs.Calls.{history-here}
+use Rattle.network_model.proofs.Calls.{history-here, ticks, sets, call_kind}
 use Rattle.network_model.proofs.Windows.{CameFrom}
 use Rattle.network_model.proofs.Masters.{last_set_master-since}
 use Rattle.network_model.proofs.Pairing.{NumbersMeet, meet-fresh_ticked, meet-one_turn}
 use Rattle.network_model.proofs.HeldMessages.{completions_came, delay_completions_came}
 use Rattle.network_model.proofs.OneSync.{IsOneSync, one_sync}
 use Rattle.network_model.proofs.OneRequest.{IsOneRequest, one_request}
-use Rattle.network_model.proofs.Answers.{IsAnswered, answered_by}
+use Rattle.network_model.proofs.Answers.{answered_by}
 
 -- the last of a window is one of it
-first_of : {E : Type 0} (P : E → Type 0) (es : List E) (e : E) → All P es → slice_get es 0 ≡ Some e → P e
+pub first_of : {E : Type 0} (P : E → Type 0) (es : List E) (e : E) → All P es → slice_get es 0 ≡ Some e → P e
 first_of P [] e all is = cc
 first_of P (first ∷ others) e all is = let same : first ≡ e = cc in subst P same (All-head P first others all)
 
@@ -46,6 +48,26 @@ pub record IsMadeOf (network : Network) (run : Run) (slave : NodeName) (report :
   pub sync_is : CameFrom network port slave (sync_completion (slave_setup port)) 1 run sync
   pub delay_is : CameFrom network port slave (delay_completion (slave_setup port)) 1 run delay
   pub is : report ≡ report_of sync delay
+  pub last : last_sync_completion (slave_setup port) (history_of network port slave run) ≡ Some sync
+
+-- what is reported is told by a call that is neither a tick nor a set_master
+hearing_reports : (setup : Setup) (history : List Call) (call : Call) (report : Report) → answers.Report report ≡ slaves.answer setup history call
+    → (ticks call ≡ false) × (sets call ≡ false)
+hearing_reports setup history (calls.SetMaster master) report is = cc
+hearing_reports setup history calls.Tick report is = cc
+hearing_reports setup history (calls.NextRequest tag) report is = (refl, refl)
+hearing_reports setup history (calls.RequestLeft number t3) report is = (refl, refl)
+hearing_reports setup history (calls.Event m t2 tag) report is = (refl, refl)
+hearing_reports setup history (calls.General m tag) report is = (refl, refl)
+
+-- an event that answers a report is neither a Tick nor a SetMaster
+pub report_event : (network : Network) (answered : Place) (report : Report) → Reports network answered report
+    → (is_tick answered.event ≡ false) × (is_set_master answered.event ≡ false)
+report_event network answered report reports =
+    let by = answered_by network answered.earlier (answers.Report report) answered.event reports in
+    let kind = call_kind network by.port answered.event answered.earlier by.call by.made in
+    let heard = hearing_reports (slave_setup by.port) (history_of network by.port (site_of answered.event) answered.earlier) by.call report by.is in
+    (kind.0 ∙ heard.0, kind.1 ∙ heard.1)
 
 pub made_of : (network : Network) (answered : Place) (report : Report) → IsRun network (until answered) → Reports network answered report
     → IsMadeOf network (until answered) (site_of answered.event) report
@@ -72,6 +94,7 @@ made_of network answered report accepted reports =
           parts.1 (delay_completions_came network by.port slave by.slave (until answered) accepted)
           (ap (last_delay_completion (slave_setup by.port)) longer ∙ parts.3);
       is = parts.4;
+      last = ap (last_sync_completion (slave_setup by.port)) longer ∙ parts.2;
     }
 
 module _ (reach : ℕ) (fits : reach ≤ 65536) (network : Network) (answered : Place) (report : Report) (meet : NumbersMeet reach network (until answered))

@@ -1,27 +1,26 @@
 -- The requests that a slave keeps: from the newest back, each is the Request event that drew the number before, and the
 -- departure that is known of it is the reading of that event. So a held one is among the last that were drawn.
-use Rattle.std.proofs.Common.{◌≡◌, ◌∙◌, ℕ, zero, suc, ◌+◌, ◌-◌, ◌<◌, Bool, true, false, List, [], ◌∷◌, ◌++◌, length, take, Option, Some, None, refl, sym, ap, subst, arith, option_map, if◌then◌else◌}
-use Rattle.std.specs.Prelude.{count_by, ◌==◌, ◌&&◌, nat_eq, find, option_to_list}
-use Rattle.std.proofs.lemmas.Bool.{and_right, eq-eqb, eqb-true, false_from_ne_true}
+use Rattle.std.proofs.Common.{◌≡◌, ◌∙◌, ℕ, zero, suc, ◌+◌, ◌-◌, ◌<◌, Bool, true, false, List, [], ◌∷◌, length, take, Option, Some, None, refl, sym, ap, subst, arith, option_map, if◌then◌else◌}
+use Rattle.std.specs.Prelude.{count_by, ◌&&◌, nat_eq, find}
+use Rattle.std.proofs.lemmas.Bool.{and_right, eq-eqb, eqb-true}
 use Rattle.ptp_units.specs.Sequence.{of_count}
 use Rattle.pairing.specs.Marked.{Entry, entry, first_value}
 use Rattle.slave_port.specs.History as calls
 use Rattle.slave_port.specs.History.{Call, requests_drawn, next_number}
 use Rattle.slave_port.specs.Values.{RequestValue}
-use Rattle.slave_port.specs.Requests.{requests, stamped, held_requests}
-use Rattle.slave_port.proofs.Uses.{some_image}
+use Rattle.slave_port.specs.Requests.{requests, stamped}
 use Rattle.network_model.specs.declared.event.Event.{Event}
 use Rattle.network_model.specs.declared.event.Event.TheVariants.{Sync, SyncOne, Follow, Enter, Leave, Arrive, Hear, Request, Stamped, Tick, SetMaster, StepClock}
 use Rattle.network_model.specs.Network.{Network, NodeName, PortSetup, is_named}
-use Rattle.network_model.specs.Run.{Run, Place, place, place_at, tag_of, IsIn, site_of, events_after}
+use Rattle.network_model.specs.Run.{Run, Place, place, tag_of, IsIn, site_of, events_after}
 use Rattle.network_model.specs.Kinds.{is_at, is_request, is_stamped, is_set_master}
 use Rattle.network_model.specs.Clock.{reading}
-use Rattle.network_model.specs.Numbering.{number_of, waiting_request}
-use Rattle.network_model.specs.SlaveHistory.{slave_setup, table_capacity, request_sequence, call_made, history_of}
+use Rattle.network_model.specs.Numbering.{waiting_request}
+use Rattle.network_model.specs.SlaveHistory.{slave_setup, request_sequence, call_made, history_of}
 use Rattle.network_model.specs.Outcome.{IsRun}
 use Rattle.network_model.proofs.Places.{place_at-later, place_at-bound}
 use Rattle.network_model.proofs.Sequences.{count-yes, count-no, same_count}
-use Rattle.network_model.proofs.Sites.{named-same, at_kind}
+use Rattle.network_model.proofs.Sites.{named-same}
 use Rattle.network_model.proofs.Journeys.{IsIn-last}
 use Rattle.network_model.proofs.Calls.{events_after-later, events_after-last, history-here, history-elsewhere, sets, call_kind, silent, IsCallOf, Arrives, Hears, Requests, Departs, Ticks, Sets, call_of}
 use Rattle.network_model.proofs.Reach.{draws_with-request}
@@ -79,7 +78,7 @@ module _ (port : PortSetup) (slave : NodeName) where
       at : (drawn : Bool) → is_at is_request slave event ≡ drawn → (stamped : Bool)
           → (if drawn then Some (place event earlier) else if stamped then None else waiting_request slave earlier) ≡ Some w
           → (waiting_request slave earlier ≡ Some w
-              → IsIn earlier w × (is_at is_request slave w.event ≡ true) × (count_by (is_at is_request slave) w.earlier + 1 ≡ count_by (is_at is_request slave) earlier))
+          → IsIn earlier w × (is_at is_request slave w.event ≡ true) × (count_by (is_at is_request slave) w.earlier + 1 ≡ count_by (is_at is_request slave) earlier))
           → IsIn (event ∷ earlier) w × (is_at is_request slave w.event ≡ true) × (count_by (is_at is_request slave) w.earlier + 1 ≡ count_by (is_at is_request slave) (event ∷ earlier))
       at true e stamped is rest =
           let same : place event earlier ≡ w = cc in
@@ -189,17 +188,19 @@ requests_are network port slave (event ∷ earlier) accepted =
         number_is ∙ ap (λ (kind : Event → Bool). of_count (port.first + count_by kind w.earlier)) (draws_with-request slave w.event waited.1) in
         let equal : e.number ≡ number = are.0.number ∙ ap (λ (o : Place). of_count (port.first + count_by (is_at is_request slave) o.earlier)) one ∙ sym number_of_w in
         subst (λ (b : Bool). AreRequests port slave earlier old (if b then entry number (record { t3 = Some t3; tag = e.value.tag }) ∷ others else e ∷ stamped number t3 others))
-        (sym (eq-eqb e.number number equal))
-        (record {
-          u = are.0.u;
-          there = are.0.there;
-          drawn = are.0.drawn;
-          count = are.0.count;
-          number = sym equal ∙ are.0.number;
-          tag = are.0.tag;
-          left = λ t is. let same : t3 ≡ t = cc in sym same ∙ t3_is ∙ ap reading (sym one);
-          no_master = are.0.no_master;
-        }, are.1)
+        (sym (eq-eqb e.number number equal)) (
+          record {
+            u = are.0.u;
+            there = are.0.there;
+            drawn = are.0.drawn;
+            count = are.0.count;
+            number = sym equal ∙ are.0.number;
+            tag = are.0.tag;
+            left = λ t is. let same : t3 ≡ t = cc in sym same ∙ t3_is ∙ ap reading (sym one);
+            no_master = are.0.no_master;
+          },
+          are.1,
+        )
 
     at : (named : Bool) → is_named (site_of event) slave ≡ named → (call : Option Call) → call_made network port event earlier ≡ call
         → AreRequests port slave earlier old (requests (slave_setup port) before)
@@ -208,12 +209,12 @@ requests_are network port slave (event ∷ earlier) accepted =
         subst (λ (h : List Call). AreRequests port slave (event ∷ earlier) (count_by (is_at is_request slave) (event ∷ earlier)) (requests (slave_setup port) h))
         (sym (history-elsewhere network port slave event earlier elsewhere))
         (same (and_right (is_request event) (is_named (site_of event) slave) elsewhere) (and_right (is_set_master event) (is_named (site_of event) slave) elsewhere)
-            (requests (slave_setup port) before) are)
+        (requests (slave_setup port) before) are)
     at true here None made are =
         subst (λ (h : List Call). AreRequests port slave (event ∷ earlier) (count_by (is_at is_request slave) (event ∷ earlier)) (requests (slave_setup port) h))
         (sym (history-here network port slave event earlier None here made))
         (same (ap (λ (b : Bool). b && is_named (site_of event) slave) (no_request network port event earlier made))
-            (ap (λ (b : Bool). b && is_named (site_of event) slave) (silent network port event earlier accepted.0 made).1) (requests (slave_setup port) before) are)
+        (ap (λ (b : Bool). b && is_named (site_of event) slave) (silent network port event earlier accepted.0 made).1) (requests (slave_setup port) before) are)
     at true here (Some call) made are =
         let kind = call_of network port event earlier call made in
         subst (λ (h : List Call). AreRequests port slave (event ∷ earlier) (count_by (is_at is_request slave) (event ∷ earlier)) (requests (slave_setup port) h))
@@ -232,8 +233,7 @@ requests_are network port slave (event ∷ earlier) accepted =
         by (calls.NextRequest tag) of drew set =
             let now : is_at is_request slave event ≡ true = ap (λ (b : Bool). b && is_named (site_of event) slave) drew ∙ here in
             let more : count_by (is_at is_request slave) (event ∷ earlier) ≡ old + 1 = count-yes (is_at is_request slave) event earlier now in
-            let less : old ≡ count_by (is_at is_request slave) (event ∷ earlier) - 1 = omega arith in
-            (
+            let less : old ≡ count_by (is_at is_request slave) (event ∷ earlier) - 1 = omega arith in (
               record {
                 u = place event earlier;
                 there = IsIn-last event earlier;
@@ -283,7 +283,7 @@ request_found port slave run number v (suc k) n (e ∷ others) are found =
     at : (same : Bool) → nat_eq e.number number ≡ same
         → option_map (λ e. e.value) (if same then Some e else find (λ e. nat_eq e.number number) (take k others)) ≡ Some v
         → (first_value number (take k others) ≡ Some v
-            → (e : Entry RequestValue) × (m : ℕ) × IsRequest port slave run m e × (n - 1 < m + k) × (e.number ≡ number) × (e.value ≡ v))
+        → (e : Entry RequestValue) × (m : ℕ) × IsRequest port slave run m e × (n - 1 < m + k) × (e.number ≡ number) × (e.value ≡ v))
         → (e : Entry RequestValue) × (m : ℕ) × IsRequest port slave run m e × (n < m + suc k) × (e.number ≡ number) × (e.value ≡ v)
     at true is found rest = (e, n, are.0, omega arith, eqb-true e.number number is, cc)
     at false is found rest =

@@ -1,12 +1,12 @@
 -- Numbers of one sequence: the events that draw them are counted, so each count is drawn once.
 -- Used where two messages turn out to have one number: then one event drew both.
-use Rattle.std.proofs.Common.{◌≡◌, ◌∙◌, ℕ, ◌+◌, ◌<◌, ◌≤◌, Bool, true, false, [], ◌∷◌, length, Some, sym, subst, refl, ap, arith, if◌then◌else◌}
+use Rattle.std.proofs.Common.{◌≡◌, ◌∙◌, ℕ, ◌+◌, ◌<◌, ◌≤◌, Bool, true, false, [], ◌∷◌, length, Some, subst, refl, ap, arith, if◌then◌else◌}
 use Rattle.std.specs.Prelude.{◌==◌, count_by, ◌⊎◌}
 use Rattle.std.proofs.Common.{inl, inr}
 use Rattle.std.proofs.lemmas.Bool.{cases_order}
 use Rattle.std.proofs.lemmas.List.Sums.{sum_by-cons}
 use Rattle.network_model.specs.declared.event.Event.{Event}
-use Rattle.network_model.specs.Run.{Run, Place, place, place_at, tag_of, IsIn, events_after}
+use Rattle.network_model.specs.Run.{Run, Place, place, place_at, tag_of, IsIn}
 use Rattle.network_model.proofs.Places.{same_place, IsIn-before}
 
 -- one event more

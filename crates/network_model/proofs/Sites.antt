@@ -1,8 +1,6 @@
 -- An event at a node, and the node of a name.
 -- Tests of names become equations of names here.
-use Rattle.std.proofs.Common.{◌≡◌, Bool, true, false, List, ℕ, Decides, refl, arith, ap, subst, sym}
-use Rattle.std.specs.Prelude.{◌&&◌}
-use Rattle.std.specs.Str.{bytes_eq}
+use Rattle.std.proofs.Common.{◌≡◌, Bool, true, arith, subst}
 use Rattle.std.proofs.lemmas.Bool.{and_parts, and_from}
 use Rattle.std.proofs.lemmas.Slice.Eq.{bytes_eq-Decides}
 use Rattle.network_model.specs.declared.event.Event.{Event}

@@ -1,14 +1,14 @@
 -- Where clocks are stepped before all else, each reading is the true moment and one difference of the node's clock.
 -- So differences of readings at one node are differences of true moments.
 use Rattle.std.proofs.Common.{◌≡◌, ◌∙◌, ℕ, ℤ, pos, ◌+ℤ◌, Bool, true, false, [], ◌∷◌, length, Option, Some, None, refl, sym, ap, subst, if◌then◌else◌, option_map}
-use Rattle.std.specs.Prelude.{◌==◌, ◌&&◌, is_some, unwrap_or}
+use Rattle.std.specs.Prelude.{◌==◌, is_some, unwrap_or}
 use Rattle.std.specs.List.{list_all}
 use Rattle.std.proofs.lemmas.Bool.{and_parts}
 use Rattle.network_model.specs.declared.event.Event.{Event}
 use Rattle.network_model.specs.Network.{Network, NodeName, is_named}
 use Rattle.network_model.specs.Run.{Run, Place, place, place_at, tag_of, IsIn, site_of, true_moment}
 use Rattle.network_model.specs.Kinds.{step_of, is_step}
-use Rattle.network_model.specs.Clock.{difference, clock_shows, shown_at, reading}
+use Rattle.network_model.specs.Clock.{difference, clock_shows, reading}
 use Rattle.network_model.specs.Outcome.{IsRun}
 use Rattle.network_model.specs.Level.{moment_at, is_steady, IsSteady}
 use Rattle.network_model.proofs.Readings.{shown_reading}

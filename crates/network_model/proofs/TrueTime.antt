@@ -1,41 +1,34 @@
 -- Where clocks are steady, a report's error is the asymmetry of its two ways: each bracket is the time on its way and the
 -- difference of the two clocks, and the residences cancel.
-use Rattle.std.proofs.Common.{◌≡◌, ◌∙◌, ℕ, ℤ, pos, ◌+ℤ◌, ◌-ℤ◌, Bool, true, false, List, [], ◌∷◌, length, Option, Some, None, refl, sym, ap, subst, arith, option_map, option_and_then}
+use Rattle.std.proofs.Common.{◌≡◌, ◌∙◌, ℕ, ℤ, pos, ◌+ℤ◌, ◌-ℤ◌, Bool, true, false, List, [], ◌∷◌, Option, Some, None, refl, sym, ap, subst, arith, option_map, option_and_then}
 use Rattle.std.specs.Prelude.{is_some, ◌&&◌}
 use Rattle.std.proofs.lemmas.Int.{ints}
 use Rattle.ptp_units.specs.Exchange.{offset2, path2}
 use Rattle.slave_port.specs.declared.heard.Report.{Report}
-use Rattle.slave_port.specs.declared.heard.Heard.TheVariants as answers
-use Rattle.slave_port.specs.History as calls
-use Rattle.slave_port.specs.History.{Call, Setup}
-use Rattle.slave_port.specs.Answer as slaves
 use Rattle.network_model.specs.declared.event.Event.{Event}
 use Rattle.network_model.specs.declared.event.Event.TheVariants.{Sync, SyncOne, Follow, Enter, Leave, Arrive, Hear, Request, Stamped, Tick, SetMaster, StepClock}
 use Rattle.network_model.specs.Network.{Network, NodeName, is_named}
 use Rattle.network_model.specs.Run.{Run, Place, place_at, tag_of, IsIn, until, site_of, true_moment}
 use Rattle.network_model.specs.Kinds.{is_at, draws_sync, is_request, is_set_master, is_step, named_master, timed_copy, heard_copy}
-use Rattle.network_model.specs.Clock.{difference, shown_at, reading}
+use Rattle.network_model.specs.Clock.{difference, reading}
 use Rattle.network_model.specs.Journey.{Journey, Stay, journey_of, residence}
-use Rattle.network_model.specs.SlaveHistory.{slave_setup, history_of}
 use Rattle.network_model.specs.Outcome.{IsRun}
-use Rattle.network_model.specs.Present.{last_set_master, present_master}
-use Rattle.network_model.specs.Premises.{exact_limits, IsFreshAndTicked, IsAcceptedRun}
-use Rattle.network_model.specs.Reported.{Reports, ReportedIn}
-use Rattle.network_model.specs.Exact.{Arrives, HearsOf, IsBracketOf, IsOfOneSync, IsOfOneRequest, IsTwice, LearnsDeparture, OfPresentMaster}
-use Rattle.network_model.specs.Level.{Crossing, crossings_of, way_to, maker_heard, sync_way, request_way, time_on, moment_at, IsSteady}
+use Rattle.network_model.specs.Present.{present_master}
+use Rattle.network_model.specs.Premises.{exact_limits, IsFreshAndTicked}
+use Rattle.network_model.specs.Reported.{Reports}
+use Rattle.network_model.specs.Exact.{IsBracketOf, IsOfOneSync, IsOfOneRequest, IsTwice, LearnsDeparture, OfPresentMaster}
+use Rattle.network_model.specs.Level.{crossings_of, way_to, maker_heard, time_on, moment_at, IsSteady}
 use Rattle.network_model.specs.TrueTime.{twice, IsAsymmetric, ErrorIsAsymmetry}
 use Rattle.network_model.proofs.Places.{IsRun-place_at, IsIn-place_at, IsIn-within}
 use Rattle.network_model.proofs.Sites.{at_kind, at_site}
 use Rattle.network_model.proofs.Journeys.{IsIn-origin}
 use Rattle.network_model.proofs.Readings.{shown_reading, sync_timed, request_timed}
-use Rattle.network_model.proofs.Calls.{sets, call_kind}
 use Rattle.network_model.proofs.Reach.{present_master-later}
 use Rattle.network_model.proofs.Pairing.{meet-fresh_ticked, until_each, fresh_ticked_shorter, place_at-until, one_step_draws, two_step_draws}
-use Rattle.network_model.proofs.Answers.{IsAnswered, answered_by}
-use Rattle.network_model.proofs.Reports.{is_of_one_sync, is_of_one_request}
+use Rattle.network_model.proofs.Reports.{report_event, is_of_one_sync, is_of_one_request}
 use Rattle.network_model.proofs.Twice.{each_twice}
 use Rattle.network_model.proofs.Steady.{reading_is}
-use Rattle.network_model.proofs.Ways.{AreStays, IsStay, stays_are, way_is}
+use Rattle.network_model.proofs.Ways.{AreStays, stays_are, way_is}
 
 -- stays of an earlier run
 stays-within : (run : Run) (p : Place) (stays : List Stay) → IsIn run p → AreStays p.earlier stays → AreStays run stays
@@ -109,23 +102,11 @@ bracket_is network run arrival journey copy moment here there a accepted steady 
     sums : (a arrived left : ℤ) (r : ℕ) (t m n d e : ℤ) → a ≡ (arrived -ℤ left) -ℤ pos r → arrived ≡ m +ℤ d → left ≡ n +ℤ e → t +ℤ pos r ≡ m -ℤ n → a ≡ t +ℤ (d -ℤ e)
     sums a arrived left r t m n d e f g h k = omega (arith, ints)
 
--- what is reported is no set_master
-report_unset : (setup : Setup) (history : List Call) (call : Call) (report : Report) → answers.Report report ≡ slaves.answer setup history call → sets call ≡ false
-report_unset setup history (calls.SetMaster master) report is = cc
-report_unset setup history calls.Tick report is = refl
-report_unset setup history (calls.NextRequest tag) report is = refl
-report_unset setup history (calls.RequestLeft number t3) report is = refl
-report_unset setup history (calls.Event m t2 tag) report is = refl
-report_unset setup history (calls.General m tag) report is = refl
-
 -- the master of a report is the one that the slave followed before it
 report_master : (network : Network) (answered : Place) (report : Report) (master named : NodeName) → Reports network answered report
     → present_master (site_of answered.event) answered.earlier ≡ Some master → OfPresentMaster (until answered) (site_of answered.event) named report → named ≡ master
 report_master network answered report master named reports present of =
-    let by = answered_by network answered.earlier (answers.Report report) answered.event reports in
-    let unset : is_set_master answered.event ≡ false =
-    (call_kind network by.port answered.event answered.earlier by.call by.made).1
-    ∙ report_unset (slave_setup by.port) (history_of network by.port (site_of answered.event) answered.earlier) by.call report by.is in
+    let unset = (report_event network answered report reports).1 in
     let now : present_master (site_of answered.event) (until answered) ≡ Some named = ap (option_and_then (λ (set : Place). named_master set.event)) of.last ∙ of.named in
     let same : Some named ≡ Some master =
     sym now ∙ present_master-later (site_of answered.event) answered.event answered.earlier (unset_at unset) ∙ present in
@@ -135,7 +116,7 @@ report_master network answered report master named reports present of =
     unset_at unset = ap (λ (b : Bool). b && is_named (site_of answered.event) (site_of answered.event)) unset
 
 -- the Sync event of a report is the present master's
-origin_drawn : (run : Run) (slave master : NodeName) (tag : Option ℕ) (origin : Place) → LearnsDeparture run slave master tag origin → is_at draws_sync master origin.event ≡ true
+pub origin_drawn : (run : Run) (slave master : NodeName) (tag : Option ℕ) (origin : Place) → LearnsDeparture run slave master tag origin → is_at draws_sync master origin.event ≡ true
 origin_drawn run slave master None origin learns = one_step_draws master origin.event learns
 origin_drawn run slave master (Some tag) origin learns = two_step_draws master origin.event learns.drawn
 
@@ -157,13 +138,13 @@ asymmetric network run answered report master accepted steady there sync request
     let kind : draws_sync sync.journey.origin.event ≡ true = at_kind draws_sync sync.master sync.journey.origin.event drawn in
     let asked : is_request request.journey.origin.event ≡ true = at_kind is_request slave request.journey.origin.event request.request.drawn in
     let a = bracket_is network run sync.arrival sync.journey arrives.copy arrives.moment slave master double.a accepted steady
-        (IsIn-place_at run report.sync_tag sync.arrival arrival_at) arrives.event arrives.travelled (sync_timed sync.journey.origin.event kind)
-        (sync_steps_none sync.journey.origin.event kind) (at_site draws_sync sync.master sync.journey.origin.event drawn ∙ sync_master) double.of_sync in
+    (IsIn-place_at run report.sync_tag sync.arrival arrival_at) arrives.event arrives.travelled (sync_timed sync.journey.origin.event kind)
+    (sync_steps_none sync.journey.origin.event kind) (at_site draws_sync sync.master sync.journey.origin.event drawn ∙ sync_master) double.of_sync in
     let b = bracket_is network run request.arrival request.journey back_arrives.copy back_arrives.moment master slave double.b accepted steady
-        (IsIn-place_at run (tag_of request.arrival) request.arrival back_at)
-        (back_arrives.event ∙ ap (λ (n : NodeName). Arrive n back_arrives.copy back_arrives.moment) request_master) back_arrives.travelled
-        (request_timed request.journey.origin.event asked) (request_steps_none request.journey.origin.event asked)
-        (at_site is_request slave request.journey.origin.event request.request.drawn) double.of_request in
+    (IsIn-place_at run (tag_of request.arrival) request.arrival back_at)
+    (back_arrives.event ∙ ap (λ (n : NodeName). Arrive n back_arrives.copy back_arrives.moment) request_master) back_arrives.travelled
+    (request_timed request.journey.origin.event asked) (request_steps_none request.journey.origin.event asked)
+    (at_site is_request slave request.journey.origin.event request.request.drawn) double.of_request in
     record {
       there = crossings_of sync.journey.origin sync.journey.stays sync.arrival;
       back = crossings_of request.journey.origin request.journey.stays request.arrival;
@@ -174,10 +155,10 @@ asymmetric network run answered report master accepted steady there sync request
           ∙ way_of request.arrival request.journey back_arrives.copy (ap timed_copy back_arrives.event) back_arrives.travelled;
       offset = double.offset
           ∙ offsets double.a double.b (time_on (crossings_of sync.journey.origin sync.journey.stays sync.arrival)) (time_on (crossings_of request.journey.origin request.journey.stays request.arrival))
-              (difference slave run) (difference master run) a b;
+          (difference slave run) (difference master run) a b;
       path = double.path
           ∙ paths double.a double.b (time_on (crossings_of sync.journey.origin sync.journey.stays sync.arrival)) (time_on (crossings_of request.journey.origin request.journey.stays request.arrival))
-              (difference slave run) (difference master run) a b;
+          (difference slave run) (difference master run) a b;
     }
   where
     way_of : (p : Place) (journey : Journey) (copy : ℕ) → timed_copy p.event ≡ Some copy → journey_of p.earlier copy ≡ Some journey
@@ -205,5 +186,5 @@ error_is_asymmetry network run slave master report premise steady reported prese
     let follows : present_master (site_of answered.event) answered.earlier ≡ Some master = subst (λ (n : NodeName). present_master n answered.earlier ≡ Some master) (sym reported.site) present in
     subst (λ (n : NodeName). IsAsymmetric run n master report) reported.site
     (asymmetric network run answered report master premise.accepted steady reported.there sync request
-        (report_master network answered report master sync.master reported.reports follows sync.present)
-        (report_master network answered report master request.master reported.reports follows request.present) double)
+    (report_master network answered report master sync.master reported.reports follows sync.present)
+    (report_master network answered report master request.master reported.reports follows request.present) double)

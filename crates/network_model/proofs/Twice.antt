@@ -1,6 +1,6 @@
 -- Each report is exactly twice the two results over the Sync and the Delay_Req that its tags name, in every accepted run:
 -- each half of it is a bracket over what the clocks showed, and a correction that was used isn't too big.
-use Rattle.std.proofs.Common.{◌≡◌, ◌∙◌, ℕ, ◌+◌, ℤ, pos, ◌-ℤ◌, Bool, true, false, List, ◌∷◌, ◌++◌, length, take, Option, Some, None, IsOk, int_lt, refl, sym, ap, subst, arith, option_and_then}
+use Rattle.std.proofs.Common.{◌≡◌, ◌∙◌, ℕ, ℤ, pos, ◌-ℤ◌, true, false, Option, Some, None, int_lt, refl, sym, ap, subst}
 use Rattle.std.specs.Prelude.{count_by, is_some}
 use Rattle.ptp_units.specs.Moment.{Stamp, stamp_of, fraction_of}
 use Rattle.ptp_units.specs.Interval.{too_big, with_residence, less_fraction}
@@ -8,7 +8,7 @@ use Rattle.ptp_units.specs.Exchange.{sync_bracket, delay_bracket}
 use Rattle.event_codec.specs.declared.message.Body.{Body}
 use Rattle.event_codec.specs.declared.message.Body.TheVariants as bodies
 use Rattle.event_codec.specs.Packet.{Contents}
-use Rattle.pairing.specs.Marked.{Entry, entry, first_value}
+use Rattle.pairing.specs.Marked.{Entry, first_value}
 use Rattle.slave_port.specs.declared.heard.Report.{Report}
 use Rattle.slave_port.specs.History.{Call}
 use Rattle.slave_port.specs.Usable.{is_two_step}
@@ -16,39 +16,38 @@ use Rattle.slave_port.specs.Values.{SyncValue, FollowValue, RequestValue}
 use Rattle.slave_port.specs.Requests.{requests}
 use Rattle.slave_port.specs.Completion.{SyncCompletion, DelayCompletion, pair, alone}
 use Rattle.slave_port.specs.Kept.{criteria, sync_completion, delay_completion, held_syncs, held_follows}
-use Rattle.slave_port.specs.Answer.{answer, used, report_of}
+use Rattle.slave_port.specs.Answer.{answer, used}
 use Rattle.slave_port.proofs.Uses.{HeardSync, HeardFollowUp, two_step_value, one_step_value, follow_value, IsSyncCompletion, BySync, Alone, ByFollowUp, sync_completion_of, delay_completion_of}
 use Rattle.network_model.specs.declared.event.Event.{Event}
 use Rattle.network_model.specs.declared.event.Event.TheVariants.{Follow, Arrive, Hear}
 use Rattle.network_model.specs.Network.{Network, NodeName, PortSetup}
 use Rattle.network_model.specs.Run.{Run, Place, place_at, tag_of, IsIn, until, site_of, true_moment}
-use Rattle.network_model.specs.Kinds.{is_at, is_sync, is_one_step_sync, is_request, draws_sync}
-use Rattle.network_model.specs.Clock.{reading, shown_at}
+use Rattle.network_model.specs.Kinds.{is_at, is_request, draws_sync}
+use Rattle.network_model.specs.Clock.{reading}
 use Rattle.network_model.specs.Numbering.{waiting_sync}
 use Rattle.network_model.specs.Journey.{Journey, journey_of, residence}
 use Rattle.network_model.specs.Truth.{slave_at}
 use Rattle.network_model.specs.SlaveHistory.{slave_setup, table_capacity, call_made, history_of}
-use Rattle.network_model.specs.Outcome.{outcome_of, IsRun}
+use Rattle.network_model.specs.Outcome.{IsRun}
 use Rattle.network_model.specs.Premises.{IsAcceptedRun}
-use Rattle.network_model.specs.Reported.{Reports}
-use Rattle.network_model.specs.Exact.{Arrives, HearsOf, HearsFollowUp, LearnsDeparture, IsBracketOf, IsTwice, OfOneSync, OfOneRequest, IsOfOneSync, IsOfOneRequest}
+use Rattle.network_model.specs.Exact.{Arrives, HearsOf, LearnsDeparture}
 use Rattle.network_model.specs.Headline.{EachReportIsTwice}
 use Rattle.network_model.proofs.Places.{accepted-place_at, IsRun-place_at, IsIn-place_at, IsIn-within}
 use Rattle.network_model.proofs.Exactness.{sync_bracket-exact, one_step_bracket-exact, delay_bracket-exact, small_request}
 use Rattle.network_model.proofs.Readings.{shown_reading, sync_timed, request_timed}
 use Rattle.network_model.proofs.Sites.{at_kind}
 use Rattle.network_model.proofs.Journeys.{IsIn-origin}
-use Rattle.network_model.proofs.Copies.{IsTwoStep, IsOneStep, IsFollowUp}
-use Rattle.network_model.proofs.Entries.{UsedAt, arrived, heard_by, two_step_copy, one_step_copy, follow_up_copy}
+use Rattle.network_model.proofs.Copies.{IsTwoStep, IsFollowUp}
+use Rattle.network_model.proofs.Entries.{arrived, heard_by, two_step_copy, one_step_copy, follow_up_copy}
 use Rattle.network_model.proofs.Pairing.{found_in, two_step_draws, one_step_draws}
 use Rattle.network_model.proofs.HeldMessages.{IsHeldSync, IsHeldFollow, held_syncs_are, held_follows_are}
 use Rattle.network_model.proofs.OneSync.{tagged}
-use Rattle.network_model.proofs.OneRequest.{IsAnswer, answer_to_slave}
-use Rattle.network_model.proofs.Requests.{IsRequest, requests_are, request_found}
-use Rattle.network_model.proofs.Reports.{IsMadeOf, made_of}
+use Rattle.network_model.proofs.OneRequest.{answer_to_slave}
+use Rattle.network_model.proofs.Requests.{requests_are, request_found}
+use Rattle.network_model.proofs.Reports.{made_of}
 
 -- an arrival and a hearing are told by their tags
-one_arrival : (run : Run) (tag : ℕ) (node : NodeName) (p q : Place) (j k : Journey) → Arrives run tag node p j → Arrives run tag node q k → (p ≡ q) × (j ≡ k)
+pub one_arrival : (run : Run) (tag : ℕ) (node : NodeName) (p q : Place) (j k : Journey) → Arrives run tag node p j → Arrives run tag node q k → (p ≡ q) × (j ≡ k)
 one_arrival run tag node p q j k first second =
     let places : Some p ≡ Some q = sym first.there ∙ second.there in
     let one : p ≡ q = cc in
@@ -57,7 +56,7 @@ one_arrival run tag node p q j k first second =
     let journeys : Some j ≡ Some k = sym first.travelled ∙ ap (λ (o : Place). journey_of o.earlier first.copy) one ∙ ap (journey_of q.earlier) copies ∙ second.travelled in
     (one, cc)
 
-one_hearing : (run : Run) (tag : ℕ) (node : NodeName) (p q : Place) → HearsOf run tag node p → HearsOf run tag node q → p ≡ q
+pub one_hearing : (run : Run) (tag : ℕ) (node : NodeName) (p q : Place) → HearsOf run tag node p → HearsOf run tag node q → p ≡ q
 one_hearing run tag node p q first second =
     let places : Some first.hearing ≡ Some second.hearing = sym first.there ∙ second.there in
     let one : first.hearing ≡ second.hearing = cc in
@@ -113,8 +112,8 @@ two_step_bracket : (network : Network) (run other : Run) (copy copy' : ℕ) (m m
 two_step_bracket network run other copy copy' m m' t2 t2' precise drawn made body small same =
     let correction : m.header.correction.0 ≡ with_residence (pos 0) (residence drawn.journey) = ap (λ (m : Contents). m.header.correction.0) drawn.is in
     of_parts t2 t2' precise (stamp_of (reading made.origin)) m'.header.correction.0 (pos (fraction_of (reading made.origin)))
-        m.header.correction.0 (with_residence (pos 0) (residence drawn.journey))
-        same (follow_parts (sym body ∙ ap (λ (m : Contents). m.body) made.is)) (ap (λ (m : Contents). m.header.correction.0) made.is) correction
+    m.header.correction.0 (with_residence (pos 0) (residence drawn.journey))
+    same (follow_parts (sym body ∙ ap (λ (m : Contents). m.body) made.is)) (ap (λ (m : Contents). m.header.correction.0) made.is) correction
     ∙ sync_bracket-exact t2' (reading made.origin) (residence drawn.journey) (subst (λ (c : ℤ). int_lt c too_big ≡ true) correction small)
 
 module _ (network : Network) (port : PortSetup) (slave : NodeName) (slave_is : slave_at network slave ≡ Some port)
@@ -129,7 +128,7 @@ module _ (network : Network) (port : PortSetup) (slave : NodeName) (slave_is : s
       let at = arrived network port slave p call slave_is before (accepted-place_at network run (tag_of p) p accepted there) site made answered h.m h.t2 h.tag h.call_is h.passes in
       let drawn = two_step_copy network p.earlier at.copy h.m h.origin at.used.m_is h.body flag in
       let e = found_in (IsHeldFollow network port slave p.earlier) (held_follows (slave_setup port) (history_of network port slave p.earlier)) h.m.header.sequence.0 follow
-          (held_follows_are network port slave slave_is p.earlier before) found in
+      (held_follows_are network port slave slave_is p.earlier before) found in
       let held = e.1 in
       let value : follow ≡ record { precise = held.precise; correction = held.m.header.correction.0; tag = tag_of held.p } =
       sym e.3 ∙ ap (λ (e : Entry FollowValue). e.value) held.is in
@@ -167,7 +166,7 @@ module _ (network : Network) (port : PortSetup) (slave : NodeName) (slave_is : s
       let at = heard_by network port slave p call slave_is before (accepted-place_at network run (tag_of p) p accepted there) site made answered h.m h.tag h.call_is h.passes in
       let follow = follow_up_copy network p.earlier at.copy h.m h.precise at.used.m_is h.body in
       let e = found_in (IsHeldSync network port slave p.earlier) (held_syncs (slave_setup port) (history_of network port slave p.earlier)) h.m.header.sequence.0 sync
-          (held_syncs_are network port slave slave_is p.earlier before) found in
+      (held_syncs_are network port slave slave_is p.earlier before) found in
       let held = e.1 in
       let value : sync ≡ record { t2 = reading held.p; correction = held.m.header.correction.0; tag = tag_of held.p } =
       sym e.3 ∙ ap (λ (e : Entry SyncValue). e.value) held.is in
@@ -257,10 +256,10 @@ timed_request network port slave slave_is run premise p there site call made c b
     let before : IsRun network p.earlier = IsRun-place_at network run (tag_of p) p premise.accepted there in
     let done = delay_completion_of (slave_setup port) (history_of network port slave p.earlier) call c brought in
     let at = heard_by network port slave p call slave_is before (accepted-place_at network run (tag_of p) p premise.accepted there) site made done.used
-        done.h.m done.h.tag done.h.call_is done.h.passes in
+    done.h.m done.h.tag done.h.call_is done.h.passes in
     let answer = answer_to_slave network port slave p.earlier at.copy done.h.m done.h.receive done.h.requesting premise.apart slave_is at.used.m_is done.h.body done.h.own in
     let found = request_found port slave p.earlier done.h.m.header.sequence.0 done.request table_capacity (count_by (is_at is_request slave) p.earlier)
-        (requests (slave_setup port) (history_of network port slave p.earlier)) (requests_are network port slave p.earlier before) done.found in
+    (requests (slave_setup port) (history_of network port slave p.earlier)) (requests_are network port slave p.earlier before) done.found in
     let held = found.2 in
     let made_in : IsIn p.earlier answer.made = IsIn-place_at p.earlier at.copy answer.made answer.there in
     let request_tag : c.request_tag ≡ tag_of held.u = ap (λ (c : DelayCompletion). c.request_tag) done.is ∙ ap (λ (r : RequestValue). r.tag) (sym found.5) ∙ held.tag in
@@ -290,8 +289,8 @@ timed_request network port slave slave_is run premise p there site call made c b
           ∙ ap (λ (d : ℤ). delay_bracket (stamp_of (reading answer.made)) d done.t3) correction
           ∙ ap (λ (t : ℕ). delay_bracket (stamp_of (reading answer.made)) (less_fraction (with_residence (pos 0) (residence answer.journey)) (fraction_of (reading answer.made))) t) t3
           ∙ delay_bracket-exact (reading answer.made) (reading held.u) (residence answer.journey)
-              (small_request (with_residence (pos 0) (residence answer.journey)) (fraction_of (reading answer.made))
-                  (subst (λ (d : ℤ). int_lt d too_big ≡ true) correction at.used.small));
+          (small_request (with_residence (pos 0) (residence answer.journey)) (fraction_of (reading answer.made))
+          (subst (λ (d : ℤ). int_lt d too_big ≡ true) correction at.used.small));
     }
 
 -- the reading at which the Sync of a report left
@@ -325,7 +324,7 @@ each_twice network answered report premise reports sync request =
     let departure = departure_is run slave sync.master made.sync.follow_tag sync.journey.origin a.t1 learns departs in
     let sync_origin_in : IsIn run sync.journey.origin =
     IsIn-within run sync.arrival sync.journey.origin (IsIn-place_at run made.sync.sync_tag sync.arrival arrives.there)
-        (IsIn-origin sync.arrival.earlier arrives.copy sync.journey arrives.travelled) in
+    (IsIn-origin sync.arrival.earlier arrives.copy sync.journey arrives.travelled) in
     let requested : place_at run made.delay.request_tag ≡ Some request.journey.origin =
     subst (λ (r : Report). place_at run r.request_tag ≡ Some request.journey.origin) made.is request.request.requested in
     let hears : HearsOf run made.delay.response_tag slave request.arrival = subst (λ (r : Report). HearsOf run r.response_tag slave request.arrival) made.is request.request.hears in

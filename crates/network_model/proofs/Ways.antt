@@ -1,9 +1,9 @@
 -- The way of a journey: each stay is at one clock and ends no earlier than it began, so the times of the crossings and the
 -- residence add up to the whole.
-use Rattle.std.proofs.Common.{◌≡◌, ◌∙◌, ℕ, ◌+◌, ◌-◌, ◌≤◌, ℤ, pos, ◌+ℤ◌, ◌-ℤ◌, Bool, true, false, List, [], ◌∷◌, length, Option, Some, None, Ok, IsOk, refl, sym, ap, subst, arith, if◌then◌else◌, option_and_then}
+use Rattle.std.proofs.Common.{◌≡◌, ◌∙◌, ℕ, ◌+◌, ◌-◌, ◌≤◌, ℤ, pos, ◌+ℤ◌, ◌-ℤ◌, Bool, true, false, List, [], ◌∷◌, length, Some, None, Ok, IsOk, refl, sym, ap, subst, arith, if◌then◌else◌, option_and_then}
 use Rattle.std.specs.Prelude.{◌==◌, ◌&&◌, not, is_some, fold, nat_lt, ok_or, sum_by}
 use Rattle.std.specs.List.{list_any}
-use Rattle.std.proofs.lemmas.Bool.{and_parts, ltb-false}
+use Rattle.std.proofs.lemmas.Bool.{ltb-false}
 use Rattle.std.proofs.lemmas.Int.{ints}
 use Rattle.std.proofs.lemmas.List.Sums.{sum_by-cons}
 use Rattle.transparent_clock.specs.Forwarding.{forwarded}
@@ -14,7 +14,7 @@ use Rattle.network_model.specs.Network.{Network, NodeName, is_named}
 use Rattle.network_model.specs.Run.{Run, Place, place, place_at, tag_of, IsIn, site_of, true_moment}
 use Rattle.network_model.specs.Kinds.{entered_copy, spends, is_step}
 use Rattle.network_model.specs.Clock.{difference, reading}
-use Rattle.network_model.specs.Journey.{Journey, Stay, stay_length, residence, begun, goes_on, journey_made, journey_of}
+use Rattle.network_model.specs.Journey.{Journey, Stay, stay_length, begun, goes_on, journey_made, journey_of}
 use Rattle.network_model.specs.Outcome.{◌>>=◌, node_as, clock_of, reads, open_transit, copy_in, left_outcome, outcome_of, IsRun}
 use Rattle.network_model.specs.Level.{Crossing, crossing, moment_at, time_of, crossings_of, time_on, IsSteady}
 use Rattle.network_model.proofs.Options.{ok_value, ok_step, ok_some}
@@ -75,16 +75,16 @@ enters (SetMaster node master) copy is = cc
 enters (StepClock node diff) copy is = cc
 
 -- a Leave that was accepted is at the clock at which the copy entered
-pub left_where : (network : Network) (node : NodeName) (transit at : ℕ) (earlier : Run) (entered : Place) → IsOk (outcome_of network earlier (Leave node transit at))
+left_where : (network : Network) (node : NodeName) (transit at : ℕ) (earlier : Run) (entered : Place) → IsOk (outcome_of network earlier (Leave node transit at))
     → place_at earlier transit ≡ Some entered → site_of entered.event ≡ node
 left_where network node transit at earlier entered accepted there =
     let outcome = ok_value (outcome_of network earlier (Leave node transit at)) accepted in
     let clock = ok_step (node_as clock_of network node)
-        (λ clock. ok_or (option_and_then (open_transit node earlier transit) (place_at earlier transit)) NoTransit >>= (λ entered. ok_or (copy_in network entered) NoTransit
-        >>= (λ m. reads (Leave node transit at) earlier >>= (λ now. Ok (left_outcome (forwarded (Ok m) (reading entered) now)))))) outcome.1 in
+    (λ clock. ok_or (option_and_then (open_transit node earlier transit) (place_at earlier transit)) NoTransit >>= (λ entered. ok_or (copy_in network entered) NoTransit
+    >>= (λ m. reads (Leave node transit at) earlier >>= (λ now. Ok (left_outcome (forwarded (Ok m) (reading entered) now)))))) outcome.1 in
     let found = ok_step (ok_or (option_and_then (open_transit node earlier transit) (place_at earlier transit)) NoTransit)
-        (λ entered. ok_or (copy_in network entered) NoTransit
-        >>= (λ m. reads (Leave node transit at) earlier >>= (λ now. Ok (left_outcome (forwarded (Ok m) (reading entered) now))))) clock.2 in
+    (λ entered. ok_or (copy_in network entered) NoTransit
+    >>= (λ m. reads (Leave node transit at) earlier >>= (λ now. Ok (left_outcome (forwarded (Ok m) (reading entered) now))))) clock.2 in
     let opened : option_and_then (open_transit node earlier transit) (place_at earlier transit) ≡ Some found.0 =
     ok_some (option_and_then (open_transit node earlier transit) (place_at earlier transit)) NoTransit {x = found.0} found.1 in
     by (is_some (entered_copy entered.event)) (is_named (site_of entered.event) node) refl (not (list_any (spends transit) earlier))
@@ -129,8 +129,7 @@ stays_are network (event ∷ earlier) tag journey accepted made = at (length ear
         let from = continued (place (Leave node transit at) earlier) earlier transit journey made in
         let on = gone_on (place (Leave node transit at) earlier) from.0 from.2 journey from.6 in
         let enter = enters from.0.event from.1 from.4 in
-        subst (AreStays (event ∷ earlier)) (sym on.1)
-        (
+        subst (AreStays (event ∷ earlier)) (sym on.1) (
           record {
             clock = node;
             entered_in = place_at-later event earlier (tag_of from.0) from.0 (IsIn-place_at earlier transit from.0 from.3);

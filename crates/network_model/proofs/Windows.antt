@@ -1,20 +1,19 @@
 -- What a window of a slave holds came at events of the run: at each there was a call that brought it, and since then at
 -- most one tick and no SetMaster came. By this each held message and each completion names its event.
-use Rattle.std.proofs.Common.{◌≡◌, ◌∙◌, ℕ, zero, ◌+◌, ◌≤◌, Bool, true, false, List, [], ◌∷◌, ◌++◌, length, Option, Some, None, IsOk, refl, sym, ap, subst, arith, if◌then◌else◌}
+use Rattle.std.proofs.Common.{◌≡◌, ◌∙◌, ℕ, ◌+◌, ◌≤◌, Bool, true, false, List, [], ◌∷◌, ◌++◌, Option, Some, None, refl, sym, ap, subst, arith}
 use Rattle.std.specs.Prelude.{option_to_list, count_by, ◌&&◌}
 use Rattle.std.specs.List.{All}
-use Rattle.std.proofs.lemmas.Bool.{and_from, and_right, cases_Bool}
+use Rattle.std.proofs.lemmas.Bool.{and_right}
 use Rattle.std.proofs.lemmas.List.Elements.{All-nil, All-cons, All-weaker}
 use Rattle.slave_port.specs.History as calls
 use Rattle.slave_port.specs.History.{Call}
 use Rattle.slave_port.specs.Window.{Window, nothing, after}
 use Rattle.network_model.specs.declared.event.Event.{Event}
-use Rattle.network_model.specs.declared.event.Event.TheVariants.{SetMaster}
 use Rattle.network_model.specs.Network.{Network, NodeName, PortSetup, is_named}
-use Rattle.network_model.specs.Run.{Run, Place, place, place_at, tag_of, IsIn, site_of, events_after}
+use Rattle.network_model.specs.Run.{Run, Place, place, tag_of, IsIn, site_of, events_after}
 use Rattle.network_model.specs.Kinds.{is_at, is_tick, is_set_master}
 use Rattle.network_model.specs.SlaveHistory.{call_made, history_of}
-use Rattle.network_model.specs.Outcome.{IsRun, outcome_of}
+use Rattle.network_model.specs.Outcome.{IsRun}
 use Rattle.network_model.proofs.Places.{place_at-later, place_at-bound}
 use Rattle.network_model.proofs.Sequences.{count-yes, count-no}
 use Rattle.network_model.proofs.Sites.{named-same}
@@ -94,8 +93,7 @@ module _ {E : Type 0} (network : Network) (port : PortSetup) (slave : NodeName) 
             → whole (record { since = option_to_list brought ++ (kept before).since; before = (kept before).before })
         heard call None here made is quiet unset held = same quiet unset held
         heard call (Some entry) here made is quiet unset held =
-            let rest = same quiet unset held in
-            (
+            let rest = same quiet unset held in (
               All-cons (CameFrom network port slave brings 0 (event ∷ earlier)) entry (kept before).since
                   (record {
                     p = place event earlier;
@@ -147,4 +145,4 @@ module _ {E : Type 0} (network : Network) (port : PortSetup) (slave : NodeName) 
             let kind = call_kind network port event earlier call made in
             subst (λ (h : List Call). whole (kept h)) (sym (history-here network port slave event earlier (Some call) here made))
             (subst whole (sym (step call before))
-                (called call (named-same (site_of event) slave here) made (with_site (is_tick event) (ticks call) kind.0 here) (with_site (is_set_master event) (sets call) kind.1 here) held))
+            (called call (named-same (site_of event) slave here) made (with_site (is_tick event) (ticks call) kind.0 here) (with_site (is_set_master event) (sets call) kind.1 here) held))

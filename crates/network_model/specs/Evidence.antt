@@ -1,4 +1,5 @@
 -- What a run shows of a report beside its measurement: the order of the events that its tags name, and that they were used.
+-- `laws::runs_show_evidence` promises it.
 use Rattle.std.specs.Prelude.{◌≡◌, ℕ, ◌<◌, ◌≤◌, ◌⊎◌, int_lt, Bool, true, false, count_by, Option, Some, None, IfSome, IsTrue, Ok, Err, Result}
 use Rattle.ptp_units.specs.Interval.{too_big}
 use Rattle.event_codec.specs.Packet.{Contents}

@@ -1,4 +1,5 @@
--- The headline, in three claims: each report is of one Sync, of one Delay_Req, and exact. Nothing proves them yet.
+-- The headline, in three claims: each report is of one Sync, of one Delay_Req, and exact. `laws::each_report_is_exact` and
+-- `laws::each_report_is_exact_within_one_turn` promise them.
 use Rattle.slave_port.specs.declared.heard.Report.{Report}
 use Rattle.network_model.specs.Network.{Network}
 use Rattle.network_model.specs.Run.{Place, until, site_of}

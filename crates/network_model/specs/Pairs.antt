@@ -1,4 +1,4 @@
--- Nothing that pairs is passed over: statements on whole runs, which nothing proves yet.
+-- Nothing that pairs is passed over: statements on whole runs. `laws::no_pair_is_missed` promises them.
 use Rattle.std.specs.Prelude.{◌≡◌, ◌↔◌, ℕ, Some, List, IsSome, Any, option_and_then}
 use Rattle.slave_port.specs.History.{Call, Setup}
 use Rattle.slave_port.specs.Kept.{usable_two_step_sync, usable_follow_up, usable_delay_resp, held_syncs, held_follows, sync_completion, delay_completion}

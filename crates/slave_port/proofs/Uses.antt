@@ -30,7 +30,7 @@ use Rattle.slave_port.specs.Used.{part, two_step_sync, follow_up, delay_resp}
 use Rattle.slave_port.specs.Usable.{Criteria, Test, first_reason, common_tests, is_other, is_too_big, is_not_newer, is_two_step, sync_reason, response_reason, sync_use, used_unless, event_use, general_use, judged, usable_in, unusable_in}
 use Rattle.slave_port.specs.Requests.{held_requests}
 use Rattle.slave_port.specs.Completion.{SyncCompletion, DelayCompletion, pair, alone, answered, completed_by}
-use Rattle.slave_port.specs.Kept.{criteria, usable, unusable, usable_two_step_sync, usable_follow_up, usable_delay_resp, held_syncs, held_follows, sync_completion, delay_completion, last_sync_completion, last_delay_completion}
+use Rattle.slave_port.specs.Kept.{criteria, usable, usable_two_step_sync, usable_follow_up, usable_delay_resp, held_syncs, held_follows, sync_completion, delay_completion, last_sync_completion, last_delay_completion}
 use Rattle.slave_port.specs.Answer.{request_reason, unanswerable, ignored, report_of, completed, used, unless_ignored, answer}
 
 pub some_step : {A B : Type 0} (f : A → Option B) (o : Option A) {y : B} → option_and_then f o ≡ Some y → (x : A) × (o ≡ Some x) × (f x ≡ Some y)
@@ -140,17 +140,16 @@ passes_all : (judge : Criteria) (header : Header) (others : List Test) → first
     → Passes judge header × (first_reason others ≡ None)
 passes_all judge header others none =
     let domain = passed (record { applies = not (header.domain == judge.config.domain); reason = reasons.OtherDomain })
-        (record { applies = is_none judge.master; reason = reasons.NoMaster }
-        ∷ record { applies = is_other judge.master header.source; reason = reasons.OtherMaster }
-        ∷ record { applies = is_too_big header; reason = reasons.TooBig } ∷ others) none in
+    (record { applies = is_none judge.master; reason = reasons.NoMaster }
+    ∷ record { applies = is_other judge.master header.source; reason = reasons.OtherMaster }
+    ∷ record { applies = is_too_big header; reason = reasons.TooBig } ∷ others) none in
     let known = passed (record { applies = is_none judge.master; reason = reasons.NoMaster })
-        (record { applies = is_other judge.master header.source; reason = reasons.OtherMaster }
-        ∷ record { applies = is_too_big header; reason = reasons.TooBig } ∷ others) domain.1 in
+    (record { applies = is_other judge.master header.source; reason = reasons.OtherMaster }
+    ∷ record { applies = is_too_big header; reason = reasons.TooBig } ∷ others) domain.1 in
     let present = passed (record { applies = is_other judge.master header.source; reason = reasons.OtherMaster })
-        (record { applies = is_too_big header; reason = reasons.TooBig } ∷ others) known.1 in
+    (record { applies = is_too_big header; reason = reasons.TooBig } ∷ others) known.1 in
     let small = passed (record { applies = is_too_big header; reason = reasons.TooBig }) others present.1 in
-    let from = source judge.master present.0 in
-    (
+    let from = source judge.master present.0 in (
       record {
         master = from.0;
         present = from.1;
@@ -205,7 +204,7 @@ use_of judge (calls.General (Ok m) tag) used is = by m.body refl is
     by (bodies.DelayReq origin) body is = cc
     by (bodies.FollowUp precise) body is =
         let unless = unless_reason (sync_reason judge m.header)
-            (entry m.header.sequence.0 (uses.FollowUp (record { precise = precise; correction = m.header.correction.0; tag = tag }))) used is in
+        (entry m.header.sequence.0 (uses.FollowUp (record { precise = precise; correction = m.header.correction.0; tag = tag }))) used is in
         let tests = passes_all judge m.header (record { applies = is_not_newer judge.last m.header.sequence.0; reason = reasons.NotNewer } ∷ []) unless.0 in
         FollowUp (record {
           m = m;
@@ -218,7 +217,7 @@ use_of judge (calls.General (Ok m) tag) used is = by m.body refl is
         }) unless.1
     by (bodies.DelayResp receive requesting) body is =
         let unless = unless_reason (response_reason judge m.header requesting)
-            (entry m.header.sequence.0 (uses.DelayResp (record { receive = receive; correction = m.header.correction.0; tag = tag }))) used is in
+        (entry m.header.sequence.0 (uses.DelayResp (record { receive = receive; correction = m.header.correction.0; tag = tag }))) used is in
         let tests = passes_all judge m.header (record { applies = not (is_same_port requesting judge.config.identity); reason = reasons.OtherRequester } ∷ []) unless.0 in
         DelayResp (record {
           m = m;
@@ -262,7 +261,7 @@ completes_answerable : (setup : Setup) (earlier : List Call) (call : Call) (c : 
     → unanswerable setup earlier call ≡ None
 completes_answerable setup earlier call c is =
     let response = some_step (λ (response : Entry ResponseValue). option_and_then (answered response.value) (first_value response.number (held_requests setup earlier)))
-        (usable_delay_resp setup earlier call) is in
+    (usable_delay_resp setup earlier call) is in
     let request = some_step (answered response.0.value) (first_value response.0.number (held_requests setup earlier)) response.2 in
     ap (option_and_then (λ (response : Entry ResponseValue). request_reason (first_value response.number (held_requests setup earlier)))) response.1
     ∙ ap request_reason request.1 ∙ left (λ t3. record {
@@ -376,19 +375,22 @@ sync_completion_of setup earlier call c is =
         → IsSyncCompletion setup earlier call c × (answer setup earlier call ≡ used setup earlier call)
     by chosen (TwoStep h flag same) usable completes =
         let found = some_image (pair h.m.header.sequence.0 (two_step_value h)) (first_value h.m.header.sequence.0 (held_follows setup earlier))
-            (sym (ap (λ (u : Entry Used). completed_by (held_syncs setup earlier) (held_follows setup earlier) u.number u.value) same) ∙ completes) in
-        (BySync h found.0 flag found.1 (sym found.2),
-        answer-used setup earlier call chosen usable (answerable setup earlier call chosen usable (ap (λ (u : Entry Used). delay_resp u.value) same)))
+        (sym (ap (λ (u : Entry Used). completed_by (held_syncs setup earlier) (held_follows setup earlier) u.number u.value) same) ∙ completes) in (
+          BySync h found.0 flag found.1 (sym found.2),
+          answer-used setup earlier call chosen usable (answerable setup earlier call chosen usable (ap (λ (u : Entry Used). delay_resp u.value) same)),
+        )
     by chosen (OneStep h flag same) usable completes =
         let completed : Some (alone h.m.header.sequence.0 (one_step_value h)) ≡ Some c =
-        sym (ap (λ (u : Entry Used). completed_by (held_syncs setup earlier) (held_follows setup earlier) u.number u.value) same) ∙ completes in
-        (Alone h flag cc,
-        answer-used setup earlier call chosen usable (answerable setup earlier call chosen usable (ap (λ (u : Entry Used). delay_resp u.value) same)))
+        sym (ap (λ (u : Entry Used). completed_by (held_syncs setup earlier) (held_follows setup earlier) u.number u.value) same) ∙ completes in (
+          Alone h flag cc,
+          answer-used setup earlier call chosen usable (answerable setup earlier call chosen usable (ap (λ (u : Entry Used). delay_resp u.value) same)),
+        )
     by chosen (FollowUp h same) usable completes =
         let found = some_image (λ (sync : SyncValue). pair h.m.header.sequence.0 sync (follow_value h)) (first_value h.m.header.sequence.0 (held_syncs setup earlier))
-            (sym (ap (λ (u : Entry Used). completed_by (held_syncs setup earlier) (held_follows setup earlier) u.number u.value) same) ∙ completes) in
-        (ByFollowUp h found.0 found.1 (sym found.2),
-        answer-used setup earlier call chosen usable (answerable setup earlier call chosen usable (ap (λ (u : Entry Used). delay_resp u.value) same)))
+        (sym (ap (λ (u : Entry Used). completed_by (held_syncs setup earlier) (held_follows setup earlier) u.number u.value) same) ∙ completes) in (
+          ByFollowUp h found.0 found.1 (sym found.2),
+          answer-used setup earlier call chosen usable (answerable setup earlier call chosen usable (ap (λ (u : Entry Used). delay_resp u.value) same)),
+        )
     by chosen (DelayResp h same) usable completes =
         let none : completed_by (held_syncs setup earlier) (held_follows setup earlier) chosen.number chosen.value ≡ None =
         ap (λ (u : Entry Used). completed_by (held_syncs setup earlier) (held_follows setup earlier) u.number u.value) same in cc
@@ -411,7 +413,7 @@ pub delay_completion_of : (setup : Setup) (earlier : List Call) (call : Call) (c
     → IsDelayCompletion setup earlier call c
 delay_completion_of setup earlier call c is =
     let response = some_step (λ (response : Entry ResponseValue). option_and_then (answered response.value) (first_value response.number (held_requests setup earlier)))
-        (usable_delay_resp setup earlier call) is in
+    (usable_delay_resp setup earlier call) is in
     let chosen = some_step (part delay_resp) (usable setup earlier call) response.1 in
     let use_is = response_entry setup earlier call response.0 response.1 in
     let request = some_step (answered response.0.value) (first_value response.0.number (held_requests setup earlier)) response.2 in
@@ -458,3 +460,13 @@ report_parts setup earlier call report is = by (ignored setup earlier call) is
         × (last_delay_completion setup (call ∷ earlier) ≡ Some delay) × (report ≡ report_of sync delay)
     by (Some reason) is = cc
     by None is = of_used (is_none (sync_completion setup earlier call) && is_none (delay_completion setup earlier call)) is
+
+-- what completes isn't behind the last completion
+pub sync_completion-newer : (setup : Setup) (earlier : List Call) (call : Call) (c : SyncCompletion) → sync_completion setup earlier call ≡ Some c
+    → is_not_newer (criteria setup earlier).last c.number ≡ false
+sync_completion-newer setup earlier call c is = by (sync_completion_of setup earlier call c is).0
+  where
+    by : IsSyncCompletion setup earlier call c → is_not_newer (criteria setup earlier).last c.number ≡ false
+    by (BySync h follow flag found same) = ap (λ (c : SyncCompletion). is_not_newer (criteria setup earlier).last c.number) same ∙ h.newer
+    by (Alone h flag same) = ap (λ (c : SyncCompletion). is_not_newer (criteria setup earlier).last c.number) same ∙ h.newer
+    by (ByFollowUp h sync found same) = ap (λ (c : SyncCompletion). is_not_newer (criteria setup earlier).last c.number) same ∙ h.newer

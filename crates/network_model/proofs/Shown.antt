@@ -1,0 +1,257 @@
+-- What a run shows of each half of a report: its messages were used, they are of the slave's domain, no correction is too big,
+-- and the slave learnt when its request left. By these each report has its evidence.
+use Rattle.std.proofs.Common.{◌≡◌, ◌∙◌, ℕ, true, false, Some, IsOk, refl, sym, ap, subst, inl, inr}
+use Rattle.std.specs.Prelude.{◌⊎◌, int_lt, IfSome}
+use Rattle.ptp_units.specs.Interval.{too_big}
+use Rattle.ptp_units.specs.Moment.{fraction_of}
+use Rattle.event_codec.specs.Packet.{Contents}
+use Rattle.pairing.specs.Marked.{Entry, first_value}
+use Rattle.slave_port.specs.History.{Call}
+use Rattle.slave_port.specs.Values.{SyncValue, FollowValue}
+use Rattle.slave_port.specs.Usable.{is_two_step}
+use Rattle.slave_port.specs.Completion.{SyncCompletion, DelayCompletion, pair, alone}
+use Rattle.slave_port.specs.Kept.{criteria, held_syncs, held_follows, sync_completion, delay_completion}
+use Rattle.slave_port.specs.Requests.{requests}
+use Rattle.slave_port.specs.Answer.{answer, used}
+use Rattle.slave_port.proofs.Uses.{HeardSync, HeardFollowUp, two_step_value, one_step_value, follow_value, IsSyncCompletion, BySync, Alone, ByFollowUp, sync_completion_of, delay_completion_of}
+use Rattle.network_model.specs.declared.event.Event.TheVariants.{Arrive}
+use Rattle.network_model.specs.Network.{Network, NodeName, PortSetup}
+use Rattle.network_model.specs.Run.{Run, Place, place_at, tag_of, IsIn, site_of}
+use Rattle.network_model.specs.Kinds.{is_sync, is_one_step_sync}
+use Rattle.network_model.specs.Clock.{reading}
+use Rattle.network_model.specs.Journey.{Journey, journey_of}
+use Rattle.network_model.specs.Truth.{master_at, slave_at, copy_of}
+use Rattle.network_model.specs.SlaveHistory.{slave_setup, table_capacity, call_made, history_of}
+use Rattle.network_model.specs.Outcome.{outcome_of, IsRun}
+use Rattle.network_model.specs.Premises.{is_used}
+use Rattle.network_model.specs.Exact.{HearsOf}
+use Rattle.network_model.specs.Evidence.{is_complete, is_completing, HasOutcome, SyncWasUsed}
+use Rattle.network_model.proofs.Places.{accepted-place_at, IsRun-place_at, IsIn-within}
+use Rattle.network_model.proofs.Sites.{at_site}
+use Rattle.network_model.proofs.Exactness.{small_request}
+use Rattle.network_model.proofs.Entries.{UsedAt, arrived, heard_by, two_step_copy, one_step_copy, delay_resp_copy}
+use Rattle.network_model.proofs.Pairing.{found_in}
+use Rattle.network_model.proofs.HeldMessages.{IsHeldSync, IsHeldFollow, held_syncs_are, held_follows_are}
+use Rattle.network_model.proofs.OneSync.{tagged}
+use Rattle.network_model.proofs.Completing.{hears, heard_outcome, sync_completes, delay_completes, sync_hears, delay_hears}
+use Rattle.network_model.proofs.Departures.{IsLearnt, are_stamped, stamped_found}
+
+-- of which master a copy of a Sync is
+pub record IsOfMaster (network : Network) (run : Run) (copy : ℕ) (m : Contents) : Type 0 where
+  pub journey : Journey
+  pub node : NodeName
+  pub master : PortSetup
+  pub made : journey_of run copy ≡ Some journey
+  pub master_is : master_at network node ≡ Some master
+  pub domain : m.header.domain ≡ master.config.domain
+  pub site : site_of journey.origin.event ≡ node
+
+-- what a run shows of the Sync's half of a report
+pub record IsSyncShown (network : Network) (port : PortSetup) (slave : NodeName) (run : Run) (now : ℕ) (c : SyncCompletion) : Type 0 where
+  pub arrival : Place
+  pub copy : ℕ
+  pub moment : ℕ
+  pub m : Contents
+  pub there : place_at run c.sync_tag ≡ Some arrival
+  pub event : arrival.event ≡ Arrive slave copy moment
+  pub used : UsedAt network port slave arrival copy m
+  pub of_master : IsOfMaster network arrival.earlier copy m
+  pub sync_used : SyncWasUsed network run c.follow_tag c.sync_tag
+  pub follow_used : IfSome c.follow_tag (HasOutcome network run is_used)
+  pub completed_now : (c.sync_tag ≡ now) ⊎ (c.follow_tag ≡ Some now)
+
+-- what a run shows of the Delay_Req's half of a report
+pub record IsRequestShown (network : Network) (slave : NodeName) (run : Run) (now : ℕ) (c : DelayCompletion) : Type 0 where
+  pub completing : HasOutcome network run is_completing c.response_tag
+  pub completed_now : c.response_tag ≡ now
+  pub p : Place
+  pub there : IsIn run p
+  pub now_is : now ≡ tag_of p
+  pub learnt : IsLearnt network slave p.earlier c.request_tag
+  pub made : Place
+  pub hears : HearsOf run c.response_tag slave made
+  pub node : NodeName
+  pub asked : ℕ
+  pub moment : ℕ
+  pub event : made.event ≡ Arrive node asked moment
+  pub request : Contents
+  pub request_is : copy_of network made.earlier asked ≡ Some request
+  pub small : int_lt request.header.correction.0 too_big ≡ true
+
+module _ (network : Network) (port : PortSetup) (slave : NodeName) (slave_is : slave_at network slave ≡ Some port)
+    (run : Run) (all : IsRun network run) (p : Place) (there : IsIn run p) (site : site_of p.event ≡ slave) (call : Call)
+    (made : call_made network port p.event p.earlier ≡ Some call)
+    (answered : answer (slave_setup port) (history_of network port slave p.earlier) call ≡ used (slave_setup port) (history_of network port slave p.earlier) call) where
+  before : IsRun network p.earlier
+  before = IsRun-place_at network run (tag_of p) p all there
+
+  accepted : IsOk (outcome_of network p.earlier p.event)
+  accepted = accepted-place_at network run (tag_of p) p all there
+
+  -- an event at which something completes
+  completes : hears call ≡ true → is_complete (used (slave_setup port) (history_of network port slave p.earlier) call) ≡ true
+      → is_completing (outcome_of network p.earlier p.event) ≡ true
+  completes heard complete =
+      ap is_completing (heard_outcome network port slave p call slave_is accepted site made heard)
+      ∙ ap is_complete answered ∙ complete
+
+  -- a Sync that finds its Follow_Up held
+  by_sync : (h : HeardSync (criteria (slave_setup port) (history_of network port slave p.earlier)) call) (follow : FollowValue) → is_two_step h.m.header ≡ true
+      → first_value h.m.header.sequence.0 (held_follows (slave_setup port) (history_of network port slave p.earlier)) ≡ Some follow
+      → IsSyncShown network port slave run (tag_of p) (pair h.m.header.sequence.0 (two_step_value h) follow)
+  by_sync h follow flag found =
+      let at = arrived network port slave p call slave_is before accepted site made answered h.m h.t2 h.tag h.call_is h.passes in
+      let drawn = two_step_copy network p.earlier at.copy h.m h.origin at.used.m_is h.body flag in
+      let e = found_in (IsHeldFollow network port slave p.earlier) (held_follows (slave_setup port) (history_of network port slave p.earlier)) h.m.header.sequence.0 follow
+      (held_follows_are network port slave slave_is p.earlier before) found in
+      let held = e.1 in
+      let value = sym e.3 ∙ ap (λ (e : Entry FollowValue). e.value) held.is in
+      record {
+        arrival = p;
+        copy = at.copy;
+        moment = at.moment;
+        m = h.m;
+        there = tagged run p h.tag there at.tag_is;
+        event = at.event;
+        used = at.used;
+        of_master = record {
+          journey = drawn.journey;
+          node = drawn.node;
+          master = drawn.port;
+          made = drawn.made;
+          master_is = drawn.port_is;
+          domain = ap (λ (m : Contents). m.header.domain) drawn.is;
+          site = at_site is_sync drawn.node drawn.journey.origin.event drawn.drawn;
+        };
+        sync_used = record { p = p; there = tagged run p h.tag there at.tag_is; outcome = at.used.used };
+        follow_used = record {
+          p = held.p;
+          there = tagged run held.p follow.tag (IsIn-within run p held.p there held.there) (ap (λ (f : FollowValue). f.tag) value);
+          outcome = held.used.used;
+        };
+        completed_now = inl at.tag_is;
+      }
+
+  -- a Follow_Up that finds its Sync held
+  by_follow_up : (h : HeardFollowUp (criteria (slave_setup port) (history_of network port slave p.earlier)) call) (sync : SyncValue)
+      → first_value h.m.header.sequence.0 (held_syncs (slave_setup port) (history_of network port slave p.earlier)) ≡ Some sync
+      → IsSyncShown network port slave run (tag_of p) (pair h.m.header.sequence.0 sync (follow_value h))
+  by_follow_up h sync found =
+      let at = heard_by network port slave p call slave_is before accepted site made answered h.m h.tag h.call_is h.passes in
+      let e = found_in (IsHeldSync network port slave p.earlier) (held_syncs (slave_setup port) (history_of network port slave p.earlier)) h.m.header.sequence.0 sync
+      (held_syncs_are network port slave slave_is p.earlier before) found in
+      let held = e.1 in
+      let value = sym e.3 ∙ ap (λ (e : Entry SyncValue). e.value) held.is in
+      let arrives = tagged run held.p sync.tag (IsIn-within run p held.p there held.there) (ap (λ (s : SyncValue). s.tag) value) in
+      record {
+        arrival = held.p;
+        copy = held.copy;
+        moment = held.moment;
+        m = held.m;
+        there = arrives;
+        event = held.event;
+        used = held.used;
+        of_master = record {
+          journey = held.drawn.journey;
+          node = held.drawn.node;
+          master = held.drawn.port;
+          made = held.drawn.made;
+          master_is = held.drawn.port_is;
+          domain = ap (λ (m : Contents). m.header.domain) held.drawn.is;
+          site = at_site is_sync held.drawn.node held.drawn.journey.origin.event held.drawn.drawn;
+        };
+        sync_used = record { p = held.p; there = arrives; outcome = held.used.used };
+        follow_used = record { p = p; there = tagged run p h.tag there at.tag_is; outcome = at.used.used };
+        completed_now = inr (ap (λ (tag : ℕ). Some tag) at.tag_is);
+      }
+
+  -- a one-step Sync
+  by_itself : (h : HeardSync (criteria (slave_setup port) (history_of network port slave p.earlier)) call) → is_two_step h.m.header ≡ false
+      → is_completing (outcome_of network p.earlier p.event) ≡ true
+      → IsSyncShown network port slave run (tag_of p) (alone h.m.header.sequence.0 (one_step_value h))
+  by_itself h flag completing =
+      let at = arrived network port slave p call slave_is before accepted site made answered h.m h.t2 h.tag h.call_is h.passes in
+      let drawn = one_step_copy network p.earlier at.copy h.m h.origin at.used.m_is h.body flag in
+      record {
+        arrival = p;
+        copy = at.copy;
+        moment = at.moment;
+        m = h.m;
+        there = tagged run p h.tag there at.tag_is;
+        event = at.event;
+        used = at.used;
+        of_master = record {
+          journey = drawn.journey;
+          node = drawn.node;
+          master = drawn.port;
+          made = drawn.made;
+          master_is = drawn.port_is;
+          domain = ap (λ (m : Contents). m.header.domain) drawn.is;
+          site = at_site is_one_step_sync drawn.node drawn.journey.origin.event drawn.drawn;
+        };
+        sync_used = record { p = p; there = tagged run p h.tag there at.tag_is; outcome = completing };
+        follow_used = tt;
+        completed_now = inl at.tag_is;
+      }
+
+-- each completion of a Sync
+pub sync_shown : (network : Network) (port : PortSetup) (slave : NodeName) → slave_at network slave ≡ Some port → (run : Run) → IsRun network run
+    → (p : Place) → IsIn run p → site_of p.event ≡ slave → (call : Call) → call_made network port p.event p.earlier ≡ Some call
+    → (c : SyncCompletion) → sync_completion (slave_setup port) (history_of network port slave p.earlier) call ≡ Some c → IsSyncShown network port slave run (tag_of p) c
+sync_shown network port slave slave_is run all p there site call made c brought =
+    let done = sync_completion_of (slave_setup port) (history_of network port slave p.earlier) call c brought in by done.0 done.1
+  where
+    by : IsSyncCompletion (slave_setup port) (history_of network port slave p.earlier) call c
+        → answer (slave_setup port) (history_of network port slave p.earlier) call ≡ used (slave_setup port) (history_of network port slave p.earlier) call
+        → IsSyncShown network port slave run (tag_of p) c
+    by (BySync h follow flag found is) answered =
+        subst (λ (c : SyncCompletion). IsSyncShown network port slave run (tag_of p) c) (sym is)
+        (by_sync network port slave slave_is run all p there site call made answered h follow flag found)
+    by (Alone h flag is) answered =
+        subst (λ (c : SyncCompletion). IsSyncShown network port slave run (tag_of p) c) (sym is)
+        (by_itself network port slave slave_is run all p there site call made answered h flag
+        (completes network port slave slave_is run all p there site call made answered
+        (sync_hears (slave_setup port) (history_of network port slave p.earlier) call c brought)
+        (sync_completes (slave_setup port) (history_of network port slave p.earlier) call c brought)))
+    by (ByFollowUp h sync found is) answered =
+        subst (λ (c : SyncCompletion). IsSyncShown network port slave run (tag_of p) c) (sym is)
+        (by_follow_up network port slave slave_is run all p there site call made answered h sync found)
+
+-- each completion of a request
+pub request_shown : (network : Network) (port : PortSetup) (slave : NodeName) → slave_at network slave ≡ Some port → (run : Run) → IsRun network run
+    → (p : Place) → IsIn run p → site_of p.event ≡ slave → (call : Call) → call_made network port p.event p.earlier ≡ Some call
+    → (c : DelayCompletion) → delay_completion (slave_setup port) (history_of network port slave p.earlier) call ≡ Some c → IsRequestShown network slave run (tag_of p) c
+request_shown network port slave slave_is run all p there site call made c brought =
+    let before : IsRun network p.earlier = IsRun-place_at network run (tag_of p) p all there in
+    let done = delay_completion_of (slave_setup port) (history_of network port slave p.earlier) call c brought in
+    let at = heard_by network port slave p call slave_is before (accepted-place_at network run (tag_of p) p all there) site made done.used
+    done.h.m done.h.tag done.h.call_is done.h.passes in
+    let resp = delay_resp_copy network p.earlier at.copy done.h.m done.h.receive done.h.requesting at.used.m_is done.h.body in
+    let response_tag : c.response_tag ≡ tag_of p = ap (λ (c : DelayCompletion). c.response_tag) done.is ∙ at.tag_is in
+    let request_tag : done.request.tag ≡ c.request_tag = sym (ap (λ (c : DelayCompletion). c.request_tag) done.is) in
+    let learnt = stamped_found network slave p.earlier done.h.m.header.sequence.0 done.request table_capacity
+    (requests (slave_setup port) (history_of network port slave p.earlier)) (are_stamped network port slave slave_is p.earlier before) done.found done.t3 done.left in
+    record {
+      completing = record {
+        p = p;
+        there = tagged run p c.response_tag there response_tag;
+        outcome = completes network port slave slave_is run all p there site call made done.used
+            (delay_hears (slave_setup port) (history_of network port slave p.earlier) call c brought)
+            (delay_completes (slave_setup port) (history_of network port slave p.earlier) call c brought);
+      };
+      completed_now = response_tag;
+      p = p;
+      there = there;
+      now_is = refl;
+      learnt = subst (IsLearnt network slave p.earlier) request_tag learnt;
+      made = resp.made;
+      hears = record { hearing = p; copy = at.copy; there = tagged run p c.response_tag there response_tag; event = at.event; made_by = resp.there };
+      node = resp.node;
+      asked = resp.asked;
+      moment = resp.moment;
+      event = resp.event;
+      request = resp.request;
+      request_is = resp.request_is;
+      small = small_request resp.request.header.correction.0 (fraction_of (reading resp.made))
+          (subst (λ (c : _). int_lt c too_big ≡ true) (ap (λ (m : Contents). m.header.correction.0) resp.is) at.used.small);
+    }
