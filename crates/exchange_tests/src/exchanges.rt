@@ -5,8 +5,6 @@
 /// What happens among some nodes.
 #[derive(Clone, Copy)]
 pub(crate) struct Exchange {
-    /// What the exchange shows.
-    pub(crate) shows: &'static str,
     /// Its nodes.
     pub(crate) nodes: &'static str,
     /// Its events, in parts, one behind the other.
@@ -337,8 +335,8 @@ const ONE_POOL: &str = "
 - follow M -> 608
 ";
 
-/// Events that a world refuses.
-const REFUSED: &str = "
+/// Events that a world refuses in which nothing happened.
+pub(crate) const REFUSED: &str = "
 - tick X -> 603
 - setmaster S X -> 603
 - sync S [0,0,0] -> 604
@@ -349,8 +347,20 @@ const REFUSED: &str = "
 - follow M -> 608
 - stamped S -> 608
 - stepclock S 18446744073709551616000000000 -> 607
+";
+
+/// A clock that can't read the first moment, since it is behind.
+const NO_READING: &str = "
 0 stepclock S -1 -> done
 - request S [0,0,0] -> 607
+";
+
+/// A run whose third event is refused.
+pub(crate) const STOPPED: &str = "
+0 setmaster S M -> done
+1 sync M [1,0,0] -> made
+- stamped S -> 608
+2 sync M [2,0,0] -> made
 ";
 
 /// One exchange that lacks its Follow_Up.
@@ -418,98 +428,101 @@ pub(crate) const TICKED_TOO_SELDOM: &str = "
 65545 hear S 65544 -> completed
 ";
 
-/// Events that a world refuses, and one that it accepts.
-pub(crate) const REFUSALS: Exchange = Exchange {
-    shows: "refused events take no tag",
-    nodes: LINE,
-    events: &[REFUSED],
-};
-
 /// The worked exchanges.
-pub(crate) const EXCHANGES: [Exchange; 17] = [
+pub(crate) const EXCHANGES: [Exchange; 19] = [
     Exchange {
-        shows: "one exchange",
+        // One exchange.
         nodes: LINE,
         events: &[ONE_EXCHANGE],
     },
     Exchange {
-        shows: "results that are odd numbers of units",
+        // Results that are odd numbers of units.
         nodes: LINE,
         events: &[ONE_UNIT],
     },
     Exchange {
-        shows: "a second answer with its own path",
+        // A second answer with its own path.
         nodes: LINE,
         events: &[ONE_EXCHANGE, SECOND_ANSWER],
     },
     Exchange {
-        shows: "an older Sync is ignored after a newer one completed",
+        // An older Sync is ignored after a newer one completed.
         nodes: PAIR,
         events: &[TWO_FOLLOW_UPS, NEWER_SYNC_FIRST],
     },
     Exchange {
-        shows: "the same Sync completes again, and two ticks make an older one usable",
+        // The same Sync completes again, and two ticks make an older one usable.
         nodes: PAIR,
         events: &[TWO_FOLLOW_UPS, NEWER_SYNC_FIRST, SAME_SYNC_AGAIN],
     },
     Exchange {
-        shows: "Syncs in order both complete",
+        // Syncs in order both complete.
         nodes: PAIR,
         events: &[TWO_FOLLOW_UPS, SYNCS_IN_ORDER],
     },
     Exchange {
-        shows: "number 0 is newer than 65,535",
+        // Number 0 is newer than 65,535.
         nodes: LAST_NUMBER,
         events: &[NUMBERS_TURN, NEWER_FOLLOW_UP_FIRST],
     },
     Exchange {
-        shows: "number 65,535 comes before 0",
+        // Number 65,535 comes before 0.
         nodes: LAST_NUMBER,
         events: &[NUMBERS_TURN, FOLLOW_UPS_IN_ORDER],
     },
     Exchange {
-        shows: "a change of master drops a Sync",
+        // A change of master drops a Sync.
         nodes: TWO_MASTERS,
         events: &[MASTER_CHANGES],
     },
     Exchange {
-        shows: "an answer needs the departure",
+        // An answer needs the departure.
         nodes: PAIR,
         events: &[DEPARTURE_UNKNOWN],
     },
     Exchange {
-        shows: "sixteen Syncs are held",
+        // Sixteen Syncs are held.
         nodes: PAIR,
         events: &[SEVENTEEN_SYNCS],
     },
     Exchange {
-        shows: "a clock refuses negative residence and general messages",
+        // A clock refuses negative residence and general messages.
         nodes: LINE,
         events: &[CLOCK_STEPS],
     },
     Exchange {
-        shows: "two slaves agree on the time",
+        // Two slaves agree on the time.
         nodes: TWO_SLAVES,
         events: &[SLAVES_AGREE],
     },
     Exchange {
-        shows: "a change of master drops a Delay_Req",
+        // A change of master drops a Delay_Req.
         nodes: TWO_MASTERS,
         events: &[ANSWER_OF_EARLIER_TIMES],
     },
     Exchange {
-        shows: "a one-step Sync completes by itself",
+        // A one-step Sync completes by itself.
         nodes: LINE,
         events: &[ONE_STEP],
     },
     Exchange {
-        shows: "a correction that is too big",
+        // A correction that is too big.
         nodes: LINE,
         events: &[LONG_STAY],
     },
     Exchange {
-        shows: "one-step Syncs draw from the pool of Syncs",
+        // One-step Syncs draw from the pool of Syncs.
         nodes: LINE,
         events: &[ONE_POOL],
+    },
+    Exchange {
+        // A reading before the first moment.
+        nodes: LINE,
+        events: &[NO_READING],
+    },
+    Exchange {
+        // A refused event among others.
+        nodes: PAIR,
+        events: &[STOPPED],
     },
 ];

@@ -17,19 +17,15 @@ use std::test::Fail;
 /// The words of a line that weren't read yet.
 type Words<'a> = SplitWhitespace<'a>;
 
-/// An event and what is to come of it.
-#[derive(Clone, Copy, Debug, Drop)]
-pub(crate) struct Row<'a> {
-    /// The line.
-    pub(crate) line: &'a str,
+/// An event, as its line says before the arrow.
+#[derive(Clone, Copy, Debug)]
+pub(crate) struct Row {
     /// The tag, or None where the world refuses the event.
     pub(crate) tag: Option<u64>,
     /// The event.
     pub(crate) event: Event,
     /// What the clock of its node reads, where the line says so.
     pub(crate) reading: Option<ScaledTime>,
-    /// What comes of it.
-    pub(crate) outcome: &'a str,
 }
 
 /// The nodes of a script.
@@ -72,20 +68,19 @@ fn config(words: &mut Words<'_>) -> Result<PortConfig, Fail> {
     })
 }
 
-/// The events of the parts of a script, in turn.
-pub(crate) fn rows_of<'a>(alloc: Global, parts: &[&'a str]) -> Result<Vec<Row<'a>>, Fail> {
-    let mut rows = Vec::new(alloc);
-    for part in parts {
-        for line in part.lines() {
-            if let Some((happens, outcome)) = line.split_once(" -> ") {
-                rows.push(read_row(line, happens, outcome)?)?;
-            }
+/// The events of a script.
+pub(crate) fn events_of(alloc: Global, script: &str) -> Result<Vec<Event>, Fail> {
+    let mut events = Vec::new(alloc);
+    for line in script.lines() {
+        if let Some((happens, _)) = line.split_once(" -> ") {
+            events.push(read_row(happens)?.event)?;
         }
     }
-    Ok(rows)
+    Ok(events)
 }
 
-fn read_row<'a>(line: &'a str, happens: &'a str, outcome: &'a str) -> Result<Row<'a>, Fail> {
+/// What a line says before the arrow.
+pub(crate) fn read_row(happens: &str) -> Result<Row, Fail> {
     let mut words = happens.split_whitespace();
     let tag = match word(&mut words)? {
         "-" => None,
@@ -94,15 +89,13 @@ fn read_row<'a>(line: &'a str, happens: &'a str, outcome: &'a str) -> Result<Row
     let event = event(&mut words)?;
     let reading = match words.next() {
         Some("reads") => Some(moment(&mut words)?),
-        Some(other) => return Err(Fail::new(format_args!("{other} is too much: {line}"))),
+        Some(_) => return Err(Fail::new("a word too many")),
         None => None,
     };
     Ok(Row {
-        line,
         tag,
         event,
         reading,
-        outcome,
     })
 }
 

@@ -1,10 +1,10 @@
 //! Worked exchanges in a world, and runs that are too long for a script.
 
 use crate::exchanges::{
-    EXCHANGES, Exchange, PAIR, QUARTERS, REFUSALS, SLAVES_AGREE, TICKED_IN_TIME, TICKED_TOO_SELDOM,
-    TURN_BEGINS, TURN_ENDS, TURN_ENDS_AFTER_TICKS, TWO_SLAVES, TWO_TICKS,
+    EXCHANGES, Exchange, LINE, PAIR, QUARTERS, REFUSED, SLAVES_AGREE, STOPPED, TICKED_IN_TIME,
+    TICKED_TOO_SELDOM, TURN_BEGINS, TURN_ENDS, TURN_ENDS_AFTER_TICKS, TWO_SLAVES, TWO_TICKS,
 };
-use crate::script::{Row, nodes_of, rows_of};
+use crate::script::{events_of, nodes_of, read_row};
 use network_model::{Name, Nodes};
 use ptp_units::{ScaledTime, Timestamp};
 use std::alloc::{AllocError, Global};
@@ -68,72 +68,74 @@ fn copy_text(alloc: Global, world: &World, tag: u64) -> Result<String, Fail> {
     Ok(hex::encode(alloc, octets)?)
 }
 
-/// The events of accepted rows come out in one run as the rows say.
-fn assert_accepted(
-    rt: &(impl Abort + AllocGlobal),
-    world: &mut World,
-    title: &str,
-    rows: &[Row<'_>],
-) -> Result<(), Fail> {
-    let events: Vec<Event> = rows.iter().map(|row| row.event).collect(rt.alloc())?;
-    let answers = run(rt.alloc(), world, events.as_slice())?;
-    assert_eq!(rt; answers.len(), rows.len());
-    for (row, stepped) in rows.iter().zip(answers.iter()) {
-        assert_stepped(rt, world, title, row, stepped)?;
-    }
-    Ok(())
-}
-
+/// An event that happened did so as its line says.
 fn assert_stepped(
     rt: &(impl Abort + AllocGlobal),
     world: &World,
-    title: &str,
-    row: &Row<'_>,
+    line: &str,
     stepped: &Stepped,
 ) -> Result<(), Fail> {
-    assert_eq!(rt; Some(stepped.tag), row.tag, "{title}: {}", row.line);
+    let (happens, outcome) = line.split_once(" -> ").ok_or("no arrow")?;
+    let row = read_row(happens)?;
+    assert_eq!(rt; Some(stepped.tag), row.tag, "{line}");
     if row.reading.is_some() {
-        assert_eq!(rt; stepped.reading, row.reading, "{title}: {}", row.line);
+        assert_eq!(rt; stepped.reading, row.reading, "{line}");
     }
-    let (outcome, octets) = match row.outcome.split_once("made ") {
-        Some((_, octets)) => ("made", Some(octets)),
-        None => (row.outcome, None),
+    let (outcome, octets) = match outcome.strip_prefix("made ") {
+        Some(octets) => ("made", Some(octets)),
+        None => (outcome, None),
     };
     let text = outcome_text(rt.alloc(), stepped.outcome)?;
-    assert_eq!(rt; text.as_str(), outcome, "{title}: {}", row.line);
+    assert_eq!(rt; text.as_str(), outcome, "{line}");
     if let Some(octets) = octets {
         let copy = copy_text(rt.alloc(), world, stepped.tag)?;
-        assert_eq!(rt; copy.as_str(), octets, "{title}: {}", row.line);
+        assert_eq!(rt; copy.as_str(), octets, "{line}");
     }
     Ok(())
 }
 
-/// The world refuses the event with the number that the row says, and takes nothing of it.
+/// The world refuses the event of a line, with the number that it says.
 fn assert_refused(
     rt: &(impl Abort + AllocGlobal),
-    refusal: Option<WorldRefusal>,
-    row: &Row<'_>,
+    line: &str,
+    refusal: WorldRefusal,
 ) -> Result<(), Fail> {
-    let code = refusal.ok_or("no refusal")?.code();
-    assert_eq!(rt; code, row.outcome.parse::<u16>()?, "{}", row.line);
+    let (happens, code) = line.split_once(" -> ").ok_or("no arrow")?;
+    assert_eq!(rt; read_row(happens)?.tag, None, "{line}");
+    assert_eq!(rt; refusal.code(), code.parse::<u16>()?, "{line}");
     Ok(())
 }
 
-/// Runs an exchange: accepted events up to the next refused one in one run, and that one in a run
-/// of its own.
+/// The event of a line comes out, in a run of its own, as the line says.
+fn assert_line(rt: &(impl Abort + AllocGlobal), world: &mut World, line: &str) -> Result<(), Fail> {
+    let events = events_of(rt.alloc(), line)?;
+    match run(rt.alloc(), world, events.as_slice()) {
+        Ok(answers) => {
+            let stepped = answers.first().ok_or("no answer")?;
+            assert_stepped(rt, world, line, stepped)
+        }
+        Err(stop) => assert_refused(rt, line, stop.why),
+    }
+}
+
+/// The events of a script come out as it says.
+fn assert_script(
+    rt: &(impl Abort + AllocGlobal),
+    world: &mut World,
+    script: &str,
+) -> Result<(), Fail> {
+    for line in script.lines() {
+        if !line.is_empty() {
+            assert_line(rt, world, line)?;
+        }
+    }
+    Ok(())
+}
+
 fn assert_exchange(rt: &(impl Abort + AllocGlobal), exchange: &Exchange) -> Result<(), Fail> {
     let mut world = world_of(rt.alloc(), exchange.nodes)?;
-    let rows = rows_of(rt.alloc(), exchange.events)?;
-    for stretch in rows.split_inclusive(|row| row.tag.is_none()) {
-        match stretch.split_last() {
-            Some((row, before)) if row.tag.is_none() => {
-                assert_accepted(rt, &mut world, exchange.shows, before)?;
-                let stop = run(rt.alloc(), &mut world, &[row.event]).err();
-                assert_eq!(rt; stop.map(|stop| stop.done), Some(0), "{}", row.line);
-                assert_refused(rt, stop.map(|stop| stop.why), row)?;
-            }
-            _ => assert_accepted(rt, &mut world, exchange.shows, stretch)?,
-        }
+    for script in exchange.events {
+        assert_script(rt, &mut world, script)?;
     }
     Ok(())
 }
@@ -148,47 +150,31 @@ fn exchanges_come_out_as_worked(rt: HostRuntime) -> Result<(), Fail> {
 
 #[test]
 fn refused_events_take_no_tag(rt: HostRuntime) -> Result<(), Fail> {
-    let mut world = world_of(rt.alloc(), REFUSALS.nodes)?;
-    for row in rows_of(rt.alloc(), REFUSALS.events)?.iter() {
-        let before = world.len();
-        match (row.tag, world.step(&row.event)) {
-            (Some(_), Ok(stepped)) => assert_stepped(&rt, &world, REFUSALS.shows, row, &stepped)?,
-            (_, answer) => {
-                assert_refused(&rt, answer.err(), row)?;
-                assert_eq!(rt; world.len(), before, "{}", row.line);
-            }
-        }
+    let mut world = world_of(rt.alloc(), LINE)?;
+    for event in events_of(rt.alloc(), REFUSED)?.iter() {
+        assert!(rt; world.step(event).is_err(), "{event:?}");
+        assert_eq!(rt; world.len(), 0, "{event:?}");
     }
-    Ok(())
+    assert_script(&rt, &mut world, REFUSED)
 }
 
+/// The third of four events is refused: the two before it happened.
 #[test]
 fn a_run_stops_at_a_refused_event(rt: HostRuntime) -> Result<(), Fail> {
-    let (master, slave) = names()?;
     let mut world = world_of(rt.alloc(), PAIR)?;
     let answers = run(rt.alloc(), &mut world, &[])?;
     assert_eq!(rt; answers.len(), 0);
-    let sync = Event::Sync {
-        node: master,
-        at: ScaledTime::default(),
-    };
-    let stamped = Event::Stamped { node: slave };
-    let stop = run(rt.alloc(), &mut world, &[sync, sync, stamped, sync]).err();
+    let events = events_of(rt.alloc(), STOPPED)?;
     let expected = RunStop {
         done: 2,
         why: WorldRefusal::NothingWaiting,
     };
-    assert_eq!(rt; stop, Some(expected));
+    assert_eq!(rt;
+        run(rt.alloc(), &mut world, events.as_slice()).err(),
+        Some(expected)
+    );
     assert_eq!(rt; world.len(), 2);
     Ok(())
-}
-
-/// The master and the slave of a script.
-fn names() -> Result<(Name, Name), Fail> {
-    Ok((
-        Name::new("M").ok_or("no name")?,
-        Name::new("S").ok_or("no name")?,
-    ))
 }
 
 fn second(second: u64, nanoseconds: u32) -> Result<ScaledTime, Fail> {
@@ -197,7 +183,7 @@ fn second(second: u64, nanoseconds: u32) -> Result<ScaledTime, Fail> {
 
 /// The master draws so many Syncs, at 2 s, in one run.
 fn draw_syncs(rt: &(impl Abort + AllocGlobal), world: &mut World, count: u32) -> Result<(), Fail> {
-    let (node, _) = names()?;
+    let node = Name::new("M").ok_or("no name")?;
     let at = second(2, 0)?;
     let mut events = Vec::new(rt.alloc());
     for _ in 0..count {
@@ -211,16 +197,6 @@ fn draw_syncs(rt: &(impl Abort + AllocGlobal), world: &mut World, count: u32) ->
             .all(|stepped| stepped.outcome == Outcome::Made)
     );
     Ok(())
-}
-
-/// The events of a script that has no refused ones.
-fn assert_script(
-    rt: &(impl Abort + AllocGlobal),
-    world: &mut World,
-    script: &str,
-) -> Result<(), Fail> {
-    let rows = rows_of(rt.alloc(), &[script])?;
-    assert_accepted(rt, world, script, rows.as_slice())
 }
 
 #[test]
