@@ -64,99 +64,102 @@ fn at(seconds: u64, nanos: u32, fraction: u16) -> Result<ScaledTime, Fail> {
     Ok(ScaledTime::join(Timestamp::new(seconds, nanos)?, fraction))
 }
 
-/// An exchange through a clock, with a slave that is 1,000 ns ahead.
-fn exchange() -> Result<[Event; 14], Fail> {
-    let (master, slave, clock) = (name("M")?, name("S")?, name("T")?);
-    Ok([
-        Event::StepClock {
-            node: slave,
+/// How many events the exchange has.
+const LENGTH: usize = 14;
+
+/// The event of this tag of an exchange through a clock, with a slave that is 1,000 ns ahead.
+fn event(tag: usize) -> Result<Event, Fail> {
+    let node = name(match tag {
+        2 | 6 | 11 => "M",
+        3 | 4 | 9 | 10 => "T",
+        _ => "S",
+    })?;
+    Ok(match tag {
+        0 => Event::StepClock {
+            node,
             diff: 65_536_000,
         },
-        Event::SetMaster {
-            node: slave,
-            master,
+        1 => Event::SetMaster {
+            node,
+            master: name("M")?,
         },
-        Event::Sync {
-            node: master,
+        2 => Event::Sync {
+            node,
             at: at(1, 0, 0)?,
         },
-        Event::Enter {
-            node: clock,
+        3 => Event::Enter {
+            node,
             copy: 2,
             at: at(1, 500, 0)?,
         },
-        Event::Leave {
-            node: clock,
+        4 => Event::Leave {
+            node,
             transit: 3,
             at: at(1, 2_500, 0)?,
         },
-        Event::Arrive {
-            node: slave,
+        5 => Event::Arrive {
+            node,
             copy: 4,
             at: at(1, 3_000, 0)?,
         },
-        Event::Follow { node: master },
-        Event::Hear {
-            node: slave,
-            copy: 6,
-        },
-        Event::Request {
-            node: slave,
+        6 => Event::Follow { node },
+        7 => Event::Hear { node, copy: 6 },
+        8 => Event::Request {
+            node,
             at: at(2, 0, 0)?,
         },
-        Event::Enter {
-            node: clock,
+        9 => Event::Enter {
+            node,
             copy: 8,
             at: at(2, 500, 0)?,
         },
-        Event::Leave {
-            node: clock,
+        10 => Event::Leave {
+            node,
             transit: 9,
             at: at(2, 4_000, 16_384)?,
         },
-        Event::Arrive {
-            node: master,
+        11 => Event::Arrive {
+            node,
             copy: 10,
             at: at(2, 4_500, 16_384)?,
         },
-        Event::Stamped { node: slave },
-        Event::Hear {
-            node: slave,
-            copy: 11,
-        },
-    ])
+        12 => Event::Stamped { node },
+        _ => Event::Hear { node, copy: 11 },
+    })
 }
 
-/// What comes of each event where there is memory.
-const AMPLE: [Outcome; 14] = [
-    Outcome::Done,
-    Outcome::Done,
-    Outcome::Made,
-    Outcome::Entered,
-    Outcome::Made,
-    Outcome::Heard(Heard::Held),
-    Outcome::Made,
-    Outcome::Heard(Heard::Completed),
-    Outcome::Made,
-    Outcome::Entered,
-    Outcome::Made,
-    Outcome::Made,
-    Outcome::Done,
-    Outcome::Heard(Heard::Report(Report {
-        offset2: 131_072_000,
-        path2: 131_072_000,
-        sync_tag: 5,
-        follow_tag: Some(7),
-        request_tag: 8,
-        response_tag: 13,
-    })),
-];
+/// What comes of it where there is memory.
+fn ample(tag: usize) -> Outcome {
+    match tag {
+        0 | 1 | 12 => Outcome::Done,
+        3 | 9 => Outcome::Entered,
+        5 => Outcome::Heard(Heard::Held),
+        7 => Outcome::Heard(Heard::Completed),
+        13 => Outcome::Heard(Heard::Report(Report {
+            offset2: 131_072_000,
+            path2: 131_072_000,
+            sync_tag: 5,
+            follow_tag: Some(7),
+            request_tag: 8,
+            response_tag: 13,
+        })),
+        _ => Outcome::Made,
+    }
+}
+
+/// All events of the exchange.
+fn exchange() -> Result<[Event; LENGTH], Fail> {
+    let mut events = [event(0)?; LENGTH];
+    for tag in 0..LENGTH {
+        events[tag] = event(tag)?;
+    }
+    Ok(events)
+}
 
 /// Of each event the answer is that of ample memory, or that memory was refused; the same event then
 /// answers as if nothing had been refused.
 #[test]
 fn steps_whatever_memory_there_is(rt: HostRuntime) -> Result<(), Fail> {
-    let events = exchange()?;
     let specs = specs()?;
     let mut world = match world(rt.alloc(), &specs) {
         Ok(world) => world,
@@ -165,20 +168,19 @@ fn steps_whatever_memory_there_is(rt: HostRuntime) -> Result<(), Fail> {
             return Ok(());
         }
     };
-    for (index, (event, outcome)) in events.iter().zip(&AMPLE).enumerate() {
-        let happened = index as u64;
-        let stepped = match world.step(event) {
+    for tag in 0..LENGTH {
+        let event = event(tag)?;
+        let stepped = match world.step(&event) {
             Ok(stepped) => stepped,
             Err(why) => {
                 assert_eq!(rt; why, WorldRefusal::Memory);
-                assert_eq!(rt; world.len(), happened);
-                world.step(event)?
+                assert_eq!(rt; world.len(), tag as u64);
+                world.step(&event)?
             }
         };
-        assert_eq!(rt; stepped.tag, happened);
-        assert_eq!(rt; stepped.outcome, *outcome);
+        assert_eq!(rt; stepped.tag, tag as u64);
+        assert_eq!(rt; stepped.outcome, ample(tag));
     }
-    assert_eq!(rt; world.len(), 14);
     Ok(())
 }
 
@@ -205,9 +207,8 @@ fn runs_whatever_memory_there_is(rt: HostRuntime) -> Result<(), Fail> {
         }
     };
     assert_eq!(rt; done.checked_add(answers.len()), Some(events.len()));
-    for (stepped, outcome) in answers.iter().zip(AMPLE.iter().skip(done)) {
-        assert_eq!(rt; stepped.outcome, *outcome);
+    for (stepped, tag) in answers.iter().zip(done..LENGTH) {
+        assert_eq!(rt; stepped.outcome, ample(tag));
     }
-    assert_eq!(rt; world.len(), 14);
     Ok(())
 }
