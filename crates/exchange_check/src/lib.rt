@@ -1,0 +1,11 @@
+//! A checker of transcripts that trusts nobody: whatever wrote the lines, it accepts them only
+//! where every report in them is sound.
+#![tactic(auto)]
+
+mod line;
+mod refusal;
+mod verdict;
+
+pub use line::{TraceLine, TraceOut};
+pub use refusal::CheckFault;
+pub use verdict::{Verdict, Why};
