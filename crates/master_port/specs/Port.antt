@@ -1,4 +1,4 @@
--- A master port: its configuration, the next number, and the number of the Sync that waits for its departure.
+-- A master port: its configuration, the next number, and the number of the two-step Sync that waits for its departure.
 use Rattle.std.specs.Prelude.{ℕ, Option, None}
 use Rattle.event_codec.specs.declared.port.PortConfig.{PortConfig}
 

@@ -1,4 +1,4 @@
--- What a two-step master writes, from its configuration, a number and a time (IEEE 1588-2019, 11.3 and 13.6 to 13.8).
+-- What a master writes, from its configuration, a number and a time (IEEE 1588-2019, 11.3 and 13.6 to 13.8).
 use Rattle.std.specs.Prelude.{ℕ, pos, int_lt, [], ◌∷◌, ◌==◌, if◌then◌else◌, Ok, Err, Result}
 use Rattle.ptp_units.specs.Moment.{stamp, stamp_of, fraction_of}
 use Rattle.ptp_units.specs.Interval.{least, less_fraction}
@@ -12,11 +12,19 @@ use Rattle.event_codec.specs.Reading.{Reading}
 use Rattle.master_port.specs.declared.refusal.MasterRefusal.{MasterRefusal}
 use Rattle.master_port.specs.declared.refusal.MasterRefusal.TheVariants.{Decode, NotRequest, OtherDomain, CorrectionTooLow}
 
--- the Sync of this number: two-step, so its time comes with the Follow_Up
+-- the two-step Sync of this number: its time comes with the Follow_Up
 abbrev pub sync : PortConfig → ℕ → Contents
 sync config number = record {
   header = header_of config (2 ∷ 0 ∷ []) (pos 0) number 0 config.log;
   body = Sync (stamp 0 0);
+  suffix = [];
+}
+
+-- the one-step Sync of this number, which leaves at the moment t1: its timestamp has no fraction, its correction has
+abbrev pub one_step_sync : PortConfig → ℕ → ℕ → Contents
+one_step_sync config number t1 = record {
+  header = header_of config (0 ∷ 0 ∷ []) (pos (fraction_of t1)) number 0 config.log;
+  body = Sync (stamp_of t1);
   suffix = [];
 }
 

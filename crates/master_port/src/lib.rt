@@ -1,5 +1,5 @@
-//! The master port of a two-step clock: it draws Syncs, follows each up with its departure time, and
-//! answers Delay_Reqs (IEEE 1588-2019, 9.5 and 11.3).
+//! The master port: it draws Syncs, two-step ones, each followed up with its departure time, and one-step ones, which
+//! carry it; and it answers Delay_Reqs (IEEE 1588-2019, 9.5 and 11.3).
 #![tactic(auto)]
 
 mod port;
@@ -8,5 +8,5 @@ mod refusal;
 pub use port::MasterPort;
 pub use refusal::MasterRefusal;
 
-#[cfg(test)]
-mod tests;
+
+

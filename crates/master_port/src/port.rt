@@ -3,7 +3,7 @@ ghost use Rattle.ptp_units.specs.Sequence.{next};
 ghost use Rattle.event_codec.specs.Packet.{Contents, Packet, contents};
 ghost use Rattle.event_codec.specs.Reading.{Reading, IsReading};
 ghost use Rattle.master_port.specs.Port.{new_port};
-ghost use Rattle.master_port.specs.Written.{sync, follow_up, answer};
+ghost use Rattle.master_port.specs.Written.{sync, one_step_sync, follow_up, answer};
 
 use crate::refusal::MasterRefusal;
 use event_codec::{Body, Message, PortConfig, decode, octets_of};
@@ -15,7 +15,7 @@ const TWO_STEP: [u8; 2] = [2, 0];
 
 const NO_FLAGS: [u8; 2] = [0, 0];
 
-/// A two-step master port.
+/// A master port, which sends two-step and one-step Syncs.
 #[derive(Debug, Drop)]
 pub struct MasterPort {
     config: PortConfig,
@@ -44,7 +44,7 @@ impl MasterPort {
         }
     }
 
-    /// Draws a number: the octets of its Sync, and the number. From now on that Sync is the one that
+    /// Draws a number: the octets of its two-step Sync, and the number. From now on that Sync is the one that
     /// waits to be told when it departed; one that was waiting is given up.
     pub fn next_sync(&mut self) -> ([u8; 44], Seq)
         ensures octets { Packet (sync self.old.config self.old.next) result.0 }
@@ -57,6 +57,22 @@ impl MasterPort {
         let config = self.config;
         let header = config.header(TWO_STEP, Interval(0), number, 0, config.log);
         let origin = Timestamp::default();
+        (octets_of(header, Body::Sync { origin }), number)
+    }
+
+    /// Draws a number from the same pool: the octets of its one-step Sync, which leaves at t1, and the
+    /// number. It waits for nothing, and a Sync that was waiting goes on waiting.
+    pub fn one_step_sync(&mut self, t1: ScaledTime) -> ([u8; 44], Seq)
+        ensures octets { Packet (one_step_sync self.old.config self.old.next t1) result.0 }
+        ensures number { result.1.0 ≡ self.old.next }
+        ensures port { self.new ≡ record self.old { next = next self.old.next } }
+    {
+        let number = self.next;
+        self.next = number.next();
+        let config = self.config;
+        let (origin, fraction) = t1.split();
+        let correction = Interval(i64::from(fraction));
+        let header = config.header(NO_FLAGS, correction, number, 0, config.log);
         (octets_of(header, Body::Sync { origin }), number)
     }
 

@@ -2,11 +2,7 @@ pub mod Names
 pub mod Networks
 pub mod Places
 pub mod Exactness
-pub mod Ticks
+pub mod Short
 pub mod Travelled
 pub mod Worked
-pub mod WorkedExchange
-pub mod WorkedOctets
-pub mod WorkedPairs
 pub mod WorkedRefusals
-pub mod WorkedSlaves

@@ -1,15 +1,9 @@
 -- Clocks: each is ahead of the true time by as much as it was last stepped to.
 use Rattle.std.specs.Prelude.{ℕ, ℤ, pos, negsuc, ◌+ℤ◌, [], ◌∷◌, nat_lt, if◌then◌else◌, Option, Some, None, unwrap_or, option_map, option_and_then}
 use Rattle.ptp_units.specs.Moment.{bound}
-use Rattle.network_model.specs.declared.event.Event.{Event}
-use Rattle.network_model.specs.declared.event.Event.TheVariants.{StepClock}
 use Rattle.network_model.specs.Network.{NodeName, is_named}
 use Rattle.network_model.specs.Run.{Run, Place, site_of, true_moment}
-
--- the difference that an event sets, where it steps a clock
-abbrev pub step_of : Event → Option ℤ
-step_of (StepClock node diff) = Some diff
-step_of _ = None
+use Rattle.network_model.specs.Kinds.{step_of}
 
 -- how far a node's clock is ahead of the true time, after these events; 0 where it was never stepped
 abbrev pub difference : NodeName → Run → ℤ

@@ -1,8 +1,9 @@
 -- Journeys: the way of a copy of an event message from the event that drew it, through clocks (IEEE 1588-2019, 10.2).
 use Rattle.std.specs.Prelude.{ℕ, ◌-◌, List, [], ◌∷◌, length, sum_by, nat_lt, ◌==◌, if◌then◌else◌, Option, Some, None, option_and_then}
 use Rattle.network_model.specs.declared.event.Event.{Event}
-use Rattle.network_model.specs.declared.event.Event.TheVariants.{Sync, Enter, Leave, Request}
+use Rattle.network_model.specs.declared.event.Event.TheVariants.{Sync, SyncOne, Follow, Enter, Leave, Arrive, Hear, Request, Stamped, Tick, SetMaster, StepClock}
 use Rattle.network_model.specs.Run.{Run, Place, place, place_at}
+use Rattle.network_model.specs.Kinds.{entered_copy}
 use Rattle.network_model.specs.Clock.{reading}
 
 -- a stay in a clock: the Enter and the Leave event
@@ -10,7 +11,7 @@ pub record Stay : Type 0 where
   pub entered : Place
   pub left : Place
 
--- the Sync or Request event that drew a message, and its stays in clocks, the last one first
+-- the event that drew a message, a Sync, SyncOne or Request, and its stays in clocks, the last one first
 pub record Journey : Type 0 where
   pub origin : Place
   pub stays : List Stay
@@ -22,11 +23,6 @@ stay_length s = reading s.left - reading s.entered
 -- how long a message was in clocks, by their readings
 abbrev pub residence : Journey → ℕ
 residence journey = sum_by stay_length journey.stays
-
--- the copy that an Enter event takes in
-abbrev pub entered_copy : Event → Option ℕ
-entered_copy (Enter node copy at) = Some copy
-entered_copy _ = None
 
 -- the journey of a message that was just drawn
 abbrev pub begun : Event → Run → Journey
@@ -46,10 +42,18 @@ left_from left journeys entered =
 -- the journey of the copy that an event makes, from those of earlier copies
 abbrev pub journey_made : Event → Run → (ℕ → Option Journey) → Option Journey
 journey_made (Sync node at) earlier journeys = Some (begun (Sync node at) earlier)
-journey_made (Request node at) earlier journeys = Some (begun (Request node at) earlier)
+journey_made (SyncOne node at) earlier journeys = Some (begun (SyncOne node at) earlier)
+journey_made (Follow node) earlier journeys = None
+journey_made (Enter node copy at) earlier journeys = None
 journey_made (Leave node transit at) earlier journeys =
     option_and_then (left_from (place (Leave node transit at) earlier) journeys) (place_at earlier transit)
-journey_made _ earlier journeys = None
+journey_made (Arrive node copy at) earlier journeys = None
+journey_made (Hear node copy) earlier journeys = None
+journey_made (Request node at) earlier journeys = Some (begun (Request node at) earlier)
+journey_made (Stamped node) earlier journeys = None
+journey_made (Tick node) earlier journeys = None
+journey_made (SetMaster node master) earlier journeys = None
+journey_made (StepClock node diff) earlier journeys = None
 
 -- the journey of the copy of this tag, where that is a copy of a Sync or Delay_Req
 abbrev pub journey_of : Run → ℕ → Option Journey

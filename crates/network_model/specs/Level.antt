@@ -1,10 +1,12 @@
 -- True time: crossings of cables, runs whose clocks are steady, and networks that are level (IEEE 1588-2019, 7.4.2).
-use Rattle.std.specs.Prelude.{◌≡◌, ℕ, ℤ, pos, ◌+ℤ◌, ◌-ℤ◌, ◌⊎◌, List, [], ◌∷◌, reverse, fold, Some, IsSome, unwrap_or}
-use Rattle.std.specs.List.{AllZip}
-use Rattle.network_model.specs.Run.{Run, Place, place_at, site_of, true_moment}
-use Rattle.network_model.specs.Clock.{step_of}
-use Rattle.network_model.specs.Journey.{Journey, Stay, journey_of, entered_copy}
-use Rattle.network_model.specs.Premises.{heard_copy}
+use Rattle.std.specs.Prelude.{◌≡◌, ℤ, pos, ◌+ℤ◌, ◌-ℤ◌, Bool, true, ◌&&◌, ◌||◌, not, List, [], ◌∷◌, ◌++◌, reverse, fold, Option, Some, unwrap_or, option_and_then, option_map, option_to_list, if◌then◌else◌, IsTrue}
+use Rattle.std.specs.List.{AllZip, list_all}
+use Rattle.std.specs.Ordering.{int_eq}
+use Rattle.slave_port.specs.declared.heard.Report.{Report}
+use Rattle.network_model.specs.Network.{is_named}
+use Rattle.network_model.specs.Run.{Run, Place, place, place_at, site_of, true_moment}
+use Rattle.network_model.specs.Kinds.{is_step, timed_copy, heard_copy}
+use Rattle.network_model.specs.Journey.{Journey, Stay, journey_of}
 
 -- the true moment of an event, as a signed number
 abbrev pub moment_at : Place → ℤ
@@ -23,47 +25,88 @@ crossing from to = record { from = from; to = to }
 abbrev pub time_of : Crossing → ℤ
 time_of c = moment_at c.to -ℤ moment_at c.from
 
--- a cable is an unordered pair of nodes
-abbrev pub SameCable : Crossing → Crossing → Type 0
-SameCable c d =
-    ((site_of c.from.event ≡ site_of d.from.event) × (site_of c.to.event ≡ site_of d.to.event))
-    ⊎ ((site_of c.from.event ≡ site_of d.to.event) × (site_of c.to.event ≡ site_of d.from.event))
+-- two crossings start at one node and end at one node
+abbrev pub is_same_way : (from to other_from other_to : Place) → Bool
+is_same_way from to other_from other_to =
+    is_named (site_of from.event) (site_of other_from.event) && is_named (site_of to.event) (site_of other_to.event)
+
+-- two crossings go over one cable, which is an unordered pair of nodes
+abbrev pub is_same_cable : Crossing → Crossing → Bool
+is_same_cable c d = is_same_way c.from c.to d.from d.to || is_same_way c.from c.to d.to d.from
+
+-- the crossing by which a copy of a Sync or Delay_Req came to an event
+abbrev pub crossing_to : Place → Option Crossing
+crossing_to p = option_and_then
+    (λ copy. option_and_then
+    (λ (journey : Journey). option_map (λ made. crossing made p) (place_at p.earlier copy))
+    (journey_of p.earlier copy))
+    (timed_copy p.event)
+
+-- the crossings of a run, newest first: at most one an event
+abbrev pub crossings_in : Run → List Crossing
+crossings_in [] = []
+crossings_in (event ∷ earlier) = option_to_list (crossing_to (place event earlier)) ++ crossings_in earlier
+
+-- two crossings take one time, if they go over one cable
+abbrev pub is_even : Crossing → Crossing → Bool
+is_even c d = not (is_same_cable c d) || int_eq (time_of c) (time_of d)
+
+-- any two crossings of one cable take one time
+abbrev pub are_even : List Crossing → Bool
+are_even [] = true
+are_even (c ∷ others) = list_all (is_even c) others && are_even others
+
+-- all crossings of one cable take one time
+abbrev pub HasEvenCables : Run → Type 0
+HasEvenCables run = IsTrue (are_even (crossings_in run))
+
+-- the clocks were stepped before all else, if at all
+abbrev pub is_steady : Run → Bool
+is_steady [] = true
+is_steady (event ∷ earlier) = if is_step event then list_all is_step earlier else is_steady earlier
+
+-- the same as a fact
+abbrev pub IsSteady : Run → Type 0
+IsSteady run = IsTrue (is_steady run)
 
 -- the crossings of a journey that ends at this event, the last one first
 abbrev pub crossings_of : Place → List Stay → Place → List Crossing
 crossings_of origin [] end = crossing origin end ∷ []
 crossings_of origin (stay ∷ stays) end = crossing stay.left end ∷ crossings_of origin stays stay.entered
 
--- the true times that the crossings of a journey take, all together
-abbrev pub crossing_time : Place → Journey → ℤ
-crossing_time end journey = fold (λ total c. total +ℤ time_of c) (pos 0) (crossings_of journey.origin journey.stays end)
+-- the way of the copy that came to an event: its crossings, the last one first
+abbrev pub way_to : Place → Option (List Crossing)
+way_to p = option_and_then
+    (λ copy. option_map (λ journey. crossings_of journey.origin journey.stays p) (journey_of p.earlier copy))
+    (timed_copy p.event)
 
--- each event steps a clock
-abbrev pub AllSteps : Run → Type 0
-AllSteps [] = Unit {0}
-AllSteps (event ∷ earlier) = IsSome (step_of event) × AllSteps earlier
+-- the way of a report's Sync
+abbrev pub sync_way : Run → Report → Option (List Crossing)
+sync_way run report = option_and_then way_to (place_at run report.sync_tag)
 
--- the clocks were stepped before all else, if at all
-abbrev pub IsSteady : Run → Type 0
-IsSteady [] = Unit {0}
-IsSteady (event ∷ earlier) = (IsSome (step_of event) → AllSteps earlier) × IsSteady earlier
+-- the event that made the copy that is heard at an event
+abbrev pub maker_heard : Place → Option Place
+maker_heard p = option_and_then (place_at p.earlier) (heard_copy p.event)
 
--- a crossing of the run: to an event that takes in or hears a copy of an event message, from the event that made it
-pub record IsCrossing (run : Run) (c : Crossing) : Type 0 where
-  pub tag : ℕ
-  pub copy : ℕ
-  pub journey : Journey
-  pub there : place_at run tag ≡ Some c.to
-  pub takes : (entered_copy c.to.event ≡ Some copy) ⊎ (heard_copy c.to.event ≡ Some copy)
-  pub timed : IsSome (true_moment c.to.event)
-  pub made : place_at c.to.earlier copy ≡ Some c.from
-  pub travelled : journey_of c.to.earlier copy ≡ Some journey
+-- the way of a report's Delay_Req, to the arrival that made its Delay_Resp
+abbrev pub request_way : Run → Report → Option (List Crossing)
+request_way run report = option_and_then way_to (option_and_then maker_heard (place_at run report.response_tag))
 
--- all crossings of one cable take one time
-abbrev pub HasEvenCables : Run → Type 0
-HasEvenCables run = (c d : Crossing) → IsCrossing run c → IsCrossing run d → SameCable c d → time_of c ≡ time_of d
+-- the true times that the crossings of a way take, all together
+abbrev pub time_on : List Crossing → ℤ
+time_on way = fold (λ total c. total +ℤ time_of c) (pos 0) way
 
--- a Delay_Req went back over the cables of the Sync
-abbrev pub GoesBack : Place → Journey → Place → Journey → Type 0
-GoesBack sync_arrival sync request_arrival request =
-    AllZip SameCable (crossings_of request.origin request.stays request_arrival) (reverse (crossings_of sync.origin sync.stays sync_arrival))
+-- a way goes back over the cables of another one
+abbrev pub GoesBackOver : (way back : List Crossing) → Type 0
+GoesBackOver way back = AllZip (λ c d. IsTrue (is_same_cable c d)) back (reverse way)
+
+-- A level network, for a report: the clocks are steady, crossings of one cable take one time, and the report's Delay_Req
+-- went back over the cables of its Sync.
+pub record IsLevelFor (run : Run) (report : Report) : Type 0 where
+  pub there : List Crossing
+  pub back : List Crossing
+  pub sync : sync_way run report ≡ Some there
+  pub request : request_way run report ≡ Some back
+  pub steady : IsSteady run
+  pub even : HasEvenCables run
+  pub goes_back : GoesBackOver there back

@@ -1,17 +1,39 @@
 -- The true numbers of Syncs and requests, which the messages carry modulo 65,536 (IEEE 1588-2019, 7.3.7).
-use Rattle.std.specs.Prelude.{ℕ, ◌+◌, [], ◌∷◌, count_by, if◌then◌else◌, Option, Some, None}
+use Rattle.std.specs.Prelude.{ℕ, ◌+◌, ◌-◌, Bool, false, [], ◌∷◌, count_by, if◌then◌else◌, Option, Some, None}
+use Rattle.network_model.specs.declared.event.Event.{Event}
+use Rattle.network_model.specs.declared.event.Event.TheVariants.{Sync, SyncOne, Follow, Enter, Leave, Arrive, Hear, Request, Stamped, Tick, SetMaster, StepClock}
 use Rattle.network_model.specs.Network.{NodeName, PortSetup}
-use Rattle.network_model.specs.Run.{Run, Place, place, is_at, is_sync, is_follow, is_request, is_stamped}
+use Rattle.network_model.specs.Run.{Run, Place, place}
+use Rattle.network_model.specs.Kinds.{is_at, is_sync, draws_sync, is_follow, is_request, is_stamped}
 
--- the true number that the next Sync of a master has, after these events
-abbrev pub next_sync_number : PortSetup → NodeName → Run → ℕ
-next_sync_number port node run = port.first + count_by (is_at is_sync node) run
+-- the events that draw from the sequence of this one: all Syncs of a master, or all requests of a slave
+abbrev pub draws_with : Event → Event → Bool
+draws_with (Sync node at) event = is_at draws_sync node event
+draws_with (SyncOne node at) event = is_at draws_sync node event
+draws_with (Follow node) event = false
+draws_with (Enter node copy at) event = false
+draws_with (Leave node transit at) event = false
+draws_with (Arrive node copy at) event = false
+draws_with (Hear node copy) event = false
+draws_with (Request node at) event = is_at is_request node event
+draws_with (Stamped node) event = false
+draws_with (Tick node) event = false
+draws_with (SetMaster node master) event = false
+draws_with (StepClock node diff) event = false
 
--- the true number that the next request of a slave has, after these events
-abbrev pub next_request_number : PortSetup → NodeName → Run → ℕ
-next_request_number port node run = port.first + count_by (is_at is_request node) run
+-- how many numbers of its sequence were drawn before an event that draws one
+abbrev pub drawn_before : Place → ℕ
+drawn_before p = count_by (draws_with p.event) p.earlier
 
--- the Sync of a master that waits for its Follow_Up: its last one, where no Follow came after it
+-- the true number that an event draws, where its port's numbers begin at `first`
+abbrev pub number_of : PortSetup → Place → ℕ
+number_of port p = port.first + drawn_before p
+
+-- how many numbers of its sequence were drawn in a run after the one that an event of the run drew
+abbrev pub drawn_later : Place → Run → ℕ
+drawn_later origin run = drawn_before (place origin.event run) - (drawn_before origin + 1)
+
+-- the two-step Sync of a master that waits for its Follow_Up: its last one, where no Follow came after it
 abbrev pub waiting_sync : NodeName → Run → Option Place
 waiting_sync node [] = None
 waiting_sync node (event ∷ earlier) =

@@ -1,5 +1,5 @@
 -- Which events a world accepts after a run, with which outcome, and which refusal the others meet first.
-use Rattle.std.specs.Prelude.{◌≡◌, ℕ, Bool, false, not, ◌&&◌, [], ◌∷◌, length, nat_lt, ◌==◌, is_some, if◌then◌else◌, Option, Some, None, Ok, Err, Result, IsOk, unsigned_abs, ok_or, option_and_then}
+use Rattle.std.specs.Prelude.{◌≡◌, ℕ, not, ◌&&◌, [], ◌∷◌, length, nat_lt, is_some, if◌then◌else◌, Option, Some, None, Ok, Err, Result, IsOk, unsigned_abs, ok_or, option_and_then}
 use Rattle.std.specs.List.{list_any}
 use Rattle.ptp_units.specs.Moment.{bound}
 use Rattle.event_codec.specs.Packet.{Contents}
@@ -10,12 +10,13 @@ use Rattle.transparent_clock.specs.declared.refusal.ClockRefusal.{ClockRefusal}
 use Rattle.transparent_clock.specs.Refusal.{code_of as clock_code}
 use Rattle.transparent_clock.specs.Forwarding.{forwarded}
 use Rattle.slave_port.specs.declared.reason.SlaveRefusal.TheVariants.{NotHeld}
-use Rattle.slave_port.specs.Codes.{refusal_code}
+use Rattle.slave_port.specs.Refusal.{code_of as slave_code}
 use Rattle.slave_port.specs.History as calls
 use Rattle.slave_port.specs.History.{Call}
 use Rattle.slave_port.specs.Answer as slaves
+use Rattle.slave_port.specs.Requests.{is_held}
 use Rattle.network_model.specs.declared.event.Event.{Event}
-use Rattle.network_model.specs.declared.event.Event.TheVariants.{Sync, Follow, Enter, Leave, Arrive, Hear, Request, Stamped, Tick, SetMaster, StepClock}
+use Rattle.network_model.specs.declared.event.Event.TheVariants.{Sync, SyncOne, Follow, Enter, Leave, Arrive, Hear, Request, Stamped, Tick, SetMaster, StepClock}
 use Rattle.network_model.specs.declared.node.NodeKind.{NodeKind}
 use Rattle.network_model.specs.declared.node.NodeKind.TheVariants as kinds
 use Rattle.network_model.specs.declared.stepped.Stepped.{Stepped}
@@ -25,8 +26,8 @@ use Rattle.network_model.specs.declared.refusal.WorldRefusal.{WorldRefusal}
 use Rattle.network_model.specs.declared.refusal.WorldRefusal.TheVariants.{NoNode, WrongKind, NoCopy, NoTransit, ReadingOutOfRange, NothingWaiting}
 use Rattle.network_model.specs.Network.{Network, NodeName, PortSetup, kind_of, master_port, slave_port, is_named}
 use Rattle.network_model.specs.Run.{Run, Place, place, place_at, site_of}
+use Rattle.network_model.specs.Kinds.{entered_copy, spends}
 use Rattle.network_model.specs.Clock.{reading, reading_of}
-use Rattle.network_model.specs.Journey.{entered_copy}
 use Rattle.network_model.specs.Numbering.{waiting_sync, waiting_request}
 use Rattle.network_model.specs.Truth.{copy_of}
 use Rattle.network_model.specs.SlaveHistory.{slave_setup, history_of, request_sequence}
@@ -45,22 +46,19 @@ node_as wanted network node = do
 
 -- a transparent clock
 abbrev pub clock_of : NodeKind → Option (Unit {0})
+clock_of (kinds.Master config first) = None
+clock_of (kinds.Slave config first) = None
 clock_of kinds.Clock = Some tt
-clock_of _ = None
 
 -- a master or a slave, at which messages arrive
 abbrev pub port_of : NodeKind → Option NodeKind
+port_of (kinds.Master config first) = Some (kinds.Master config first)
+port_of (kinds.Slave config first) = Some (kinds.Slave config first)
 port_of kinds.Clock = None
-port_of kind = Some kind
 
 -- the reading of the node's clock at an event
 abbrev pub reads : Event → Run → Result ℕ WorldRefusal
 reads event earlier = ok_or (reading_of (place event earlier)) ReadingOutOfRange
-
--- whether an event spends this transit
-abbrev pub spends : ℕ → Event → Bool
-spends transit (Leave node left at) = left == transit
-spends transit _ = false
 
 -- the Enter event of this transit, where it was at this node and no Leave event spent the transit
 abbrev pub open_transit : NodeName → Run → ℕ → Place → Option Place
@@ -97,15 +95,19 @@ arrived_outcome network kinds.Clock node earlier now m = Done
 -- a waiting request gets its departure time, where the slave still holds it
 abbrev pub stamped_outcome : Network → PortSetup → NodeName → Run → Place → Outcome
 stamped_outcome network port node earlier request =
-    if slaves.is_held (slave_setup port) (history_of network port node earlier) (request_sequence port node request)
+    if is_held (slave_setup port) (history_of network port node earlier) (request_sequence port request)
     then Done
-    else Refused (refusal_code NotHeld)
+    else Refused (slave_code NotHeld)
 
 -- the outcome of an event after a run, where it is accepted, or the first refusal
 abbrev pub outcome_of : Network → Run → Event → Result Outcome WorldRefusal
 outcome_of network earlier (Sync node at) = do
   port ← node_as master_port network node
   now ← reads (Sync node at) earlier
+  Ok Made
+outcome_of network earlier (SyncOne node at) = do
+  port ← node_as master_port network node
+  now ← reads (SyncOne node at) earlier
   Ok Made
 outcome_of network earlier (Follow node) = do
   port ← node_as master_port network node

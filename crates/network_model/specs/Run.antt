@@ -1,8 +1,8 @@
 -- A run: the accepted events, newest first. An event's tag is the number of events before it.
-use Rattle.std.specs.Prelude.{ℕ, Bool, true, false, ◌&&◌, List, [], ◌∷◌, length, ◌==◌, if◌then◌else◌, Option, Some, None}
+use Rattle.std.specs.Prelude.{◌≡◌, ℕ, List, [], ◌∷◌, length, ◌==◌, if◌then◌else◌, Option, Some, None}
 use Rattle.network_model.specs.declared.event.Event.{Event}
-use Rattle.network_model.specs.declared.event.Event.TheVariants.{Sync, Follow, Enter, Leave, Arrive, Hear, Request, Stamped, Tick, SetMaster, StepClock}
-use Rattle.network_model.specs.Network.{NodeName, is_named}
+use Rattle.network_model.specs.declared.event.Event.TheVariants.{Sync, SyncOne, Follow, Enter, Leave, Arrive, Hear, Request, Stamped, Tick, SetMaster, StepClock}
+use Rattle.network_model.specs.Network.{NodeName}
 
 -- the events, newest first
 abbrev pub Run : Type 0
@@ -21,14 +21,28 @@ place event earlier = record { event = event; earlier = earlier }
 abbrev pub tag_of : Place → ℕ
 tag_of p = length p.earlier
 
+-- the run as it was just after an event
+abbrev pub until : Place → Run
+until p = p.event ∷ p.earlier
+
 -- the event of this tag
 abbrev pub place_at : Run → ℕ → Option Place
 place_at [] tag = None
 place_at (event ∷ earlier) tag = if length earlier == tag then Some (place event earlier) else place_at earlier tag
 
+-- an event of the run
+abbrev pub IsIn : Run → Place → Type 0
+IsIn run p = place_at run (tag_of p) ≡ Some p
+
+-- the events after the one of this tag, newest first
+abbrev pub events_after : ℕ → Run → Run
+events_after tag [] = []
+events_after tag (event ∷ earlier) = if length earlier == tag then [] else event ∷ events_after tag earlier
+
 -- the node at which an event happens
 abbrev pub site_of : Event → NodeName
 site_of (Sync node at) = node
+site_of (SyncOne node at) = node
 site_of (Follow node) = node
 site_of (Enter node copy at) = node
 site_of (Leave node transit at) = node
@@ -43,32 +57,14 @@ site_of (StepClock node diff) = node
 -- the true moment of an event that has one
 abbrev pub true_moment : Event → Option ℕ
 true_moment (Sync node at) = Some at
+true_moment (SyncOne node at) = Some at
+true_moment (Follow node) = None
 true_moment (Enter node copy at) = Some at
 true_moment (Leave node transit at) = Some at
 true_moment (Arrive node copy at) = Some at
+true_moment (Hear node copy) = None
 true_moment (Request node at) = Some at
-true_moment _ = None
-
--- a master sends a Sync
-abbrev pub is_sync : Event → Bool
-is_sync (Sync node at) = true
-is_sync _ = false
-
--- a master sends a Follow_Up
-abbrev pub is_follow : Event → Bool
-is_follow (Follow node) = true
-is_follow _ = false
-
--- a slave sends a Delay_Req
-abbrev pub is_request : Event → Bool
-is_request (Request node at) = true
-is_request _ = false
-
--- a slave learns when its Delay_Req departed
-abbrev pub is_stamped : Event → Bool
-is_stamped (Stamped node) = true
-is_stamped _ = false
-
--- the event is of this kind, and at this node
-abbrev pub is_at : (Event → Bool) → NodeName → Event → Bool
-is_at kind node event = kind event && is_named (site_of event) node
+true_moment (Stamped node) = None
+true_moment (Tick node) = None
+true_moment (SetMaster node master) = None
+true_moment (StepClock node diff) = None

@@ -1,53 +1,57 @@
 -- Statements on true time, which nothing proves yet: a report's error is the asymmetry of its two ways, and slaves of one master agree.
-use Rattle.std.specs.Prelude.{◌≡◌, ◌++◌, ℕ, ℤ, ◌+ℤ◌, ◌-ℤ◌}
+use Rattle.std.specs.Prelude.{◌≡◌, ℕ, ℤ, ◌+ℤ◌, ◌-ℤ◌, List, Some}
 use Rattle.slave_port.specs.declared.heard.Report.{Report}
 use Rattle.network_model.specs.Network.{Network, NodeName}
 use Rattle.network_model.specs.Run.{Run}
 use Rattle.network_model.specs.Clock.{difference, clock_shows}
-use Rattle.network_model.specs.Outcome.{IsRun}
-use Rattle.network_model.specs.Level.{crossing_time, IsSteady, HasEvenCables, GoesBack}
-use Rattle.network_model.specs.Headline.{IsMeasurement}
+use Rattle.network_model.specs.Present.{present_master}
+use Rattle.network_model.specs.Premises.{Premise}
+use Rattle.network_model.specs.Reported.{ReportedIn}
+use Rattle.network_model.specs.Level.{Crossing, sync_way, request_way, time_on, IsSteady, IsLevelFor}
 
 -- a number doubled
 abbrev pub twice : ℤ → ℤ
 twice x = x +ℤ x
 
--- Where clocks are steady, twice the offset is twice the true difference of the two clocks and the asymmetry of the two
--- ways, and twice the path delay is both ways together.
-abbrev pub ErrorIsAsymmetry : Type 0
-ErrorIsAsymmetry =
+-- twice the offset is twice the true difference of the two clocks and the asymmetry of the two ways, and twice the path
+-- delay is both ways together
+pub record IsAsymmetric (run : Run) (slave master : NodeName) (report : Report) : Type 0 where
+  pub there : List Crossing
+  pub back : List Crossing
+  pub sync : sync_way run report ≡ Some there
+  pub request : request_way run report ≡ Some back
+  pub offset : report.offset2
+      ≡ twice (difference slave run -ℤ difference master run) +ℤ (time_on there -ℤ time_on back)
+  pub path : report.path2 ≡ time_on there +ℤ time_on back
+
+-- Where clocks are steady, the error of each report is exactly the asymmetry of its two ways.
+abbrev pub ErrorIsAsymmetry : Premise → Type 0
+ErrorIsAsymmetry premise =
+    (network : Network) (run : Run) (slave master : NodeName) (report : Report)
+    → premise network run → IsSteady run
+    → (reported : ReportedIn network run slave report)
+    → present_master slave reported.answered.earlier ≡ Some master
+    → IsAsymmetric run slave master report
+
+-- In a level network both ways of each report take one time.
+abbrev pub WaysAreEven : Premise → Type 0
+WaysAreEven premise =
     (network : Network) (run : Run) (slave : NodeName) (report : Report)
-    → IsRun network run → IsSteady run → (m : IsMeasurement run slave report)
-    → let there : ℤ = crossing_time m.one_sync.arrival m.one_sync.journey in
-    let back : ℤ = crossing_time m.one_request.arrival m.one_request.journey in
-    (report.offset2 ≡ twice (difference slave run -ℤ difference m.one_sync.master run) +ℤ (there -ℤ back))
-    × (report.path2 ≡ there +ℤ back)
+    → premise network run → ReportedIn network run slave report
+    → (level : IsLevelFor run report) → time_on level.there ≡ time_on level.back
 
--- Where each cable takes one time both ways and the Delay_Req went back over the cables of the Sync, both ways take one time.
-abbrev pub WaysAreEven : Type 0
-WaysAreEven =
-    (network : Network) (run : Run) (slave : NodeName) (report : Report)
-    → IsRun network run → HasEvenCables run → (m : IsMeasurement run slave report)
-    → GoesBack m.one_sync.arrival m.one_sync.journey m.one_request.arrival m.one_request.journey
-    → crossing_time m.one_sync.arrival m.one_sync.journey ≡ crossing_time m.one_request.arrival m.one_request.journey
+-- twice what a slave's clock shows at a true moment, less twice a report's offset, is twice what the master's clock shows
+abbrev pub KnowsMaster : Run → (slave master : NodeName) → Report → (moment : ℕ) → Type 0
+KnowsMaster run slave master report moment =
+    twice (clock_shows slave run moment) -ℤ report.offset2 ≡ twice (clock_shows master run moment)
 
--- A report of a slave that was answered in a run whose later events are these, and whose Delay_Req went back over the
--- cables of its Sync.
-pub record ReportedBack (run : Run) (slave : NodeName) (report : Report) : Type 0 where
-  pub later : Run
-  pub then_run : Run
-  pub whole : later ++ then_run ≡ run
-  pub measured : IsMeasurement then_run slave report
-  pub back : GoesBack measured.one_sync.arrival measured.one_sync.journey measured.one_request.arrival measured.one_request.journey
-
--- In a level network, where clocks are steady, each cable takes one time both ways and each Delay_Req goes back over the
--- cables of its Sync, two slaves with reports of one master agree at every true moment: twice each one's reading, less
--- twice its offset, is twice the master's reading.
-abbrev pub SlavesAgree : Type 0
-SlavesAgree =
-    (network : Network) (run : Run) (one other : NodeName) (first second : Report) (moment : ℕ)
-    → IsRun network run → IsSteady run → HasEvenCables run
-    → (m : ReportedBack run one first) → (n : ReportedBack run other second)
-    → m.measured.one_sync.master ≡ n.measured.one_sync.master
-    → (twice (clock_shows one run moment) -ℤ first.offset2 ≡ twice (clock_shows m.measured.one_sync.master run moment))
-    × (twice (clock_shows other run moment) -ℤ second.offset2 ≡ twice (clock_shows m.measured.one_sync.master run moment))
+-- In a level network two slaves with reports of one master agree at every true moment.
+abbrev pub SlavesAgree : Premise → Type 0
+SlavesAgree premise =
+    (network : Network) (run : Run) (one other master : NodeName) (first second : Report) (moment : ℕ)
+    → premise network run
+    → (reported : ReportedIn network run one first) → (reported_too : ReportedIn network run other second)
+    → present_master one reported.answered.earlier ≡ Some master
+    → present_master other reported_too.answered.earlier ≡ Some master
+    → IsLevelFor run first → IsLevelFor run second
+    → KnowsMaster run one master first moment × KnowsMaster run other master second moment

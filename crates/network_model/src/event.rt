@@ -8,14 +8,21 @@ use ptp_units::ScaledTime;
 /// made is called by that event's tag: its copies may go into any number of later events.
 #[derive(Clone, Copy, Debug, PartialEq, Eq)]
 pub enum Event {
-    /// A master sends a Sync.
+    /// A master sends a two-step Sync, which then waits for its Follow_Up.
     Sync {
         /// The master.
         node: Name,
         /// When the Sync departs.
         at: ScaledTime,
     },
-    /// A master sends the Follow_Up of its last Sync.
+    /// A master sends a one-step Sync, which tells by itself when it departs.
+    SyncOne {
+        /// The master.
+        node: Name,
+        /// When the Sync departs.
+        at: ScaledTime,
+    },
+    /// A master sends the Follow_Up of the two-step Sync that waits.
     Follow {
         /// The master.
         node: Name,

@@ -7,7 +7,7 @@ use ptp_units::Seq;
 /// What a node is. A port draws its sequence numbers one after the other, `first` before all.
 #[derive(Clone, Copy, Debug, PartialEq, Eq)]
 pub enum NodeKind {
-    /// A two-step master.
+    /// A master, which sends two-step and one-step Syncs.
     Master {
         /// What its port is set up with.
         config: PortConfig,

@@ -1,5 +1,5 @@
 -- Exchanges computed from the definitions.
-use Rattle.std.proofs.Common.{◌≡◌, ℕ, ℤ, pos, refl, List, [], ◌∷◌, Ok, Err, false}
+use Rattle.std.proofs.Common.{◌≡◌, ℕ, ℤ, pos, refl, List, [], ◌∷◌, Some, None, Ok, Err, false}
 use Rattle.ptp_units.specs.Interval.{too_big}
 use Rattle.ptp_units.specs.Moment.{stamp, moment}
 use Rattle.event_codec.specs.declared.message.Body.{Body}
@@ -9,10 +9,12 @@ use Rattle.event_codec.specs.declared.port.PortIdentity.{PortIdentity}
 use Rattle.event_codec.specs.declared.refusal.DecodeRefusal.TheVariants.{Version}
 use Rattle.event_codec.specs.Packet.{Contents}
 use Rattle.event_codec.specs.Profile.{header_of}
-use Rattle.slave_port.specs.declared.heard.Heard.TheVariants as answers
-use Rattle.slave_port.specs.declared.reason.Reason.TheVariants as reasons
+use Rattle.slave_port.specs.declared.heard.Heard.{Heard}
+use Rattle.slave_port.specs.declared.heard.Heard.TheVariants.{Held, Completed, Report, Ignored}
+use Rattle.slave_port.specs.declared.reason.Reason.TheVariants.{Decode, WrongType, NoMaster, OtherMaster, TooBig, NotNewer, OtherRequester, UnknownRequest, EgressUnknown}
 use Rattle.slave_port.specs.History.{Setup, Call, SetMaster, Tick, NextRequest, RequestLeft, Event, General, setup_of}
-use Rattle.slave_port.specs.Answer.{answer, is_held}
+use Rattle.slave_port.specs.Requests.{is_held}
+use Rattle.slave_port.specs.Answer.{answer}
 
 abbrev clock : ℕ → PortIdentity
 clock last = record { clock = 0 ∷ 17 ∷ 34 ∷ 255 ∷ 254 ∷ 51 ∷ 68 ∷ last ∷ []; port = 1 }
@@ -20,7 +22,7 @@ clock last = record { clock = 0 ∷ 17 ∷ 34 ∷ 255 ∷ 254 ∷ 51 ∷ 68 ∷ 
 abbrev configured : PortIdentity → PortConfig
 configured identity = record { identity = identity; domain = 0; log = pos 0 }
 
--- a slave of the clock 1, with three places of each kind
+-- a slave with three places of each kind
 abbrev slave : Setup
 slave = setup_of (configured (clock 2)) 0 3 3 3
 
@@ -32,119 +34,110 @@ message source flags correction number body = record {
   suffix = [];
 }
 
-abbrev two_step : List ℕ
-two_step = 2 ∷ 0 ∷ []
-
-abbrev sync_of : PortIdentity → ℤ → ℕ → Contents
-sync_of source correction number = message source two_step correction number (Sync (stamp 0 0))
-
-abbrev follow_of : PortIdentity → ℕ → ℕ → Contents
-follow_of source seconds number = message source (0 ∷ 0 ∷ []) (pos 0) number (FollowUp (stamp seconds 0))
-
-abbrev response_of : PortIdentity → ℤ → ℕ → Contents
-response_of requesting correction number =
-    message (clock 1) (0 ∷ 0 ∷ []) correction number (DelayResp (stamp 2 4500) requesting)
-
 -- the moment of these seconds and nanoseconds
 abbrev at : ℕ → ℕ → ℕ
 at seconds nanoseconds = moment (stamp seconds nanoseconds) 0
 
--- two Syncs cross their Follow_Ups
-abbrev follows_first : List Call
-follows_first =
-    General (Ok (follow_of (clock 1) 2 1)) 6 ∷ General (Ok (follow_of (clock 1) 1 0)) 5 ∷ SetMaster (clock 1) ∷ []
+-- a two-step Sync of the master is heard
+abbrev two_step : ℤ → (number t2 tag : ℕ) → Call
+two_step correction number t2 tag = Event (Ok (message (clock 1) (2 ∷ 0 ∷ []) correction number (Sync (stamp 0 0)))) t2 tag
 
-follow_up_waits : answer slave (SetMaster (clock 1) ∷ []) (General (Ok (follow_of (clock 1) 1 0)) 5) ≡ answers.Held
-follow_up_waits = refl
+-- a one-step Sync of the master, which left at one second, is heard
+abbrev one_step : ℤ → (number t2 tag : ℕ) → Call
+one_step correction number t2 tag = Event (Ok (message (clock 1) (0 ∷ 0 ∷ []) correction number (Sync (stamp 1 0)))) t2 tag
 
-newer_sync_completes : answer slave follows_first (Event (Ok (sync_of (clock 1) (pos 0) 1)) (at 2 100) 7) ≡ answers.Completed
-newer_sync_completes = refl
+-- a Follow_Up of the master is heard
+abbrev follow : (seconds number tag : ℕ) → Call
+follow seconds number tag = General (Ok (message (clock 1) (0 ∷ 0 ∷ []) (pos 0) number (FollowUp (stamp seconds 0)))) tag
 
-older_sync_completes : answer slave (Event (Ok (sync_of (clock 1) (pos 0) 1)) (at 2 100) 7 ∷ follows_first)
-    (Event (Ok (sync_of (clock 1) (pos 0) 0)) (at 2 200) 8) ≡ answers.Completed
-older_sync_completes = refl
+-- a Delay_Resp of the master is heard
+abbrev response : PortIdentity → ℤ → (number tag : ℕ) → Call
+response requesting correction number tag =
+    General (Ok (message (clock 1) (0 ∷ 0 ∷ []) correction number (DelayResp (stamp 2 4500) requesting))) tag
+
+-- what is answered in turn to these messages, the first of them last, after these calls
+abbrev answers : List Call → (earlier : List Call) → List Heard
+answers [] earlier = []
+answers (call ∷ calls) earlier = answer slave earlier call ∷ answers calls (call ∷ earlier)
+
+abbrev with_master : List Call
+with_master = SetMaster (clock 1) ∷ []
 
 -- a slave that is 1,000 ns ahead, and 1,000 ns away; the Sync resides 2,000 ns on its way, the Delay_Req 3,500.25 ns
 abbrev exchange : List Call
 exchange =
-    RequestLeft 0 (at 2 1000) ∷ NextRequest 8 ∷ General (Ok (follow_of (clock 1) 1 0)) 7
-    ∷ Event (Ok (sync_of (clock 1) (pos 131072000) 0)) (at 1 4000) 5 ∷ SetMaster (clock 1) ∷ []
+    RequestLeft 0 (at 2 1000) ∷ NextRequest 8 ∷ follow 1 0 7 ∷ two_step (pos 131072000) 0 (at 1 4000) 5 ∷ with_master
 
-exchange_reports : answer slave exchange (General (Ok (response_of (clock 2) (pos 229376000) 0)) 13) ≡ answers.Report (record {
-  offset2 = pos 131072000;
-  path2 = pos 131072000;
-  sync_tag = 5;
-  follow_tag = 7;
-  request_tag = 8;
-  response_tag = 13;
-})
+exchange_reports : answers (response (clock 2) (pos 229376000) 0 13 ∷ response (clock 2) (pos 183500800) 0 17 ∷ []) exchange
+    ≡ Report (record { offset2 = pos 131072000; path2 = pos 131072000; sync_tag = 5; follow_tag = Some 7; request_tag = 8; response_tag = 13 })
+    ∷ Report (record { offset2 = pos 85196800; path2 = pos 176947200; sync_tag = 5; follow_tag = Some 7; request_tag = 8; response_tag = 17 })
+    ∷ []
 exchange_reports = refl
 
--- nothing is used twice in vain: a repeat reports again
-repeat_reports : answer slave (General (Ok (response_of (clock 2) (pos 229376000) 0)) 13 ∷ exchange)
-    (General (Ok (response_of (clock 2) (pos 183500800) 0)) 17) ≡ answers.Report (record {
-      offset2 = pos 85196800;
-      path2 = pos 176947200;
-      sync_tag = 5;
-      follow_tag = 7;
-      request_tag = 8;
-      response_tag = 17;
-    })
-repeat_reports = refl
+-- a one-step master's Sync left a quarter of a nanosecond after a second
+one_step_reports : answers (response (clock 2) (pos 229376000) 0 11 ∷ [])
+    (RequestLeft 0 (at 2 1000) ∷ NextRequest 6 ∷ one_step (pos 131088384) 0 (at 1 4000) 5 ∷ with_master)
+    ≡ Report (record { offset2 = pos 131055616; path2 = pos 131055616; sync_tag = 5; follow_tag = None; request_tag = 6; response_tag = 11 }) ∷ []
+one_step_reports = refl
+
+-- a one-step Sync completes by itself, whatever is held, and pushes no two-step one out
+one_step_alone : answers (follow 1 0 1 ∷ two_step (pos 0) 1 0 2 ∷ two_step (pos 0) 2 0 3 ∷ two_step (pos 0) 3 0 4
+    ∷ one_step (pos 0) 0 0 5 ∷ follow 1 0 6 ∷ follow 1 1 7 ∷ []) with_master
+    ≡ Held ∷ Held ∷ Held ∷ Held ∷ Completed ∷ Held ∷ Completed ∷ []
+one_step_alone = refl
+
+-- two Syncs cross their Follow_Ups: the older one isn't used once the newer one is completed
+abbrev crossed : List Call
+crossed = two_step (pos 0) 0 (at 2 200) 8 ∷ two_step (pos 0) 1 (at 2 100) 7 ∷ follow 2 1 6 ∷ follow 1 0 5 ∷ with_master
+
+older_is_ignored : answers (follow 1 0 5 ∷ follow 2 1 6 ∷ two_step (pos 0) 1 (at 2 100) 7 ∷ two_step (pos 0) 0 (at 2 200) 8 ∷ []) with_master
+    ≡ Held ∷ Held ∷ Completed ∷ Ignored NotNewer ∷ []
+older_is_ignored = refl
+
+in_order_both_complete : answers (follow 1 0 5 ∷ follow 2 1 6 ∷ two_step (pos 0) 0 (at 2 100) 7 ∷ two_step (pos 0) 1 (at 2 200) 8 ∷ []) with_master
+    ≡ Held ∷ Held ∷ Completed ∷ Completed ∷ []
+in_order_both_complete = refl
+
+-- the same number completes again, and an older one is used once two ticks came after the last completion
+same_number_completes : answers (two_step (pos 0) 1 (at 2 300) 9 ∷ []) crossed ≡ Completed ∷ []
+same_number_completes = refl
+
+older_after_two_ticks : answers (two_step (pos 0) 0 (at 2 400) 12 ∷ follow 1 0 13 ∷ []) (Tick ∷ Tick ∷ two_step (pos 0) 1 (at 2 300) 9 ∷ crossed)
+    ≡ Held ∷ Completed ∷ []
+older_after_two_ticks = refl
+
+-- 0 is newer than 65,535; half a turn ahead isn't newer
+numbers_wrap : answers (two_step (pos 0) 65535 0 1 ∷ two_step (pos 0) 0 0 2 ∷ follow 1 65535 3 ∷ follow 1 0 4 ∷ follow 1 65535 5
+    ∷ two_step (pos 0) 32767 0 6 ∷ two_step (pos 0) 32768 0 7 ∷ []) with_master
+    ≡ Held ∷ Held ∷ Completed ∷ Completed ∷ Ignored NotNewer ∷ Held ∷ Ignored NotNewer ∷ []
+numbers_wrap = refl
+
+-- of four Syncs three are held, over one tick, and no more after the second
+abbrev four_syncs : List Call
+four_syncs = two_step (pos 0) 3 0 4 ∷ two_step (pos 0) 2 0 3 ∷ two_step (pos 0) 1 0 2 ∷ two_step (pos 0) 0 0 1 ∷ with_master
+
+three_are_held : answers (follow 1 0 5 ∷ follow 2 1 6 ∷ Tick ∷ follow 4 3 7 ∷ Tick ∷ follow 4 3 8 ∷ []) four_syncs
+    ≡ Held ∷ Completed ∷ Held ∷ Completed ∷ Held ∷ Held ∷ []
+three_are_held = refl
+
+-- a change of master and back
+master_is_back : answers (follow 4 3 5 ∷ SetMaster (clock 1) ∷ follow 4 3 6 ∷ []) (SetMaster (clock 3) ∷ four_syncs)
+    ≡ Ignored OtherMaster ∷ Held ∷ Held ∷ []
+master_is_back = refl
 
 -- a request is answered once it is known when it left, and no more after a change of master
-unknown_departure : answer slave (NextRequest 1 ∷ SetMaster (clock 1) ∷ []) (General (Ok (response_of (clock 2) (pos 0) 0)) 2) ≡ answers.Ignored reasons.EgressUnknown
-unknown_departure = refl
-
-other_numbers_request : answer slave exchange (General (Ok (response_of (clock 2) (pos 0) 1)) 13) ≡ answers.Ignored reasons.UnknownRequest
-other_numbers_request = refl
+requests_answered : answers (response (clock 2) (pos 0) 0 2 ∷ RequestLeft 0 0 ∷ response (clock 2) (pos 0) 0 3 ∷ response (clock 2) (pos 0) 1 4
+    ∷ SetMaster (clock 1) ∷ response (clock 2) (pos 0) 0 5 ∷ []) (NextRequest 1 ∷ with_master)
+    ≡ Ignored EgressUnknown ∷ Held ∷ Completed ∷ Ignored UnknownRequest ∷ Held ∷ Ignored UnknownRequest ∷ []
+requests_answered = refl
 
 request_went : is_held slave (SetMaster (clock 1) ∷ exchange) 0 ≡ false
 request_went = refl
 
--- of four Syncs three are held
-abbrev four_syncs : List Call
-four_syncs =
-    Event (Ok (sync_of (clock 1) (pos 0) 3)) (at 4 0) 4 ∷ Event (Ok (sync_of (clock 1) (pos 0) 2)) (at 3 0) 3
-    ∷ Event (Ok (sync_of (clock 1) (pos 0) 1)) (at 2 0) 2 ∷ Event (Ok (sync_of (clock 1) (pos 0) 0)) (at 1 0) 1
-    ∷ SetMaster (clock 1) ∷ []
-
-oldest_went : answer slave four_syncs (General (Ok (follow_of (clock 1) 1 0)) 5) ≡ answers.Held
-oldest_went = refl
-
-next_is_held : answer slave four_syncs (General (Ok (follow_of (clock 1) 2 1)) 5) ≡ answers.Completed
-next_is_held = refl
-
--- a Sync is held over one tick, and not over two
-held_over_a_tick : answer slave (Tick ∷ four_syncs) (General (Ok (follow_of (clock 1) 4 3)) 5) ≡ answers.Completed
-held_over_a_tick = refl
-
-not_held_over_two : answer slave (Tick ∷ Tick ∷ four_syncs) (General (Ok (follow_of (clock 1) 4 3)) 5) ≡ answers.Held
-not_held_over_two = refl
-
--- a change of master and back
-other_master : answer slave (SetMaster (clock 3) ∷ four_syncs) (General (Ok (follow_of (clock 1) 4 3)) 5) ≡ answers.Ignored reasons.OtherMaster
-other_master = refl
-
-master_is_back : answer slave (SetMaster (clock 1) ∷ SetMaster (clock 3) ∷ four_syncs) (General (Ok (follow_of (clock 1) 4 3)) 5) ≡ answers.Held
-master_is_back = refl
-
 -- the first reason that applies
-no_message : answer slave [] (Event (Err Version) 0 1) ≡ answers.Ignored (reasons.Decode Version)
-no_message = refl
-
-wrong_type : answer slave [] (Event (Ok (follow_of (clock 3) 1 0)) 0 1) ≡ answers.Ignored reasons.WrongType
-wrong_type = refl
-
-no_master : answer slave [] (Event (Ok (sync_of (clock 3) too_big 0)) 0 1) ≡ answers.Ignored reasons.NoMaster
-no_master = refl
-
-one_step_first : answer slave (SetMaster (clock 1) ∷ []) (Event (Ok (message (clock 1) (0 ∷ 0 ∷ []) too_big 0 (Sync (stamp 0 0)))) 0 1)
-    ≡ answers.Ignored reasons.OneStep
-one_step_first = refl
-
-too_big_first : answer slave (SetMaster (clock 1) ∷ []) (General (Ok (response_of (clock 4) too_big 0)) 1) ≡ answers.Ignored reasons.TooBig
-too_big_first = refl
-
-requester_first : answer slave (SetMaster (clock 1) ∷ []) (General (Ok (response_of (clock 4) (pos 0) 0)) 1) ≡ answers.Ignored reasons.OtherRequester
-requester_first = refl
+first_reasons : answers (Event (Err Version) 0 1 ∷ Event (Ok (message (clock 3) (0 ∷ 0 ∷ []) (pos 0) 0 (FollowUp (stamp 0 0)))) 0 2
+    ∷ one_step too_big 0 0 3 ∷ SetMaster (clock 1) ∷ one_step (pos 9223372036854775806) 5 0 4 ∷ one_step too_big 4 0 5
+    ∷ response (clock 4) too_big 0 6 ∷ response (clock 4) (pos 0) 0 7 ∷ one_step (pos 0) 4 0 8 ∷ follow 1 4 9 ∷ []) []
+    ≡ Ignored (Decode Version) ∷ Ignored WrongType ∷ Ignored NoMaster ∷ Held ∷ Completed ∷ Ignored TooBig ∷ Ignored TooBig
+    ∷ Ignored OtherRequester ∷ Ignored NotNewer ∷ Ignored NotNewer ∷ []
+first_reasons = refl

@@ -1,35 +1,33 @@
 -- What a slave port answers, by its history alone.
-use Rattle.std.specs.Prelude.{ℕ, Bool, List, ◌∷◌, is_some, is_none, ◌&&◌, slice_get, if◌then◌else◌, Option, Some, None}
+use Rattle.std.specs.Prelude.{List, ◌∷◌, is_none, ◌&&◌, option_and_then, if◌then◌else◌, Option, Some, None}
 use Rattle.std.specs.Option.{option_or}
 use Rattle.ptp_units.specs.Exchange.{offset2, path2}
-use Rattle.pairing.specs.Marked.{Entry, first_value as newest}
+use Rattle.pairing.specs.Marked.{first_value as newest}
 use Rattle.slave_port.specs.declared.heard.Heard.{Heard}
 use Rattle.slave_port.specs.declared.heard.Heard.TheVariants as answers
 use Rattle.slave_port.specs.declared.heard.Report.{Report}
 use Rattle.slave_port.specs.declared.reason.Reason.{Reason}
 use Rattle.slave_port.specs.declared.reason.Reason.TheVariants.{UnknownRequest, EgressUnknown}
-use Rattle.slave_port.specs.History.{Setup, Call, Event, General, present_master}
-use Rattle.slave_port.specs.Usable.{event_reason, general_reason}
-use Rattle.slave_port.specs.Held.{RequestValue, ResponseValue, response_of, held_requests}
-use Rattle.slave_port.specs.Completion.{SyncCompletion, DelayCompletion, sync_completion, delay_completion, sync_completions, delay_completions}
+use Rattle.slave_port.specs.History.{Setup, Call}
+use Rattle.slave_port.specs.Values.{RequestValue}
+use Rattle.slave_port.specs.Requests.{held_requests}
+use Rattle.slave_port.specs.Completion.{SyncCompletion, DelayCompletion}
+use Rattle.slave_port.specs.Kept.{unusable, usable_delay_resp, sync_completion, delay_completion, last_sync_completion, last_delay_completion}
 
--- why a request doesn't complete: there is none, or it isn't known when it left
+-- why the newest held request of a Delay_Resp's number doesn't complete: there is none, or it isn't known when it left
 abbrev pub request_reason : Option RequestValue → Option Reason
 request_reason None = Some UnknownRequest
 request_reason (Some request) = if is_none request.t3 then Some EgressUnknown else None
 
--- why a usable message is ignored all the same: it is a Delay_Resp, and its request doesn't complete
-abbrev pub response_reason : Option (Entry ResponseValue) → List (Entry RequestValue) → Option Reason
-response_reason None requests = None
-response_reason (Some response) requests = request_reason (newest response.number requests)
+-- why a usable Delay_Resp is ignored all the same
+abbrev pub unanswerable : Setup → List Call → Call → Option Reason
+unanswerable setup earlier call = option_and_then
+    (λ response. request_reason (newest response.number (held_requests setup earlier)))
+    (usable_delay_resp setup earlier call)
 
 -- the first reason for which a call's message is ignored
 abbrev pub ignored : Setup → List Call → Call → Option Reason
-ignored setup earlier (Event heard t2 tag) = event_reason setup.config (present_master earlier) heard
-ignored setup earlier (General heard tag) = option_or
-    (general_reason setup.config (present_master earlier) heard)
-    (response_reason (response_of setup.config (present_master earlier) (General heard tag)) (held_requests setup earlier))
-ignored setup earlier _ = None
+ignored setup earlier call = option_or (unusable setup earlier call) (unanswerable setup earlier call)
 
 -- a report of the last completion of each kind
 abbrev pub report_of : SyncCompletion → DelayCompletion → Report
@@ -44,17 +42,16 @@ report_of sync delay = record {
 
 -- a report where both completions are there
 abbrev pub completed : Option SyncCompletion → Option DelayCompletion → Heard
+completed None delay = answers.Completed
+completed (Some sync) None = answers.Completed
 completed (Some sync) (Some delay) = answers.Report (report_of sync delay)
-completed _ _ = answers.Completed
 
 -- the answer to a message that isn't ignored
 abbrev pub used : Setup → List Call → Call → Heard
 used setup earlier call =
     if is_none (sync_completion setup earlier call) && is_none (delay_completion setup earlier call)
     then answers.Held
-    else completed
-    (slice_get (sync_completions setup (call ∷ earlier) 1) 0)
-    (slice_get (delay_completions setup (call ∷ earlier) 1) 0)
+    else completed (last_sync_completion setup (call ∷ earlier)) (last_delay_completion setup (call ∷ earlier))
 
 -- ignored for this reason, or else this answer
 abbrev pub unless_ignored : Option Reason → Heard → Heard
@@ -64,7 +61,3 @@ unless_ignored None heard = heard
 -- the answer to a message, from the calls before it
 abbrev pub answer : Setup → List Call → Call → Heard
 answer setup earlier call = unless_ignored (ignored setup earlier call) (used setup earlier call)
-
--- whether a request of this number is held
-abbrev pub is_held : Setup → List Call → ℕ → Bool
-is_held setup history number = is_some (newest number (held_requests setup history))

@@ -1,30 +1,40 @@
--- Completions: a Sync with the Follow_Up of its number, and a Delay_Resp with the request of its number.
-use Rattle.std.specs.Prelude.{ℕ, ℤ, List, [], ◌∷◌, option_map, option_and_then, Option, Some, None}
-use Rattle.std.specs.Option.{option_or}
+-- Completions: of a Sync, by the Follow_Up of its number or by itself, and of a request by the Delay_Resp of its number.
+use Rattle.std.specs.Prelude.{ℕ, ℤ, pos, List, option_map, Option, Some, None}
 use Rattle.ptp_units.specs.Exchange.{sync_bracket, delay_bracket}
 use Rattle.pairing.specs.Marked.{Entry, first_value as newest}
-use Rattle.slave_port.specs.History.{Setup, Call, present_master}
-use Rattle.slave_port.specs.Held.{SyncValue, FollowValue, RequestValue, ResponseValue, sync_of, follow_of, response_of, held_syncs, held_follows, held_requests}
-use Rattle.slave_port.specs.Window.{in_window}
+use Rattle.slave_port.specs.declared.used.Used.{Used}
+use Rattle.slave_port.specs.declared.used.Used.TheVariants.{TwoStepSync, OneStepSync, FollowUp, DelayResp}
+use Rattle.slave_port.specs.Values.{SyncValue, OneStepValue, FollowValue, ResponseValue, RequestValue}
 
--- the Sync's half of a report: its bracket, and the tags of the Sync and the Follow_Up
+-- the Sync's half of a report: its sequenceId, its bracket, and the tags of the Sync and of its Follow_Up, if it has one
 pub record SyncCompletion : Type 0 where
+  pub number : ℕ
   pub bracket : ℤ
   pub sync_tag : ℕ
-  pub follow_tag : ℕ
+  pub follow_tag : Option ℕ
 
--- the Delay_Req's half of a report: its bracket, and the tags of the request and the Delay_Resp
+-- the Delay_Req's half of a report: its bracket, and the tags of the request and of the Delay_Resp
 pub record DelayCompletion : Type 0 where
   pub bracket : ℤ
   pub request_tag : ℕ
   pub response_tag : ℕ
 
--- a Sync and its Follow_Up complete
-abbrev pub pair : SyncValue → FollowValue → SyncCompletion
-pair sync follow = record {
+-- a two-step Sync and its Follow_Up complete
+abbrev pub pair : (number : ℕ) → SyncValue → FollowValue → SyncCompletion
+pair number sync follow = record {
+  number = number;
   bracket = sync_bracket sync.t2 follow.precise follow.correction sync.correction;
   sync_tag = sync.tag;
-  follow_tag = follow.tag;
+  follow_tag = Some follow.tag;
+}
+
+-- a one-step Sync completes by itself
+abbrev pub alone : (number : ℕ) → OneStepValue → SyncCompletion
+alone number sync = record {
+  number = number;
+  bracket = sync_bracket sync.t2 sync.origin (pos 0) sync.correction;
+  sync_tag = sync.tag;
+  follow_tag = None;
 }
 
 -- a Delay_Resp and its request complete where it is known when the request left
@@ -36,40 +46,9 @@ answered response request =
       response_tag = response.tag;
     }) request.t3
 
--- a Sync completes with the newest held Follow_Up of its number
-abbrev pub completed_by_sync : Option (Entry SyncValue) → List (Entry FollowValue) → Option SyncCompletion
-completed_by_sync None follows = None
-completed_by_sync (Some sync) follows = option_map (pair sync.value) (newest sync.number follows)
-
--- a Follow_Up completes with the newest held Sync of its number
-abbrev pub completed_by_follow : Option (Entry FollowValue) → List (Entry SyncValue) → Option SyncCompletion
-completed_by_follow None syncs = None
-completed_by_follow (Some follow) syncs = option_map (λ sync. pair sync follow.value) (newest follow.number syncs)
-
--- a Delay_Resp completes with the newest held request of its number
-abbrev pub completed_by_response : Option (Entry ResponseValue) → List (Entry RequestValue) → Option DelayCompletion
-completed_by_response None requests = None
-completed_by_response (Some response) requests = option_and_then (answered response.value) (newest response.number requests)
-
--- the completion of a Sync that a call brings; a call brings a Sync or a Follow_Up or neither
-abbrev pub sync_completion : Setup → List Call → Call → Option SyncCompletion
-sync_completion setup earlier call = option_or
-    (completed_by_sync (sync_of setup.config (present_master earlier) call) (held_follows setup earlier))
-    (completed_by_follow (follow_of setup.config (present_master earlier) call) (held_syncs setup earlier))
-
--- the completion of a request that a call brings
-abbrev pub delay_completion : Setup → List Call → Call → Option DelayCompletion
-delay_completion setup earlier call =
-    completed_by_response (response_of setup.config (present_master earlier) call) (held_requests setup earlier)
-
--- the completions of Syncs of a history, newest first, back over at most so many ticks
-abbrev pub sync_completions : Setup → List Call → ℕ → List SyncCompletion
-sync_completions setup [] ticks = []
-sync_completions setup (call ∷ earlier) ticks =
-    in_window call (sync_completion setup earlier call) (sync_completions setup earlier) ticks
-
--- the completions of requests of a history, newest first, back over at most so many ticks
-abbrev pub delay_completions : Setup → List Call → ℕ → List DelayCompletion
-delay_completions setup [] ticks = []
-delay_completions setup (call ∷ earlier) ticks =
-    in_window call (delay_completion setup earlier call) (delay_completions setup earlier) ticks
+-- the completion of a Sync, where these two-step Syncs and these Follow_Ups are held: by the newest of the number
+abbrev pub completed_by : List (Entry SyncValue) → List (Entry FollowValue) → (number : ℕ) → Used → Option SyncCompletion
+completed_by syncs follows number (TwoStepSync sync) = option_map (pair number sync) (newest number follows)
+completed_by syncs follows number (OneStepSync sync) = Some (alone number sync)
+completed_by syncs follows number (FollowUp follow) = option_map (λ sync. pair number sync follow) (newest number syncs)
+completed_by syncs follows number (DelayResp response) = None

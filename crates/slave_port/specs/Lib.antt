@@ -1,10 +1,13 @@
 pub mod History
 pub mod Window
+pub mod Values
+pub mod Used
 pub mod Usable
-pub mod Held
+pub mod Requests
 pub mod Completion
+pub mod Kept
 pub mod Answer
 pub mod Written
 pub mod StandsFor
 pub mod Changes
-pub mod Codes
+pub mod Refusal

@@ -1,13 +1,17 @@
 -- What a slave port keeps, and the histories that this stands for.
-use Rattle.std.specs.Prelude.{◌≡◌, ℕ, ◌-◌, zero, suc, Bool, List, ◌∷◌, length, take, slice_get, if◌then◌else◌, Option, Some, None}
+use Rattle.std.specs.Prelude.{◌≡◌, ℕ, Bool, true, false, List, [], ◌∷◌, Option, Some, None}
 use Rattle.event_codec.specs.declared.port.PortConfig.{PortConfig}
 use Rattle.event_codec.specs.declared.port.PortIdentity.{PortIdentity}
-use Rattle.slave_port.specs.declared.heard.Heard.{Heard}
 use Rattle.pairing.specs.Marked.{Entry, Marked, newest_first}
+use Rattle.pairing.specs.Latest.{HoldsLatest}
+use Rattle.slave_port.specs.declared.heard.Heard.{Heard}
 use Rattle.slave_port.specs.History.{Capacities, Setup, Call, present_master, next_number}
-use Rattle.slave_port.specs.Held.{SyncValue, FollowValue, RequestValue, syncs, follows, held_requests}
+use Rattle.slave_port.specs.Window.{Window}
+use Rattle.slave_port.specs.Values.{SyncValue, FollowValue, RequestValue}
+use Rattle.slave_port.specs.Requests.{held_requests}
+use Rattle.slave_port.specs.Completion.{SyncCompletion, DelayCompletion}
+use Rattle.slave_port.specs.Kept.{kept, delay_completions}
 use Rattle.slave_port.specs.Answer.{answer}
-use Rattle.slave_port.specs.Completion.{SyncCompletion, DelayCompletion, sync_completions, delay_completions}
 
 -- the last completion of a kind, and whether a tick came since
 pub record Last (C : Type 0) : Type 0 where
@@ -26,16 +30,15 @@ pub record Port : Type 0 where
   pub last_sync : Option (Last SyncCompletion)
   pub last_delay : Option (Last DelayCompletion)
 
--- the last completion, back over at most so many ticks
-abbrev pub last_within : {C : Type 0} → Option (Last C) → ℕ → Option C
-last_within None ticks = None
-last_within (Some last) zero = if last.ticked then None else Some last.completion
-last_within (Some last) (suc ticks) = Some last.completion
+-- of completions since the last tick and of those before it, each newest first, the last one
+abbrev pub last_of : {C : Type 0} → (since before : List C) → Option (Last C)
+last_of [] [] = None
+last_of [] (completion ∷ older) = Some (record { completion = completion; ticked = true })
+last_of (completion ∷ older) before = Some (record { completion = completion; ticked = false })
 
--- a table holds the last entries of the window, as many as it takes, and those from before the last tick are marked
-pub record Holds {V : Type 0} (capacity : ℕ) (entries : ℕ → List (Entry V)) (table : Marked V) : Type 0 where
-  pub latest : newest_first table ≡ take capacity (entries 1)
-  pub marked : table.marked ≡ length table.entries - length (entries 0)
+-- a table holds the latest entries of the window, as many as it takes, and those from before the last tick are marked
+abbrev pub HoldsWindow : {V : Type 0} → (capacity : ℕ) → Window (Entry V) → Marked V → Type 0
+HoldsWindow capacity window table = HoldsLatest capacity window.since window.before table
 
 -- a port that keeps this stands for a history
 pub record StandsFor (setup : Setup) (port : Port) (history : List Call) : Type 0 where
@@ -43,13 +46,11 @@ pub record StandsFor (setup : Setup) (port : Port) (history : List Call) : Type 
   pub capacities : port.capacities ≡ setup.capacities
   pub next : port.next ≡ next_number setup history
   pub master : port.master ≡ present_master history
-  pub syncs : Holds setup.capacities.syncs (syncs setup history) port.syncs
-  pub follows : Holds setup.capacities.follows (follows setup history) port.follows
+  pub syncs : HoldsWindow setup.capacities.syncs (kept setup history).syncs port.syncs
+  pub follows : HoldsWindow setup.capacities.follows (kept setup history).follows port.follows
   pub requests : newest_first port.requests ≡ held_requests setup history
-  pub sync_now : last_within port.last_sync 1 ≡ slice_get (sync_completions setup history 1) 0
-  pub sync_since_tick : last_within port.last_sync 0 ≡ slice_get (sync_completions setup history 0) 0
-  pub delay_now : last_within port.last_delay 1 ≡ slice_get (delay_completions setup history 1) 0
-  pub delay_since_tick : last_within port.last_delay 0 ≡ slice_get (delay_completions setup history 0) 0
+  pub last_sync : port.last_sync ≡ last_of (kept setup history).completions.since (kept setup history).completions.before
+  pub last_delay : port.last_delay ≡ last_of (delay_completions setup history).since (delay_completions setup history).before
 
 -- whatever history a port stood for before a call, it stands for the longer one after it
 abbrev pub StandsAfter : Call → (old new : Port) → Type 0

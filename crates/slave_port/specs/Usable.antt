@@ -1,15 +1,29 @@
--- Which messages a slave port uses, and the first reason for which it ignores another.
-use Rattle.std.specs.Prelude.{◌/◌, ◌%◌, Bool, true, false, not, ◌&&◌, ◌||◌, List, [], ◌∷◌, ◌++◌, slice_index, ◌==◌, int_lt, is_none, if◌then◌else◌, Option, Some, None, Ok, Err}
+-- Which messages a slave port uses, what as, and the first reason for which it can't use another.
+use Rattle.std.specs.Prelude.{ℕ, ◌/◌, ◌%◌, Bool, true, false, not, ◌&&◌, List, [], ◌∷◌, ◌++◌, slice_index, ◌==◌, nat_le, int_lt, is_none, option_and_then, if◌then◌else◌, Option, Some, None, Result, Ok, Err}
 use Rattle.std.specs.Str.{bytes_eq}
+use Rattle.std.specs.Result.{result_ok, result_err}
 use Rattle.ptp_units.specs.Interval.{too_big}
+use Rattle.ptp_units.specs.Moment.{Stamp}
+use Rattle.ptp_units.specs.Sequence.{ahead}
 use Rattle.event_codec.specs.declared.message.Header.{Header}
 use Rattle.event_codec.specs.declared.message.Body.{Body}
-use Rattle.event_codec.specs.declared.message.Body.TheVariants.{Sync, FollowUp, DelayResp}
+use Rattle.event_codec.specs.declared.message.Body.TheVariants as bodies
 use Rattle.event_codec.specs.declared.port.PortConfig.{PortConfig}
 use Rattle.event_codec.specs.declared.port.PortIdentity.{PortIdentity}
 use Rattle.event_codec.specs.Reading.{Reading}
+use Rattle.pairing.specs.Marked.{Entry, entry}
 use Rattle.slave_port.specs.declared.reason.Reason.{Reason}
 use Rattle.slave_port.specs.declared.reason.Reason.TheVariants as reasons
+use Rattle.slave_port.specs.History.{Call, SetMaster, Tick, NextRequest, RequestLeft, Event, General}
+use Rattle.slave_port.specs.declared.used.Used.{Used}
+use Rattle.slave_port.specs.declared.used.Used.TheVariants.{TwoStepSync, OneStepSync, FollowUp, DelayResp}
+
+-- by what a port judges a message: its configuration, its present master, and the sequenceId of the last completion of a
+-- Sync in the window
+pub record Criteria : Type 0 where
+  pub config : PortConfig
+  pub master : Option PortIdentity
+  pub last : Option ℕ
 
 -- a reason, and whether it applies
 pub record Test : Type 0 where
@@ -25,26 +39,6 @@ first_reason (t ∷ tests) = if t.applies then Some t.reason else first_reason t
 abbrev pub is_same_port : PortIdentity → PortIdentity → Bool
 is_same_port a b = bytes_eq a.clock b.clock && (a.port == b.port)
 
--- a Sync
-abbrev pub is_sync : Body → Bool
-is_sync (Sync origin) = true
-is_sync _ = false
-
--- a Follow_Up
-abbrev pub is_follow_up : Body → Bool
-is_follow_up (FollowUp precise) = true
-is_follow_up _ = false
-
--- a Delay_Resp
-abbrev pub is_delay_resp : Body → Bool
-is_delay_resp (DelayResp receive requesting) = true
-is_delay_resp _ = false
-
--- a Delay_Resp to another port than this one
-abbrev pub is_for_another : PortIdentity → Body → Bool
-is_for_another own (DelayResp receive requesting) = not (is_same_port requesting own)
-is_for_another own _ = false
-
 -- twoStepFlag (IEEE 1588-2019, 13.3.2.8)
 abbrev pub is_two_step : Header → Bool
 is_two_step header = slice_index header.flags 0 / 2 % 2 == 1
@@ -58,28 +52,80 @@ abbrev pub is_other : Option PortIdentity → PortIdentity → Bool
 is_other None source = true
 is_other (Some master) source = not (is_same_port source master)
 
+-- less than half a turn ahead (7.3.7)
+abbrev pub is_newer : ℕ → ℕ → Bool
+is_newer number other = nat_le 1 (ahead number other) && nat_le (ahead number other) 32767
+
+-- another number than the last one, and not newer
+abbrev pub is_not_newer : (last : Option ℕ) → ℕ → Bool
+is_not_newer None number = false
+is_not_newer (Some last) number = not (number == last) && not (is_newer number last)
+
 -- what all messages are tested for, beside their type
-abbrev pub source_tests : PortConfig → Option PortIdentity → Header → List Test
-source_tests config master header =
-    record { applies = not (header.domain == config.domain); reason = reasons.OtherDomain }
-    ∷ record { applies = is_none master; reason = reasons.NoMaster }
-    ∷ record { applies = is_other master header.source; reason = reasons.OtherMaster }
+abbrev pub common_tests : Criteria → Header → List Test
+common_tests criteria header =
+    record { applies = not (header.domain == criteria.config.domain); reason = reasons.OtherDomain }
+    ∷ record { applies = is_none criteria.master; reason = reasons.NoMaster }
+    ∷ record { applies = is_other criteria.master header.source; reason = reasons.OtherMaster }
+    ∷ record { applies = is_too_big header; reason = reasons.TooBig }
     ∷ []
 
--- why a message heard on the event port is ignored, under this present master
-abbrev pub event_reason : PortConfig → Option PortIdentity → Reading → Option Reason
-event_reason config master (Err refusal) = Some (reasons.Decode refusal)
-event_reason config master (Ok m) = first_reason (
-    (record { applies = not (is_sync m.body); reason = reasons.WrongType } ∷ source_tests config master m.header)
-    ++ record { applies = not (is_two_step m.header); reason = reasons.OneStep }
-    ∷ record { applies = is_too_big m.header; reason = reasons.TooBig }
-    ∷ [])
+-- why a Sync or a Follow_Up can't be used
+abbrev pub sync_reason : Criteria → Header → Option Reason
+sync_reason criteria header = first_reason (common_tests criteria header
+    ++ record { applies = is_not_newer criteria.last header.sequence.0; reason = reasons.NotNewer } ∷ [])
 
--- why a message heard on the general port isn't usable, under this present master
-abbrev pub general_reason : PortConfig → Option PortIdentity → Reading → Option Reason
-general_reason config master (Err refusal) = Some (reasons.Decode refusal)
-general_reason config master (Ok m) = first_reason (
-    (record { applies = not (is_follow_up m.body || is_delay_resp m.body); reason = reasons.WrongType } ∷ source_tests config master m.header)
-    ++ record { applies = is_too_big m.header; reason = reasons.TooBig }
-    ∷ record { applies = is_for_another config.identity m.body; reason = reasons.OtherRequester }
-    ∷ [])
+-- why a Delay_Resp to this port can't be used
+abbrev pub response_reason : Criteria → Header → (requesting : PortIdentity) → Option Reason
+response_reason criteria header requesting = first_reason (common_tests criteria header
+    ++ record { applies = not (is_same_port requesting criteria.config.identity); reason = reasons.OtherRequester } ∷ [])
+
+-- it is used as this, unless a reason applies
+abbrev pub used_unless : Option Reason → Entry Used → Result (Entry Used) Reason
+used_unless None used = Ok used
+used_unless (Some reason) used = Err reason
+
+-- what a Sync with this header and this originTimestamp is used as
+abbrev pub sync_use : Header → Stamp → (t2 tag : ℕ) → Used
+sync_use header origin t2 tag =
+    if is_two_step header
+    then TwoStepSync (record { t2 = t2; correction = header.correction.0; tag = tag })
+    else OneStepSync (record { t2 = t2; origin = origin; correction = header.correction.0; tag = tag })
+
+-- what a message on the event port is used as, or the first reason for which it can't be
+abbrev pub event_use : Criteria → Header → Body → (t2 tag : ℕ) → Result (Entry Used) Reason
+event_use criteria header (bodies.Sync origin) t2 tag =
+    used_unless (sync_reason criteria header) (entry header.sequence.0 (sync_use header origin t2 tag))
+event_use criteria header (bodies.DelayReq origin) t2 tag = Err reasons.WrongType
+event_use criteria header (bodies.FollowUp precise) t2 tag = Err reasons.WrongType
+event_use criteria header (bodies.DelayResp receive requesting) t2 tag = Err reasons.WrongType
+
+-- what a message on the general port is used as, or the first reason for which it can't be
+abbrev pub general_use : Criteria → Header → Body → (tag : ℕ) → Result (Entry Used) Reason
+general_use criteria header (bodies.Sync origin) tag = Err reasons.WrongType
+general_use criteria header (bodies.DelayReq origin) tag = Err reasons.WrongType
+general_use criteria header (bodies.FollowUp precise) tag =
+    used_unless (sync_reason criteria header)
+    (entry header.sequence.0 (FollowUp (record { precise = precise; correction = header.correction.0; tag = tag })))
+general_use criteria header (bodies.DelayResp receive requesting) tag =
+    used_unless (response_reason criteria header requesting)
+    (entry header.sequence.0 (DelayResp (record { receive = receive; correction = header.correction.0; tag = tag })))
+
+-- what a call's message is used as, or the first reason for which it can't be; None where a call hears no message
+abbrev pub judged : Criteria → Call → Option (Result (Entry Used) Reason)
+judged criteria (SetMaster master) = None
+judged criteria Tick = None
+judged criteria (NextRequest tag) = None
+judged criteria (RequestLeft number t3) = None
+judged criteria (Event (Ok m) t2 tag) = Some (event_use criteria m.header m.body t2 tag)
+judged criteria (Event (Err refusal) t2 tag) = Some (Err (reasons.Decode refusal))
+judged criteria (General (Ok m) tag) = Some (general_use criteria m.header m.body tag)
+judged criteria (General (Err refusal) tag) = Some (Err (reasons.Decode refusal))
+
+-- what a call's message is used as, if it is usable
+abbrev pub usable_in : Criteria → Call → Option (Entry Used)
+usable_in criteria call = option_and_then result_ok (judged criteria call)
+
+-- the first reason for which a call's message isn't usable
+abbrev pub unusable_in : Criteria → Call → Option Reason
+unusable_in criteria call = option_and_then result_err (judged criteria call)

@@ -1,18 +1,20 @@
 ghost use Rattle.std.specs.Prelude.{◌≡◌};
-ghost use Rattle.slave_port.specs.Completion.{pair, answered};
+ghost use Rattle.slave_port.specs.Completion.{pair, alone, answered};
 ghost use Rattle.slave_port.specs.Answer.{report_of};
 
 use crate::heard::Report;
-use crate::held::{HeldFollow, HeldRequest, HeldSync, Response};
-use ptp_units::{delay_bracket, offset2, path2, sync_bracket};
+use crate::held::{HeldFollow, HeldRequest, HeldSync};
+use crate::used::{OneStepSync, Response};
+use ptp_units::{Seq, delay_bracket, offset2, path2, sync_bracket};
 use std::marker::Model;
 
-/// A Sync with its Follow_Up.
+/// A Sync that is completed, by its Follow_Up where it is two-step.
 #[derive(Clone, Copy)]
 pub(crate) struct SyncCompletion {
+    number: Seq,
     bracket: i128,
     sync_tag: u64,
-    follow_tag: u64,
+    follow_tag: Option<u64>,
 }
 
 impl Model for SyncCompletion {
@@ -21,11 +23,11 @@ impl Model for SyncCompletion {
 
     ghost Value = { SyncCompletion };
 
-    ghost view = { λ c. record { bracket = c.bracket; sync_tag = c.sync_tag; follow_tag = c.follow_tag } };
+    ghost view = { λ c. record { number = c.number.0; bracket = c.bracket; sync_tag = c.sync_tag; follow_tag = c.follow_tag } };
 
     ghost invariant = { λ c. IsBracket c.bracket };
 
-    ghost inverse = { λ c. record { bracket = c.bracket; sync_tag = c.sync_tag; follow_tag = c.follow_tag } };
+    ghost inverse = { λ c. record { number = record { 0 = c.number }; bracket = c.bracket; sync_tag = c.sync_tag; follow_tag = c.follow_tag } };
 }
 
 /// A Delay_Resp with its request.
@@ -68,11 +70,11 @@ impl<C> Model for Last<C> {
 
 impl<C: Copy> Last<C> {
     ghost use Rattle.std.specs.Prelude.{◌≡◌, Some};
-    ghost use Rattle.slave_port.specs.Changes.{aged, fresh};
+    ghost use Rattle.slave_port.specs.Changes.{aged, renewed};
 
     /// Of which no tick has come yet.
     pub(crate) fn new(completion: C) -> Last<C>
-        ensures { result ≡ fresh completion }
+        ensures { Some result ≡ renewed (Some completion) None }
     {
         Last {
             completion,
@@ -97,14 +99,36 @@ impl<C: Copy> Last<C> {
     }
 }
 
-/// The completion of a Sync by a Follow_Up of its number.
-pub(crate) fn pair(sync: HeldSync, follow: HeldFollow) -> SyncCompletion
-    ensures { result ≡ pair sync follow }
+impl SyncCompletion {
+    /// The sequenceId of the Sync.
+    pub(crate) fn number(self) -> Seq
+        ensures { result.0 ≡ self.number }
+    {
+        self.number
+    }
+}
+
+/// The completion of a two-step Sync by a Follow_Up of its number.
+pub(crate) fn pair(number: Seq, sync: HeldSync, follow: HeldFollow) -> SyncCompletion
+    ensures { result ≡ pair number.0 sync follow }
 {
     SyncCompletion {
+        number,
         bracket: sync_bracket(sync.t2, follow.precise, follow.correction, sync.correction),
         sync_tag: sync.tag,
-        follow_tag: follow.tag,
+        follow_tag: Some(follow.tag),
+    }
+}
+
+/// The completion of a one-step Sync, which is its own.
+pub(crate) fn alone(number: Seq, sync: OneStepSync) -> SyncCompletion
+    ensures { result ≡ alone number.0 sync }
+{
+    SyncCompletion {
+        number,
+        bracket: sync_bracket(sync.t2, sync.origin, 0, sync.correction),
+        sync_tag: sync.tag,
+        follow_tag: None,
     }
 }
 

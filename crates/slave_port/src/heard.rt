@@ -5,16 +5,16 @@ use crate::reason::Reason;
 pub enum Heard {
     /// It is held, and waits for the message that it pairs with.
     Held,
-    /// It completed a pair, and the other pair of a report isn't there.
+    /// It completed one half of a report, and the other half isn't there.
     Completed,
-    /// It completed a pair, and the other pair is there.
+    /// It completed one half of a report, and the other half is there.
     Report(Report),
     /// It isn't used, and nothing changed.
     Ignored(Reason),
 }
 
 /// The two results of the mechanism, doubled, over one Sync and one Delay_Req, and the tags of the
-/// four calls that they are from.
+/// calls that they are from.
 #[derive(Clone, Copy, Debug, PartialEq, Eq)]
 pub struct Report {
     /// Twice offsetFromMaster, in 2^-16 ns.
@@ -23,8 +23,8 @@ pub struct Report {
     pub path2: i128,
     /// The tag of the Sync.
     pub sync_tag: u64,
-    /// The tag of the Follow_Up.
-    pub follow_tag: u64,
+    /// The tag of the Follow_Up, or None where the Sync is one-step.
+    pub follow_tag: Option<u64>,
     /// The tag of the Delay_Req.
     pub request_tag: u64,
     /// The tag of the Delay_Resp.

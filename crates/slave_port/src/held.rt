@@ -1,7 +1,7 @@
 use ptp_units::{ScaledTime, Timestamp};
 use std::marker::Model;
 
-/// What is held of a Sync.
+/// What is held of a two-step Sync.
 #[derive(Clone, Copy, Default)]
 pub struct HeldSync {
     pub(crate) t2: ScaledTime,
@@ -10,7 +10,7 @@ pub struct HeldSync {
 }
 
 impl Model for HeldSync {
-    ghost use Rattle.slave_port.specs.Held.{SyncValue};
+    ghost use Rattle.slave_port.specs.Values.{SyncValue};
 
     ghost Value = { SyncValue };
 
@@ -28,7 +28,7 @@ pub struct HeldFollow {
 }
 
 impl Model for HeldFollow {
-    ghost use Rattle.slave_port.specs.Held.{FollowValue};
+    ghost use Rattle.slave_port.specs.Values.{FollowValue};
 
     ghost Value = { FollowValue };
 
@@ -45,29 +45,11 @@ pub struct HeldRequest {
 }
 
 impl Model for HeldRequest {
-    ghost use Rattle.slave_port.specs.Held.{RequestValue};
+    ghost use Rattle.slave_port.specs.Values.{RequestValue};
 
     ghost Value = { RequestValue };
 
     ghost view = { λ r. record { t3 = r.t3; tag = r.tag } };
 
     ghost inverse = { λ r. record { t3 = r.t3; tag = r.tag } };
-}
-
-/// What is used of a Delay_Resp, which isn't held.
-#[derive(Clone, Copy)]
-pub(crate) struct Response {
-    pub(crate) receive: Timestamp,
-    pub(crate) correction: i64,
-    pub(crate) tag: u64,
-}
-
-impl Model for Response {
-    ghost use Rattle.slave_port.specs.Held.{ResponseValue};
-
-    ghost Value = { ResponseValue };
-
-    ghost view = { λ r. record { receive = r.receive; correction = r.correction; tag = r.tag } };
-
-    ghost inverse = { λ r. record { receive = r.receive; correction = r.correction; tag = r.tag } };
 }

@@ -10,11 +10,12 @@ mod held;
 mod reason;
 mod slave_port;
 mod usable;
+mod used;
 
 pub use heard::{Heard, Report};
 pub use held::{HeldFollow, HeldRequest, HeldSync};
 pub use reason::{Reason, SlaveRefusal};
 pub use slave_port::SlavePort;
 
-#[cfg(test)]
-mod tests;
+
+

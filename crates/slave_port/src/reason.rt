@@ -15,10 +15,10 @@ pub enum Reason {
     NoMaster,
     /// sourcePortIdentity isn't the present master's.
     OtherMaster,
-    /// A Sync without twoStepFlag.
-    OneStep,
     /// correctionField says 'too big to be represented'.
     TooBig,
+    /// A Sync or a Follow_Up whose number is neither that of the last Sync that was completed nor newer.
+    NotNewer,
     /// A Delay_Resp whose requestingPortIdentity isn't the port's own.
     OtherRequester,
     /// A Delay_Resp whose number no held request has.
@@ -35,11 +35,11 @@ pub enum SlaveRefusal {
 }
 
 impl Reason {
-    ghost use Rattle.slave_port.specs.Codes.{reason_code};
+    ghost use Rattle.slave_port.specs.Refusal.{code_of_reason};
 
     /// The number of the reason.
     pub fn code(&self) -> u16
-        ensures { result ≡ reason_code self.now }
+        ensures { result ≡ code_of_reason self.now }
     {
         match self {
             Reason::Decode(_) => 501,
@@ -47,8 +47,9 @@ impl Reason {
             Reason::OtherDomain => 503,
             Reason::NoMaster => 504,
             Reason::OtherMaster => 505,
-            Reason::OneStep => 506,
+            // 506 was the number of a reason that is gone, and isn't used again.
             Reason::TooBig => 507,
+            Reason::NotNewer => 512,
             Reason::OtherRequester => 508,
             Reason::UnknownRequest => 509,
             Reason::EgressUnknown => 510,
@@ -57,11 +58,11 @@ impl Reason {
 }
 
 impl SlaveRefusal {
-    ghost use Rattle.slave_port.specs.Codes.{refusal_code};
+    ghost use Rattle.slave_port.specs.Refusal.{code_of};
 
     /// The number of the refusal.
     pub fn code(&self) -> u16
-        ensures { result ≡ refusal_code self.now }
+        ensures { result ≡ code_of self.now }
     {
         match self {
             SlaveRefusal::NotHeld => 511,

@@ -4,16 +4,19 @@ ghost use Rattle.event_codec.specs.Reading.{Reading, IsReading};
 ghost use Rattle.pairing.specs.Marked.{entry};
 ghost use Rattle.slave_port.specs.declared.reason.Reason.{Reason};
 ghost use Rattle.slave_port.specs.History.{Setup, Call, setup_of, next_number, SetMaster, Tick, NextRequest, RequestLeft, Event, General};
-ghost use Rattle.slave_port.specs.Answer.{is_held};
+ghost use Rattle.slave_port.specs.Requests.{is_held};
 ghost use Rattle.slave_port.specs.Written.{delay_req};
 ghost use Rattle.slave_port.specs.StandsFor.{StandsFor, StandsAfter, IsAnswer};
-ghost use Rattle.slave_port.specs.Changes.{with_sync, with_follow, with_sync_completion, with_response, and_completed, sync_heard, general_heard};
+ghost use Rattle.slave_port.specs.Changes.{criteria_of, with_sync, with_follow, with_sync_completion, with_response, and_completed, taken, sync_heard, general_heard};
 
-use crate::completion::{DelayCompletion, Last, SyncCompletion, answered, pair, report_of};
+use crate::completion::{
+    DelayCompletion, Last, SyncCompletion, alone, answered, pair, report_of,
+};
 use crate::heard::Heard;
-use crate::held::{HeldFollow, HeldRequest, HeldSync, Response};
+use crate::held::{HeldFollow, HeldRequest, HeldSync};
 use crate::reason::{Reason, SlaveRefusal};
-use crate::usable::{usable_general, usable_sync};
+use crate::usable::{Criteria, event_use, general_use};
+use crate::used::{Response, Used};
 use event_codec::{Body, Message, PortConfig, PortIdentity, decode, octets_of};
 use pairing::PairTable;
 use ptp_units::{Interval, ScaledTime, Seq, Timestamp};
@@ -157,8 +160,8 @@ where
         Ok(())
     }
 
-    /// A message arrived on the event port at `t2`. A Sync of the present master is held, and
-    /// completes with the newest held Follow_Up of its number.
+    /// A message arrived on the event port at `t2`. A two-step Sync of the present master is held, and
+    /// completes with the newest held Follow_Up of its number; a one-step Sync completes by itself.
     pub fn sync(&mut self, octets: &[u8], t2: ScaledTime, tag: u64) -> Heard
         ensures answer { (said : Reading) → IsReading octets.now said → IsAnswer (Event said t2 tag) self.old result }
         ensures stands { (said : Reading) → IsReading octets.now said → StandsAfter (Event said t2 tag) self.old self.new }
@@ -183,18 +186,22 @@ where
         }
     }
 
+    /// By what this port judges the next message.
+    fn criteria(&self) -> Criteria
+        ensures { result ≡ criteria_of self.now }
+    {
+        Criteria {
+            config: self.config,
+            master: self.master,
+            last: self.last_sync.map(|last| last.completion().number()),
+        }
+    }
+
     fn hear_sync(&mut self, message: &Message<'_>, t2: ScaledTime, tag: u64) -> Heard
         ensures { (self.new, result) ≡ sync_heard (contents message.now) t2 tag self.old }
     {
-        match usable_sync(&self.config, self.master, message) {
-            Ok(correction) => {
-                let sync = HeldSync {
-                    t2,
-                    correction,
-                    tag,
-                };
-                self.hold_sync(message.header.sequence, sync)
-            }
+        match event_use(&self.criteria(), message, t2, tag) {
+            Ok(used) => self.take(message.header.sequence, used),
             Err(reason) => Heard::Ignored(reason),
         }
     }
@@ -202,29 +209,21 @@ where
     fn hear_general(&mut self, message: &Message<'_>, tag: u64) -> Heard
         ensures { (self.new, result) ≡ general_heard (contents message.now) tag self.old }
     {
-        let correction = match usable_general(&self.config, self.master, message) {
-            Ok(correction) => correction,
-            Err(reason) => return Heard::Ignored(reason),
-        };
-        let number = message.header.sequence;
-        match message.body {
-            Body::FollowUp { precise } => {
-                let follow = HeldFollow {
-                    precise,
-                    correction,
-                    tag,
-                };
-                self.hold_follow(number, follow)
-            }
-            Body::DelayResp { receive, .. } => {
-                let response = Response {
-                    receive,
-                    correction,
-                    tag,
-                };
-                self.complete_request(number, response)
-            }
-            Body::Sync { .. } | Body::DelayReq { .. } => Heard::Ignored(Reason::WrongType),
+        match general_use(&self.criteria(), message, tag) {
+            Ok(used) => self.take(message.header.sequence, used),
+            Err(reason) => Heard::Ignored(reason),
+        }
+    }
+
+    /// What becomes of a message of this number that is used so.
+    fn take(&mut self, number: Seq, used: Used) -> Heard
+        ensures { (self.new, result) ≡ taken number.0 used self.old }
+    {
+        match used {
+            Used::TwoStepSync(sync) => self.hold_sync(number, sync),
+            Used::OneStepSync(sync) => self.complete_sync(alone(number, sync)),
+            Used::FollowUp(follow) => self.hold_follow(number, follow),
+            Used::DelayResp(response) => self.complete_request(number, response),
         }
     }
 
@@ -233,7 +232,7 @@ where
     {
         self.syncs.push(number, sync);
         match self.follows.find(number).copied() {
-            Some(follow) => self.complete_sync(pair(sync, follow)),
+            Some(follow) => self.complete_sync(pair(number, sync, follow)),
             None => Heard::Held,
         }
     }
@@ -243,7 +242,7 @@ where
     {
         self.follows.push(number, follow);
         match self.syncs.find(number).copied() {
-            Some(sync) => self.complete_sync(pair(sync, follow)),
+            Some(sync) => self.complete_sync(pair(number, sync, follow)),
             None => Heard::Held,
         }
     }

@@ -1,0 +1,104 @@
+-- What a run shows of a report beside its measurement: the order of the events that its tags name, and that they were used.
+use Rattle.std.specs.Prelude.{◌≡◌, ℕ, ◌<◌, ◌≤◌, ◌⊎◌, int_lt, Bool, true, false, count_by, Option, Some, None, IfSome, IsTrue, Ok, Err, Result}
+use Rattle.ptp_units.specs.Interval.{too_big}
+use Rattle.event_codec.specs.Packet.{Contents}
+use Rattle.slave_port.specs.declared.heard.Heard.{Heard}
+use Rattle.slave_port.specs.declared.heard.Heard.TheVariants as answers
+use Rattle.slave_port.specs.declared.heard.Report.{Report}
+use Rattle.network_model.specs.declared.event.Event.TheVariants.{Stamped}
+use Rattle.network_model.specs.declared.refusal.WorldRefusal.{WorldRefusal}
+use Rattle.network_model.specs.declared.stepped.Outcome.{Outcome}
+use Rattle.network_model.specs.declared.stepped.Outcome.TheVariants as outcomes
+use Rattle.network_model.specs.Network.{Network, NodeName, PortSetup}
+use Rattle.network_model.specs.Run.{Run, Place, IsIn, place_at, tag_of, until, site_of, events_after}
+use Rattle.network_model.specs.Kinds.{is_at, is_request, spends}
+use Rattle.network_model.specs.Journey.{Journey}
+use Rattle.network_model.specs.Truth.{master_at, slave_at, travelled}
+use Rattle.network_model.specs.Outcome.{outcome_of, IsRun}
+use Rattle.network_model.specs.Premises.{Premise, is_used}
+use Rattle.network_model.specs.Reported.{Reports}
+use Rattle.network_model.specs.Exact.{IsMeasurement}
+
+-- a message that a slave hears completes a Sync or a request
+abbrev pub is_complete : Heard → Bool
+is_complete answers.Held = false
+is_complete answers.Completed = true
+is_complete (answers.Report report) = true
+is_complete (answers.Ignored reason) = false
+
+-- a slave heard a message that completed a Sync or a request
+abbrev pub is_completing : Result Outcome WorldRefusal → Bool
+is_completing (Ok outcomes.Done) = false
+is_completing (Ok outcomes.Made) = false
+is_completing (Ok outcomes.Entered) = false
+is_completing (Ok (outcomes.Heard heard)) = is_complete heard
+is_completing (Ok (outcomes.Refused code)) = false
+is_completing (Err refusal) = false
+
+-- the event of this tag has an outcome of this kind
+pub record HasOutcome (network : Network) (run : Run) (kind : Result Outcome WorldRefusal → Bool) (tag : ℕ) : Type 0 where
+  pub p : Place
+  pub there : place_at run tag ≡ Some p
+  pub outcome : IsTrue (kind (outcome_of network p.earlier p.event))
+
+-- what a report's Sync did when it arrived: it was used, and a one-step one completed by itself
+abbrev pub SyncWasUsed : Network → Run → Option ℕ → (sync_tag : ℕ) → Type 0
+SyncWasUsed network run None sync_tag = HasOutcome network run is_completing sync_tag
+SyncWasUsed network run (Some follow_tag) sync_tag = HasOutcome network run is_used sync_tag
+
+-- a report's tags aren't later than its own event, one of its messages is heard there, and the request is before the Delay_Resp
+pub record TagsInOrder (tag : ℕ) (report : Report) : Type 0 where
+  pub sync : report.sync_tag ≤ tag
+  pub follow : IfSome report.follow_tag (λ follow. follow ≤ tag)
+  pub response : report.response_tag ≤ tag
+  pub heard_now : (report.sync_tag ≡ tag) ⊎ ((report.follow_tag ≡ Some tag) ⊎ (report.response_tag ≡ tag))
+  pub request : report.request_tag < report.response_tag
+
+-- between a request and its Delay_Resp the slave learnt when the request departed, and it sent no other request before that
+pub record WasStamped (network : Network) (run : Run) (slave : NodeName) (report : Report) : Type 0 where
+  pub stamped : Place
+  pub there : IsIn run stamped
+  pub event : stamped.event ≡ Stamped slave
+  pub done : outcome_of network stamped.earlier stamped.event ≡ Ok outcomes.Done
+  pub after_request : report.request_tag < tag_of stamped
+  pub before_response : tag_of stamped < report.response_tag
+  pub no_other : count_by (is_at is_request slave) (events_after report.request_tag stamped.earlier) ≡ 0
+
+-- a slave and a master are of one domain
+pub record ShareDomain (network : Network) (slave master : NodeName) : Type 0 where
+  pub own : PortSetup
+  pub other : PortSetup
+  pub slave_port : slave_at network slave ≡ Some own
+  pub master_port : master_at network master ≡ Some other
+  pub domain : own.config.domain ≡ other.config.domain
+
+-- the correction of a message at the end of its journey isn't too big
+pub record IsRepresented (network : Network) (journey : Journey) : Type 0 where
+  pub message : Contents
+  pub arrived : travelled network journey ≡ Some message
+  pub small : IsTrue (int_lt message.header.correction.0 too_big)
+
+-- all this of a report that an event answers, whose messages were these
+pub record HasEvidence (network : Network) (answered : Place) (slave : NodeName) (report : Report)
+    (measured : IsMeasurement (until answered) slave report) : Type 0 where
+  pub order : TagsInOrder (tag_of answered) report
+  pub sync_used : SyncWasUsed network (until answered) report.follow_tag report.sync_tag
+  pub follow_used : IfSome report.follow_tag (HasOutcome network (until answered) is_used)
+  pub response_completes : HasOutcome network (until answered) is_completing report.response_tag
+  pub stamped : WasStamped network (until answered) slave report
+  pub domain : ShareDomain network slave measured.one_sync.master
+  pub sync_small : IsRepresented network measured.one_sync.journey
+  pub request_small : IsRepresented network measured.one_request.journey
+
+-- Each report that is a measurement has its evidence in the run.
+abbrev pub EachReportHasEvidence : Premise → Type 0
+EachReportHasEvidence premise =
+    (network : Network) (answered : Place) (report : Report)
+    → premise network (until answered) → Reports network answered report
+    → (measured : IsMeasurement (until answered) (site_of answered.event) report)
+    → HasEvidence network answered (site_of answered.event) report measured
+
+-- No stay in a clock ends twice: no two events of a run spend one transit.
+abbrev pub EachTransitIsSpentOnce : Type 0
+EachTransitIsSpentOnce =
+    (network : Network) (run : Run) (transit : ℕ) → IsRun network run → count_by (spends transit) run ≤ 1
