@@ -7,6 +7,3 @@ mod refusal;
 
 pub use port::MasterPort;
 pub use refusal::MasterRefusal;
-
-
-

@@ -1,1 +1,6 @@
+mod Completions
+mod Requests
+mod Stands
+mod Received
+mod Messages
 mod Examples

@@ -16,6 +16,3 @@ pub use heard::{Heard, Report};
 pub use held::{HeldFollow, HeldRequest, HeldSync};
 pub use reason::{Reason, SlaveRefusal};
 pub use slave_port::SlavePort;
-
-
-

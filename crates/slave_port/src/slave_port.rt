@@ -9,9 +9,7 @@ ghost use Rattle.slave_port.specs.Written.{delay_req};
 ghost use Rattle.slave_port.specs.StandsFor.{StandsFor, StandsAfter, IsAnswer};
 ghost use Rattle.slave_port.specs.Changes.{criteria_of, with_sync, with_follow, with_sync_completion, with_response, and_completed, taken, sync_heard, general_heard};
 
-use crate::completion::{
-    DelayCompletion, Last, SyncCompletion, alone, answered, pair, report_of,
-};
+use crate::completion::{DelayCompletion, Last, SyncCompletion, alone, answered, pair, report_of};
 use crate::heard::Heard;
 use crate::held::{HeldFollow, HeldRequest, HeldSync};
 use crate::reason::{Reason, SlaveRefusal};

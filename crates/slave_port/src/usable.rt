@@ -96,9 +96,18 @@ fn sync_use(header: &Header, origin: Timestamp, correction: i64, t2: ScaledTime,
     ensures { result ≡ sync_use header.now origin t2 tag }
 {
     if is_two_step(header) {
-        Used::TwoStepSync(HeldSync { t2, correction, tag })
+        Used::TwoStepSync(HeldSync {
+            t2,
+            correction,
+            tag,
+        })
     } else {
-        Used::OneStepSync(OneStepSync { t2, origin, correction, tag })
+        Used::OneStepSync(OneStepSync {
+            t2,
+            origin,
+            correction,
+            tag,
+        })
     }
 }
 
@@ -135,11 +144,22 @@ pub(crate) fn general_use(
     match message.body {
         Body::FollowUp { precise } => {
             let correction = tested_sync(criteria, header)?;
-            Ok(Used::FollowUp(HeldFollow { precise, correction, tag }))
+            Ok(Used::FollowUp(HeldFollow {
+                precise,
+                correction,
+                tag,
+            }))
         }
-        Body::DelayResp { receive, requesting } => {
+        Body::DelayResp {
+            receive,
+            requesting,
+        } => {
             let correction = tested_response(criteria, header, requesting)?;
-            Ok(Used::DelayResp(Response { receive, correction, tag }))
+            Ok(Used::DelayResp(Response {
+                receive,
+                correction,
+                tag,
+            }))
         }
         Body::Sync { .. } | Body::DelayReq { .. } => Err(Reason::WrongType),
     }
