@@ -46,7 +46,7 @@ made octets = outs.Made (record { items = octets })
 
 abbrev report_with : ℤ → (sync follow request response : ℕ) → Report
 report_with offset2 sync follow request response =
-    record { offset2 = offset2; path2 = pos 131072000; sync_tag = sync; follow_tag = follow; request_tag = request; response_tag = response }
+    record { offset2 = offset2; path2 = pos 131072000; sync_tag = sync; follow_tag = Some follow; request_tag = request; response_tag = response }
 
 abbrev lines : List TraceLine
 lines = 

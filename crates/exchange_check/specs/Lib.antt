@@ -2,7 +2,6 @@ pub mod Refusal
 pub mod Line
 pub mod Record
 pub mod Journey
-pub mod Shim
 pub mod Octets
 pub mod Sound
 pub mod Verdict

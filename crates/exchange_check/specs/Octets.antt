@@ -12,7 +12,7 @@ use Rattle.event_codec.specs.declared.port.PortIdentity.{PortIdentity}
 use Rattle.event_codec.specs.Correction.{with_correction}
 use Rattle.event_codec.specs.Layout.{number, type_of, fields_length, stamp_in}
 use Rattle.event_codec.specs.Packet.{Contents}
-use Rattle.master_port.specs.Written.{sync, follow_up, delay_resp}
+use Rattle.master_port.specs.Written.{sync, one_step_sync, follow_up, delay_resp}
 use Rattle.slave_port.specs.Written.{delay_req}
 use Rattle.network_model.specs.declared.event.Event.{Event}
 use Rattle.network_model.specs.declared.event.Event.TheVariants.{Sync, SyncOne, Follow, Enter, Leave, Arrive, Hear, Request, Stamped, Tick, SetMaster, StepClock}
@@ -24,7 +24,7 @@ use Rattle.exchange_check.specs.declared.line.TraceOut.TheVariants as outs
 use Rattle.exchange_check.specs.Line.{Lines}
 use Rattle.exchange_check.specs.Record.{Entry, event_of, line_number, last_line, reading, sequence}
 use Rattle.exchange_check.specs.Journey.{Journey, journey_of, journey_made, residence}
-use Rattle.exchange_check.specs.Shim.{one_step_sync}
+
 
 -- whether the ten octets of b from octet i on are this port's identity
 abbrev pub is_identity_at : PortIdentity → List ℕ → ℕ → Bool

@@ -17,7 +17,6 @@ use Rattle.exchange_check.specs.Line.{Lines, counts, is_made, completes, is_arri
 use Rattle.exchange_check.specs.Record.{Entry, line_number, event_of, site, line_at, events, last_line, first_stamp, reading, reads_right}
 use Rattle.exchange_check.specs.Journey.{Stay, Journey, journey_of, residence, left_once}
 use Rattle.exchange_check.specs.Octets.{writes_right}
-use Rattle.exchange_check.specs.Shim.{follow_tag}
 
 -- a value, where there is one and it passes a test
 abbrev pub where_passes : {X : Type 0} → (X → Bool) → Option X → Option X
@@ -56,7 +55,7 @@ sender network lines e = option_and_then (below (line_at network lines) (line_nu
 -- the Sync's arrival: it is used by the slave, and where there is no Follow_Up it completes by itself
 abbrev pub sync_line : Network → Lines → NodeName → Report → Option Entry
 sync_line network lines slave report =
-    where_passes (λ e. is_some (follow_tag report) || completes e.line.out) (line_of network lines is_arrival slave report.sync_tag)
+    where_passes (λ e. is_some report.follow_tag || completes e.line.out) (line_of network lines is_arrival slave report.sync_tag)
 
 -- the line that sent the Follow_Up which the slave heard and used at the line of this number
 abbrev pub follow_line : Network → Lines → NodeName → ℕ → Option Entry
@@ -77,7 +76,7 @@ arrival_line network lines slave hearing =
 -- a report is of the line at which it is answered
 abbrev pub is_of_line : ℕ → Report → Bool
 is_of_line number report =
-    report.sync_tag == number || option_map_or (λ hearing. hearing == number) (follow_tag report) false || report.response_tag == number
+    report.sync_tag == number || option_map_or (λ hearing. hearing == number) report.follow_tag false || report.response_tag == number
 
 -- the slave learned between these two lines when its request departed
 abbrev pub is_stamped_between : Network → Lines → (request hearing : ℕ) → Bool
@@ -100,7 +99,7 @@ exchange_of network slave e report =
                 option_map (λ arrival. record { sync = sync; follow = follow; request = request; arrival = arrival })
                 (arrival_line network (lines_to e) slave report.response_tag))
             (line_of network (lines_to e) is_request slave report.request_tag))
-        (follow_lines network (lines_to e) slave (follow_tag report)))
+        (follow_lines network (lines_to e) slave report.follow_tag))
     (sync_line network (lines_to e) slave report)
     else None
 
@@ -134,7 +133,7 @@ are_paired network x sync request =
 -- the four lines of a report are later than a line
 abbrev pub are_later : ℕ → Report → Bool
 are_later number report =
-    nat_lt number report.sync_tag && option_map_or (λ hearing. nat_lt number hearing) (follow_tag report) true
+    nat_lt number report.sync_tag && option_map_or (λ hearing. nat_lt number hearing) report.follow_tag true
     && nat_lt number report.request_tag && nat_lt number report.response_tag
 
 -- the slave was told this master last, before all four lines
