@@ -5,3 +5,4 @@ pub mod Journey
 pub mod Octets
 pub mod Sound
 pub mod Verdict
+pub mod Kept

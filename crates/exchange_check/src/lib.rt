@@ -2,7 +2,11 @@
 //! where every report in them is sound.
 #![tactic(auto)]
 
+mod events;
+mod facts;
+mod good;
 mod line;
+mod octets;
 mod refusal;
 mod verdict;
 
