@@ -49,7 +49,7 @@ report_with offset2 sync follow request response =
     record { offset2 = offset2; path2 = pos 131072000; sync_tag = sync; follow_tag = Some follow; request_tag = request; response_tag = response }
 
 abbrev lines : List TraceLine
-lines = 
+lines =
     line (StepClock s (pos 65536000)) None outs.Done
     ∷ line (SetMaster s m) None outs.Done
     ∷ line (Sync m (at 1 0 0)) (Some (at 1 0 0)) (made (0 ∷ 18 ∷ 0 ∷ 44 ∷ 0 ∷ 0 ∷ 2 ∷ 0 ∷ 0 ∷ 0 ∷ 0 ∷ 0 ∷ 0 ∷ 0 ∷ 0 ∷ 0 ∷ 0 ∷ 0 ∷ 0 ∷ 0 ∷ 0 ∷ 17 ∷ 34 ∷ 255 ∷ 254 ∷ 51 ∷ 68 ∷ 85 ∷ 0 ∷ 1 ∷ 0 ∷ 0 ∷ 0 ∷ 0 ∷ 0 ∷ 0 ∷ 0 ∷ 0 ∷ 0 ∷ 0 ∷ 0 ∷ 0 ∷ 0 ∷ 0 ∷ []))

@@ -1,6 +1,8 @@
 -- What the checker keeps of lines, so that it searches for nothing. Its own functions cite these; what its callers are told is
 -- said by the lines alone.
 use Rattle.std.specs.Prelude.{ℕ, ◌+◌, ◌-◌, ◌^◌, ℤ, pos, ◌+ℤ◌, ◌-ℤ◌, Bool, true, false, ◌&&◌, ◌||◌, not, List, [], ◌∷◌, length, min, nat_lt, slice_get, unwrap_or, ◌==◌, is_some, if◌then◌else◌, Option, Some, None, option_map, option_and_then}
+use Rattle.std.specs.HashMap.{HashMap, get}
+use Rattle.std.specs.Str.{bytes_eq}
 use Rattle.std.specs.Option.{option_or, option_map_or}
 use Rattle.std.specs.Ordering.{int_eq}
 use Rattle.ptp_units.specs.Exchange.{offset2, path2}
@@ -13,19 +15,29 @@ use Rattle.network_model.specs.declared.event.Event.{Event}
 use Rattle.network_model.specs.declared.event.Event.TheVariants.{Sync, SyncOne, Follow, Enter, Leave, Arrive, Hear, Request, Stamped, Tick, SetMaster, StepClock}
 use Rattle.network_model.specs.Network.{Network, NodeName, PortSetup, is_named}
 use Rattle.network_model.specs.Run.{site_of, true_moment}
-use Rattle.network_model.specs.Kinds.{is_at, is_sync, is_one_step_sync, draws_sync, is_follow, is_request, entered_copy, heard_copy, named_master}
+use Rattle.network_model.specs.Kinds.{is_at, is_sync, is_one_step_sync, draws_sync, is_follow, is_request, entered_copy, heard_copy, named_master, spends, spent_transit, is_stamped}
 use Rattle.network_model.specs.Truth.{master_at, slave_at}
 use Rattle.exchange_check.specs.declared.facts.Fact.{Fact}
+use Rattle.exchange_check.specs.declared.facts.Known.{Known}
 use Rattle.exchange_check.specs.declared.facts.Site.{Site}
 use Rattle.exchange_check.specs.declared.facts.Travel.{Travel}
 use Rattle.exchange_check.specs.declared.line.TraceLine.{TraceLine}
 use Rattle.exchange_check.specs.declared.octets.Port.{Port}
+use Rattle.exchange_check.specs.declared.octets.Written.{Written}
 use Rattle.exchange_check.specs.declared.verdict.Why.{Why}
 use Rattle.exchange_check.specs.declared.verdict.Why.TheVariants.{NoSuchLine, OtherNumber, OtherMaster, BrokenJourney, WrongReading, WrongValue, TooBig, Bytes}
 use Rattle.exchange_check.specs.Line.{counts, is_made, completes, is_arrival, is_hearing}
 use Rattle.exchange_check.specs.Record.{is_reading}
 use Rattle.exchange_check.specs.Octets.{drawing_port, message_sent, with_residence_time, is_written}
 use Rattle.exchange_check.specs.Sound.{where_passes, below, are_later, is_domain, is_of_line}
+
+-- a port's configuration and first number, as a network has them
+abbrev pub port_setup : Port → PortSetup
+port_setup port = record { config = port.config; first = port.first.0 }
+
+-- a message that has no suffix
+abbrev pub contents_of : Written → Contents
+contents_of message = record { header = message.header; body = message.body; suffix = [] }
 
 -- what is kept of the line of each number, where it tells of something done
 abbrev pub Facts : Type 0
@@ -38,14 +50,6 @@ Sites = NodeName → Site
 -- the fact of this number in a list, oldest first
 abbrev pub fact_in : List (Option Fact) → ℕ → Option Fact
 fact_in facts n = option_and_then (λ fact. fact) (slice_get facts n)
-
--- what is known of a line before others are asked
-pub record Known : Type 0 where
-  pub line : ℕ
-  pub now : ℕ
-  pub number : ℕ
-  pub reads : Bool
-  pub last_sync : Option ℕ
 
 -- the residence that is still counted exactly
 abbrev pub longest : ℕ
@@ -73,8 +77,8 @@ shown_by site event = option_map (λ at. pos at +ℤ site.difference) (true_mome
 abbrev pub known_by : Network → Sites → TraceLine → ℕ → Known
 known_by network sites line n = record {
   line = n;
-  now = unwrap_or line.reading 0;
-  number = number_by network sites line.event;
+  reading = unwrap_or line.reading 0;
+  number = record { 0 = number_by network sites line.event };
   reads = is_reading line.reading (shown_by (sites (site_of line.event)) line.event);
   last_sync = (sites (site_of line.event)).last_sync;
 }
@@ -93,8 +97,8 @@ copy_entered_by clock entered = option_and_then
 abbrev pub stayed : Known → Fact → Travel → Travel
 stayed known entered before = record {
   origin = before.origin;
-  residence = min (before.residence + (known.now - entered.reading)) longest;
-  reads_right = before.reads_right && (entered.reads_right && known.reads && not (nat_lt known.now entered.reading));
+  residence = min (before.residence + (known.reading - entered.reading)) longest;
+  reads_right = before.reads_right && (entered.reads_right && known.reads && not (nat_lt known.reading entered.reading));
   writes_right = before.writes_right;
 }
 
@@ -102,6 +106,11 @@ abbrev pub left_by : Facts → NodeName → Known → Fact → Option Travel
 left_by facts clock known entered =
     option_and_then (λ copy. option_map (stayed known entered) (travel_at facts copy)) (copy_entered_by clock entered)
 
+-- the journey of a copy that leaves a clock by a stay that began at the line of this number
+abbrev pub travel_left : Facts → NodeName → ℕ → Known → Option Travel
+travel_left facts clock transit known = option_and_then (left_by facts clock known) (facts transit)
+
+-- the journey of a message that was just sent
 abbrev pub begun_by : Known → Travel
 begun_by known = record { origin = known.line; residence = 0; reads_right = known.reads; writes_right = true }
 
@@ -111,7 +120,7 @@ travel_by facts known (Sync node at) = Some (begun_by known)
 travel_by facts known (SyncOne node at) = Some (begun_by known)
 travel_by facts known (Follow node) = None
 travel_by facts known (Enter node copy at) = None
-travel_by facts known (Leave node transit at) = option_and_then (left_by facts node known) (facts transit)
+travel_by facts known (Leave node transit at) = travel_left facts node transit known
 travel_by facts known (Arrive node copy at) = None
 travel_by facts known (Hear node copy) = None
 travel_by facts known (Request node at) = Some (begun_by known)
@@ -141,16 +150,16 @@ answered_by network facts port now travel =
 
 -- the message that a line made
 abbrev pub message_by : Network → Facts → Known → Option Travel → Event → Option Contents
-message_by network facts known travel (Sync node at) = sent_by network (Sync node at) known.number known.now
-message_by network facts known travel (SyncOne node at) = sent_by network (SyncOne node at) known.number known.now
+message_by network facts known travel (Sync node at) = sent_by network (Sync node at) known.number.0 known.reading
+message_by network facts known travel (SyncOne node at) = sent_by network (SyncOne node at) known.number.0 known.reading
 message_by network facts known travel (Follow node) =
     option_and_then (λ port. followed_by facts port known.last_sync) (master_at network node)
 message_by network facts known travel (Enter node copy at) = None
 message_by network facts known travel (Leave node transit at) = option_and_then (travelled_by network facts) travel
 message_by network facts known travel (Arrive node copy at) =
-    option_and_then (λ port. answered_by network facts port known.now (travel_at facts copy)) (master_at network node)
+    option_and_then (λ port. answered_by network facts port known.reading (travel_at facts copy)) (master_at network node)
 message_by network facts known travel (Hear node copy) = None
-message_by network facts known travel (Request node at) = sent_by network (Request node at) known.number known.now
+message_by network facts known travel (Request node at) = sent_by network (Request node at) known.number.0 known.reading
 message_by network facts known travel (Stamped node) = None
 message_by network facts known travel (Tick node) = None
 message_by network facts known travel (SetMaster node master) = None
@@ -170,10 +179,10 @@ abbrev pub fact_made : TraceLine → Known → (writes : Bool) → Option Travel
 fact_made line known writes travel = record {
   line = known.line;
   event = line.event;
-  reading = known.now;
+  reading = known.reading;
   made = is_made line.out;
   completes = completes line.out;
-  number = record { 0 = known.number };
+  number = known.number;
   reads_right = known.reads;
   writes_right = writes;
   last_sync = known.last_sync;
@@ -205,6 +214,42 @@ moved (Tick node) n site = site
 moved (SetMaster node master) n site = record site { set_master = Some (master, n) }
 moved (StepClock node diff) n site = record site { difference = diff }
 
--- a port's configuration and first number, as a network has them
-abbrev pub port_setup : Port → PortSetup
-port_setup port = record { config = port.config; first = port.first.0 }
+-- a node of which no line told anything
+abbrev pub new_site : Site
+new_site = record {
+  difference = pos 0;
+  syncs = record { 0 = 0 };
+  requests = record { 0 = 0 };
+  last_sync = None;
+  last_request = None;
+  set_master = None;
+}
+
+-- what a map of nodes has of each node
+abbrev pub site_in : {S : Type 0} → HashMap NodeName Site S → Sites
+site_in sites name = unwrap_or (get bytes_eq sites name) new_site
+
+-- what is kept of each node, after an event at the line of this number
+abbrev pub sites_after : Event → ℕ → Sites → Sites
+sites_after event n sites name = if is_named (site_of event) name then moved event n (sites name) else sites name
+
+-- whether the stay that began at each line was ended again after it was ended
+abbrev pub Leaves : Type 0
+Leaves = ℕ → Option Bool
+
+-- the same after one more event
+abbrev pub leaves_after : Event → Leaves → Leaves
+leaves_after event leaves transit = if spends transit event then Some (is_some (leaves transit)) else leaves transit
+
+-- the line at which the departure of the request of each number was learned
+abbrev pub Stamps : Type 0
+Stamps = ℕ → Option ℕ
+
+-- whether an event tells when the request of this number departed, that being the last one of its node
+abbrev pub stamps_last : Event → Site → ℕ → Bool
+stamps_last event site request = is_stamped event && option_map_or (λ last. last == request) site.last_request false
+
+-- the same after an event at the line of this number
+abbrev pub stamps_after : Event → ℕ → Sites → Stamps → Stamps
+stamps_after event n sites stamps request =
+    option_or (stamps request) (if stamps_last event (sites (site_of event)) request then Some n else None)

@@ -25,7 +25,6 @@ use Rattle.exchange_check.specs.Line.{Lines}
 use Rattle.exchange_check.specs.Record.{Entry, event_of, line_number, last_line, reading, sequence}
 use Rattle.exchange_check.specs.Journey.{Journey, journey_of, journey_made, residence}
 
-
 -- whether the ten octets of b from octet i on are this port's identity
 abbrev pub is_identity_at : PortIdentity → List ℕ → ℕ → Bool
 is_identity_at identity b i = bytes_eq identity.clock (slice_range b i (i + 8)) && identity.port == number b (i + 8) 2

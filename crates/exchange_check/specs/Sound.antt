@@ -94,12 +94,12 @@ abbrev pub exchange_of : Network → NodeName → Entry → Report → Option Ex
 exchange_of network slave e report =
     if is_report_in_place network e report
     then option_and_then (λ sync.
-        option_and_then (λ follow.
-            option_and_then (λ request.
-                option_map (λ arrival. record { sync = sync; follow = follow; request = request; arrival = arrival })
-                (arrival_line network (lines_to e) slave report.response_tag))
-            (line_of network (lines_to e) is_request slave report.request_tag))
-        (follow_lines network (lines_to e) slave report.follow_tag))
+    option_and_then (λ follow.
+    option_and_then (λ request.
+    option_map (λ arrival. record { sync = sync; follow = follow; request = request; arrival = arrival })
+    (arrival_line network (lines_to e) slave report.response_tag))
+    (line_of network (lines_to e) is_request slave report.request_tag))
+    (follow_lines network (lines_to e) slave report.follow_tag))
     (sync_line network (lines_to e) slave report)
     else None
 

@@ -57,3 +57,38 @@ pub(crate) struct Site {
     /// The master that it was told last, and the number of that line.
     pub(crate) set_master: Option<(Name, u64)>,
 }
+
+/// What is known of a line from the line itself and from its node.
+#[derive(Clone, Copy, Debug)]
+pub(crate) struct Known {
+    /// The line's number.
+    pub(crate) line: u64,
+    /// The line's reading, 0 where there is none.
+    pub(crate) reading: ScaledTime,
+    /// The sequenceId that its event draws.
+    pub(crate) number: Seq,
+    /// Whether its reading is right.
+    pub(crate) reads: bool,
+    /// The number of the last line before it at which its node sent a two-step Sync.
+    pub(crate) last_sync: Option<u64>,
+}
+
+/// The way of a copy, with the line that sent it.
+#[derive(Clone, Copy, Debug)]
+pub(crate) struct Way {
+    pub(crate) travel: Travel,
+    pub(crate) origin: Fact,
+}
+
+/// The lines of a report.
+#[derive(Clone, Copy, Debug)]
+pub(crate) struct Found {
+    /// The Sync's arrival at the slave.
+    pub(crate) sync: Fact,
+    /// The line that sent the Follow_Up, of a two-step Sync.
+    pub(crate) follow: Option<Fact>,
+    /// The line that sent the Delay_Req.
+    pub(crate) request: Fact,
+    /// The Delay_Req's arrival at a master, which sent the Delay_Resp.
+    pub(crate) arrival: Fact,
+}

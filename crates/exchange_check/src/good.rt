@@ -115,6 +115,5 @@ fn may_happen(nodes: &Nodes, event: &Event, out: &TraceOut) -> bool
 pub(crate) fn counts(nodes: &Nodes, line: &TraceLine) -> bool
     ensures { result ≡ counts nodes.now line.now }
 {
-    may_happen(nodes, &line.event, &line.out)
-        && !(line.out.is_refused() || line.out.is_ignored())
+    may_happen(nodes, &line.event, &line.out) && !(line.out.is_refused() || line.out.is_ignored())
 }

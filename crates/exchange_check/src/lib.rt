@@ -5,6 +5,7 @@
 mod events;
 mod facts;
 mod good;
+mod kept;
 mod line;
 mod octets;
 mod refusal;

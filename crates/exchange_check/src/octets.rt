@@ -5,7 +5,7 @@ ghost use Rattle.event_codec.specs.Packet.{Contents, contents};
 ghost use Rattle.master_port.specs.Written.{follow_up, delay_resp};
 ghost use Rattle.network_model.specs.Network.{PortSetup};
 ghost use Rattle.network_model.specs.Truth.{master_at, slave_at};
-ghost use Rattle.exchange_check.specs.Kept.{sent_by, port_setup};
+ghost use Rattle.exchange_check.specs.Kept.{sent_by, port_setup, contents_of};
 ghost use Rattle.exchange_check.specs.Octets.{is_packet, is_written, drawing_port, message_sent, with_residence_time};
 
 use crate::line::TraceOut;
@@ -58,54 +58,49 @@ pub(crate) fn drawing_port(nodes: &Nodes, event: &Event) -> Option<Port>
 }
 
 /// A message without suffix.
-fn message(header: Header, body: Body) -> Message<'static>
-    ensures { contents result ≡ record { header = header; body = body; suffix = [] } }
-{
-    Message {
-        header,
-        body,
-        suffix: &[],
-    }
+#[derive(Clone, Copy)]
+pub(crate) struct Written {
+    pub(crate) header: Header,
+    pub(crate) body: Body,
 }
 
 /// The message that a port sends at an event, under this number and at this reading.
-fn message_sent(
-    config: &PortConfig,
-    event: &Event,
-    number: Seq,
-    now: ScaledTime,
-) -> Option<Message<'static>>
-    ensures value { option_map contents result ≡ message_sent config.now event.now number.0 now }
+fn message_sent(config: &PortConfig, event: &Event, number: Seq, now: ScaledTime) -> Option<Written>
+    ensures value { option_map contents_of result ≡ message_sent config.now event.now number.0 now }
     ensures sign { IfSome result (λ m. pos 0 ≤ℤ m.header.correction.0) }
 {
     let origin = Timestamp::default();
     match event {
         Event::Sync { .. } => {
             let header = config.header(TWO_STEP, Interval(0), number, 0, config.log);
-            Some(message(header, Body::Sync { origin }))
+            Some(Written {
+                header,
+                body: Body::Sync { origin },
+            })
         }
         Event::SyncOne { .. } => {
             let (origin, fraction) = now.split();
             let correction = Interval(i64::from(fraction));
             let header = config.header(NO_FLAGS, correction, number, 0, config.log);
-            Some(message(header, Body::Sync { origin }))
+            Some(Written {
+                header,
+                body: Body::Sync { origin },
+            })
         }
         Event::Request { .. } => {
             let header = config.header(NO_FLAGS, Interval(0), number, 1, 127);
-            Some(message(header, Body::DelayReq { origin }))
+            Some(Written {
+                header,
+                body: Body::DelayReq { origin },
+            })
         }
         _ => None,
     }
 }
 
 /// The message that an event sends, under this number and at this reading.
-pub(crate) fn sent(
-    nodes: &Nodes,
-    event: &Event,
-    number: Seq,
-    now: ScaledTime,
-) -> Option<Message<'static>>
-    ensures value { option_map contents result ≡ sent_by nodes.now event.now number.0 now }
+pub(crate) fn sent(nodes: &Nodes, event: &Event, number: Seq, now: ScaledTime) -> Option<Written>
+    ensures value { option_map contents_of result ≡ sent_by nodes.now event.now number.0 now }
     ensures sign { IfSome result (λ m. pos 0 ≤ℤ m.header.correction.0) }
 {
     let port = drawing_port(nodes, event)?;
@@ -113,38 +108,36 @@ pub(crate) fn sent(
 }
 
 /// A message with a residence added to its correction.
-pub(crate) fn with_residence_time(message: &Message<'static>, time: u64) -> Message<'static>
+pub(crate) fn with_residence_time(message: &Written, time: u64) -> Written
     requires { pos 0 ≤ℤ message.now.header.correction.0 }
-    ensures value { contents result ≡ with_residence_time time (contents message.now) }
+    ensures value { contents_of result ≡ with_residence_time time (contents_of message.now) }
     ensures sign { pos 0 ≤ℤ result.header.correction.0 }
 {
     let mut header = message.header;
     header.correction = header.correction.plus_residence(u128::from(time));
-    Message {
+    Written {
         header,
         body: message.body,
-        suffix: message.suffix,
     }
 }
 
 /// The Follow_Up of the Sync of this number, which left at t1.
-pub(crate) fn follow_up(config: &PortConfig, number: Seq, t1: ScaledTime) -> Message<'static>
-    ensures { contents result ≡ follow_up config.now number.0 t1 }
+pub(crate) fn follow_up(config: &PortConfig, number: Seq, t1: ScaledTime) -> Written
+    ensures { contents_of result ≡ follow_up config.now number.0 t1 }
 {
     let (precise, fraction) = t1.split();
     let correction = Interval(i64::from(fraction));
     let header = config.header(NO_FLAGS, correction, number, 2, config.log);
-    message(header, Body::FollowUp { precise })
+    Written {
+        header,
+        body: Body::FollowUp { precise },
+    }
 }
 
 /// The Delay_Resp to a Delay_Req that arrived at t4.
-pub(crate) fn delay_resp(
-    config: &PortConfig,
-    request: &Header,
-    t4: ScaledTime,
-) -> Message<'static>
+pub(crate) fn delay_resp(config: &PortConfig, request: &Header, t4: ScaledTime) -> Written
     requires { pos 0 ≤ℤ request.now.correction.0 }
-    ensures { contents result ≡ delay_resp config.now request.now t4 }
+    ensures { contents_of result ≡ delay_resp config.now request.now t4 }
 {
     let (receive, fraction) = t4.split();
     let correction = request.correction.minus_fraction(fraction).unwrap();
@@ -153,7 +146,7 @@ pub(crate) fn delay_resp(
         receive,
         requesting: request.source,
     };
-    message(header, body)
+    Written { header, body }
 }
 
 /// Whether octets are a message, octet for octet.
@@ -169,14 +162,21 @@ fn is_packet(message: &Message<'_>, octets: &[u8]) -> bool
 }
 
 /// Whether a line made this message.
-pub(crate) fn is_written(message: &Option<Message<'static>>, out: &TraceOut) -> bool
-    ensures { result ≡ is_written (option_map contents message.now) out.now }
+pub(crate) fn is_written(message: &Option<Written>, out: &TraceOut) -> bool
+    ensures { result ≡ is_written (option_map contents_of message.now) out.now }
 {
     let Some(message) = message else {
         return false;
     };
     match out {
-        TraceOut::Made(octets) => is_packet(message, octets.as_slice()),
+        TraceOut::Made(octets) => {
+            let message = Message {
+                header: message.header,
+                body: message.body,
+                suffix: &[],
+            };
+            is_packet(&message, octets.as_slice())
+        }
         _ => false,
     }
 }

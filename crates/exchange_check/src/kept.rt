@@ -1,0 +1,293 @@
+//! What is kept of the lines so far, and what one more line adds to it.
+
+ghost use Rattle.std.specs.Prelude.{◌≡◌, ◌≤ℤ◌, ◌+ℤ◌, ◌+◌, pos, option_map, IfSome};
+ghost use Rattle.std.specs.Option.{option_map_or};
+ghost use Rattle.ptp_units.specs.Sequence.{of_count};
+ghost use Rattle.exchange_check.specs.Kept.{fact_in, site_in, travel_at, copy_entered_by, stayed, begun_by, travel_by, travelled_by, followed_by, answered_by, message_by, known_by, number_by, fact_known, fact_by, travel_left, written_travel, port_setup, contents_of};
+ghost use Rattle.exchange_check.specs.Record.{is_reading};
+
+use crate::events::{entered_copy, site, true_moment};
+use crate::facts::{Fact, Known, Site, Travel};
+use crate::good::counts;
+use crate::line::TraceLine;
+use crate::octets::{
+    Port, Written, delay_resp, follow_up, is_written, master_at, sent, slave_at,
+    with_residence_time,
+};
+use crate::verdict::Verdict;
+use network_model::{Event, Name, Nodes};
+use ptp_units::{ScaledTime, Seq};
+use std::collections::HashMap;
+
+/// The longest residence that is counted exactly is below this, in units of 2^-16 ns.
+const LONGEST: u128 = (1 << 63) - 1;
+
+/// What is kept of the lines so far.
+#[derive(Drop)]
+pub(crate) struct Kept {
+    /// Of each line that tells of something done.
+    pub(crate) facts: Vec<Option<Fact>>,
+    /// Of each node.
+    pub(crate) sites: HashMap<Name, Site>,
+    /// Of each Enter line that a Leave line names: whether another one names it too.
+    pub(crate) leaves: HashMap<u64, bool>,
+    /// Of each request: the number of the line at which its departure was learned.
+    pub(crate) stamps: HashMap<u64, u64>,
+    /// The verdict so far.
+    pub(crate) verdict: Verdict,
+}
+
+/// Whether a line's reading is what the clock showed at a true moment.
+fn is_reading(reading: Option<ScaledTime>, at: Option<ScaledTime>, difference: i128) -> bool
+    ensures { result ≡ is_reading reading (option_map (λ moment. pos moment +ℤ difference) at) }
+{
+    match (reading, at) {
+        (Some(reading), Some(at)) => reading.value() as i128 - at.value() as i128 == difference,
+        _ => false,
+    }
+}
+
+/// The number after so many that a port drew, 0 where there is no port.
+fn drawn(port: Option<Port>, count: Seq) -> Seq
+    ensures { result.0 ≡ option_map_or (λ setup. of_count (setup.first + count.0)) (option_map port_setup port) 0 }
+{
+    match port {
+        Some(port) => Seq(port.first.0.wrapping_add(count.0)),
+        None => Seq(0),
+    }
+}
+
+/// The copy that entered at a line, where that is a line of this clock and the copy was made below
+/// it.
+fn copy_entered(clock: &Name, entered: &Fact) -> Option<u64>
+    ensures { result ≡ copy_entered_by clock.now entered.now }
+{
+    let copy = entered_copy(&entered.event)?;
+    if site(&entered.event) == *clock && copy < entered.line {
+        Some(copy)
+    } else {
+        None
+    }
+}
+
+/// A journey and one more stay.
+fn stayed(known: &Known, entered: &Fact, before: &Travel) -> Travel
+    ensures { result ≡ stayed known.now entered.now before.now }
+{
+    let stay = known
+        .reading
+        .value()
+        .saturating_sub(entered.reading.value());
+    let residence = (u128::from(before.residence) + stay).min(LONGEST);
+    let rises = known.reading.value() >= entered.reading.value();
+    Travel {
+        origin: before.origin,
+        residence: residence as u64,
+        reads_right: before.reads_right && (entered.reads_right && known.reads && rises),
+        writes_right: before.writes_right,
+    }
+}
+
+/// The journey of a message that a line sends.
+fn begun(known: &Known) -> Travel
+    ensures { result ≡ begun_by known.now }
+{
+    Travel {
+        origin: known.line,
+        residence: 0,
+        reads_right: known.reads,
+        writes_right: true,
+    }
+}
+
+impl Kept {
+    /// What is kept of the line of this number, where it tells of something done.
+    pub(crate) fn at(&self, number: u64) -> Option<Fact>
+        ensures { result ≡ fact_in self.now.facts.items number }
+    {
+        match self.facts.get(number as usize) {
+            Some(fact) => *fact,
+            None => None,
+        }
+    }
+
+    /// What is kept of a node.
+    pub(crate) fn site(&self, name: &Name) -> Site
+        ensures { result ≡ site_in self.now.sites name.now }
+    {
+        match self.sites.get(name) {
+            Some(site) => *site,
+            None => Site::default(),
+        }
+    }
+
+    /// The journey of the copy that the line of this number made.
+    pub(crate) fn travel_at(&self, copy: u64) -> Option<Travel>
+        ensures { result ≡ travel_at (fact_in self.now.facts.items) copy }
+    {
+        match self.at(copy) {
+            Some(fact) => fact.travel,
+            None => None,
+        }
+    }
+
+    /// The sequenceId that an event draws.
+    fn number(&self, nodes: &Nodes, event: &Event) -> Seq
+        ensures { result.0 ≡ number_by nodes.now (site_in self.now.sites) event.now }
+    {
+        match event {
+            Event::Sync { node, .. } | Event::SyncOne { node, .. } => {
+                drawn(master_at(nodes, node), self.site(node).syncs)
+            }
+            Event::Request { node, .. } => drawn(slave_at(nodes, node), self.site(node).requests),
+            _ => Seq(0),
+        }
+    }
+
+    /// What is known of a line from the line itself and from its node.
+    fn known(&self, nodes: &Nodes, line: &TraceLine, number: u64) -> Known
+        ensures { result ≡ known_by nodes.now (site_in self.now.sites) line.now number }
+    {
+        let site = self.site(&site(&line.event));
+        Known {
+            line: number,
+            reading: line.reading.unwrap_or_default(),
+            number: self.number(nodes, &line.event),
+            reads: is_reading(line.reading, true_moment(&line.event), site.difference),
+            last_sync: site.last_sync,
+        }
+    }
+
+    /// The journey of a copy that leaves a clock, its own octets left out.
+    fn left(&self, clock: &Name, transit: u64, known: &Known) -> Option<Travel>
+        ensures { result ≡ travel_left (fact_in self.now.facts.items) clock.now transit known.now }
+    {
+        let Some(entered) = self.at(transit) else {
+            return None;
+        };
+        let copy = copy_entered(clock, &entered)?;
+        let before = self.travel_at(copy)?;
+        Some(stayed(known, &entered, &before))
+    }
+
+    /// The journey of the copy that a line made, its own octets left out.
+    fn travel(&self, known: &Known, event: &Event) -> Option<Travel>
+        ensures { result ≡ travel_by (fact_in self.now.facts.items) known.now event.now }
+    {
+        match event {
+            Event::Sync { .. } | Event::SyncOne { .. } | Event::Request { .. } => {
+                Some(begun(known))
+            }
+            Event::Leave { node, transit, .. } => self.left(node, *transit, known),
+            _ => None,
+        }
+    }
+
+    /// The message at the end of a journey.
+    fn travelled(&self, nodes: &Nodes, travel: &Travel) -> Option<Written>
+        ensures value { option_map contents_of result ≡ travelled_by nodes.now (fact_in self.now.facts.items) travel.now }
+        ensures sign { IfSome result (λ m. pos 0 ≤ℤ m.header.correction.0) }
+    {
+        let Some(origin) = self.at(travel.origin) else {
+            return None;
+        };
+        let Fact {
+            event,
+            number,
+            reading,
+            ..
+        } = origin;
+        let message = sent(nodes, &event, number, reading)?;
+        Some(with_residence_time(&message, travel.residence))
+    }
+
+    /// The Follow_Up of the Sync line of this number.
+    fn followed(&self, port: &Port, last: Option<u64>) -> Option<Written>
+        ensures { option_map contents_of result ≡ followed_by (fact_in self.now.facts.items) (port_setup port.now) last }
+    {
+        let Some(sync) = self.at(last?) else {
+            return None;
+        };
+        Some(follow_up(&port.config, sync.number, sync.reading))
+    }
+
+    /// The Delay_Resp to a message that made this journey and arrives now.
+    fn answered(
+        &self,
+        nodes: &Nodes,
+        port: &Port,
+        now: ScaledTime,
+        travel: Option<Travel>,
+    ) -> Option<Written>
+        ensures { option_map contents_of result ≡ answered_by nodes.now (fact_in self.now.facts.items) (port_setup port.now) now travel }
+    {
+        let request = self.travelled(nodes, &travel?)?;
+        Some(delay_resp(&port.config, &request.header, now))
+    }
+
+    /// The message that a line makes.
+    fn message(
+        &self,
+        nodes: &Nodes,
+        known: &Known,
+        travel: Option<Travel>,
+        event: &Event,
+    ) -> Option<Written>
+        ensures { option_map contents_of result ≡ message_by nodes.now (fact_in self.now.facts.items) known.now travel event.now }
+    {
+        match event {
+            Event::Sync { .. } | Event::SyncOne { .. } | Event::Request { .. } => {
+                sent(nodes, event, known.number, known.reading)
+            }
+            Event::Follow { node } => self.followed(&master_at(nodes, node)?, known.last_sync),
+            Event::Leave { .. } => self.travelled(nodes, &travel?),
+            Event::Arrive { node, copy, .. } => {
+                let port = master_at(nodes, node)?;
+                self.answered(nodes, &port, known.reading, self.travel_at(*copy))
+            }
+            _ => None,
+        }
+    }
+
+    /// What is kept of a line that tells of something done.
+    fn told(&self, nodes: &Nodes, line: &TraceLine, known: &Known) -> Fact
+        ensures { result ≡ fact_known nodes.now (fact_in self.now.facts.items) line.now known.now (travel_by (fact_in self.now.facts.items) known.now line.now.event) }
+    {
+        let travel = self.travel(known, &line.event);
+        let message = self.message(nodes, known, travel, &line.event);
+        let writes_right = is_written(&message, &line.out);
+        Fact {
+            line: known.line,
+            event: line.event,
+            reading: known.reading,
+            made: line.out.is_made(),
+            completes: line.out.completes(),
+            number: known.number,
+            reads_right: known.reads,
+            writes_right,
+            last_sync: known.last_sync,
+            travel: with_octets(travel, writes_right),
+        }
+    }
+
+    /// What is kept of a line of this number.
+    pub(crate) fn fact(&self, nodes: &Nodes, line: &TraceLine, number: u64) -> Option<Fact>
+        ensures { result ≡ fact_by nodes.now (fact_in self.now.facts.items) (site_in self.now.sites) line.now number }
+    {
+        if !counts(nodes, line) {
+            return None;
+        }
+        Some(self.told(nodes, line, &self.known(nodes, line, number)))
+    }
+}
+
+/// A journey with the line's own octets.
+fn with_octets(travel: Option<Travel>, writes_right: bool) -> Option<Travel>
+    ensures { result ≡ option_map (written_travel writes_right) travel }
+{
+    let travel = travel?;
+    Some(Travel {
+        writes_right: travel.writes_right && writes_right,
+        ..travel
+    })
+}
