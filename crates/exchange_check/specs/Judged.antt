@@ -21,6 +21,10 @@ use Rattle.exchange_check.specs.Line.{is_arrival, is_hearing}
 use Rattle.exchange_check.specs.Sound.{where_passes, below, are_later, is_domain, is_of_line}
 use Rattle.exchange_check.specs.Kept.{Facts, Leaves, Stamps, Sites, travel_at, longest}
 
+-- an event of a wanted kind, where it is at this node
+abbrev pub is_here : Bool → Event → NodeName → Bool
+is_here wanted event node = wanted && is_named (site_of event) node
+
 -- the line of this number, where it is of this kind and at this node
 abbrev pub line_of_by : Facts → (Event → Bool) → NodeName → ℕ → Option Fact
 line_of_by facts kind node number = where_passes (λ fact. is_at kind node fact.event) (facts number)
@@ -41,10 +45,11 @@ abbrev pub follows_by : Facts → NodeName → Option ℕ → Option (Option Fac
 follows_by facts slave None = Some None
 follows_by facts slave (Some hearing) = option_map Some (follow_by facts slave hearing)
 
+abbrev pub completion_by : Facts → NodeName → ℕ → Option Fact
+completion_by facts slave hearing = where_passes (λ fact. fact.completes) (line_of_by facts is_hearing slave hearing)
+
 abbrev pub arrival_by : Facts → NodeName → ℕ → Option Fact
-arrival_by facts slave hearing =
-    where_passes (λ fact. is_arrival fact.event && fact.made)
-    (option_and_then (sender_by facts) (where_passes (λ fact. fact.completes) (line_of_by facts is_hearing slave hearing)))
+arrival_by facts slave hearing = where_passes (λ fact. is_arrival fact.event && fact.made) (option_and_then (sender_by facts) (completion_by facts slave hearing))
 
 abbrev pub is_stamped_by : Stamps → (request hearing : ℕ) → Bool
 is_stamped_by stamps request hearing =

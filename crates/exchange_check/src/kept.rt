@@ -1,6 +1,6 @@
 //! What is kept of the lines so far, and what one more line adds to it.
 
-ghost use Rattle.std.specs.Prelude.{◌≡◌, ◌≤ℤ◌, ◌+ℤ◌, ◌+◌, pos, option_map, IfSome};
+ghost use Rattle.std.specs.Prelude.{◌≡◌, ◌≤ℤ◌, ◌+ℤ◌, ◌+◌, pos, option_map, unwrap_or, IfSome};
 ghost use Rattle.std.specs.Option.{option_map_or};
 ghost use Rattle.ptp_units.specs.Sequence.{of_count};
 ghost use Rattle.exchange_check.specs.Kept.{fact_in, site_in, travel_at, copy_entered_by, stayed, begun_by, travel_by, travelled_by, followed_by, answered_by, message_by, known_by, number_by, fact_known, fact_by, travel_left, written_travel, port_setup, contents_of};
@@ -44,6 +44,16 @@ fn is_reading(reading: Option<ScaledTime>, at: Option<ScaledTime>, difference: i
     match (reading, at) {
         (Some(reading), Some(at)) => reading.value() as i128 - at.value() as i128 == difference,
         _ => false,
+    }
+}
+
+/// A reading, 0 where there is none.
+fn moment_or_zero(reading: Option<ScaledTime>) -> ScaledTime
+    ensures { result ≡ unwrap_or reading 0 }
+{
+    match reading {
+        Some(moment) => moment,
+        None => ScaledTime::default(),
     }
 }
 
@@ -151,7 +161,7 @@ impl Kept {
         let site = self.site(&site(&line.event));
         Known {
             line: number,
-            reading: line.reading.unwrap_or_default(),
+            reading: moment_or_zero(line.reading),
             number: self.number(nodes, &line.event),
             reads: is_reading(line.reading, true_moment(&line.event), site.difference),
             last_sync: site.last_sync,

@@ -5,6 +5,7 @@
 mod events;
 mod facts;
 mod good;
+mod judging;
 mod kept;
 mod line;
 mod octets;
