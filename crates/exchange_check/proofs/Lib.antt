@@ -1,2 +1,3 @@
 pub mod WorkedExchange
 pub mod Packets
+pub mod Once

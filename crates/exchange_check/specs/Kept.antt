@@ -15,7 +15,7 @@ use Rattle.network_model.specs.declared.event.Event.{Event}
 use Rattle.network_model.specs.declared.event.Event.TheVariants.{Sync, SyncOne, Follow, Enter, Leave, Arrive, Hear, Request, Stamped, Tick, SetMaster, StepClock}
 use Rattle.network_model.specs.Network.{Network, NodeName, PortSetup, is_named}
 use Rattle.network_model.specs.Run.{site_of, true_moment}
-use Rattle.network_model.specs.Kinds.{is_at, is_sync, is_one_step_sync, draws_sync, is_follow, is_request, entered_copy, heard_copy, named_master, spends, spent_transit, is_stamped}
+use Rattle.network_model.specs.Kinds.{is_at, is_sync, is_one_step_sync, draws_sync, is_follow, is_request, entered_copy, heard_copy, named_master}
 use Rattle.network_model.specs.Truth.{master_at, slave_at}
 use Rattle.exchange_check.specs.declared.facts.Fact.{Fact}
 use Rattle.exchange_check.specs.declared.facts.Known.{Known}
@@ -229,27 +229,68 @@ new_site = record {
 abbrev pub site_in : {S : Type 0} → HashMap NodeName Site S → Sites
 site_in sites name = unwrap_or (get bytes_eq sites name) new_site
 
+-- what is kept of each node, with one of them moved by an event
+abbrev pub moved_at : Event → ℕ → Sites → Sites
+moved_at event n sites name = if is_named (site_of event) name then moved event n (sites name) else sites name
+
 -- what is kept of each node, after an event at the line of this number
 abbrev pub sites_after : Event → ℕ → Sites → Sites
-sites_after event n sites name = if is_named (site_of event) name then moved event n (sites name) else sites name
+sites_after (Sync node at) n sites = moved_at (Sync node at) n sites
+sites_after (SyncOne node at) n sites = moved_at (SyncOne node at) n sites
+sites_after (Follow node) n sites = sites
+sites_after (Enter node copy at) n sites = sites
+sites_after (Leave node transit at) n sites = sites
+sites_after (Arrive node copy at) n sites = sites
+sites_after (Hear node copy) n sites = sites
+sites_after (Request node at) n sites = moved_at (Request node at) n sites
+sites_after (Stamped node) n sites = sites
+sites_after (Tick node) n sites = sites
+sites_after (SetMaster node master) n sites = moved_at (SetMaster node master) n sites
+sites_after (StepClock node diff) n sites = moved_at (StepClock node diff) n sites
 
 -- whether the stay that began at each line was ended again after it was ended
 abbrev pub Leaves : Type 0
 Leaves = ℕ → Option Bool
 
+-- one more Leave line of a stay
+abbrev pub left_again : ℕ → Leaves → Leaves
+left_again transit leaves stay = if transit == stay then Some (is_some (leaves stay)) else leaves stay
+
 -- the same after one more event
 abbrev pub leaves_after : Event → Leaves → Leaves
-leaves_after event leaves transit = if spends transit event then Some (is_some (leaves transit)) else leaves transit
+leaves_after (Sync node at) leaves = leaves
+leaves_after (SyncOne node at) leaves = leaves
+leaves_after (Follow node) leaves = leaves
+leaves_after (Enter node copy at) leaves = leaves
+leaves_after (Leave node transit at) leaves = left_again transit leaves
+leaves_after (Arrive node copy at) leaves = leaves
+leaves_after (Hear node copy) leaves = leaves
+leaves_after (Request node at) leaves = leaves
+leaves_after (Stamped node) leaves = leaves
+leaves_after (Tick node) leaves = leaves
+leaves_after (SetMaster node master) leaves = leaves
+leaves_after (StepClock node diff) leaves = leaves
 
 -- the line at which the departure of the request of each number was learned
 abbrev pub Stamps : Type 0
 Stamps = ℕ → Option ℕ
 
--- whether an event tells when the request of this number departed, that being the last one of its node
-abbrev pub stamps_last : Event → Site → ℕ → Bool
-stamps_last event site request = is_stamped event && option_map_or (λ last. last == request) site.last_request false
+-- the line of this number tells when the last request of its node departed
+abbrev pub stamped : (last : Option ℕ) → ℕ → Stamps → Stamps
+stamped last n stamps request =
+    option_or (stamps request) (if option_map_or (λ asked. asked == request) last false then Some n else None)
 
 -- the same after an event at the line of this number
 abbrev pub stamps_after : Event → ℕ → Sites → Stamps → Stamps
-stamps_after event n sites stamps request =
-    option_or (stamps request) (if stamps_last event (sites (site_of event)) request then Some n else None)
+stamps_after (Sync node at) n sites stamps = stamps
+stamps_after (SyncOne node at) n sites stamps = stamps
+stamps_after (Follow node) n sites stamps = stamps
+stamps_after (Enter node copy at) n sites stamps = stamps
+stamps_after (Leave node transit at) n sites stamps = stamps
+stamps_after (Arrive node copy at) n sites stamps = stamps
+stamps_after (Hear node copy) n sites stamps = stamps
+stamps_after (Request node at) n sites stamps = stamps
+stamps_after (Stamped node) n sites stamps = stamped (sites node).last_request n stamps
+stamps_after (Tick node) n sites stamps = stamps
+stamps_after (SetMaster node master) n sites stamps = stamps
+stamps_after (StepClock node diff) n sites stamps = stamps

@@ -7,3 +7,4 @@ pub mod Sound
 pub mod Verdict
 pub mod Kept
 pub mod Judged
+pub mod Machine

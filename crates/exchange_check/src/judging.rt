@@ -1,9 +1,11 @@
 //! How a report is judged by what is kept.
 
-ghost use Rattle.std.specs.Prelude.{◌≡◌, ◌+◌, ◌<◌, ◌-ℤ◌, pos, option_map};
+ghost use Rattle.std.specs.Prelude.{◌≡◌, ◌+◌, ◌<◌, ◌-ℤ◌, ◌&&◌, pos, option_map};
 ghost use Rattle.std.specs.Prelude.{nat_eq};
 ghost use Rattle.std.specs.HashMap.{get};
-ghost use Rattle.ptp_units.specs.Exchange.{IsBracket};
+ghost use Rattle.ptp_units.specs.Exchange.{IsBracket, offset2, path2};
+ghost use Rattle.std.specs.Ordering.{int_eq};
+ghost use Rattle.ptp_units.specs.Moment.{bound};
 ghost use Rattle.network_model.specs.Kinds.{draws_sync, is_request, spent_transit};
 ghost use Rattle.network_model.specs.Run.{site_of};
 ghost use Rattle.exchange_check.specs.Line.{is_arrival, is_hearing};
@@ -20,7 +22,7 @@ use crate::kept::Kept;
 use crate::octets::{Port, master_at, slave_at};
 use crate::verdict::Why;
 use network_model::{Event, Name, Nodes, Report};
-use ptp_units::{offset2, path2};
+use ptp_units::{ScaledTime, offset2, path2};
 
 /// The longest residence that is counted exactly is below this, in units of 2^-16 ns.
 const LONGEST: u64 = (1 << 63) - 1;
@@ -142,14 +144,44 @@ fn fits(way: &Way) -> bool
     u128::from(fraction_sent(&way.origin)) + u128::from(way.travel.residence) < u128::from(LONGEST)
 }
 
+/// The units of a moment, as a signed number.
+fn signed_units(time: ScaledTime) -> i128
+    ensures value { result ≡ pos time }
+    ensures within { time < bound }
+{
+    time.value() as i128
+}
+
 /// What a clock read at the arrival, less what another read at the departure, less the residence.
+fn elapsed(arrival: ScaledTime, departure: ScaledTime, residence: u64) -> i128
+    ensures value { result ≡ (pos arrival -ℤ pos departure) -ℤ pos residence }
+    ensures within { IsBracket result }
+{
+    signed_units(arrival) - signed_units(departure) - i128::from(residence)
+}
+
+/// The same of an arrival and the way to it.
 fn bracket(arrival: &Fact, way: &Way) -> i128
     ensures value { result ≡ bracket_by arrival.now way.now }
     ensures within { IsBracket result }
 {
-    let arrived = arrival.reading.value() as i128;
-    let left = way.origin.reading.value() as i128;
-    arrived - left - i128::from(way.travel.residence)
+    elapsed(arrival.reading, way.origin.reading, way.travel.residence)
+}
+
+/// Whether two numbers are one.
+fn is_number(one: i128, other: i128) -> bool
+    ensures { result ≡ int_eq one other }
+{
+    one == other
+}
+
+/// Whether two results are those of two brackets.
+fn are_of_brackets(offset: i128, path: i128, a: i128, b: i128) -> bool
+    requires a_within { IsBracket a }
+    requires b_within { IsBracket b }
+    ensures { result ≡ (int_eq offset (offset2 a b) && int_eq path (path2 a b)) }
+{
+    is_number(offset, offset2(a, b)) && is_number(path, path2(a, b))
 }
 
 /// Whether the two results are those of the readings.
@@ -158,7 +190,7 @@ fn are_results(report: &Report, found: &Found, sync: &Way, request: &Way) -> boo
 {
     let a = bracket(&found.sync, sync);
     let b = bracket(&found.arrival, request);
-    report.offset2 == offset2(a, b) && report.path2 == path2(a, b)
+    are_of_brackets(report.offset2, report.path2, a, b)
 }
 
 /// Whether all octets are right.
@@ -394,6 +426,7 @@ impl Kept {
     }
 
     /// Whether each stay on the way of a copy was ended once, among so many last ones.
+    #[tactic(auto, using(crate::proofs::Once::once_steps))]
     fn once(&self, count: u64, copy: u64) -> bool
         ensures { result ≡ once_by (fact_in self.now.facts.items) (get nat_eq self.now.leaves) count copy }
     {

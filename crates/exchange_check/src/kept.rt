@@ -1,7 +1,14 @@
 //! What is kept of the lines so far, and what one more line adds to it.
 
 ghost use Rattle.std.specs.Prelude.{◌≡◌, ◌≤ℤ◌, ◌+ℤ◌, ◌+◌, pos, option_map, unwrap_or, IfSome};
-ghost use Rattle.std.specs.Option.{option_map_or};
+ghost use Rattle.std.specs.Prelude.{ℕ, ◌==◌, nat_eq, is_some, if◌then◌else◌, Some, None, OnOk, OnErr};
+ghost use Rattle.std.specs.Prelude.{◌<◌, MatchResult};
+ghost use Rattle.std.specs.HashMap.{get};
+ghost use Rattle.exchange_check.specs.Verdict.{accepted_count};
+ghost use Rattle.exchange_check.specs.Machine.{Machine, IsKept, start, judged, after_line};
+ghost use Rattle.std.specs.Option.{option_map_or, option_or};
+ghost use Rattle.network_model.specs.Network.{NodeName};
+ghost use Rattle.exchange_check.specs.Kept.{moved, moved_at, left_again, stamped, sites_after, leaves_after, stamps_after};
 ghost use Rattle.ptp_units.specs.Sequence.{of_count};
 ghost use Rattle.exchange_check.specs.Kept.{fact_in, site_in, travel_at, copy_entered_by, stayed, begun_by, travel_by, travelled_by, followed_by, answered_by, message_by, known_by, number_by, fact_known, fact_by, travel_left, written_travel, port_setup, contents_of};
 ghost use Rattle.exchange_check.specs.Record.{is_reading};
@@ -9,14 +16,16 @@ ghost use Rattle.exchange_check.specs.Record.{is_reading};
 use crate::events::{entered_copy, site, true_moment};
 use crate::facts::{Fact, Known, Site, Travel};
 use crate::good::counts;
-use crate::line::TraceLine;
+use crate::line::{TraceLine, TraceOut};
 use crate::octets::{
     Port, Written, delay_resp, follow_up, is_written, master_at, sent, slave_at,
     with_residence_time,
 };
+use crate::refusal::CheckFault;
 use crate::verdict::Verdict;
 use network_model::{Event, Name, Nodes};
 use ptp_units::{ScaledTime, Seq};
+use std::alloc::Global;
 use std::collections::HashMap;
 
 /// The longest residence that is counted exactly is below this, in units of 2^-16 ns.
@@ -38,9 +47,10 @@ pub(crate) struct Kept {
 }
 
 /// Whether a line's reading is what the clock showed at a true moment.
-fn is_reading(reading: Option<ScaledTime>, at: Option<ScaledTime>, difference: i128) -> bool
-    ensures { result ≡ is_reading reading (option_map (λ moment. pos moment +ℤ difference) at) }
+fn is_reading(reading: Option<ScaledTime>, at: Option<ScaledTime>, site: &Site) -> bool
+    ensures { result ≡ is_reading reading (option_map (λ moment. pos moment +ℤ site.now.difference) at) }
 {
+    let difference = site.difference;
     match (reading, at) {
         (Some(reading), Some(at)) => reading.value() as i128 - at.value() as i128 == difference,
         _ => false,
@@ -111,6 +121,19 @@ fn begun(known: &Known) -> Travel
 }
 
 impl Kept {
+    /// What is kept before the first line.
+    pub(crate) fn new(alloc: Global) -> Kept
+        ensures { IsKept result 0 start }
+    {
+        Kept {
+            facts: Vec::new(alloc),
+            sites: HashMap::new(alloc),
+            leaves: HashMap::new(alloc),
+            stamps: HashMap::new(alloc),
+            verdict: Verdict::Accepted(0),
+        }
+    }
+
     /// What is kept of the line of this number, where it tells of something done.
     pub(crate) fn at(&self, number: u64) -> Option<Fact>
         ensures { result ≡ fact_in self.now.facts.items number }
@@ -163,7 +186,7 @@ impl Kept {
             line: number,
             reading: moment_or_zero(line.reading),
             number: self.number(nodes, &line.event),
-            reads: is_reading(line.reading, true_moment(&line.event), site.difference),
+            reads: is_reading(line.reading, true_moment(&line.event), &site),
             last_sync: site.last_sync,
         }
     }
@@ -288,6 +311,151 @@ impl Kept {
             return None;
         }
         Some(self.told(nodes, line, &self.known(nodes, line, number)))
+    }
+
+    /// Notes an event at the line of this number, of which a fact was kept.
+    fn note(&mut self, event: &Event, number: u64) -> Result<(), CheckFault>
+        ensures sites { OnOk result (site_in self.new.sites ≡ sites_after event.now number (site_in self.old.sites)) }
+        ensures leaves { OnOk result (get nat_eq self.new.leaves ≡ leaves_after event.now (get nat_eq self.old.leaves)) }
+        ensures stamps { OnOk result (get nat_eq self.new.stamps ≡ stamps_after event.now number (site_in self.old.sites) (get nat_eq self.old.stamps)) }
+        ensures facts { self.new.facts.items ≡ self.old.facts.items }
+        ensures verdict { self.new.verdict ≡ self.old.verdict }
+        ensures same_sites { OnErr result (site_in self.new.sites ≡ site_in self.old.sites) }
+        ensures same_leaves { OnErr result (get nat_eq self.new.leaves ≡ get nat_eq self.old.leaves) }
+        ensures same_stamps { OnErr result (get nat_eq self.new.stamps ≡ get nat_eq self.old.stamps) }
+    {
+        match event {
+            Event::Sync { .. }
+            | Event::SyncOne { .. }
+            | Event::Request { .. }
+            | Event::SetMaster { .. }
+            | Event::StepClock { .. } => move_site(&mut self.sites, event, number),
+            Event::Leave { transit, .. } => leave(&mut self.leaves, *transit),
+            Event::Stamped { node } => {
+                let last = self.site(node).last_request;
+                stamp(&mut self.stamps, last, number)
+            }
+            _ => Ok(()),
+        }
+    }
+
+    /// The verdict after a line of this number with this fact, which is kept already.
+    fn judged(&self, nodes: &Nodes, fact: &Option<Fact>, out: &TraceOut, number: u64) -> Verdict
+        ensures { accepted_count self.now.verdict < 18446744073709551615 → result ≡ judged nodes.now (fact_in self.now.facts.items)
+            (get nat_eq self.now.leaves) (get nat_eq self.now.stamps) (site_in self.now.sites) fact.now out.now number self.now.verdict }
+    {
+        let (Verdict::Accepted(count), TraceOut::Report(report)) = (self.verdict, out) else {
+            return self.verdict;
+        };
+        match self.reason(nodes, fact, report) {
+            Some(why) => Verdict::Refused { line: number, why },
+            None => Verdict::Accepted(count.saturating_add(1)),
+        }
+    }
+
+    /// Takes in one more line. Where memory for it is refused, nothing changes.
+    pub(crate) fn step(&mut self, nodes: &Nodes, line: &TraceLine) -> Result<(), CheckFault>
+        ensures kept { (count : ℕ) (m : Machine) → IsKept self.old count m → MatchResult result
+            (λ _. IsKept self.new (count + 1) (after_line nodes.now line.now count m))
+            (λ _. IsKept self.new count m) }
+    {
+        let number = self.facts.len() as u64;
+        let fact = self.fact(nodes, line, number);
+        if self.facts.push(fact).is_err() {
+            return Err(CheckFault::Memory);
+        }
+        let verdict = self.judged(nodes, &fact, &line.out, number);
+        if let Some(told) = &fact {
+            if self.note(&told.event, number).is_err() {
+                self.facts.pop();
+                return Err(CheckFault::Memory);
+            }
+        }
+        self.verdict = verdict;
+        Ok(())
+    }
+}
+
+/// What is kept of a node after an event of it at the line of this number.
+fn moved(event: &Event, number: u64, site: Site) -> Site
+    ensures { result ≡ moved event.now number site }
+{
+    match event {
+        Event::Sync { .. } => Site {
+            syncs: site.syncs.next(),
+            last_sync: Some(number),
+            ..site
+        },
+        Event::SyncOne { .. } => Site {
+            syncs: site.syncs.next(),
+            ..site
+        },
+        Event::Request { .. } => Site {
+            requests: site.requests.next(),
+            last_request: Some(number),
+            ..site
+        },
+        Event::SetMaster { master, .. } => Site {
+            set_master: Some((*master, number)),
+            ..site
+        },
+        Event::StepClock { diff, .. } => Site {
+            difference: *diff,
+            ..site
+        },
+        _ => site,
+    }
+}
+
+/// What a map has of a node.
+fn site_in(sites: &HashMap<Name, Site>, name: &Name) -> Site
+    ensures { result ≡ site_in sites.now name.now }
+{
+    match sites.get(name) {
+        Some(site) => *site,
+        None => Site::default(),
+    }
+}
+
+/// An event at a node, at the line of this number.
+fn move_site(sites: &mut HashMap<Name, Site>, event: &Event, number: u64) -> Result<(), CheckFault>
+    ensures moved { OnOk result (site_in sites.new ≡ moved_at event.now number (site_in sites.old)) }
+    ensures unchanged { OnErr result (site_in sites.new ≡ site_in sites.old) }
+{
+    let name = site(event);
+    let after = moved(event, number, site_in(sites, &name));
+    match sites.insert(name, after) {
+        Ok(_) => Ok(()),
+        Err(_) => Err(CheckFault::Memory),
+    }
+}
+
+/// A Leave line that names an Enter line.
+fn leave(leaves: &mut HashMap<u64, bool>, transit: u64) -> Result<(), CheckFault>
+    ensures left { OnOk result (get nat_eq leaves.new ≡ left_again transit (get nat_eq leaves.old)) }
+    ensures unchanged { OnErr result (get nat_eq leaves.new ≡ get nat_eq leaves.old) }
+{
+    let again = leaves.contains_key(&transit);
+    match leaves.insert(transit, again) {
+        Ok(_) => Ok(()),
+        Err(_) => Err(CheckFault::Memory),
+    }
+}
+
+/// The line of this number tells when the last request of its node departed.
+fn stamp(stamps: &mut HashMap<u64, u64>, last: Option<u64>, number: u64) -> Result<(), CheckFault>
+    ensures stamped { OnOk result (get nat_eq stamps.new ≡ stamped last number (get nat_eq stamps.old)) }
+    ensures unchanged { OnErr result (get nat_eq stamps.new ≡ get nat_eq stamps.old) }
+{
+    let Some(request) = last else {
+        return Ok(());
+    };
+    if stamps.contains_key(&request) {
+        return Ok(());
+    }
+    match stamps.insert(request, number) {
+        Ok(_) => Ok(()),
+        Err(_) => Err(CheckFault::Memory),
     }
 }
 
