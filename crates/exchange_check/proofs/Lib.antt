@@ -1,3 +1,4 @@
 pub mod WorkedExchange
 pub mod Packets
 pub mod Once
+pub mod Keeping

@@ -4,6 +4,7 @@ pub mod Record
 pub mod Journey
 pub mod Octets
 pub mod Sound
+pub mod Transcript
 pub mod Verdict
 pub mod Kept
 pub mod Judged

@@ -32,16 +32,20 @@ start = record { facts = λ n. None; sites = λ name. new_site; leaves = λ n. N
 abbrev pub with_fact : Facts → ℕ → Option Fact → Facts
 with_fact facts count fact n = if n == count then fact else facts n
 
--- what a line that tells of something done changes for nodes, stays and requests
-abbrev pub noted : Option Fact → ℕ → Facts → Verdict → Machine → Machine
-noted None n facts verdict m = record { facts = facts; sites = m.sites; leaves = m.leaves; stamps = m.stamps; verdict = verdict }
-noted (Some fact) n facts verdict m = record {
-  facts = facts;
-  sites = sites_after fact.event n m.sites;
-  leaves = leaves_after fact.event m.leaves;
-  stamps = stamps_after fact.event n m.sites m.stamps;
-  verdict = verdict;
-}
+-- what a line with this fact changes for nodes
+abbrev pub sites_told : Option Fact → ℕ → Sites → Sites
+sites_told None n sites = sites
+sites_told (Some fact) n sites = sites_after fact.event n sites
+
+-- what it changes for stays
+abbrev pub leaves_told : Option Fact → Leaves → Leaves
+leaves_told None leaves = leaves
+leaves_told (Some fact) leaves = leaves_after fact.event leaves
+
+-- what it changes for requests
+abbrev pub stamps_told : Option Fact → ℕ → Sites → Stamps → Stamps
+stamps_told None n sites stamps = stamps
+stamps_told (Some fact) n sites stamps = stamps_after fact.event n sites stamps
 
 -- the verdict after one more line
 abbrev pub judged : Network → Facts → Leaves → Stamps → Sites → Option Fact → TraceOut → ℕ → Verdict → Verdict
@@ -51,8 +55,13 @@ judged network facts leaves stamps sites fact out n (Refused line why) = Refused
 
 -- after a line with this fact
 abbrev pub with_line_told : Network → TraceOut → ℕ → Machine → Option Fact → Machine
-with_line_told network out n m fact =
-    noted fact n (with_fact m.facts n fact) (judged network (with_fact m.facts n fact) m.leaves m.stamps m.sites fact out n m.verdict) m
+with_line_told network out n m fact = record {
+  facts = with_fact m.facts n fact;
+  sites = sites_told fact n m.sites;
+  leaves = leaves_told fact m.leaves;
+  stamps = stamps_told fact n m.sites m.stamps;
+  verdict = judged network (with_fact m.facts n fact) m.leaves m.stamps m.sites fact out n m.verdict;
+}
 
 -- after one more line, before which there were so many
 abbrev pub after_line : Network → TraceLine → ℕ → Machine → Machine

@@ -5,7 +5,7 @@ ghost use Rattle.std.specs.Prelude.{ℕ, ◌==◌, nat_eq, is_some, if◌then◌
 ghost use Rattle.std.specs.Prelude.{◌<◌, MatchResult};
 ghost use Rattle.std.specs.HashMap.{get};
 ghost use Rattle.exchange_check.specs.Verdict.{accepted_count};
-ghost use Rattle.exchange_check.specs.Machine.{Machine, IsKept, start, judged, after_line};
+ghost use Rattle.exchange_check.specs.Machine.{Machine, IsKept, start, judged, after_line, sites_told, leaves_told, stamps_told};
 ghost use Rattle.std.specs.Option.{option_map_or, option_or};
 ghost use Rattle.network_model.specs.Network.{NodeName};
 ghost use Rattle.exchange_check.specs.Kept.{moved, moved_at, left_again, stamped, sites_after, leaves_after, stamps_after};
@@ -339,6 +339,23 @@ impl Kept {
         }
     }
 
+    /// Notes the event of a line with this fact.
+    fn tell(&mut self, fact: &Option<Fact>, number: u64) -> Result<(), CheckFault>
+        ensures sites { OnOk result (site_in self.new.sites ≡ sites_told fact.now number (site_in self.old.sites)) }
+        ensures leaves { OnOk result (get nat_eq self.new.leaves ≡ leaves_told fact.now (get nat_eq self.old.leaves)) }
+        ensures stamps { OnOk result (get nat_eq self.new.stamps ≡ stamps_told fact.now number (site_in self.old.sites) (get nat_eq self.old.stamps)) }
+        ensures facts { self.new.facts.items ≡ self.old.facts.items }
+        ensures verdict { self.new.verdict ≡ self.old.verdict }
+        ensures same_sites { OnErr result (site_in self.new.sites ≡ site_in self.old.sites) }
+        ensures same_leaves { OnErr result (get nat_eq self.new.leaves ≡ get nat_eq self.old.leaves) }
+        ensures same_stamps { OnErr result (get nat_eq self.new.stamps ≡ get nat_eq self.old.stamps) }
+    {
+        match fact {
+            Some(told) => self.note(&told.event, number),
+            None => Ok(()),
+        }
+    }
+
     /// The verdict after a line of this number with this fact, which is kept already.
     fn judged(&self, nodes: &Nodes, fact: &Option<Fact>, out: &TraceOut, number: u64) -> Verdict
         ensures { accepted_count self.now.verdict < 18446744073709551615 → result ≡ judged nodes.now (fact_in self.now.facts.items)
@@ -364,12 +381,11 @@ impl Kept {
         if self.facts.push(fact).is_err() {
             return Err(CheckFault::Memory);
         }
-        let verdict = self.judged(nodes, &fact, &line.out, number);
-        if let Some(told) = &fact {
-            if self.note(&told.event, number).is_err() {
-                self.facts.pop();
-                return Err(CheckFault::Memory);
-            }
+        let total = self.facts.len() as u64;
+        let verdict = self.judged(nodes, &fact, &line.out, total - 1);
+        if self.tell(&fact, number).is_err() {
+            self.facts.pop();
+            return Err(CheckFault::Memory);
         }
         self.verdict = verdict;
         Ok(())

@@ -2,6 +2,7 @@
 //! where every report in them is sound.
 #![tactic(auto)]
 
+mod checker;
 mod events;
 mod facts;
 mod good;
@@ -12,6 +13,7 @@ mod octets;
 mod refusal;
 mod verdict;
 
+pub use checker::{Checker, check};
 pub use line::{TraceLine, TraceOut};
 pub use refusal::CheckFault;
 pub use verdict::{Verdict, Why};
