@@ -2,3 +2,5 @@ pub mod WorkedExchange
 pub mod Packets
 pub mod Once
 pub mod Keeping
+pub mod Standing
+pub mod Reversed
