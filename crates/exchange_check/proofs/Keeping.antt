@@ -65,9 +65,9 @@ IsKept-line network line count m kept after number last fact items h number_is l
     let placed : last ≡ count = last_is ∙ h.count_is in
     let found : fact ≡ fact_by network m.facts m.sites line count = fact_is ∙ (λ i. fact_by network (h.facts i) (h.sites i) line (counted i)) in
     let pushed : fact_in items ≡ with_fact m.facts count (fact_by network m.facts m.sites line count) =
-        ap fact_in items_is ∙ (λ i n. fact_in-push kept.facts.items fact n i) ∙ (λ i. with_fact (h.facts i) (h.count_is i) (found i)) in
+    ap fact_in items_is ∙ (λ i n. fact_in-push kept.facts.items fact n i) ∙ (λ i. with_fact (h.facts i) (h.count_is i) (found i)) in
     let told : after.verdict ≡ judged network (with_fact m.facts count (fact_by network m.facts m.sites line count)) m.leaves m.stamps m.sites (fact_by network m.facts m.sites line count) line.out count m.verdict =
-        verdict_is ∙ (λ i. judged network (pushed i) (h.leaves i) (h.stamps i) (h.sites i) (found i) line.out (placed i) (h.verdict i)) in
+    verdict_is ∙ (λ i. judged network (pushed i) (h.leaves i) (h.stamps i) (h.sites i) (found i) line.out (placed i) (h.verdict i)) in
     record {
       count_is = ap length (items_after ∙ items_is) ∙ length-append kept.facts.items (fact ∷ []) ∙ ap (λ (n : ℕ). n + 1) h.count_is;
       facts = ap fact_in items_after ∙ pushed;
