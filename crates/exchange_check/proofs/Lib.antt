@@ -3,3 +3,4 @@ pub mod Packets
 pub mod Once
 pub mod Keeping
 pub mod Reversed
+pub mod Noted

@@ -30,7 +30,7 @@ start = record { facts = λ n. None; sites = λ name. new_site; leaves = λ n. N
 
 -- with the fact of one more line
 abbrev pub with_fact : Facts → ℕ → Option Fact → Facts
-with_fact facts count fact n = if n == count then fact else facts n
+with_fact facts count fact n = if count == n then fact else facts n
 
 -- what a line with this fact changes for nodes
 abbrev pub sites_told : Option Fact → ℕ → Sites → Sites
