@@ -4,3 +4,4 @@ pub mod Once
 pub mod Keeping
 pub mod Reversed
 pub mod Noted
+pub mod Told
