@@ -5,3 +5,4 @@ pub mod Keeping
 pub mod Reversed
 pub mod Noted
 pub mod Told
+pub mod Messages
