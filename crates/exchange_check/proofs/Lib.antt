@@ -6,3 +6,4 @@ pub mod Reversed
 pub mod Noted
 pub mod Told
 pub mod Messages
+pub mod FactLines

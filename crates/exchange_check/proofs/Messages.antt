@@ -40,7 +40,7 @@ line_at-bound network (line ∷ earlier) n e h = grind (arith, nat_tests, line_a
 pub line_at-later : (network : Network) (line : TraceLine) (earlier : Lines) (n : ℕ) (e : Entry) → line_at network earlier n ≡ Some e → line_at network (line ∷ earlier) n ≡ Some e
 line_at-later network line earlier n e h = grind (arith, nat_tests, line_at-bound network earlier n e)
 
-line_at-here : (network : Network) (line : TraceLine) (earlier : Lines) → counts network line ≡ true → line_at network (line ∷ earlier) (length earlier) ≡ Some (entry line earlier)
+pub line_at-here : (network : Network) (line : TraceLine) (earlier : Lines) → counts network line ≡ true → line_at network (line ∷ earlier) (length earlier) ≡ Some (entry line earlier)
 line_at-here network line earlier h = λ i. cond (eq-eqb (length earlier) (length earlier) refl i) (cond (h i) (Some (entry line earlier)) None) (line_at network earlier (length earlier))
 
 abbrev IsIn : Network → Lines → Journey → Type 0
@@ -136,7 +136,7 @@ sent_time_at : (event : Event) (now : ℕ) (numbers : PortSetup → ℕ) (x y : 
 sent_time_at event now numbers x y h None = refl
 sent_time_at event now numbers x y h (Some port) = sent_time port.config event (numbers port) now x y h
 
-min_min : (r : ℕ) → min (min r longest) longest ≡ min r longest
+pub min_min : (r : ℕ) → min (min r longest) longest ≡ min r longest
 min_min r = omega arith
 
 -- the message at the end of a journey, from what is kept of the journey

@@ -87,7 +87,7 @@ is_stamped_between network lines request hearing =
 abbrev pub is_report_in_place : Network → Entry → Report → Bool
 is_report_in_place network e report =
     counts network e.line && is_of_line (line_number e) report
-    && is_stamped_between network (lines_to e) report.request_tag report.response_tag
+    && is_stamped_between network e.earlier report.request_tag report.response_tag
 
 -- the lines of a report, where they are all there
 abbrev pub exchange_of : Network → NodeName → Entry → Report → Option Exchange
