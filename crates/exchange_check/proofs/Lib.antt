@@ -7,3 +7,5 @@ pub mod Noted
 pub mod Told
 pub mod Messages
 pub mod FactLines
+pub mod Stays
+pub mod Exchanges

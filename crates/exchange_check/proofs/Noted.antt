@@ -103,10 +103,10 @@ master_if true e o = refl
 master_if false e o = refl
 
 -- the events with one more, where it counts
-abbrev events_if : Bool → Event → Run → Run
+abbrev pub events_if : Bool → Event → Run → Run
 events_if b event run = cond b (event ∷ run) run
 
-events_more : (network : Network) (line : TraceLine) (earlier : Lines) (b : Bool) → counts network line ≡ b → events network (line ∷ earlier) ≡ events_if b line.event (events network earlier)
+pub events_more : (network : Network) (line : TraceLine) (earlier : Lines) (b : Bool) → counts network line ≡ b → events network (line ∷ earlier) ≡ events_if b line.event (events network earlier)
 events_more network line earlier b h = (λ i. map (λ (l : TraceLine). l.event) (cond (h i) (line ∷ filter (counts network) earlier) (filter (counts network) earlier))) ∙ parts b
   where
     parts : (c : Bool) → map (λ (l : TraceLine). l.event) (cond c (line ∷ filter (counts network) earlier) (filter (counts network) earlier)) ≡ events_if c line.event (events network earlier)
@@ -138,7 +138,7 @@ if_number : (b : Bool) (n : ℕ) → cond b 1 0 + n ≡ cond b (suc n) n
 if_number true n = omega arith
 if_number false n = omega arith
 
-count_more : (p : Event → Bool) (event : Event) (run : Run) → count_by p (event ∷ run) ≡ cond (p event) (suc (count_by p run)) (count_by p run)
+pub count_more : (p : Event → Bool) (event : Event) (run : Run) → count_by p (event ∷ run) ≡ cond (p event) (suc (count_by p run)) (count_by p run)
 count_more p event run = sum_by-cons (λ (x : Event). cond (p x) 1 0) event run ∙ if_number (p event) (count_by p run)
 
 -- what is said of a node with one more event

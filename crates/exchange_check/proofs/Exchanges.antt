@@ -1,0 +1,123 @@
+-- A report is judged by what is kept as by the lines.
+use Rattle.std.proofs.Common.{◌≡◌, ◌∙◌, ℕ, zero, suc, ◌+◌, ◌-◌, ◌<◌, ◌^◌, ℤ, pos, ◌-ℤ◌, Bool, true, false, ◌&&◌, ◌||◌, not, cond, eqb, min, List, [], ◌∷◌, length, Option, Some, None, refl, sym, ap, subst, arith}
+use Rattle.std.specs.Prelude.{option_map, option_and_then, nat_lt, is_some}
+use Rattle.std.specs.Option.{option_map_or}
+use Rattle.std.specs.Ordering.{int_eq}
+use Rattle.std.proofs.lemmas.Bool.{and_parts, ltb-true}
+use Rattle.std.proofs.lemmas.Bool.Decides.{nat_tests}
+use Rattle.ptp_units.specs.Exchange.{offset2, path2}
+use Rattle.ptp_units.specs.Moment.{fraction_of}
+use Rattle.slave_port.specs.declared.heard.Report.{Report}
+use Rattle.network_model.specs.declared.event.Event.{Event}
+use Rattle.network_model.specs.Network.{Network, NodeName, PortSetup, is_named}
+use Rattle.network_model.specs.Run.{Run, site_of}
+use Rattle.network_model.specs.Kinds.{is_at, is_sync, is_one_step_sync, draws_sync, is_follow, is_request, is_set_master, named_master, heard_copy}
+use Rattle.network_model.specs.Truth.{master_at, slave_at}
+use Rattle.exchange_check.specs.declared.facts.Fact.{Fact}
+use Rattle.exchange_check.specs.declared.facts.Found.{Found}
+use Rattle.exchange_check.specs.declared.facts.Travel.{Travel}
+use Rattle.exchange_check.specs.declared.facts.Way.{Way}
+use Rattle.exchange_check.specs.declared.line.TraceLine.{TraceLine}
+use Rattle.exchange_check.specs.declared.verdict.Why.{Why}
+use Rattle.exchange_check.specs.declared.verdict.Why.TheVariants.{NoSuchLine, OtherNumber, OtherMaster, BrokenJourney, WrongReading, WrongValue, TooBig, Bytes}
+use Rattle.exchange_check.specs.Line.{Lines, counts, is_made, completes, is_arrival, is_hearing}
+use Rattle.exchange_check.specs.Record.{Entry, entry, line_number, event_of, site, line_at, events, last_line, first_stamp, reading}
+use Rattle.exchange_check.specs.Journey.{Journey, journey_of, residence, left_once}
+use Rattle.exchange_check.specs.Sound.{where_passes, below, lines_to, Exchange, line_of, sender, sync_line, follow_line, follow_lines, arrival_line, is_of_line, is_stamped_between, is_report_in_place, exchange_of, journey_to, unbroken, is_followed, are_paired, are_later, is_present_master, is_domain, is_of_master, are_readings, fraction_sent, fits, bracket, are_results, are_octets, journeys_reason, exchange_reason, reason}
+use Rattle.exchange_check.specs.Kept.{Facts, Leaves, longest, travel_at}
+use Rattle.exchange_check.specs.Judged.{line_of_by, sender_by, sync_by, follow_by, follows_by, completion_by, arrival_by, found_by, way_at, once_by, way_from, way_to, paired_by, is_told, of_master_by, readings_by, fits_by, bracket_by, results_by, octets_by, ways_reason, both_ways, found_reason, fact_reason, reason_by}
+use Rattle.exchange_check.proofs.Noted.{site_at, leaves_at, stamps_at, told_master}
+use Rattle.exchange_check.proofs.Told.{travel_of, fact_of, facts_at, travel_at-is}
+use Rattle.exchange_check.proofs.Messages.{origin_in}
+use Rattle.exchange_check.proofs.Stays.{once_is, followed_is}
+
+module _ (network : Network) where
+  abbrev pub found_of : Exchange → Found
+  found_of x = record { sync = fact_of network x.sync; follow = option_map (fact_of network) x.follow; request = fact_of network x.request; arrival = fact_of network x.arrival }
+
+  abbrev pub way_of : Journey → Way
+  way_of j = record { travel = travel_of network j; origin = fact_of network j.origin }
+
+  -- a test of what is kept that is the same test of the line
+  if_passes : (b : Bool) (e : Entry) → cond b (Some (fact_of network e)) None ≡ option_map (fact_of network) (cond b (Some e) None)
+  if_passes true e = refl
+  if_passes false e = refl
+
+  passes : (p : Fact → Bool) (o : Option Entry) → where_passes p (option_map (fact_of network) o) ≡ option_map (fact_of network) (where_passes (λ e. p (fact_of network e)) o)
+  passes p None = refl
+  passes p (Some e) = if_passes (p (fact_of network e)) e
+
+  module _ (lines : Lines) where
+    abbrev facts : Facts
+    facts = facts_at network lines
+
+    line_of_is : (kind : Event → Bool) (node : NodeName) (n : ℕ) → line_of_by facts kind node n ≡ option_map (fact_of network) (line_of network lines kind node n)
+    line_of_is kind node n = passes (λ fact. is_at kind node fact.event) (line_at network lines n)
+
+    below_is : (b : Bool) (n : ℕ) → cond b (facts n) None ≡ option_map (fact_of network) (cond b (line_at network lines n) None)
+    below_is true n = refl
+    below_is false n = refl
+
+    sent_below : (limit : ℕ) (o : Option ℕ) → option_and_then (below facts limit) o ≡ option_map (fact_of network) (option_and_then (below (line_at network lines) limit) o)
+    sent_below limit None = refl
+    sent_below limit (Some n) = below_is (nat_lt n limit) n
+
+    senders : (o : Option Entry) → option_and_then (sender_by facts) (option_map (fact_of network) o) ≡ option_map (fact_of network) (option_and_then (sender network lines) o)
+    senders None = refl
+    senders (Some e) = sent_below (line_number e) (heard_copy (event_of e))
+
+    sync_is : (slave : NodeName) (report : Report) → sync_by facts slave report ≡ option_map (fact_of network) (sync_line network lines slave report)
+    sync_is slave report =
+        ap (where_passes (λ fact. is_some report.follow_tag || fact.completes)) (line_of_is is_arrival slave report.sync_tag)
+        ∙ passes (λ fact. is_some report.follow_tag || fact.completes) (line_of network lines is_arrival slave report.sync_tag)
+
+    follow_is : (slave : NodeName) (n : ℕ) → follow_by facts slave n ≡ option_map (fact_of network) (follow_line network lines slave n)
+    follow_is slave n =
+        ap (λ (o : Option Fact). where_passes (λ fact. is_follow fact.event) (option_and_then (sender_by facts) o)) (line_of_is is_hearing slave n)
+        ∙ ap (where_passes (λ fact. is_follow fact.event)) (senders (line_of network lines is_hearing slave n))
+        ∙ passes (λ fact. is_follow fact.event) (option_and_then (sender network lines) (line_of network lines is_hearing slave n))
+
+    some_follow : (o : Option Entry) → option_map Some (option_map (fact_of network) o) ≡ option_map (option_map (fact_of network)) (option_map Some o)
+    some_follow None = refl
+    some_follow (Some e) = refl
+
+    follows_is : (slave : NodeName) (o : Option ℕ) → follows_by facts slave o ≡ option_map (option_map (fact_of network)) (follow_lines network lines slave o)
+    follows_is slave None = refl
+    follows_is slave (Some n) = ap (λ (o : Option Fact). option_map Some o) (follow_is slave n) ∙ some_follow (follow_line network lines slave n)
+
+    completion_is : (slave : NodeName) (n : ℕ) → completion_by facts slave n ≡ option_map (fact_of network) (where_passes (λ e. completes e.line.out) (line_of network lines is_hearing slave n))
+    completion_is slave n = ap (where_passes (λ fact. fact.completes)) (line_of_is is_hearing slave n) ∙ passes (λ fact. fact.completes) (line_of network lines is_hearing slave n)
+
+    arrival_is : (slave : NodeName) (n : ℕ) → arrival_by facts slave n ≡ option_map (fact_of network) (arrival_line network lines slave n)
+    arrival_is slave n =
+        ap (λ (o : Option Fact). where_passes (λ fact. is_arrival fact.event && fact.made) (option_and_then (sender_by facts) o)) (completion_is slave n)
+        ∙ ap (where_passes (λ fact. is_arrival fact.event && fact.made)) (senders (where_passes (λ e. completes e.line.out) (line_of network lines is_hearing slave n)))
+        ∙ passes (λ fact. is_arrival fact.event && fact.made) (option_and_then (sender network lines) (where_passes (λ e. completes e.line.out) (line_of network lines is_hearing slave n)))
+
+    abbrev chain : Option Fact → Option (Option Fact) → Option Fact → Option Fact → Option Found
+    chain s f u r = option_and_then (λ sync. option_and_then (λ follow. option_and_then (λ request. option_map (λ arrival. record { sync = sync; follow = follow; request = request; arrival = arrival }) r) u) f) s
+
+    abbrev line_chain : Option Entry → Option (Option Entry) → Option Entry → Option Entry → Option Exchange
+    line_chain s f u r = option_and_then (λ sync. option_and_then (λ follow. option_and_then (λ request. option_map (λ arrival. record { sync = sync; follow = follow; request = request; arrival = arrival }) r) u) f) s
+
+    chained : (s : Option Entry) (f : Option (Option Entry)) (u r : Option Entry)
+        → chain (option_map (fact_of network) s) (option_map (option_map (fact_of network)) f) (option_map (fact_of network) u) (option_map (fact_of network) r) ≡ option_map found_of (line_chain s f u r)
+    chained None f u r = refl
+    chained (Some s) None u r = refl
+    chained (Some s) (Some f) None r = refl
+    chained (Some s) (Some f) (Some u) None = refl
+    chained (Some s) (Some f) (Some u) (Some r) = refl
+
+    if_found : (b : Bool) (o : Option Exchange) → cond b (option_map found_of o) None ≡ option_map found_of (cond b o None)
+    if_found true o = refl
+    if_found false o = refl
+
+    way_of_origin : (o : Option Journey) → ((j : Journey) → o ≡ Some j → line_at network lines (line_number j.origin) ≡ Some j.origin)
+        → option_and_then (λ travel. option_map (λ origin. record { travel = travel; origin = origin }) (facts travel.origin)) (option_map (travel_of network) o) ≡ option_map way_of o
+    way_of_origin None known = refl
+    way_of_origin (Some j) known = ap (λ (o : Option Entry). option_map (λ (origin : Fact). let w : Way = record { travel = travel_of network j; origin = origin } in w) (option_map (fact_of network) o)) (known j refl)
+
+    way_is : (n : ℕ) → way_at facts n ≡ option_map way_of (journey_of network lines n)
+    way_is n =
+        ap (λ (o : Option Travel). option_and_then (λ travel. option_map (λ origin. record { travel = travel; origin = origin }) (facts travel.origin)) o) (travel_at-is network lines n)
+        ∙ way_of_origin (journey_of network lines n) (origin_in network lines n)
