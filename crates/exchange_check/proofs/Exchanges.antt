@@ -51,7 +51,7 @@ module _ (network : Network) where
     abbrev facts : Facts
     facts = facts_at network lines
 
-    line_of_is : (kind : Event → Bool) (node : NodeName) (n : ℕ) → line_of_by facts kind node n ≡ option_map (fact_of network) (line_of network lines kind node n)
+    pub line_of_is : (kind : Event → Bool) (node : NodeName) (n : ℕ) → line_of_by facts kind node n ≡ option_map (fact_of network) (line_of network lines kind node n)
     line_of_is kind node n = passes (λ fact. is_at kind node fact.event) (line_at network lines n)
 
     below_is : (b : Bool) (n : ℕ) → cond b (facts n) None ≡ option_map (fact_of network) (cond b (line_at network lines n) None)
@@ -66,7 +66,7 @@ module _ (network : Network) where
     senders None = refl
     senders (Some e) = sent_below (line_number e) (heard_copy (event_of e))
 
-    sync_is : (slave : NodeName) (report : Report) → sync_by facts slave report ≡ option_map (fact_of network) (sync_line network lines slave report)
+    pub sync_is : (slave : NodeName) (report : Report) → sync_by facts slave report ≡ option_map (fact_of network) (sync_line network lines slave report)
     sync_is slave report =
         ap (where_passes (λ fact. is_some report.follow_tag || fact.completes)) (line_of_is is_arrival slave report.sync_tag)
         ∙ passes (λ fact. is_some report.follow_tag || fact.completes) (line_of network lines is_arrival slave report.sync_tag)
@@ -81,26 +81,26 @@ module _ (network : Network) where
     some_follow None = refl
     some_follow (Some e) = refl
 
-    follows_is : (slave : NodeName) (o : Option ℕ) → follows_by facts slave o ≡ option_map (option_map (fact_of network)) (follow_lines network lines slave o)
+    pub follows_is : (slave : NodeName) (o : Option ℕ) → follows_by facts slave o ≡ option_map (option_map (fact_of network)) (follow_lines network lines slave o)
     follows_is slave None = refl
     follows_is slave (Some n) = ap (λ (o : Option Fact). option_map Some o) (follow_is slave n) ∙ some_follow (follow_line network lines slave n)
 
     completion_is : (slave : NodeName) (n : ℕ) → completion_by facts slave n ≡ option_map (fact_of network) (where_passes (λ e. completes e.line.out) (line_of network lines is_hearing slave n))
     completion_is slave n = ap (where_passes (λ fact. fact.completes)) (line_of_is is_hearing slave n) ∙ passes (λ fact. fact.completes) (line_of network lines is_hearing slave n)
 
-    arrival_is : (slave : NodeName) (n : ℕ) → arrival_by facts slave n ≡ option_map (fact_of network) (arrival_line network lines slave n)
+    pub arrival_is : (slave : NodeName) (n : ℕ) → arrival_by facts slave n ≡ option_map (fact_of network) (arrival_line network lines slave n)
     arrival_is slave n =
         ap (λ (o : Option Fact). where_passes (λ fact. is_arrival fact.event && fact.made) (option_and_then (sender_by facts) o)) (completion_is slave n)
         ∙ ap (where_passes (λ fact. is_arrival fact.event && fact.made)) (senders (where_passes (λ e. completes e.line.out) (line_of network lines is_hearing slave n)))
         ∙ passes (λ fact. is_arrival fact.event && fact.made) (option_and_then (sender network lines) (where_passes (λ e. completes e.line.out) (line_of network lines is_hearing slave n)))
 
-    abbrev chain : Option Fact → Option (Option Fact) → Option Fact → Option Fact → Option Found
+    abbrev pub chain : Option Fact → Option (Option Fact) → Option Fact → Option Fact → Option Found
     chain s f u r = option_and_then (λ sync. option_and_then (λ follow. option_and_then (λ request. option_map (λ arrival. record { sync = sync; follow = follow; request = request; arrival = arrival }) r) u) f) s
 
-    abbrev line_chain : Option Entry → Option (Option Entry) → Option Entry → Option Entry → Option Exchange
+    abbrev pub line_chain : Option Entry → Option (Option Entry) → Option Entry → Option Entry → Option Exchange
     line_chain s f u r = option_and_then (λ sync. option_and_then (λ follow. option_and_then (λ request. option_map (λ arrival. record { sync = sync; follow = follow; request = request; arrival = arrival }) r) u) f) s
 
-    chained : (s : Option Entry) (f : Option (Option Entry)) (u r : Option Entry)
+    pub chained : (s : Option Entry) (f : Option (Option Entry)) (u r : Option Entry)
         → chain (option_map (fact_of network) s) (option_map (option_map (fact_of network)) f) (option_map (fact_of network) u) (option_map (fact_of network) r) ≡ option_map found_of (line_chain s f u r)
     chained None f u r = refl
     chained (Some s) None u r = refl
@@ -108,7 +108,7 @@ module _ (network : Network) where
     chained (Some s) (Some f) (Some u) None = refl
     chained (Some s) (Some f) (Some u) (Some r) = refl
 
-    if_found : (b : Bool) (o : Option Exchange) → cond b (option_map found_of o) None ≡ option_map found_of (cond b o None)
+    pub if_found : (b : Bool) (o : Option Exchange) → cond b (option_map found_of o) None ≡ option_map found_of (cond b o None)
     if_found true o = refl
     if_found false o = refl
 
@@ -117,7 +117,7 @@ module _ (network : Network) where
     way_of_origin None known = refl
     way_of_origin (Some j) known = ap (λ (o : Option Entry). option_map (λ (origin : Fact). let w : Way = record { travel = travel_of network j; origin = origin } in w) (option_map (fact_of network) o)) (known j refl)
 
-    way_is : (n : ℕ) → way_at facts n ≡ option_map way_of (journey_of network lines n)
+    pub way_is : (n : ℕ) → way_at facts n ≡ option_map way_of (journey_of network lines n)
     way_is n =
         ap (λ (o : Option Travel). option_and_then (λ travel. option_map (λ origin. record { travel = travel; origin = origin }) (facts travel.origin)) o) (travel_at-is network lines n)
         ∙ way_of_origin (journey_of network lines n) (origin_in network lines n)

@@ -141,7 +141,7 @@ module _ (network : Network) (e : Entry) where
   pub message_is : (event : Event) → event ≡ event_of e → message_by network facts (known_of network e) (travel_by facts (known_of network e) event) event ≡ message_made network event e
   message_is (Sync node at) same = sent_at (Sync node at) same
   message_is (SyncOne node at) same = sent_at (SyncOne node at) same
-  message_is (Follow node) same = 
+  message_is (Follow node) same =
       ap (λ (name : NodeName). option_and_then (λ port. followed_by facts port (option_map line_number (last_line network is_sync name e.earlier))) (master_at network node)) (sym (ap site_of same))
       ∙ follow_at node (master_at network node) refl
   message_is (Enter node copy at) same = refl
@@ -158,7 +158,7 @@ module _ (network : Network) (e : Entry) where
   pub fact_is : fact_known network facts e.line (known_of network e) (travel_by facts (known_of network e) (event_of e)) ≡ fact_of network e
   fact_is =
       let writes : is_written (message_by network facts (known_of network e) (travel_by facts (known_of network e) (event_of e)) (event_of e)) e.line.out ≡ writes_right network e =
-          ap (λ (m : Option Contents). is_written m e.line.out) (message_is (event_of e) refl) in
+      ap (λ (m : Option Contents). is_written m e.line.out) (message_is (event_of e) refl) in
       (λ i. fact_made e.line (known_of network e) (writes i) (travel_by facts (known_of network e) (event_of e)))
       ∙ (λ i. record {
         line = line_number e;

@@ -9,3 +9,4 @@ pub mod Messages
 pub mod FactLines
 pub mod Stays
 pub mod Exchanges
+pub mod Standing

@@ -112,7 +112,7 @@ corrected_is f x y h = grind (arith, ints, nat_tests)
 time_is : (m : Contents) (f x y : ℕ) → m.header.correction ≡ record { 0 = pos f } → min x longest ≡ min y longest → with_residence_time x m ≡ with_residence_time y m
 time_is m f x y same h =
     let c : with_residence m.header.correction.0 x ≡ with_residence m.header.correction.0 y =
-        ap (λ (k : Interval). with_residence k.0 x) same ∙ corrected_is f x y h ∙ sym (ap (λ (k : Interval). with_residence k.0 y) same) in
+    ap (λ (k : Interval). with_residence k.0 x) same ∙ corrected_is f x y h ∙ sym (ap (λ (k : Interval). with_residence k.0 y) same) in
     λ i. with_correction m (record { 0 = c i })
 
 sent_time : (config : PortConfig) (event : Event) (number now x y : ℕ) → min x longest ≡ min y longest

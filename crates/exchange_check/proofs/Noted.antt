@@ -131,7 +131,7 @@ site_more network line earlier name b h =
     let sync = ap (λ (o : Option Entry). option_map line_number o) (last_more network is_sync name line earlier b h) ∙ number_if (b && is_at is_sync name line.event) (entry line earlier) (last_line network is_sync name earlier) in
     let request = ap (λ (o : Option Entry). option_map line_number o) (last_more network is_request name line earlier b h) ∙ number_if (b && is_at is_request name line.event) (entry line earlier) (last_line network is_request name earlier) in
     let master = ap (λ (o : Option Entry). option_and_then (λ e. told_master (event_of e) (line_number e)) o) (last_more network is_set_master name line earlier b h)
-        ∙ master_if (b && is_at is_set_master name line.event) (entry line earlier) (last_line network is_set_master name earlier) in
+    ∙ master_if (b && is_at is_set_master name line.event) (entry line earlier) (last_line network is_set_master name earlier) in
     λ i. site_made (difference name (run i)) (count_by (is_at draws_sync name) (run i)) (count_by (is_at is_request name) (run i)) (sync i) (request i) (master i)
 
 if_number : (b : Bool) (n : ℕ) → cond b 1 0 + n ≡ cond b (suc n) n
@@ -150,16 +150,16 @@ site_line network line earlier run event name run_is same h =
     let lm = option_and_then (λ (e : Entry). told_master (event_of e) (line_number e)) (last_line network is_set_master name earlier) in
     let r = events network earlier in
     let counted : site_at network (line ∷ earlier) name ≡ site_made
-        (difference name (line.event ∷ r))
-        (cond (draws_sync line.event && is_named (site_of line.event) name) (suc (count_by (is_at draws_sync name) r)) (count_by (is_at draws_sync name) r))
-        (cond (is_request line.event && is_named (site_of line.event) name) (suc (count_by (is_at is_request name) r)) (count_by (is_at is_request name) r))
-        (cond (is_sync line.event && is_named (site_of line.event) name) (Some (length earlier)) ls)
-        (cond (is_request line.event && is_named (site_of line.event) name) (Some (length earlier)) lr)
-        (cond (is_set_master line.event && is_named (site_of line.event) name) (told_master line.event (length earlier)) lm) =
-        site_more network line earlier name true h ∙ (λ i. site_made (difference name (line.event ∷ r)) (count_more (is_at draws_sync name) line.event r i) (count_more (is_at is_request name) line.event r i)
-            (cond (is_sync line.event && is_named (site_of line.event) name) (Some (length earlier)) ls)
-            (cond (is_request line.event && is_named (site_of line.event) name) (Some (length earlier)) lr)
-            (cond (is_set_master line.event && is_named (site_of line.event) name) (told_master line.event (length earlier)) lm)) in
+    (difference name (line.event ∷ r))
+    (cond (draws_sync line.event && is_named (site_of line.event) name) (suc (count_by (is_at draws_sync name) r)) (count_by (is_at draws_sync name) r))
+    (cond (is_request line.event && is_named (site_of line.event) name) (suc (count_by (is_at is_request name) r)) (count_by (is_at is_request name) r))
+    (cond (is_sync line.event && is_named (site_of line.event) name) (Some (length earlier)) ls)
+    (cond (is_request line.event && is_named (site_of line.event) name) (Some (length earlier)) lr)
+    (cond (is_set_master line.event && is_named (site_of line.event) name) (told_master line.event (length earlier)) lm) =
+    site_more network line earlier name true h ∙ (λ i. site_made (difference name (line.event ∷ r)) (count_more (is_at draws_sync name) line.event r i) (count_more (is_at is_request name) line.event r i)
+    (cond (is_sync line.event && is_named (site_of line.event) name) (Some (length earlier)) ls)
+    (cond (is_request line.event && is_named (site_of line.event) name) (Some (length earlier)) lr)
+    (cond (is_set_master line.event && is_named (site_of line.event) name) (told_master line.event (length earlier)) lm)) in
     ap (λ (e : Event). sites_after e (length earlier) (site_at network earlier) name) same
     ∙ sites_after_is line.event (length earlier) (site_at network earlier) name
     ∙ moved_is line.event (is_named (site_of line.event) name) (length earlier) (difference name r) (count_by (is_at draws_sync name) r) (count_by (is_at is_request name) r) ls lr lm

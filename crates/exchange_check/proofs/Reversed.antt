@@ -6,7 +6,9 @@ use Rattle.std.proofs.lemmas.List.{take_more, reverse-append, length-reverse, le
 use Rattle.network_model.specs.Network.{Network}
 use Rattle.exchange_check.specs.declared.kept.Kept.{Kept}
 use Rattle.exchange_check.specs.declared.line.TraceLine.{TraceLine}
-use Rattle.exchange_check.specs.Machine.{Machine, IsKept, machine, kept_verdict, after_line}
+use Rattle.exchange_check.proofs.Standing.{machine-verdict}
+use Rattle.exchange_check.specs.Verdict.{verdict}
+use Rattle.exchange_check.specs.Machine.{Machine, IsKept, machine, after_line}
 
 -- what is kept of one more line
 next_kept : (network : Network) (lines next : List TraceLine) (line : TraceLine) (kept : Kept) (count after : ℕ)
@@ -41,12 +43,12 @@ IsKept-more network lines line kept i within read h =
     next_kept network (reverse (take i lines)) _ line kept i _ (sym (length-reverse (take i lines) ∙ fits)) (reverse_more lines line i within read) refl h
 
 -- the verdict that is kept of all lines
-pub verdict-kept : (network : Network) (lines : List TraceLine) (kept : Kept) (count : ℕ) → IsKept kept count (machine network (reverse lines)) → kept.verdict ≡ kept_verdict network (reverse lines)
-verdict-kept network lines kept count h = h.verdict
+pub verdict-kept : (network : Network) (lines : List TraceLine) (kept : Kept) (count : ℕ) → IsKept kept count (machine network (reverse lines)) → kept.verdict ≡ verdict network (reverse lines)
+verdict-kept network lines kept count h = h.verdict ∙ machine-verdict network (reverse lines)
 
 take_whole : (lines : List TraceLine) (i : ℕ) → length lines ≤ i → take i lines ≡ lines
 take_whole lines i h = grind (arith, common_steps)
 
-pub verdict-kept-all : (network : Network) (lines : List TraceLine) (kept : Kept) (count i : ℕ) → length lines ≤ i → IsKept kept count (machine network (reverse (take i lines))) → kept.verdict ≡ kept_verdict network (reverse lines)
+pub verdict-kept-all : (network : Network) (lines : List TraceLine) (kept : Kept) (count i : ℕ) → length lines ≤ i → IsKept kept count (machine network (reverse (take i lines))) → kept.verdict ≡ verdict network (reverse lines)
 verdict-kept-all network lines kept count i past h =
-    verdict-kept network (take i lines) kept count h ∙ ap (λ (xs : List TraceLine). kept_verdict network (reverse xs)) (take_whole lines i past)
+    verdict-kept network (take i lines) kept count h ∙ ap (λ (xs : List TraceLine). verdict network (reverse xs)) (take_whole lines i past)

@@ -142,7 +142,7 @@ module _ (network : Network) (facts : Facts) (leaves : Leaves) (run : Run) (ends
         let found = stay_found (length earlier) transit c (fact_of network (entry line earlier)) (fact_of network entered) at_line spent (keeps transit entered (line_at-later network line earlier transit entered there)) copied.0 in
         let P : Journey → Type 0 = λ x. IsFollowed (length earlier) x in
         subst P (same_Some _ _ h) (λ count within. follow_one (length earlier) transit c (left_once run k) found below (before c k journey) count within
-            ∙ (λ i. eqb (count_by (spends (sym number i)) run) 1 && left_once run k))
+        ∙ (λ i. eqb (count_by (spends (sym number i)) run) 1 && left_once run k))
 
     copy_followed : (node : NodeName) (transit : ℕ) (entered : Entry) (o : Option ℕ) (j : Journey) → spent_transit line.event ≡ Some transit → line_at network earlier transit ≡ Some entered
         → copy_entered node entered ≡ o → option_and_then (λ copy. option_map (with_stay (entry line earlier) entered) (journey_of network earlier copy)) o ≡ Some j → IsFollowed (length earlier) j

@@ -99,7 +99,6 @@ known_is network line earlier = λ i. record {
   last_sync = option_map line_number (last_line network is_sync (site_of line.event) earlier);
 }
 
-
 either_way : (network : Network) (line : TraceLine) (earlier : Lines) (n : ℕ) (here counted : Bool) → journey_of network earlier n ≡ option_and_then (journey_from network) (line_at network earlier n)
     → cond here (cond counted (journey_made network line.event (entry line earlier) (journey_of network earlier)) None) (journey_of network earlier n)
     ≡ option_and_then (journey_from network) (cond here (cond counted (Some (entry line earlier)) None) (line_at network earlier n))

@@ -72,10 +72,6 @@ abbrev pub machine : Network → Lines → Machine
 machine network [] = start
 machine network (line ∷ earlier) = after_line network line (length earlier) (machine network earlier)
 
--- the verdict that is kept after these lines
-abbrev pub kept_verdict : Network → Lines → Verdict
-kept_verdict network lines = (machine network lines).verdict
-
 -- what is kept is this, after so many lines
 pub record IsKept (kept : Kept) (count : ℕ) (m : Machine) : Type 0 where
   pub count_is : length kept.facts.items ≡ count

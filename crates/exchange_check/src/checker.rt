@@ -2,7 +2,7 @@ ghost use Rattle.std.specs.Prelude.{◌≡◌, reverse, MatchResult, OnErr};
 ghost use Rattle.std.specs.Prelude.{◌++◌, ◌∷◌, []};
 ghost use Rattle.network_model.specs.Network.{Network};
 ghost use Rattle.exchange_check.specs.declared.refusal.CheckFault.TheVariants.{Memory};
-ghost use Rattle.exchange_check.specs.Machine.{kept_verdict};
+ghost use Rattle.exchange_check.specs.Verdict.{verdict};
 
 use crate::kept::Kept;
 use crate::line::TraceLine;
@@ -17,7 +17,7 @@ use std::marker::Model;
 /// memory was refused.
 pub fn check(alloc: Global, nodes: &Nodes, lines: &[TraceLine]) -> Result<Verdict, CheckFault>
     ensures { MatchResult result
-        (λ answer. answer ≡ kept_verdict nodes.now (reverse lines.now))
+        (λ answer. answer ≡ verdict nodes.now (reverse lines.now))
         (λ fault. fault ≡ Memory) }
 {
     let mut kept = Kept::new(alloc);
@@ -80,7 +80,7 @@ impl Checker {
 
     /// The verdict on the lines fed so far, as [`check`] answers it.
     pub fn verdict(&self) -> Verdict
-        ensures { result ≡ kept_verdict self.now.network (reverse self.now.lines) }
+        ensures { result ≡ verdict self.now.network (reverse self.now.lines) }
     {
         self.kept.verdict
     }
