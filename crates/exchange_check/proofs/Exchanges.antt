@@ -1,35 +1,22 @@
 -- A report is judged by what is kept as by the lines.
-use Rattle.std.proofs.Common.{◌≡◌, ◌∙◌, ℕ, zero, suc, ◌+◌, ◌-◌, ◌<◌, ◌^◌, ℤ, pos, ◌-ℤ◌, Bool, true, false, ◌&&◌, ◌||◌, not, cond, eqb, min, List, [], ◌∷◌, length, Option, Some, None, refl, sym, ap, subst, arith}
+use Rattle.std.proofs.Common.{◌≡◌, ◌∙◌, ℕ, Bool, true, false, ◌&&◌, ◌||◌, cond, Option, Some, None, refl, ap}
 use Rattle.std.specs.Prelude.{option_map, option_and_then, nat_lt, is_some}
-use Rattle.std.specs.Option.{option_map_or}
-use Rattle.std.specs.Ordering.{int_eq}
-use Rattle.std.proofs.lemmas.Bool.{and_parts, ltb-true}
-use Rattle.std.proofs.lemmas.Bool.Decides.{nat_tests}
-use Rattle.ptp_units.specs.Exchange.{offset2, path2}
-use Rattle.ptp_units.specs.Moment.{fraction_of}
 use Rattle.slave_port.specs.declared.heard.Report.{Report}
 use Rattle.network_model.specs.declared.event.Event.{Event}
-use Rattle.network_model.specs.Network.{Network, NodeName, PortSetup, is_named}
-use Rattle.network_model.specs.Run.{Run, site_of}
-use Rattle.network_model.specs.Kinds.{is_at, is_sync, is_one_step_sync, draws_sync, is_follow, is_request, is_set_master, named_master, heard_copy}
-use Rattle.network_model.specs.Truth.{master_at, slave_at}
+use Rattle.network_model.specs.Network.{Network, NodeName}
+use Rattle.network_model.specs.Kinds.{is_at, is_follow, heard_copy}
 use Rattle.exchange_check.specs.declared.facts.Fact.{Fact}
 use Rattle.exchange_check.specs.declared.facts.Found.{Found}
 use Rattle.exchange_check.specs.declared.facts.Travel.{Travel}
 use Rattle.exchange_check.specs.declared.facts.Way.{Way}
-use Rattle.exchange_check.specs.declared.line.TraceLine.{TraceLine}
-use Rattle.exchange_check.specs.declared.verdict.Why.{Why}
-use Rattle.exchange_check.specs.declared.verdict.Why.TheVariants.{NoSuchLine, OtherNumber, OtherMaster, BrokenJourney, WrongReading, WrongValue, TooBig, Bytes}
-use Rattle.exchange_check.specs.Line.{Lines, counts, is_made, completes, is_arrival, is_hearing}
-use Rattle.exchange_check.specs.Record.{Entry, entry, line_number, event_of, site, line_at, events, last_line, first_stamp, reading}
-use Rattle.exchange_check.specs.Journey.{Journey, journey_of, residence, left_once}
-use Rattle.exchange_check.specs.Sound.{where_passes, below, lines_to, Exchange, line_of, sender, sync_line, follow_line, follow_lines, arrival_line, is_of_line, is_stamped_between, is_report_in_place, exchange_of, journey_to, unbroken, is_followed, are_paired, are_later, is_present_master, is_domain, is_of_master, are_readings, fraction_sent, fits, bracket, are_results, are_octets, journeys_reason, exchange_reason, reason}
-use Rattle.exchange_check.specs.Kept.{Facts, Leaves, longest, travel_at}
-use Rattle.exchange_check.specs.Judged.{line_of_by, sender_by, sync_by, follow_by, follows_by, completion_by, arrival_by, found_by, way_at, once_by, way_from, way_to, paired_by, is_told, of_master_by, readings_by, fits_by, bracket_by, results_by, octets_by, ways_reason, both_ways, found_reason, fact_reason, reason_by}
-use Rattle.exchange_check.proofs.Noted.{site_at, leaves_at, stamps_at, told_master}
+use Rattle.exchange_check.specs.Line.{Lines, completes, is_arrival, is_hearing}
+use Rattle.exchange_check.specs.Record.{Entry, line_number, event_of, line_at}
+use Rattle.exchange_check.specs.Journey.{Journey, journey_of}
+use Rattle.exchange_check.specs.Sound.{where_passes, below, Exchange, line_of, sender, sync_line, follow_line, follow_lines, arrival_line}
+use Rattle.exchange_check.specs.Kept.{Facts}
+use Rattle.exchange_check.specs.Judged.{line_of_by, sender_by, sync_by, follow_by, follows_by, completion_by, arrival_by, way_at}
 use Rattle.exchange_check.proofs.Told.{travel_of, fact_of, facts_at, travel_at-is}
 use Rattle.exchange_check.proofs.Messages.{origin_in}
-use Rattle.exchange_check.proofs.Stays.{once_is, followed_is}
 
 module _ (network : Network) where
   abbrev pub found_of : Exchange → Found

@@ -1,20 +1,10 @@
 -- The fact that is kept of a line is what the line and those before it say.
-use Rattle.std.proofs.Common.{◌≡◌, ◌∙◌, ℕ, zero, suc, ◌+◌, ◌-◌, ◌<◌, ℤ, pos, ◌+ℤ◌, Bool, true, false, ◌&&◌, cond, eqb, min, List, [], ◌∷◌, length, Option, Some, None, refl, sym, ap, subst, arith}
-use Rattle.std.specs.Prelude.{option_map, option_and_then, nat_lt}
-use Rattle.std.specs.Int.{int_min}
+use Rattle.std.proofs.Common.{◌≡◌, ◌∙◌, ℕ, Bool, true, false, ◌&&◌, cond, eqb, [], ◌∷◌, length, Option, Some, None, refl, sym, ap, subst, arith}
+use Rattle.std.specs.Prelude.{option_map, option_and_then}
 use Rattle.std.specs.Option.{option_map_or}
-use Rattle.std.proofs.lemmas.Bool.{eq-eqb}
-use Rattle.std.proofs.lemmas.Bool.Decides.{nat_tests}
-use Rattle.std.proofs.lemmas.Int.{ints}
 use Rattle.std.proofs.lemmas.Option.{same_Some}
-use Rattle.ptp_units.specs.Interval.{with_residence}
-use Rattle.ptp_units.specs.Moment.{fraction_of}
-use Rattle.ptp_units.specs.declared.interval.Interval.{Interval}
 use Rattle.event_codec.specs.Packet.{Contents}
-use Rattle.event_codec.specs.Correction.{with_correction}
-use Rattle.event_codec.specs.declared.port.PortConfig.{PortConfig}
-use Rattle.master_port.specs.Written.{sync, one_step_sync, follow_up, delay_resp}
-use Rattle.slave_port.specs.Written.{delay_req}
+use Rattle.master_port.specs.Written.{follow_up, delay_resp}
 use Rattle.network_model.specs.declared.event.Event.{Event}
 use Rattle.network_model.specs.declared.event.Event.TheVariants.{Sync, SyncOne, Follow, Enter, Leave, Arrive, Hear, Request, Stamped, Tick, SetMaster, StepClock}
 use Rattle.network_model.specs.Network.{Network, NodeName, PortSetup}
@@ -24,16 +14,14 @@ use Rattle.exchange_check.specs.declared.facts.Fact.{Fact}
 use Rattle.exchange_check.specs.declared.facts.Travel.{Travel}
 use Rattle.exchange_check.specs.declared.line.TraceLine.{TraceLine}
 use Rattle.exchange_check.specs.Line.{Lines, counts}
-use Rattle.exchange_check.specs.Record.{Entry, entry, line_number, event_of, site, line_at, last_line, reading, sequence}
-use Rattle.exchange_check.specs.Journey.{Journey, residence, begun, with_stay, copy_entered, left_from, journey_made, journey_of}
-use Rattle.exchange_check.specs.Octets.{drawing_port, message_sent, sent, with_residence_time, travelled, followed, answered, message_made, writes_right, is_written}
-use Rattle.exchange_check.specs.Kept.{Facts, longest, travel_at, travel_by, sent_by, travelled_by, followed_by, answered_by, message_by, fact_known, fact_made, written_travel, fact_by, known_by}
+use Rattle.exchange_check.specs.Record.{Entry, entry, line_number, event_of, line_at, last_line, reading, sequence}
+use Rattle.exchange_check.specs.Journey.{Journey, residence, with_stay, copy_entered, left_from, journey_made, journey_of}
+use Rattle.exchange_check.specs.Octets.{drawing_port, sent, travelled, followed, answered, message_made, writes_right, is_written}
+use Rattle.exchange_check.specs.Kept.{Facts, travel_at, travel_by, sent_by, travelled_by, followed_by, answered_by, message_by, fact_known, fact_made, written_travel, fact_by}
 use Rattle.exchange_check.proofs.Noted.{site_at}
 use Rattle.exchange_check.proofs.Told.{travel_of, fact_of, facts_at, known_of, number_drawn, travel_at-is, travel_is, known_is}
-use Rattle.std.proofs.lemmas.Bool.{and_parts}
 use Rattle.std.proofs.lemmas.Slice.Eq.{bytes_eq-Decides}
 use Rattle.network_model.specs.Kinds.{is_at}
-use Rattle.network_model.specs.Network.{is_named}
 use Rattle.network_model.specs.Run.{site_of}
 use Rattle.exchange_check.specs.Machine.{with_fact}
 use Rattle.exchange_check.proofs.Messages.{line_at-later, line_at-here, origin_in, sent_is, travelled_is, min_min}

@@ -1,35 +1,31 @@
 -- The message that is kept to be written of a line is the one that the lines say it made.
-use Rattle.std.proofs.Common.{◌≡◌, ◌∙◌, ℕ, zero, suc, ◌+◌, ◌-◌, ◌<◌, ℤ, pos, ◌+ℤ◌, Bool, true, false, ◌&&◌, cond, eqb, min, List, [], ◌∷◌, length, Option, Some, None, refl, sym, ap, subst, arith}
-use Rattle.std.specs.Prelude.{option_map, option_and_then, nat_lt}
-use Rattle.std.specs.Int.{int_min}
+use Rattle.std.proofs.Common.{◌≡◌, ◌∙◌, ℕ, ◌<◌, pos, Bool, true, false, cond, eqb, min, [], ◌∷◌, length, Option, Some, None, refl, sym, ap, subst, arith}
+use Rattle.std.specs.Prelude.{option_map, option_and_then}
 use Rattle.std.specs.Option.{option_map_or}
 use Rattle.std.proofs.lemmas.Bool.{eq-eqb}
 use Rattle.std.proofs.lemmas.Bool.Decides.{nat_tests}
 use Rattle.std.proofs.lemmas.Int.{ints}
-use Rattle.std.proofs.lemmas.Option.{option_and_then_some, same_Some}
+use Rattle.std.proofs.lemmas.Option.{same_Some}
 use Rattle.ptp_units.specs.Interval.{with_residence}
 use Rattle.ptp_units.specs.Moment.{fraction_of}
 use Rattle.ptp_units.specs.declared.interval.Interval.{Interval}
 use Rattle.event_codec.specs.Packet.{Contents}
 use Rattle.event_codec.specs.Correction.{with_correction}
 use Rattle.event_codec.specs.declared.port.PortConfig.{PortConfig}
-use Rattle.master_port.specs.Written.{sync, one_step_sync, follow_up, delay_resp}
+use Rattle.master_port.specs.Written.{sync, one_step_sync}
 use Rattle.slave_port.specs.Written.{delay_req}
 use Rattle.network_model.specs.declared.event.Event.{Event}
 use Rattle.network_model.specs.declared.event.Event.TheVariants.{Sync, SyncOne, Follow, Enter, Leave, Arrive, Hear, Request, Stamped, Tick, SetMaster, StepClock}
 use Rattle.network_model.specs.Network.{Network, NodeName, PortSetup}
-use Rattle.network_model.specs.Kinds.{is_sync}
-use Rattle.network_model.specs.Truth.{master_at}
 use Rattle.exchange_check.specs.declared.facts.Fact.{Fact}
 use Rattle.exchange_check.specs.declared.facts.Travel.{Travel}
 use Rattle.exchange_check.specs.declared.line.TraceLine.{TraceLine}
 use Rattle.exchange_check.specs.Line.{Lines, counts}
-use Rattle.exchange_check.specs.Record.{Entry, entry, line_number, event_of, site, line_at, last_line, reading, sequence}
+use Rattle.exchange_check.specs.Record.{Entry, entry, line_number, event_of, line_at, reading, sequence}
 use Rattle.exchange_check.specs.Journey.{Journey, residence, begun, with_stay, copy_entered, left_from, journey_made, journey_of}
-use Rattle.exchange_check.specs.Octets.{drawing_port, message_sent, sent, with_residence_time, travelled, followed, answered, message_made, writes_right, is_written}
-use Rattle.exchange_check.specs.Kept.{Facts, longest, travel_at, travel_by, sent_by, travelled_by, followed_by, answered_by, message_by, fact_known, fact_made, written_travel, fact_by, known_by}
-use Rattle.exchange_check.proofs.Noted.{site_at}
-use Rattle.exchange_check.proofs.Told.{travel_of, fact_of, facts_at, known_of, number_drawn, travel_at-is, travel_is, known_is}
+use Rattle.exchange_check.specs.Octets.{drawing_port, message_sent, sent, with_residence_time, travelled}
+use Rattle.exchange_check.specs.Kept.{longest, sent_by, travelled_by}
+use Rattle.exchange_check.proofs.Told.{fact_of, facts_at, number_drawn}
 
 -- a line of a number is among the lines
 pub line_at-bound : (network : Network) (lines : Lines) (n : ℕ) (e : Entry) → line_at network lines n ≡ Some e → n < length lines

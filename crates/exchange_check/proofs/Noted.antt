@@ -1,6 +1,6 @@
 -- What is kept of nodes, stays and requests is what the lines say of them.
-use Rattle.std.proofs.Common.{◌≡◌, ◌∙◌, ℕ, zero, suc, ◌+◌, ◌%◌, ℤ, pos, Bool, true, false, ◌&&◌, ◌||◌, cond, eqb, List, [], ◌∷◌, length, Option, Some, None, refl, sym, ap, arith, map}
-use Rattle.std.specs.Prelude.{filter, count_by, option_map, option_and_then, unwrap_or, is_some}
+use Rattle.std.proofs.Common.{◌≡◌, ◌∙◌, ℕ, suc, ◌+◌, ℤ, Bool, true, false, ◌&&◌, cond, eqb, [], ◌∷◌, length, Option, Some, None, refl, sym, ap, arith, map}
+use Rattle.std.specs.Prelude.{filter, count_by, option_map, option_and_then, unwrap_or}
 use Rattle.std.proofs.lemmas.List.Sums.{sum_by-cons}
 use Rattle.std.specs.Option.{option_or, option_map_or}
 use Rattle.ptp_units.specs.Sequence.{of_count, next}
@@ -14,8 +14,8 @@ use Rattle.exchange_check.specs.declared.facts.Fact.{Fact}
 use Rattle.exchange_check.specs.declared.facts.Site.{Site}
 use Rattle.exchange_check.specs.declared.line.TraceLine.{TraceLine}
 use Rattle.exchange_check.specs.Line.{Lines, counts}
-use Rattle.exchange_check.specs.Record.{Entry, entry, line_number, event_of, last_line, events, stamps, first_stamp}
-use Rattle.exchange_check.specs.Kept.{Sites, Leaves, Stamps, new_site, moved, moved_at, sites_after, leaves_after, stamps_after, stamped}
+use Rattle.exchange_check.specs.Record.{Entry, entry, line_number, event_of, last_line, events, first_stamp}
+use Rattle.exchange_check.specs.Kept.{Sites, Leaves, Stamps, moved, sites_after, leaves_after, stamps_after}
 use Rattle.exchange_check.specs.Machine.{sites_told, leaves_told, stamps_told}
 
 pub cond_same : {X : Type 0} (b : Bool) (x : X) → cond b x x ≡ x

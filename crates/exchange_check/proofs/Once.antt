@@ -1,5 +1,5 @@
 -- The stays of a copy, one after the other.
-use Rattle.std.proofs.Common.{◌≡◌, ◌∙◌, ℕ, zero, suc, ◌+◌, ◌-◌, ◌<◌, Bool, true, false, ◌&&◌, Option, Some, None, refl, sym, ap, arith}
+use Rattle.std.proofs.Common.{◌≡◌, ◌∙◌, ℕ, suc, ◌+◌, ◌-◌, ◌<◌, Bool, true, false, ◌&&◌, Option, Some, None, ap, arith}
 use Rattle.std.specs.Option.{option_map_or}
 use Rattle.exchange_check.specs.Kept.{Facts, Leaves}
 use Rattle.exchange_check.specs.Judged.{once_by, stay_before, is_once}

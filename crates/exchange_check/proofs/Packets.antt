@@ -1,5 +1,5 @@
 -- The test of a message's octets is the relation between a message and its octets.
-use Rattle.std.proofs.Common.{◌≡◌, ℕ, ◌+◌, ◌*◌, ◌^◌, ◌<◌, ◌≤◌, Bool, true, false, ◌&&◌, not, List, [], ◌∷◌, length, drop, Decides, eqb, refl, sym, ap, subst, ◌∙◌, arith, zero, suc, ◌==◌, Some, length-drop}
+use Rattle.std.proofs.Common.{◌≡◌, ℕ, ◌+◌, ◌*◌, ◌^◌, ◌<◌, ◌≤◌, Bool, true, false, ◌&&◌, not, List, [], ◌∷◌, length, drop, Decides, refl, sym, ap, subst, ◌∙◌, arith, zero, suc, ◌==◌, Some, length-drop}
 use Rattle.std.specs.Prelude.{nat_lt, slice_index, slice_range, EachIndex}
 use Rattle.std.specs.Int.{w8, w64, cast_signed}
 use Rattle.std.specs.List.{list_all}

@@ -2,7 +2,7 @@
 use Rattle.std.proofs.Common.{◌≡◌, ◌∙◌, ℕ, ◌+◌, ◌<◌, ◌≤◌, List, [], ◌∷◌, ◌++◌, length, take, get_or, refl, sym, ap, subst, arith, length-append}
 use Rattle.std.specs.Prelude.{reverse}
 use Rattle.std.proofs.lemmas.Grind.{common_steps}
-use Rattle.std.proofs.lemmas.List.{take_more, reverse-append, length-reverse, length-take-le}
+use Rattle.std.proofs.lemmas.List.{take_more, length-reverse, length-take-le}
 use Rattle.network_model.specs.Network.{Network}
 use Rattle.exchange_check.specs.declared.kept.Kept.{Kept}
 use Rattle.exchange_check.specs.declared.line.TraceLine.{TraceLine}

@@ -1,9 +1,8 @@
 -- Following the stays of a copy finds those of its journey.
-use Rattle.std.proofs.Common.{◌≡◌, ◌∙◌, ℕ, zero, suc, ◌+◌, ◌<◌, ◌≤◌, Bool, true, false, ◌&&◌, cond, eqb, List, [], ◌∷◌, length, Option, Some, None, refl, sym, ap, subst, arith}
+use Rattle.std.proofs.Common.{◌≡◌, ◌∙◌, ℕ, zero, suc, ◌<◌, Bool, true, false, ◌&&◌, cond, eqb, [], ◌∷◌, length, Option, Some, None, refl, sym, ap, subst, arith}
 use Rattle.std.specs.Prelude.{option_map, option_and_then, nat_lt, is_some, count_by}
 use Rattle.std.specs.Option.{option_map_or}
-use Rattle.std.specs.List.{list_all}
-use Rattle.std.proofs.lemmas.Bool.{and_parts, ltb-true, eqb-true}
+use Rattle.std.proofs.lemmas.Bool.{eqb-true}
 use Rattle.std.proofs.lemmas.Bool.Decides.{nat_tests}
 use Rattle.std.proofs.lemmas.Option.{same_Some, none-some}
 use Rattle.network_model.specs.declared.event.Event.{Event}
@@ -15,11 +14,11 @@ use Rattle.exchange_check.specs.declared.facts.Fact.{Fact}
 use Rattle.exchange_check.specs.declared.line.TraceLine.{TraceLine}
 use Rattle.exchange_check.specs.Line.{Lines, counts}
 use Rattle.exchange_check.specs.Record.{Entry, entry, line_number, event_of, site, line_at, events}
-use Rattle.exchange_check.specs.Journey.{Stay, Journey, begun, with_stay, copy_entered, left_from, journey_made, journey_of, left_once}
-use Rattle.exchange_check.specs.Kept.{Facts, Leaves, leaves_after, left_again}
+use Rattle.exchange_check.specs.Journey.{Journey, begun, with_stay, copy_entered, left_from, journey_made, journey_of, left_once}
+use Rattle.exchange_check.specs.Kept.{Facts, Leaves, leaves_after}
 use Rattle.exchange_check.specs.Judged.{once_by, stay_before, entered_by, is_once}
 use Rattle.exchange_check.proofs.Noted.{leaves_at, count_more, events_more}
-use Rattle.exchange_check.proofs.Told.{fact_of, facts_at}
+use Rattle.exchange_check.proofs.Told.{fact_of}
 use Rattle.exchange_check.proofs.Messages.{line_at-bound, line_at-later, line_at-here}
 
 -- how often a stay was ended, as it is kept

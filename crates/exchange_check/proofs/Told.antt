@@ -1,17 +1,15 @@
 -- What is kept of a line is what the line and those before it say.
-use Rattle.std.proofs.Common.{◌≡◌, ◌∙◌, ℕ, zero, suc, ◌+◌, ◌-◌, ◌<◌, ◌%◌, ℤ, pos, ◌+ℤ◌, Bool, true, false, ◌&&◌, not, cond, eqb, min, List, [], ◌∷◌, length, Option, Some, None, refl, sym, ap, subst, arith}
-use Rattle.std.specs.Prelude.{option_map, option_and_then, unwrap_or, nat_lt, count_by}
+use Rattle.std.proofs.Common.{◌≡◌, ◌∙◌, ℕ, ◌+◌, ◌-◌, Bool, true, false, ◌&&◌, cond, eqb, min, [], ◌∷◌, length, Option, Some, None, refl, sym, ap, arith}
+use Rattle.std.specs.Prelude.{option_map, option_and_then, unwrap_or, count_by}
 use Rattle.std.specs.Option.{option_map_or}
-use Rattle.std.specs.List.{list_all, sum_by}
-use Rattle.std.proofs.lemmas.Bool.Decides.{nat_tests}
+use Rattle.std.specs.List.{list_all}
 use Rattle.std.proofs.lemmas.List.Sums.{sum_by-cons}
 use Rattle.ptp_units.specs.Sequence.{of_count}
-use Rattle.event_codec.specs.Packet.{Contents}
 use Rattle.network_model.specs.declared.event.Event.{Event}
 use Rattle.network_model.specs.declared.event.Event.TheVariants.{Sync, SyncOne, Follow, Enter, Leave, Arrive, Hear, Request, Stamped, Tick, SetMaster, StepClock}
-use Rattle.network_model.specs.Network.{Network, NodeName, PortSetup, is_named}
-use Rattle.network_model.specs.Run.{Run, place, site_of, true_moment}
-use Rattle.network_model.specs.Kinds.{is_at, is_sync, draws_sync, is_request, entered_copy}
+use Rattle.network_model.specs.Network.{Network, NodeName, PortSetup}
+use Rattle.network_model.specs.Run.{place, site_of}
+use Rattle.network_model.specs.Kinds.{is_at, is_sync, draws_sync, is_request}
 use Rattle.network_model.specs.Numbering.{number_of}
 use Rattle.network_model.specs.Truth.{master_at, slave_at}
 use Rattle.exchange_check.specs.declared.facts.Fact.{Fact}
@@ -19,11 +17,11 @@ use Rattle.exchange_check.specs.declared.facts.Known.{Known}
 use Rattle.exchange_check.specs.declared.facts.Travel.{Travel}
 use Rattle.exchange_check.specs.declared.line.TraceLine.{TraceLine}
 use Rattle.exchange_check.specs.Line.{Lines, counts, is_made, completes}
-use Rattle.exchange_check.specs.Record.{Entry, entry, line_number, event_of, site, line_at, events, place_of, last_line, reading, reads_right, sequence}
-use Rattle.exchange_check.specs.Journey.{Stay, Journey, stay_length, residence, begun, with_stay, copy_entered, left_from, journey_made, journey_of}
+use Rattle.exchange_check.specs.Record.{Entry, entry, line_number, event_of, site, line_at, events, last_line, reading, reads_right, sequence}
+use Rattle.exchange_check.specs.Journey.{Journey, stay_length, residence, begun, with_stay, copy_entered, left_from, journey_made, journey_of}
 use Rattle.exchange_check.specs.Octets.{drawing_port, writes_right}
 use Rattle.exchange_check.specs.Sound.{stay_reads_right, journey_reads_right, journey_writes_right}
-use Rattle.exchange_check.specs.Kept.{Facts, longest, number_by, known_by, travel_at, copy_entered_by, stayed, left_by, travel_left, begun_by, travel_by, written_travel}
+use Rattle.exchange_check.specs.Kept.{Facts, longest, number_by, known_by, travel_at, stayed, left_by, begun_by, travel_by, written_travel}
 use Rattle.exchange_check.proofs.Noted.{site_at}
 
 -- what is kept of a journey

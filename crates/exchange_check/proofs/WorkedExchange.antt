@@ -11,8 +11,7 @@ use Rattle.network_model.specs.Network.{Network, NodeName}
 use Rattle.exchange_check.specs.declared.line.TraceLine.{TraceLine}
 use Rattle.exchange_check.specs.declared.line.TraceOut.{TraceOut}
 use Rattle.exchange_check.specs.declared.line.TraceOut.TheVariants as outs
-use Rattle.exchange_check.specs.declared.verdict.Verdict.TheVariants.{Accepted, Refused}
-use Rattle.exchange_check.specs.declared.verdict.Why.TheVariants as whys
+use Rattle.exchange_check.specs.declared.verdict.Verdict.TheVariants.{Accepted}
 use Rattle.exchange_check.specs.Verdict.{verdict}
 
 abbrev m : NodeName

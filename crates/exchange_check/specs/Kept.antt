@@ -1,21 +1,17 @@
 -- What the checker keeps of lines, so that it searches for nothing. Its own functions cite these; what its callers are told is
 -- said by the lines alone.
-use Rattle.std.specs.Prelude.{ℕ, ◌+◌, ◌-◌, ◌^◌, ℤ, pos, ◌+ℤ◌, ◌-ℤ◌, Bool, true, false, ◌&&◌, ◌||◌, not, List, [], ◌∷◌, length, min, nat_lt, slice_get, unwrap_or, ◌==◌, is_some, if◌then◌else◌, Option, Some, None, option_map, option_and_then}
+use Rattle.std.specs.Prelude.{ℕ, ◌+◌, ◌-◌, ◌^◌, ℤ, pos, ◌+ℤ◌, Bool, true, false, ◌&&◌, not, List, [], min, nat_lt, slice_get, unwrap_or, ◌==◌, is_some, if◌then◌else◌, Option, Some, None, option_map, option_and_then}
 use Rattle.std.specs.HashMap.{HashMap, get}
 use Rattle.std.specs.Str.{bytes_eq}
 use Rattle.std.specs.Option.{option_or, option_map_or}
-use Rattle.std.specs.Ordering.{int_eq}
-use Rattle.ptp_units.specs.Exchange.{offset2, path2}
-use Rattle.ptp_units.specs.Moment.{fraction_of}
 use Rattle.ptp_units.specs.Sequence.{of_count, next}
 use Rattle.event_codec.specs.Packet.{Contents}
 use Rattle.master_port.specs.Written.{follow_up, delay_resp}
-use Rattle.slave_port.specs.declared.heard.Report.{Report}
 use Rattle.network_model.specs.declared.event.Event.{Event}
 use Rattle.network_model.specs.declared.event.Event.TheVariants.{Sync, SyncOne, Follow, Enter, Leave, Arrive, Hear, Request, Stamped, Tick, SetMaster, StepClock}
 use Rattle.network_model.specs.Network.{Network, NodeName, PortSetup, is_named}
 use Rattle.network_model.specs.Run.{site_of, true_moment}
-use Rattle.network_model.specs.Kinds.{is_at, is_sync, is_one_step_sync, draws_sync, is_follow, is_request, entered_copy, heard_copy, named_master}
+use Rattle.network_model.specs.Kinds.{entered_copy}
 use Rattle.network_model.specs.Truth.{master_at, slave_at}
 use Rattle.exchange_check.specs.declared.facts.Fact.{Fact}
 use Rattle.exchange_check.specs.declared.facts.Known.{Known}
@@ -24,12 +20,9 @@ use Rattle.exchange_check.specs.declared.facts.Travel.{Travel}
 use Rattle.exchange_check.specs.declared.line.TraceLine.{TraceLine}
 use Rattle.exchange_check.specs.declared.octets.Port.{Port}
 use Rattle.exchange_check.specs.declared.octets.Written.{Written}
-use Rattle.exchange_check.specs.declared.verdict.Why.{Why}
-use Rattle.exchange_check.specs.declared.verdict.Why.TheVariants.{NoSuchLine, OtherNumber, OtherMaster, BrokenJourney, WrongReading, WrongValue, TooBig, Bytes}
-use Rattle.exchange_check.specs.Line.{counts, is_made, completes, is_arrival, is_hearing}
+use Rattle.exchange_check.specs.Line.{counts, is_made, completes}
 use Rattle.exchange_check.specs.Record.{is_reading}
 use Rattle.exchange_check.specs.Octets.{drawing_port, message_sent, with_residence_time, is_written}
-use Rattle.exchange_check.specs.Sound.{where_passes, below, are_later, is_domain, is_of_line}
 
 -- a port's configuration and first number, as a network has them
 abbrev pub port_setup : Port → PortSetup

@@ -1,8 +1,7 @@
 -- What the checker keeps after lines, and its verdict on them. Its own functions cite these; what its callers are told is said
 -- by the lines alone.
-use Rattle.std.specs.Prelude.{◌≡◌, ℕ, ◌+◌, ◌≤◌, List, [], ◌∷◌, length, nat_eq, ◌==◌, if◌then◌else◌, Option, Some, None, option_map}
+use Rattle.std.specs.Prelude.{◌≡◌, ℕ, ◌≤◌, [], ◌∷◌, length, nat_eq, ◌==◌, if◌then◌else◌, Option, Some, None, option_map}
 use Rattle.std.specs.HashMap.{get}
-use Rattle.slave_port.specs.declared.heard.Report.{Report}
 use Rattle.network_model.specs.Network.{Network}
 use Rattle.exchange_check.specs.declared.facts.Fact.{Fact}
 use Rattle.exchange_check.specs.declared.kept.Kept.{Kept}
@@ -10,7 +9,6 @@ use Rattle.exchange_check.specs.declared.line.TraceLine.{TraceLine}
 use Rattle.exchange_check.specs.declared.line.TraceOut.{TraceOut}
 use Rattle.exchange_check.specs.declared.verdict.Verdict.{Verdict}
 use Rattle.exchange_check.specs.declared.verdict.Verdict.TheVariants.{Accepted, Refused}
-use Rattle.exchange_check.specs.declared.verdict.Why.{Why}
 use Rattle.exchange_check.specs.Line.{Lines}
 use Rattle.exchange_check.specs.Verdict.{report_in, one_more, accepted_count}
 use Rattle.exchange_check.specs.Kept.{Facts, Sites, Leaves, Stamps, new_site, fact_in, site_in, fact_by, sites_after, leaves_after, stamps_after}

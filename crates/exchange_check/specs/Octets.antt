@@ -1,5 +1,5 @@
 -- The message that each line made, if its octets are those that ports and clocks write.
-use Rattle.std.specs.Prelude.{ℕ, ◌+◌, ◌*◌, ◌^◌, Bool, true, false, ◌&&◌, not, List, length, drop, nat_lt, ◌==◌, slice_index, slice_range, if◌then◌else◌, Option, Some, None, option_map, option_and_then}
+use Rattle.std.specs.Prelude.{ℕ, ◌+◌, ◌*◌, ◌^◌, Bool, true, false, ◌&&◌, not, List, length, drop, nat_lt, ◌==◌, slice_index, slice_range, Option, Some, None, option_map, option_and_then}
 use Rattle.std.specs.Int.{w8, w64, cast_signed}
 use Rattle.std.specs.List.{list_all}
 use Rattle.std.specs.Ordering.{int_eq}
@@ -16,13 +16,12 @@ use Rattle.master_port.specs.Written.{sync, one_step_sync, follow_up, delay_resp
 use Rattle.slave_port.specs.Written.{delay_req}
 use Rattle.network_model.specs.declared.event.Event.{Event}
 use Rattle.network_model.specs.declared.event.Event.TheVariants.{Sync, SyncOne, Follow, Enter, Leave, Arrive, Hear, Request, Stamped, Tick, SetMaster, StepClock}
-use Rattle.network_model.specs.Network.{Network, NodeName, PortSetup}
+use Rattle.network_model.specs.Network.{Network, PortSetup}
 use Rattle.network_model.specs.Kinds.{is_sync}
 use Rattle.network_model.specs.Truth.{master_at, slave_at}
 use Rattle.exchange_check.specs.declared.line.TraceOut.{TraceOut}
 use Rattle.exchange_check.specs.declared.line.TraceOut.TheVariants as outs
-use Rattle.exchange_check.specs.Line.{Lines}
-use Rattle.exchange_check.specs.Record.{Entry, event_of, line_number, last_line, reading, sequence}
+use Rattle.exchange_check.specs.Record.{Entry, event_of, last_line, reading, sequence}
 use Rattle.exchange_check.specs.Journey.{Journey, journey_of, journey_made, residence}
 
 -- whether the ten octets of b from octet i on are this port's identity

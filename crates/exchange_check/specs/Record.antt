@@ -1,12 +1,12 @@
 -- What lines record: the line of a number, and what clocks read and ports drew by the lines before a line.
-use Rattle.std.specs.Prelude.{ℕ, ◌+◌, ℤ, pos, Bool, false, ◌&&◌, List, [], ◌∷◌, length, map, filter, nat_lt, ◌==◌, if◌then◌else◌, Option, Some, None, option_map, option_and_then, unwrap_or}
+use Rattle.std.specs.Prelude.{ℕ, ℤ, pos, Bool, false, ◌&&◌, [], ◌∷◌, length, map, filter, ◌==◌, if◌then◌else◌, Option, Some, None, unwrap_or}
 use Rattle.std.specs.Ordering.{int_eq}
 use Rattle.std.specs.Option.{option_or, option_map_or}
 use Rattle.ptp_units.specs.Sequence.{of_count}
 use Rattle.network_model.specs.declared.event.Event.{Event}
 use Rattle.network_model.specs.Network.{Network, NodeName, PortSetup}
 use Rattle.network_model.specs.Run.{Run, Place, place, site_of}
-use Rattle.network_model.specs.Kinds.{is_at, is_sync, is_request, is_stamped, is_set_master}
+use Rattle.network_model.specs.Kinds.{is_at, is_request, is_stamped}
 use Rattle.network_model.specs.Clock.{shown_at}
 use Rattle.network_model.specs.Numbering.{number_of}
 use Rattle.exchange_check.specs.declared.line.TraceLine.{TraceLine}
