@@ -1,0 +1,214 @@
+-- What is kept after lines is what the lines say, and so is the verdict.
+use Rattle.std.proofs.Common.{◌≡◌, ◌∙◌, ℕ, ◌+◌, ◌<◌, pos, ◌-ℤ◌, Bool, true, false, ◌&&◌, not, cond, eqb, min, [], ◌∷◌, length, Option, Some, None, refl, sym, ap, arith}
+use Rattle.std.specs.Prelude.{option_map, option_and_then, nat_lt}
+use Rattle.std.specs.Option.{option_map_or}
+use Rattle.std.specs.Ordering.{int_eq}
+use Rattle.std.proofs.lemmas.Bool.{and_parts, ltb-true}
+use Rattle.std.proofs.lemmas.Bool.Decides.{nat_tests}
+use Rattle.ptp_units.specs.Exchange.{offset2, path2}
+use Rattle.slave_port.specs.declared.heard.Report.{Report}
+use Rattle.network_model.specs.declared.event.Event.{Event}
+use Rattle.network_model.specs.Network.{Network, NodeName, is_named}
+use Rattle.network_model.specs.Run.{site_of}
+use Rattle.network_model.specs.Kinds.{is_sync, draws_sync, is_request, is_set_master, named_master, heard_copy}
+use Rattle.network_model.specs.Truth.{master_at, slave_at}
+use Rattle.exchange_check.specs.declared.line.TraceLine.{TraceLine}
+use Rattle.exchange_check.specs.declared.verdict.Why.{Why}
+use Rattle.exchange_check.specs.declared.verdict.Why.TheVariants.{OtherNumber, OtherMaster, WrongReading, WrongValue, TooBig, Bytes}
+use Rattle.exchange_check.specs.Line.{Lines, counts}
+use Rattle.exchange_check.specs.Record.{Entry, entry, line_number, event_of, site, events, last_line, reading}
+use Rattle.exchange_check.specs.Octets.{writes_right}
+use Rattle.exchange_check.specs.Journey.{Journey, journey_of, residence, left_once}
+use Rattle.exchange_check.specs.Sound.{journey_writes_right, where_passes, below, Exchange, line_of, sync_line, follow_lines, arrival_line, is_of_line, is_stamped_between, unbroken, is_followed, are_paired, are_later, is_domain, is_of_master, are_readings, fraction_sent, fits, bracket, are_results, are_octets, journeys_reason, exchange_reason, reason}
+use Rattle.exchange_check.specs.Kept.{Facts, Leaves, longest}
+use Rattle.exchange_check.specs.Judged.{found_by, way_at, once_by, way_from, way_to, paired_by, is_told, of_master_by, fits_by, bracket_by, results_by, octets_by, both_ways, found_reason, reason_by}
+use Rattle.exchange_check.proofs.Noted.{site_at, leaves_at, stamps_at, told_master}
+use Rattle.exchange_check.proofs.Told.{fact_of, facts_at}
+use Rattle.exchange_check.proofs.Stays.{once_is, followed_is}
+use Rattle.exchange_check.specs.declared.verdict.Verdict.{Verdict}
+use Rattle.exchange_check.specs.declared.verdict.Verdict.TheVariants.{Accepted, Refused}
+use Rattle.exchange_check.specs.Judged.{is_followed_by}
+use Rattle.exchange_check.specs.Kept.{fact_by}
+use Rattle.exchange_check.specs.Machine.{Machine, machine, with_fact, sites_told, leaves_told, stamps_told, judged}
+use Rattle.exchange_check.specs.Verdict.{verdict, with_line, one_more, report_in}
+use Rattle.exchange_check.proofs.Noted.{sites-line, leaves-line, stamps-line}
+use Rattle.exchange_check.proofs.FactLines.{fact_by-is, facts-line}
+use Rattle.exchange_check.proofs.Exchanges.{found_of, way_of, line_of_is, sync_is, follows_is, arrival_is, chain, line_chain, chained, if_found, way_is}
+
+last_number : (o : Option Entry) (n : ℕ) → option_map_or (λ last. eqb last n) (option_map line_number o) false ≡ option_map_or (λ last. eqb (line_number last) n) o false
+last_number None n = refl
+last_number (Some e) n = refl
+
+followed_line : (network : Network) (follow : Option Entry) (origin : Entry) → is_followed_by (option_map (fact_of network) follow) (fact_of network origin) ≡ is_followed network follow origin
+followed_line network None origin = refl
+followed_line network (Some follow) origin = last_number (last_line network is_sync (site follow) follow.earlier) (line_number origin)
+
+told_named : (m : Option NodeName) (n : ℕ) (master : NodeName) (report : Report)
+    → is_told (option_map (λ name. (name, n)) m) master report ≡ (option_map_or (λ named. is_named named master) m false && are_later n report)
+told_named None n master report = refl
+told_named (Some name) n master report = refl
+
+told_is : (o : Option Entry) (master : NodeName) (report : Report) → is_told (option_and_then (λ x. told_master (event_of x) (line_number x)) o) master report
+    ≡ option_map_or (λ set. option_map_or (λ named. is_named named master) (named_master (event_of set)) false && are_later (line_number set) report) o false
+told_is None master report = refl
+told_is (Some x) master report = told_named (named_master (event_of x)) (line_number x) master report
+
+fits_number : (f r : ℕ) → nat_lt (f + min r longest) longest ≡ nat_lt (f + r) longest
+fits_number f r = grind (arith, nat_tests)
+
+whole_residence : (f r : ℕ) → nat_lt (f + r) longest ≡ true → min r longest ≡ r
+whole_residence f r h = omega (arith, ltb-true (f + r) longest h)
+
+abbrev first_of : (a b c d v o : Bool) → Option Why
+first_of a b c d v o =
+    cond (not a) (Some OtherNumber) (cond (not b) (Some OtherMaster) (cond (not c) (Some WrongReading) (cond (not d) (Some TooBig) (cond (not v) (Some WrongValue) (cond (not o) (Some Bytes) None)))))
+
+same_first : (a p b q c d : Bool) (e : Bool) (v w o t : Bool) → a ≡ p → b ≡ q → d ≡ e → (e ≡ true → v ≡ w) → o ≡ t → first_of a b c d v o ≡ first_of p q c e w t
+same_first a p b q c d true v w o t x y z k u = λ i. first_of (x i) (y i) c (z i) (k refl i) (u i)
+same_first a p b q c d false v w o t x y z k u = λ i. first_of (x i) (y i) c (z i) v o
+
+follow_octets : (network : Network) (o : Option Entry) → option_map_or (λ fact. fact.writes_right) (option_map (fact_of network) o) true ≡ option_map_or (writes_right network) o true
+follow_octets network None = refl
+follow_octets network (Some follow) = refl
+
+module _ (network : Network) (line : TraceLine) (earlier : Lines) where
+  abbrev e : Entry
+  e = entry line earlier
+
+  abbrev facts : Facts
+  facts = facts_at network (line ∷ earlier)
+
+  abbrev leaves : Leaves
+  leaves = leaves_at network earlier
+
+  abbrev slave : NodeName
+  slave = site_of line.event
+
+  if_way : (b : Bool) (j : Journey) → cond b (Some (way_of network j)) None ≡ option_map (way_of network) (cond b (Some j) None)
+  if_way true j = refl
+  if_way false j = refl
+
+  two_tests : (a : Bool) (j : Journey) → cond (a && left_once (events network earlier) j) (Some (way_of network j)) None
+      ≡ option_map (way_of network) (where_passes (left_once (events network earlier)) (cond a (Some j) None))
+  two_tests true j = if_way (left_once (events network earlier) j) j
+  two_tests false j = refl
+
+  way_found : (kind : Event → Bool) (limit copy : ℕ) (o : Option Journey) → copy < limit → journey_of network (line ∷ earlier) copy ≡ o
+      → where_passes (λ way. kind way.origin.event && once_by facts leaves limit copy) (option_map (way_of network) o)
+      ≡ option_map (way_of network) (where_passes (left_once (events network earlier)) (where_passes (λ journey. kind (event_of journey.origin)) o))
+  way_found kind limit copy None within h = refl
+  way_found kind limit copy (Some j) within h =
+      let followed = followed_is network facts leaves (events network earlier) (once_is network earlier) (line ∷ earlier) copy j (λ n x there. ap (λ (o : Option Entry). option_map (fact_of network) o) there) h limit within in
+      (λ i. cond (kind (event_of j.origin) && followed i) (Some (way_of network j)) None)
+      ∙ two_tests (kind (event_of j.origin)) j
+
+  way_below : (kind : Event → Bool) (limit copy : ℕ) (b : Bool) → nat_lt copy limit ≡ b
+      → cond b (where_passes (λ way. kind way.origin.event && once_by facts leaves limit copy) (way_at facts copy)) None
+      ≡ option_map (way_of network) (where_passes (left_once (events network earlier)) (where_passes (λ journey. kind (event_of journey.origin)) (cond b (journey_of network (line ∷ earlier) copy) None)))
+  way_below kind limit copy true h =
+      ap (where_passes (λ way. kind way.origin.event && once_by facts leaves limit copy)) (way_is network (line ∷ earlier) copy)
+      ∙ way_found kind limit copy (journey_of network (line ∷ earlier) copy) (ltb-true copy limit h) refl
+  way_below kind limit copy false h = refl
+
+  way_heard : (kind : Event → Bool) (limit : ℕ) (o : Option ℕ) → option_and_then (way_from facts leaves kind limit) o
+      ≡ option_map (way_of network) (where_passes (left_once (events network earlier)) (where_passes (λ journey. kind (event_of journey.origin)) (option_and_then (below (journey_of network (line ∷ earlier)) limit) o)))
+  way_heard kind limit None = refl
+  way_heard kind limit (Some copy) = way_below kind limit copy (nat_lt copy limit) refl
+
+  way_to_is : (kind : Event → Bool) (x : Entry) → way_to facts leaves kind (fact_of network x) ≡ option_map (way_of network) (unbroken network e kind x)
+  way_to_is kind x = way_heard kind (line_number x) (heard_copy (event_of x))
+
+  bracket_is : (x : Entry) (j : Journey) → fits j ≡ true → bracket_by (fact_of network x) (way_of network j) ≡ bracket x j
+  bracket_is x j h = λ i. (pos (reading x) -ℤ pos (reading j.origin)) -ℤ pos (whole_residence (fraction_sent j.origin) (residence j) h i)
+
+  module _ (report : Report) where
+    results_are : (x : Exchange) (s r : Journey) → (fits s && fits r) ≡ true → results_by report (found_of network x) (way_of network s) (way_of network r) ≡ are_results report x s r
+    results_are x s r h =
+        let both = and_parts (fits s) (fits r) h in
+        let a = bracket_is x.sync s both.0 in
+        let b = bracket_is x.arrival r both.1 in
+        λ i. int_eq report.offset2 (offset2 (a i) (b i)) && int_eq report.path2 (path2 (a i) (b i))
+
+    ways_are : (x : Exchange) (s r : Option Journey) → both_ways network (site_at network earlier slave) slave report (found_of network x) (option_map (way_of network) s) (option_map (way_of network) r) ≡ journeys_reason network e report x s r
+    ways_are x None r = refl
+    ways_are x (Some s) None = refl
+    ways_are x (Some s) (Some r) = same_first
+        (paired_by (found_of network x) (way_of network s) (way_of network r)) (are_paired network x s r)
+        (of_master_by network (site_at network earlier slave) slave report (found_of network x) (way_of network s)) (is_of_master network slave e report x s)
+        (are_readings network x s r)
+        (fits_by (way_of network s) && fits_by (way_of network r)) (fits s && fits r)
+        (results_by report (found_of network x) (way_of network s) (way_of network r)) (are_results report x s r)
+        (octets_by (found_of network x) (way_of network s) (way_of network r)) (are_octets network x s r)
+        (λ i. followed_line network x.follow s.origin i && eqb (line_number r.origin) (line_number x.request))
+        (λ i. told_is (last_line network is_set_master slave earlier) (site s.origin) report i && is_named (site x.arrival) (site s.origin) && is_domain (slave_at network slave) (master_at network (site s.origin)))
+        (λ i. fits_number (fraction_sent s.origin) (residence s) i && fits_number (fraction_sent r.origin) (residence r) i)
+        (results_are x s r)
+        (λ i. journey_writes_right network s && follow_octets network x.follow i && journey_writes_right network r && writes_right network x.arrival)
+
+    found_are : (x : Option Exchange) → found_reason network facts leaves (site_at network earlier slave) slave report (option_map (found_of network) x) ≡ exchange_reason network e report x
+    found_are None = refl
+    found_are (Some x) =
+        (λ i. both_ways network (site_at network earlier slave) slave report (found_of network x) (way_to_is draws_sync x.sync i) (way_to_is is_request x.arrival i))
+        ∙ ways_are x (unbroken network e draws_sync x.sync) (unbroken network e is_request x.arrival)
+
+    abbrev here : Bool
+    here = is_of_line (length earlier) report
+
+    abbrev learned : Bool
+    learned = is_stamped_between network earlier report.request_tag report.response_tag
+
+    abbrev all_lines : Option Exchange
+    all_lines = line_chain network (line ∷ earlier) (sync_line network (line ∷ earlier) slave report) (follow_lines network (line ∷ earlier) slave report.follow_tag)
+        (line_of network (line ∷ earlier) is_request slave report.request_tag) (arrival_line network (line ∷ earlier) slave report.response_tag)
+
+    found_is : found_by facts (stamps_at network earlier) slave (length earlier) report ≡ option_map (found_of network) (cond (here && learned) all_lines None)
+    found_is =
+        (λ i. cond (here && learned) (chain network (line ∷ earlier) (sync_is network (line ∷ earlier) slave report i) (follows_is network (line ∷ earlier) slave report.follow_tag i)
+        (line_of_is network (line ∷ earlier) is_request slave report.request_tag i) (arrival_is network (line ∷ earlier) slave report.response_tag i)) None)
+        ∙ (λ i. cond (here && learned) (chained network (line ∷ earlier) (sync_line network (line ∷ earlier) slave report) (follow_lines network (line ∷ earlier) slave report.follow_tag)
+        (line_of network (line ∷ earlier) is_request slave report.request_tag) (arrival_line network (line ∷ earlier) slave report.response_tag) i) None)
+        ∙ if_found network (line ∷ earlier) (here && learned) all_lines
+
+    reason_is : (b : Bool) → counts network line ≡ b
+        → reason_by network facts leaves (stamps_at network earlier) (site_at network earlier) (cond b (Some (fact_of network e)) None) report ≡ reason network e report
+    reason_is true h =
+        ap (found_reason network facts leaves (site_at network earlier slave) slave report) found_is
+        ∙ found_are (cond (here && learned) all_lines None)
+        ∙ sym (λ i. exchange_reason network e report (cond (h i && here && learned) all_lines None))
+    reason_is false h = sym (λ i. exchange_reason network e report (cond (h i && here && learned) all_lines None))
+
+  judged_is : (v : Verdict) → judged network facts leaves (stamps_at network earlier) (site_at network earlier) (cond (counts network line) (Some (fact_of network e)) None) line.out (length earlier) v
+      ≡ with_line network e v
+  judged_is (Accepted count) = λ i. one_more count (length earlier) (option_map (λ report. reason_is report (counts network line) refl i) (report_in line.out))
+  judged_is (Refused number why) = refl
+
+-- what is kept is what the lines say
+record Stands (network : Network) (lines : Lines) (m : Machine) : Type 0 where
+  facts : m.facts ≡ facts_at network lines
+  sites : m.sites ≡ site_at network lines
+  leaves : m.leaves ≡ leaves_at network lines
+  stamps : m.stamps ≡ stamps_at network lines
+  verdict : m.verdict ≡ verdict network lines
+
+stands : (network : Network) (lines : Lines) → Stands network lines (machine network lines)
+stands network [] = record { facts = refl; sites = refl; leaves = refl; stamps = refl; verdict = refl }
+stands network (line ∷ earlier) =
+    let h = stands network earlier in
+    let m = machine network earlier in
+    let n = length earlier in
+    let e : Entry = entry line earlier in
+    let fact : fact_by network m.facts m.sites line n ≡ cond (counts network line) (Some (fact_of network e)) None =
+    (λ i. fact_by network (h.facts i) (h.sites i) line n) ∙ fact_by-is network line earlier in
+    let facts : with_fact m.facts n (fact_by network m.facts m.sites line n) ≡ facts_at network (line ∷ earlier) =
+    (λ i. with_fact (h.facts i) n (fact i)) ∙ facts-line network line earlier in
+    record {
+      facts = facts;
+      sites = (λ i. sites_told (fact i) n (h.sites i)) ∙ sites-line network line earlier (fact_of network e) (counts network line) refl refl;
+      leaves = (λ i. leaves_told (fact i) (h.leaves i)) ∙ leaves-line network line earlier (fact_of network e) (counts network line) refl refl;
+      stamps = (λ i. stamps_told (fact i) n (h.sites i) (h.stamps i)) ∙ stamps-line network line earlier (fact_of network e) (counts network line) refl refl;
+      verdict = (λ i. judged network (facts i) (h.leaves i) (h.stamps i) (h.sites i) (fact i) line.out n (h.verdict i)) ∙ judged_is network line earlier (verdict network earlier);
+    }
+
+-- the verdict that is kept is the verdict on the lines
+pub machine-verdict : (network : Network) (lines : Lines) → (machine network lines).verdict ≡ verdict network lines
+machine-verdict network lines = (stands network lines).verdict

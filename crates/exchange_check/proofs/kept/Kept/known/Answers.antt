@@ -1,0 +1,22 @@
+use Rattle.std.proofs.Common.{◌≡◌, ◌∙◌, ap}
+use Rattle.network_model.specs.Run.{site_of}
+use Rattle.exchange_check.specs.declared.facts.Site.{Site}
+use Rattle.exchange_check.specs.Kept.{site_in, shown_by}
+use Rattle.exchange_check.specs.Record.{is_reading}
+use Rattle.exchange_check.proofs.kept.Kept.known.Goals as goal
+
+pub returns : goal.returns
+returns c =
+    let line = c.args.line.now in
+    let at_site : c.site-site.result ≡ site_in c.args.self.now.sites (site_of line.event) =
+    c.site-site.ensures ∙ ap (site_in c.args.self.now.sites) c.site.ensures in
+    let moment = c.true_moment.ensures in
+    let reads : c.is_reading.result ≡ is_reading line.reading (shown_by c.site-site.result line.event) = rw moment at c.is_reading.ensures in
+    let shown = ap (λ (site : Site). is_reading line.reading (shown_by site line.event)) at_site in
+    λ i. record {
+      line = c.args.number;
+      reading = c.moment_or_zero.ensures i;
+      number = record { 0 = c.number.ensures i };
+      reads = (reads ∙ shown) i;
+      last_sync = (at_site i).last_sync;
+    }

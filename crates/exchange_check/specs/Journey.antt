@@ -1,0 +1,76 @@
+-- Journeys over lines: the way of a copy of an event message from the line that sent it, through clocks (IEEE 1588-2019, 10.2).
+use Rattle.std.specs.Prelude.{ℕ, ◌-◌, Bool, ◌&&◌, List, [], ◌∷◌, length, sum_by, count_by, nat_lt, ◌==◌, if◌then◌else◌, Option, Some, None, option_map, option_and_then}
+use Rattle.std.specs.List.{list_all}
+use Rattle.network_model.specs.declared.event.Event.{Event}
+use Rattle.network_model.specs.declared.event.Event.TheVariants.{Sync, SyncOne, Follow, Enter, Leave, Arrive, Hear, Request, Stamped, Tick, SetMaster, StepClock}
+use Rattle.network_model.specs.Network.{Network, NodeName, is_named}
+use Rattle.network_model.specs.Run.{Run}
+use Rattle.network_model.specs.Kinds.{entered_copy, spends}
+use Rattle.exchange_check.specs.Line.{Lines, counts}
+use Rattle.exchange_check.specs.Record.{Entry, entry, line_number, event_of, site, line_at, reading}
+
+-- a stay in a clock: the Enter line and the Leave line
+pub record Stay : Type 0 where
+  pub entered : Entry
+  pub left : Entry
+
+-- the line that sent a message, a Sync, SyncOne or Request, and the message's stays in clocks, the last one first
+pub record Journey : Type 0 where
+  pub origin : Entry
+  pub stays : List Stay
+
+-- how long a message was in one clock, by the readings
+abbrev pub stay_length : Stay → ℕ
+stay_length s = reading s.left - reading s.entered
+
+-- how long a message was in clocks, by their readings
+abbrev pub residence : Journey → ℕ
+residence journey = sum_by stay_length journey.stays
+
+-- the journey of a message that was just sent
+abbrev pub begun : Entry → Journey
+begun origin = record { origin = origin; stays = [] }
+
+-- a journey and one more stay
+abbrev pub with_stay : (left entered : Entry) → Journey → Journey
+with_stay left entered journey =
+    record { origin = journey.origin; stays = record { entered = entered; left = left } ∷ journey.stays }
+
+-- the copy that entered at a line, where that is a line of this clock and the copy was made below it
+abbrev pub copy_entered : NodeName → Entry → Option ℕ
+copy_entered clock entered = option_and_then
+    (λ copy. if is_named (site entered) clock && nat_lt copy (line_number entered) then Some copy else None)
+    (entered_copy (event_of entered))
+
+-- the journey of a copy that leaves a clock, from the Enter line and the journeys of earlier copies
+abbrev pub left_from : NodeName → (left : Entry) → (ℕ → Option Journey) → (entered : Entry) → Option Journey
+left_from clock left journeys entered =
+    option_and_then (λ copy. option_map (with_stay left entered) (journeys copy)) (copy_entered clock entered)
+
+-- the journey of the copy that a line made, from the journeys of earlier copies
+abbrev pub journey_made : Network → Event → Entry → (ℕ → Option Journey) → Option Journey
+journey_made network (Sync node at) e journeys = Some (begun e)
+journey_made network (SyncOne node at) e journeys = Some (begun e)
+journey_made network (Follow node) e journeys = None
+journey_made network (Enter node copy at) e journeys = None
+journey_made network (Leave node transit at) e journeys =
+    option_and_then (left_from node e journeys) (line_at network e.earlier transit)
+journey_made network (Arrive node copy at) e journeys = None
+journey_made network (Hear node copy) e journeys = None
+journey_made network (Request node at) e journeys = Some (begun e)
+journey_made network (Stamped node) e journeys = None
+journey_made network (Tick node) e journeys = None
+journey_made network (SetMaster node master) e journeys = None
+journey_made network (StepClock node diff) e journeys = None
+
+-- the journey of the copy that the line of this number made, where that is a copy of a Sync or Delay_Req
+abbrev pub journey_of : Network → Lines → ℕ → Option Journey
+journey_of network [] n = None
+journey_of network (line ∷ earlier) n =
+    if length earlier == n
+    then (if counts network line then journey_made network line.event (entry line earlier) (journey_of network earlier) else None)
+    else journey_of network earlier n
+
+-- each stay of a journey was ended by one Leave line alone
+abbrev pub left_once : Run → Journey → Bool
+left_once run journey = list_all (λ stay. count_by (spends (line_number stay.entered)) run == 1) journey.stays

@@ -1,0 +1,179 @@
+-- How the checker judges a report by what it keeps. Its own functions cite these; what its callers are told is said by the
+-- lines alone.
+use Rattle.std.specs.Prelude.{ℕ, zero, suc, ◌+◌, ℤ, pos, ◌-ℤ◌, Bool, true, false, ◌&&◌, ◌||◌, not, nat_lt, ◌==◌, is_some, if◌then◌else◌, Option, Some, None, option_map, option_and_then}
+use Rattle.std.specs.Option.{option_map_or}
+use Rattle.std.specs.Ordering.{int_eq}
+use Rattle.ptp_units.specs.Exchange.{offset2, path2}
+use Rattle.ptp_units.specs.Moment.{fraction_of}
+use Rattle.slave_port.specs.declared.heard.Report.{Report}
+use Rattle.network_model.specs.declared.event.Event.{Event}
+use Rattle.network_model.specs.Network.{Network, NodeName, is_named}
+use Rattle.network_model.specs.Run.{site_of}
+use Rattle.network_model.specs.Kinds.{is_at, is_one_step_sync, draws_sync, is_follow, is_request, entered_copy, heard_copy, spent_transit}
+use Rattle.network_model.specs.Truth.{master_at, slave_at}
+use Rattle.exchange_check.specs.declared.facts.Fact.{Fact}
+use Rattle.exchange_check.specs.declared.facts.Found.{Found}
+use Rattle.exchange_check.specs.declared.facts.Site.{Site}
+use Rattle.exchange_check.specs.declared.facts.Way.{Way}
+use Rattle.exchange_check.specs.declared.verdict.Why.{Why}
+use Rattle.exchange_check.specs.declared.verdict.Why.TheVariants.{NoSuchLine, OtherNumber, OtherMaster, BrokenJourney, WrongReading, WrongValue, TooBig, Bytes}
+use Rattle.exchange_check.specs.Line.{is_arrival, is_hearing}
+use Rattle.exchange_check.specs.Sound.{where_passes, below, are_later, is_domain, is_of_line}
+use Rattle.exchange_check.specs.Kept.{Facts, Leaves, Stamps, Sites, travel_at, longest}
+
+-- an event of a wanted kind, where it is at this node
+abbrev pub is_here : Bool → Event → NodeName → Bool
+is_here wanted event node = wanted && is_named (site_of event) node
+
+-- the line of this number, where it is of this kind and at this node
+abbrev pub line_of_by : Facts → (Event → Bool) → NodeName → ℕ → Option Fact
+line_of_by facts kind node number = where_passes (λ fact. is_at kind node fact.event) (facts number)
+
+-- the line that made the copy which is heard at a line
+abbrev pub sender_by : Facts → Fact → Option Fact
+sender_by facts fact = option_and_then (below facts fact.line) (heard_copy fact.event)
+
+abbrev pub sync_by : Facts → NodeName → Report → Option Fact
+sync_by facts slave report =
+    where_passes (λ fact. is_some report.follow_tag || fact.completes) (line_of_by facts is_arrival slave report.sync_tag)
+
+abbrev pub follow_by : Facts → NodeName → ℕ → Option Fact
+follow_by facts slave hearing =
+    where_passes (λ fact. is_follow fact.event) (option_and_then (sender_by facts) (line_of_by facts is_hearing slave hearing))
+
+abbrev pub follows_by : Facts → NodeName → Option ℕ → Option (Option Fact)
+follows_by facts slave None = Some None
+follows_by facts slave (Some hearing) = option_map Some (follow_by facts slave hearing)
+
+abbrev pub completion_by : Facts → NodeName → ℕ → Option Fact
+completion_by facts slave hearing = where_passes (λ fact. fact.completes) (line_of_by facts is_hearing slave hearing)
+
+abbrev pub arrival_by : Facts → NodeName → ℕ → Option Fact
+arrival_by facts slave hearing = where_passes (λ fact. is_arrival fact.event && fact.made) (option_and_then (sender_by facts) (completion_by facts slave hearing))
+
+abbrev pub is_stamped_by : Stamps → (request hearing : ℕ) → Bool
+is_stamped_by stamps request hearing =
+    nat_lt request hearing && option_map_or (λ stamp. nat_lt stamp hearing) (stamps request) false
+
+-- the lines of a report of the line of this number
+abbrev pub found_by : Facts → Stamps → NodeName → ℕ → Report → Option Found
+found_by facts stamps slave number report =
+    if is_of_line number report && is_stamped_by stamps report.request_tag report.response_tag
+    then option_and_then (λ sync.
+    option_and_then (λ follow.
+    option_and_then (λ request.
+    option_map (λ arrival. record { sync = sync; follow = follow; request = request; arrival = arrival })
+    (arrival_by facts slave report.response_tag))
+    (line_of_by facts is_request slave report.request_tag))
+    (follows_by facts slave report.follow_tag))
+    (sync_by facts slave report)
+    else None
+
+-- the journey of the copy that the line of this number made
+abbrev pub way_at : Facts → ℕ → Option Way
+way_at facts copy = option_and_then
+    (λ travel. option_map (λ origin. record { travel = travel; origin = origin }) (facts travel.origin))
+    (travel_at facts copy)
+
+-- the last stay of a copy: the number of its Enter line, and the copy that entered there
+abbrev pub entered_by : Facts → ℕ → Option (ℕ × ℕ)
+entered_by facts transit = option_and_then (λ entered. option_map (λ copy. (transit, copy)) (entered_copy entered.event)) (facts transit)
+
+abbrev pub stay_before : Facts → ℕ → Option (ℕ × ℕ)
+stay_before facts copy =
+    option_and_then (λ fact. option_and_then (entered_by facts) (spent_transit fact.event)) (facts copy)
+
+-- a stay was ended, and not again
+abbrev pub is_once : Option Bool → Bool
+is_once None = false
+is_once (Some again) = not again
+
+-- whether each stay on the way of a copy was ended once, among so many last ones
+abbrev pub once_by : Facts → Leaves → (count : ℕ) → (copy : ℕ) → Bool
+once_by facts leaves zero copy = true
+once_by facts leaves (suc count) copy =
+    option_map_or (λ stay. is_once (leaves stay.0) && once_by facts leaves count stay.1) (stay_before facts copy) true
+
+abbrev pub way_from : Facts → Leaves → (Event → Bool) → (limit copy : ℕ) → Option Way
+way_from facts leaves kind limit copy =
+    if nat_lt copy limit
+    then where_passes (λ way. kind way.origin.event && once_by facts leaves limit copy) (way_at facts copy)
+    else None
+
+-- the journey of the copy that arrives at a line, where it begins at a line of this kind and no stay was ended twice
+abbrev pub way_to : Facts → Leaves → (Event → Bool) → Fact → Option Way
+way_to facts leaves kind arrival =
+    option_and_then (way_from facts leaves kind arrival.line) (heard_copy arrival.event)
+
+abbrev pub is_followed_by : Option Fact → Fact → Bool
+is_followed_by None origin = is_one_step_sync origin.event
+is_followed_by (Some follow) origin = option_map_or (λ last. last == origin.line) follow.last_sync false
+
+abbrev pub paired_by : Found → (sync request : Way) → Bool
+paired_by found sync request =
+    is_followed_by found.follow sync.origin && request.origin.line == found.request.line
+
+abbrev pub is_told : Option (NodeName × ℕ) → NodeName → Report → Bool
+is_told set master report = option_map_or (λ told. is_named told.0 master && are_later told.1 report) set false
+
+abbrev pub of_master_by : Network → Site → NodeName → Report → Found → (sync : Way) → Bool
+of_master_by network site slave report found sync =
+    is_told site.set_master (site_of sync.origin.event) report
+    && is_named (site_of found.arrival.event) (site_of sync.origin.event)
+    && is_domain (slave_at network slave) (master_at network (site_of sync.origin.event))
+
+abbrev pub readings_by : Found → (sync request : Way) → Bool
+readings_by found sync request =
+    found.sync.reads_right && sync.travel.reads_right && found.arrival.reads_right && request.travel.reads_right
+
+abbrev pub fraction_by : Fact → ℕ
+fraction_by fact = if is_one_step_sync fact.event then fraction_of fact.reading else 0
+
+abbrev pub fits_by : Way → Bool
+fits_by way = nat_lt (fraction_by way.origin + way.travel.residence) longest
+
+abbrev pub bracket_by : Fact → Way → ℤ
+bracket_by arrival way = (pos arrival.reading -ℤ pos way.origin.reading) -ℤ pos way.travel.residence
+
+abbrev pub results_by : Report → Found → (sync request : Way) → Bool
+results_by report found sync request =
+    int_eq report.offset2 (offset2 (bracket_by found.sync sync) (bracket_by found.arrival request))
+    && int_eq report.path2 (path2 (bracket_by found.sync sync) (bracket_by found.arrival request))
+
+abbrev pub octets_by : Found → (sync request : Way) → Bool
+octets_by found sync request =
+    sync.travel.writes_right && option_map_or (λ follow. follow.writes_right) found.follow true
+    && request.travel.writes_right && found.arrival.writes_right
+
+abbrev pub ways_reason : Network → Site → NodeName → Report → Found → (sync request : Way) → Option Why
+ways_reason network site slave report found sync request =
+    if not (paired_by found sync request) then Some OtherNumber
+    else if not (of_master_by network site slave report found sync) then Some OtherMaster
+    else if not (readings_by found sync request) then Some WrongReading
+    else if not (fits_by sync && fits_by request) then Some TooBig
+    else if not (results_by report found sync request) then Some WrongValue
+    else if not (octets_by found sync request) then Some Bytes
+    else None
+
+abbrev pub both_ways : Network → Site → NodeName → Report → Found → Option Way → Option Way → Option Why
+both_ways network site slave report found None request = Some BrokenJourney
+both_ways network site slave report found (Some sync) None = Some BrokenJourney
+both_ways network site slave report found (Some sync) (Some request) = ways_reason network site slave report found sync request
+
+abbrev pub found_reason : Network → Facts → Leaves → Site → NodeName → Report → Option Found → Option Why
+found_reason network facts leaves site slave report None = Some NoSuchLine
+found_reason network facts leaves site slave report (Some found) =
+    both_ways network site slave report found
+    (way_to facts leaves draws_sync found.sync)
+    (way_to facts leaves is_request found.arrival)
+
+-- why a report at a line that tells of something done isn't sound, or nothing where it is
+abbrev pub fact_reason : Network → Facts → Leaves → Stamps → Sites → Fact → Report → Option Why
+fact_reason network facts leaves stamps sites fact report =
+    found_reason network facts leaves (sites (site_of fact.event)) (site_of fact.event) report
+    (found_by facts stamps (site_of fact.event) fact.line report)
+
+-- the same at any line
+abbrev pub reason_by : Network → Facts → Leaves → Stamps → Sites → Option Fact → Report → Option Why
+reason_by network facts leaves stamps sites None report = Some NoSuchLine
+reason_by network facts leaves stamps sites (Some fact) report = fact_reason network facts leaves stamps sites fact report

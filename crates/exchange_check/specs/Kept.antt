@@ -1,0 +1,289 @@
+-- What the checker keeps of lines, so that it searches for nothing. Its own functions cite these; what its callers are told is
+-- said by the lines alone.
+use Rattle.std.specs.Prelude.{ℕ, ◌+◌, ◌-◌, ◌^◌, ℤ, pos, ◌+ℤ◌, Bool, true, false, ◌&&◌, not, List, [], min, nat_lt, slice_get, unwrap_or, ◌==◌, is_some, if◌then◌else◌, Option, Some, None, option_map, option_and_then}
+use Rattle.std.specs.HashMap.{HashMap, get}
+use Rattle.std.specs.Str.{bytes_eq}
+use Rattle.std.specs.Option.{option_or, option_map_or}
+use Rattle.ptp_units.specs.Sequence.{of_count, next}
+use Rattle.event_codec.specs.Packet.{Contents}
+use Rattle.master_port.specs.Written.{follow_up, delay_resp}
+use Rattle.network_model.specs.declared.event.Event.{Event}
+use Rattle.network_model.specs.declared.event.Event.TheVariants.{Sync, SyncOne, Follow, Enter, Leave, Arrive, Hear, Request, Stamped, Tick, SetMaster, StepClock}
+use Rattle.network_model.specs.Network.{Network, NodeName, PortSetup, is_named}
+use Rattle.network_model.specs.Run.{site_of, true_moment}
+use Rattle.network_model.specs.Kinds.{entered_copy}
+use Rattle.network_model.specs.Truth.{master_at, slave_at}
+use Rattle.exchange_check.specs.declared.facts.Fact.{Fact}
+use Rattle.exchange_check.specs.declared.facts.Known.{Known}
+use Rattle.exchange_check.specs.declared.facts.Site.{Site}
+use Rattle.exchange_check.specs.declared.facts.Travel.{Travel}
+use Rattle.exchange_check.specs.declared.line.TraceLine.{TraceLine}
+use Rattle.exchange_check.specs.declared.octets.Port.{Port}
+use Rattle.exchange_check.specs.declared.octets.Written.{Written}
+use Rattle.exchange_check.specs.Line.{counts, is_made, completes}
+use Rattle.exchange_check.specs.Record.{is_reading}
+use Rattle.exchange_check.specs.Octets.{drawing_port, message_sent, with_residence_time, is_written}
+
+-- a port's configuration and first number, as a network has them
+abbrev pub port_setup : Port → PortSetup
+port_setup port = record { config = port.config; first = port.first.0 }
+
+-- a message that has no suffix
+abbrev pub contents_of : Written → Contents
+contents_of message = record { header = message.header; body = message.body; suffix = [] }
+
+-- what is kept of the line of each number, where it tells of something done
+abbrev pub Facts : Type 0
+Facts = ℕ → Option Fact
+
+-- what is kept of each node
+abbrev pub Sites : Type 0
+Sites = NodeName → Site
+
+-- the fact of this number in a list, oldest first
+abbrev pub fact_in : List (Option Fact) → ℕ → Option Fact
+fact_in facts n = option_and_then (λ fact. fact) (slice_get facts n)
+
+-- the residence that is still counted exactly
+abbrev pub longest : ℕ
+longest = 2 ^ 63 - 1
+
+-- the sequenceId that an event draws, 0 where it draws none
+abbrev pub number_by : Network → Sites → Event → ℕ
+number_by network sites (Sync node at) = option_map_or (λ port. of_count (port.first + (sites node).syncs.0)) (master_at network node) 0
+number_by network sites (SyncOne node at) = option_map_or (λ port. of_count (port.first + (sites node).syncs.0)) (master_at network node) 0
+number_by network sites (Follow node) = 0
+number_by network sites (Enter node copy at) = 0
+number_by network sites (Leave node transit at) = 0
+number_by network sites (Arrive node copy at) = 0
+number_by network sites (Hear node copy) = 0
+number_by network sites (Request node at) = option_map_or (λ port. of_count (port.first + (sites node).requests.0)) (slave_at network node) 0
+number_by network sites (Stamped node) = 0
+number_by network sites (Tick node) = 0
+number_by network sites (SetMaster node master) = 0
+number_by network sites (StepClock node diff) = 0
+
+-- what the clock shows at an event
+abbrev pub shown_by : Site → Event → Option ℤ
+shown_by site event = option_map (λ at. pos at +ℤ site.difference) (true_moment event)
+
+abbrev pub known_by : Network → Sites → TraceLine → ℕ → Known
+known_by network sites line n = record {
+  line = n;
+  reading = unwrap_or line.reading 0;
+  number = record { 0 = number_by network sites line.event };
+  reads = is_reading line.reading (shown_by (sites (site_of line.event)) line.event);
+  last_sync = (sites (site_of line.event)).last_sync;
+}
+
+-- the journey of the copy that the line of this number made
+abbrev pub travel_at : Facts → ℕ → Option Travel
+travel_at facts copy = option_and_then (λ fact. fact.travel) (facts copy)
+
+-- the copy that entered at a line, where that is a line of this clock and the copy was made below it
+abbrev pub copy_entered_by : NodeName → Fact → Option ℕ
+copy_entered_by clock entered = option_and_then
+    (λ copy. if is_named (site_of entered.event) clock && nat_lt copy entered.line then Some copy else None)
+    (entered_copy entered.event)
+
+-- a journey and one more stay
+abbrev pub stayed : Known → Fact → Travel → Travel
+stayed known entered before = record {
+  origin = before.origin;
+  residence = min (before.residence + (known.reading - entered.reading)) longest;
+  reads_right = before.reads_right && (entered.reads_right && known.reads && not (nat_lt known.reading entered.reading));
+  writes_right = before.writes_right;
+}
+
+abbrev pub left_by : Facts → NodeName → Known → Fact → Option Travel
+left_by facts clock known entered =
+    option_and_then (λ copy. option_map (stayed known entered) (travel_at facts copy)) (copy_entered_by clock entered)
+
+-- the journey of a copy that leaves a clock by a stay that began at the line of this number
+abbrev pub travel_left : Facts → NodeName → ℕ → Known → Option Travel
+travel_left facts clock transit known = option_and_then (left_by facts clock known) (facts transit)
+
+-- the journey of a message that was just sent
+abbrev pub begun_by : Known → Travel
+begun_by known = record { origin = known.line; residence = 0; reads_right = known.reads; writes_right = true }
+
+-- the journey of the copy that a line made, its own octets left out
+abbrev pub travel_by : Facts → Known → Event → Option Travel
+travel_by facts known (Sync node at) = Some (begun_by known)
+travel_by facts known (SyncOne node at) = Some (begun_by known)
+travel_by facts known (Follow node) = None
+travel_by facts known (Enter node copy at) = None
+travel_by facts known (Leave node transit at) = travel_left facts node transit known
+travel_by facts known (Arrive node copy at) = None
+travel_by facts known (Hear node copy) = None
+travel_by facts known (Request node at) = Some (begun_by known)
+travel_by facts known (Stamped node) = None
+travel_by facts known (Tick node) = None
+travel_by facts known (SetMaster node master) = None
+travel_by facts known (StepClock node diff) = None
+
+-- the message that an event sends
+abbrev pub sent_by : Network → Event → (number now : ℕ) → Option Contents
+sent_by network event number now =
+    option_and_then (λ port. message_sent port.config event number now) (drawing_port network event)
+
+-- the message at the end of a journey
+abbrev pub travelled_by : Network → Facts → Travel → Option Contents
+travelled_by network facts travel = option_and_then
+    (λ origin. option_map (with_residence_time travel.residence) (sent_by network origin.event origin.number.0 origin.reading))
+    (facts travel.origin)
+
+abbrev pub followed_by : Facts → PortSetup → Option ℕ → Option Contents
+followed_by facts port last =
+    option_map (λ sync. follow_up port.config sync.number.0 sync.reading) (option_and_then facts last)
+
+abbrev pub answered_by : Network → Facts → PortSetup → (now : ℕ) → Option Travel → Option Contents
+answered_by network facts port now travel =
+    option_map (λ request. delay_resp port.config request.header now) (option_and_then (travelled_by network facts) travel)
+
+-- the message that a line made
+abbrev pub message_by : Network → Facts → Known → Option Travel → Event → Option Contents
+message_by network facts known travel (Sync node at) = sent_by network (Sync node at) known.number.0 known.reading
+message_by network facts known travel (SyncOne node at) = sent_by network (SyncOne node at) known.number.0 known.reading
+message_by network facts known travel (Follow node) =
+    option_and_then (λ port. followed_by facts port known.last_sync) (master_at network node)
+message_by network facts known travel (Enter node copy at) = None
+message_by network facts known travel (Leave node transit at) = option_and_then (travelled_by network facts) travel
+message_by network facts known travel (Arrive node copy at) =
+    option_and_then (λ port. answered_by network facts port known.reading (travel_at facts copy)) (master_at network node)
+message_by network facts known travel (Hear node copy) = None
+message_by network facts known travel (Request node at) = sent_by network (Request node at) known.number.0 known.reading
+message_by network facts known travel (Stamped node) = None
+message_by network facts known travel (Tick node) = None
+message_by network facts known travel (SetMaster node master) = None
+message_by network facts known travel (StepClock node diff) = None
+
+-- a journey with the line's own octets
+abbrev pub written_travel : Bool → Travel → Travel
+written_travel writes travel = record {
+  origin = travel.origin;
+  residence = travel.residence;
+  reads_right = travel.reads_right;
+  writes_right = travel.writes_right && writes;
+}
+
+-- what is kept of a line
+abbrev pub fact_made : TraceLine → Known → (writes : Bool) → Option Travel → Fact
+fact_made line known writes travel = record {
+  line = known.line;
+  event = line.event;
+  reading = known.reading;
+  made = is_made line.out;
+  completes = completes line.out;
+  number = known.number;
+  reads_right = known.reads;
+  writes_right = writes;
+  last_sync = known.last_sync;
+  travel = option_map (written_travel writes) travel;
+}
+
+abbrev pub fact_known : Network → Facts → TraceLine → Known → Option Travel → Fact
+fact_known network facts line known travel =
+    fact_made line known (is_written (message_by network facts known travel line.event) line.out) travel
+
+abbrev pub fact_by : Network → Facts → Sites → TraceLine → ℕ → Option Fact
+fact_by network facts sites line n =
+    if counts network line
+    then Some (fact_known network facts line (known_by network sites line n) (travel_by facts (known_by network sites line n) line.event))
+    else None
+
+-- what is kept of a node after an event of it at the line of this number
+abbrev pub moved : Event → ℕ → Site → Site
+moved (Sync node at) n site = record site { syncs = record { 0 = next site.syncs.0 }; last_sync = Some n }
+moved (SyncOne node at) n site = record site { syncs = record { 0 = next site.syncs.0 } }
+moved (Follow node) n site = site
+moved (Enter node copy at) n site = site
+moved (Leave node transit at) n site = site
+moved (Arrive node copy at) n site = site
+moved (Hear node copy) n site = site
+moved (Request node at) n site = record site { requests = record { 0 = next site.requests.0 }; last_request = Some n }
+moved (Stamped node) n site = site
+moved (Tick node) n site = site
+moved (SetMaster node master) n site = record site { set_master = Some (master, n) }
+moved (StepClock node diff) n site = record site { difference = diff }
+
+-- a node of which no line told anything
+abbrev pub new_site : Site
+new_site = record {
+  difference = pos 0;
+  syncs = record { 0 = 0 };
+  requests = record { 0 = 0 };
+  last_sync = None;
+  last_request = None;
+  set_master = None;
+}
+
+-- what a map of nodes has of each node
+abbrev pub site_in : {S : Type 0} → HashMap NodeName Site S → Sites
+site_in sites name = unwrap_or (get bytes_eq sites name) new_site
+
+-- what is kept of each node, with one of them moved by an event
+abbrev pub moved_at : Event → ℕ → Sites → Sites
+moved_at event n sites name = if is_named (site_of event) name then moved event n (sites name) else sites name
+
+-- what is kept of each node, after an event at the line of this number
+abbrev pub sites_after : Event → ℕ → Sites → Sites
+sites_after (Sync node at) n sites = moved_at (Sync node at) n sites
+sites_after (SyncOne node at) n sites = moved_at (SyncOne node at) n sites
+sites_after (Follow node) n sites = sites
+sites_after (Enter node copy at) n sites = sites
+sites_after (Leave node transit at) n sites = sites
+sites_after (Arrive node copy at) n sites = sites
+sites_after (Hear node copy) n sites = sites
+sites_after (Request node at) n sites = moved_at (Request node at) n sites
+sites_after (Stamped node) n sites = sites
+sites_after (Tick node) n sites = sites
+sites_after (SetMaster node master) n sites = moved_at (SetMaster node master) n sites
+sites_after (StepClock node diff) n sites = moved_at (StepClock node diff) n sites
+
+-- whether the stay that began at each line was ended again after it was ended
+abbrev pub Leaves : Type 0
+Leaves = ℕ → Option Bool
+
+-- one more Leave line of a stay
+abbrev pub left_again : ℕ → Leaves → Leaves
+left_again transit leaves stay = if transit == stay then Some (is_some (leaves stay)) else leaves stay
+
+-- the same after one more event
+abbrev pub leaves_after : Event → Leaves → Leaves
+leaves_after (Sync node at) leaves = leaves
+leaves_after (SyncOne node at) leaves = leaves
+leaves_after (Follow node) leaves = leaves
+leaves_after (Enter node copy at) leaves = leaves
+leaves_after (Leave node transit at) leaves = left_again transit leaves
+leaves_after (Arrive node copy at) leaves = leaves
+leaves_after (Hear node copy) leaves = leaves
+leaves_after (Request node at) leaves = leaves
+leaves_after (Stamped node) leaves = leaves
+leaves_after (Tick node) leaves = leaves
+leaves_after (SetMaster node master) leaves = leaves
+leaves_after (StepClock node diff) leaves = leaves
+
+-- the line at which the departure of the request of each number was learned
+abbrev pub Stamps : Type 0
+Stamps = ℕ → Option ℕ
+
+-- the line of this number tells when the last request of its node departed
+abbrev pub stamped : (last : Option ℕ) → ℕ → Stamps → Stamps
+stamped last n stamps request =
+    option_or (stamps request) (if option_map_or (λ asked. asked == request) last false then Some n else None)
+
+-- the same after an event at the line of this number
+abbrev pub stamps_after : Event → ℕ → Sites → Stamps → Stamps
+stamps_after (Sync node at) n sites stamps = stamps
+stamps_after (SyncOne node at) n sites stamps = stamps
+stamps_after (Follow node) n sites stamps = stamps
+stamps_after (Enter node copy at) n sites stamps = stamps
+stamps_after (Leave node transit at) n sites stamps = stamps
+stamps_after (Arrive node copy at) n sites stamps = stamps
+stamps_after (Hear node copy) n sites stamps = stamps
+stamps_after (Request node at) n sites stamps = stamps
+stamps_after (Stamped node) n sites stamps = stamped (sites node).last_request n stamps
+stamps_after (Tick node) n sites stamps = stamps
+stamps_after (SetMaster node master) n sites stamps = stamps
+stamps_after (StepClock node diff) n sites stamps = stamps

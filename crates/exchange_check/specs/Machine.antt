@@ -1,0 +1,81 @@
+-- What the checker keeps after lines, and its verdict on them. Its own functions cite these; what its callers are told is said
+-- by the lines alone.
+use Rattle.std.specs.Prelude.{◌≡◌, ℕ, ◌≤◌, [], ◌∷◌, length, nat_eq, ◌==◌, if◌then◌else◌, Option, Some, None, option_map}
+use Rattle.std.specs.HashMap.{get}
+use Rattle.network_model.specs.Network.{Network}
+use Rattle.exchange_check.specs.declared.facts.Fact.{Fact}
+use Rattle.exchange_check.specs.declared.kept.Kept.{Kept}
+use Rattle.exchange_check.specs.declared.line.TraceLine.{TraceLine}
+use Rattle.exchange_check.specs.declared.line.TraceOut.{TraceOut}
+use Rattle.exchange_check.specs.declared.verdict.Verdict.{Verdict}
+use Rattle.exchange_check.specs.declared.verdict.Verdict.TheVariants.{Accepted, Refused}
+use Rattle.exchange_check.specs.Line.{Lines}
+use Rattle.exchange_check.specs.Verdict.{report_in, one_more, accepted_count}
+use Rattle.exchange_check.specs.Kept.{Facts, Sites, Leaves, Stamps, new_site, fact_in, site_in, fact_by, sites_after, leaves_after, stamps_after}
+use Rattle.exchange_check.specs.Judged.{reason_by}
+
+-- what is kept
+pub record Machine : Type 0 where
+  pub facts : Facts
+  pub sites : Sites
+  pub leaves : Leaves
+  pub stamps : Stamps
+  pub verdict : Verdict
+
+-- before the first line
+abbrev pub start : Machine
+start = record { facts = λ n. None; sites = λ name. new_site; leaves = λ n. None; stamps = λ n. None; verdict = Accepted 0 }
+
+-- with the fact of one more line
+abbrev pub with_fact : Facts → ℕ → Option Fact → Facts
+with_fact facts count fact n = if count == n then fact else facts n
+
+-- what a line with this fact changes for nodes
+abbrev pub sites_told : Option Fact → ℕ → Sites → Sites
+sites_told None n sites = sites
+sites_told (Some fact) n sites = sites_after fact.event n sites
+
+-- what it changes for stays
+abbrev pub leaves_told : Option Fact → Leaves → Leaves
+leaves_told None leaves = leaves
+leaves_told (Some fact) leaves = leaves_after fact.event leaves
+
+-- what it changes for requests
+abbrev pub stamps_told : Option Fact → ℕ → Sites → Stamps → Stamps
+stamps_told None n sites stamps = stamps
+stamps_told (Some fact) n sites stamps = stamps_after fact.event n sites stamps
+
+-- the verdict after one more line
+abbrev pub judged : Network → Facts → Leaves → Stamps → Sites → Option Fact → TraceOut → ℕ → Verdict → Verdict
+judged network facts leaves stamps sites fact out n (Accepted count) =
+    one_more count n (option_map (reason_by network facts leaves stamps sites fact) (report_in out))
+judged network facts leaves stamps sites fact out n (Refused line why) = Refused line why
+
+-- after a line with this fact
+abbrev pub with_line_told : Network → TraceOut → ℕ → Machine → Option Fact → Machine
+with_line_told network out n m fact = record {
+  facts = with_fact m.facts n fact;
+  sites = sites_told fact n m.sites;
+  leaves = leaves_told fact m.leaves;
+  stamps = stamps_told fact n m.sites m.stamps;
+  verdict = judged network (with_fact m.facts n fact) m.leaves m.stamps m.sites fact out n m.verdict;
+}
+
+-- after one more line, before which there were so many
+abbrev pub after_line : Network → TraceLine → ℕ → Machine → Machine
+after_line network line n m = with_line_told network line.out n m (fact_by network m.facts m.sites line n)
+
+-- after these lines
+abbrev pub machine : Network → Lines → Machine
+machine network [] = start
+machine network (line ∷ earlier) = after_line network line (length earlier) (machine network earlier)
+
+-- what is kept is this, after so many lines
+pub record IsKept (kept : Kept) (count : ℕ) (m : Machine) : Type 0 where
+  pub count_is : length kept.facts.items ≡ count
+  pub facts : fact_in kept.facts.items ≡ m.facts
+  pub sites : site_in kept.sites ≡ m.sites
+  pub leaves : get nat_eq kept.leaves ≡ m.leaves
+  pub stamps : get nat_eq kept.stamps ≡ m.stamps
+  pub verdict : kept.verdict ≡ m.verdict
+  pub within : accepted_count m.verdict ≤ count

@@ -1,0 +1,38 @@
+-- The verdict on lines: the first report line that isn't sound, or how many there are.
+use Rattle.std.specs.Prelude.{ℕ, ◌+◌, [], ◌∷◌, Option, Some, None, option_map}
+use Rattle.slave_port.specs.declared.heard.Report.{Report}
+use Rattle.network_model.specs.Network.{Network}
+use Rattle.exchange_check.specs.declared.line.TraceOut.{TraceOut}
+use Rattle.exchange_check.specs.declared.line.TraceOut.TheVariants as outs
+use Rattle.exchange_check.specs.declared.verdict.Verdict.{Verdict}
+use Rattle.exchange_check.specs.declared.verdict.Verdict.TheVariants.{Accepted, Refused}
+use Rattle.exchange_check.specs.declared.verdict.Why.{Why}
+use Rattle.exchange_check.specs.Line.{Lines}
+use Rattle.exchange_check.specs.Record.{Entry, entry, line_number}
+use Rattle.exchange_check.specs.Sound.{reason}
+
+-- the report of a line that has one, good or not
+abbrev pub report_in : TraceOut → Option Report
+report_in (outs.Report report) = Some report
+report_in _ = None
+
+-- the verdict after one more line, where all report lines before it are sound
+abbrev pub one_more : (count number : ℕ) → Option (Option Why) → Verdict
+one_more count number None = Accepted count
+one_more count number (Some None) = Accepted (count + 1)
+one_more count number (Some (Some why)) = Refused number why
+
+-- the verdict after one more line
+abbrev pub with_line : Network → Entry → Verdict → Verdict
+with_line network e (Accepted count) = one_more count (line_number e) (option_map (reason network e) (report_in e.line.out))
+with_line network e (Refused number why) = Refused number why
+
+-- the verdict on all lines
+abbrev pub verdict : Network → Lines → Verdict
+verdict network [] = Accepted 0
+verdict network (line ∷ earlier) = with_line network (entry line earlier) (verdict network earlier)
+
+-- how many report lines are accepted
+abbrev pub accepted_count : Verdict → ℕ
+accepted_count (Accepted count) = count
+accepted_count (Refused number why) = 0

@@ -1,0 +1,87 @@
+ghost use Rattle.std.specs.Prelude.{◌≡◌, reverse, MatchResult, OnErr};
+ghost use Rattle.std.specs.Prelude.{◌++◌, ◌∷◌, []};
+ghost use Rattle.network_model.specs.Network.{Network};
+ghost use Rattle.exchange_check.specs.declared.refusal.CheckFault.TheVariants.{Memory};
+ghost use Rattle.exchange_check.specs.Verdict.{verdict};
+
+use crate::kept::Kept;
+use crate::line::TraceLine;
+use crate::refusal::CheckFault;
+use crate::verdict::Verdict;
+use network_model::Nodes;
+use std::alloc::Global;
+use std::marker::Model;
+
+/// The verdict on a transcript of a network, its lines oldest first, whatever their origin: whether
+/// every report line is sound, or which is the first that isn't, and why. Refused with 709 where
+/// memory was refused.
+pub fn check(alloc: Global, nodes: &Nodes, lines: &[TraceLine]) -> Result<Verdict, CheckFault>
+    ensures { MatchResult result
+        (λ answer. answer ≡ verdict nodes.now (reverse lines.now))
+        (λ fault. fault ≡ Memory) }
+{
+    let mut kept = Kept::new(alloc);
+    for line in lines {
+        kept.step(nodes, line)?;
+    }
+    Ok(kept.verdict)
+}
+
+/// A checker that is fed the lines of a transcript one by one.
+#[derive(Drop)]
+pub struct Checker {
+    nodes: Nodes,
+    lines: Vec<TraceLine>,
+    kept: Kept,
+}
+
+impl Model for Checker {
+    ghost use Rattle.std.specs.Prelude.{length, reverse};
+    ghost use Rattle.exchange_check.specs.Transcript.{Transcript};
+    ghost use Rattle.exchange_check.specs.Machine.{IsKept, machine};
+
+    ghost Value = { Transcript };
+
+    ghost view = { λ c. record { network = c.nodes; lines = c.lines.items } };
+
+    ghost invariant = { λ c. IsKept c.kept (length c.lines.items) (machine c.nodes (reverse c.lines.items)) };
+}
+
+impl Checker {
+    /// A checker of transcripts of this network, which was fed no line yet. Refused with 709 where
+    /// memory was refused; the nodes are then dropped.
+    pub fn new(alloc: Global, nodes: Nodes) -> Result<Checker, CheckFault>
+        ensures { MatchResult result
+            (λ checker. checker ≡ record { network = nodes; lines = [] })
+            (λ fault. fault ≡ Memory) }
+    {
+        Ok(Checker {
+            nodes,
+            lines: Vec::new(alloc),
+            kept: Kept::new(alloc),
+        })
+    }
+
+    /// Takes in the next line. Refused with 709 where memory was refused: the line is then dropped,
+    /// and the checker is as it was.
+    pub fn feed(&mut self, line: TraceLine) -> Result<(), CheckFault>
+        ensures { MatchResult result
+            (λ _. self.new ≡ record { network = self.old.network; lines = self.old.lines ++ line ∷ [] })
+            (λ fault. (fault ≡ Memory) × (self.new ≡ self.old)) }
+    {
+        if self.lines.reserve(1).is_err() {
+            return Err(CheckFault::Memory);
+        }
+        self.kept.step(&self.nodes, &line)?;
+        let pushed = self.lines.push(line);
+        prove!(pushed.is_ok());
+        Ok(())
+    }
+
+    /// The verdict on the lines fed so far, as [`check`] answers it.
+    pub fn verdict(&self) -> Verdict
+        ensures { result ≡ verdict self.now.network (reverse self.now.lines) }
+    {
+        self.kept.verdict
+    }
+}

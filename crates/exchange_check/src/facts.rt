@@ -1,0 +1,94 @@
+//! What is kept of lines and nodes, so that nothing is searched for again.
+
+use network_model::{Event, Name};
+use ptp_units::{ScaledTime, Seq};
+
+/// The way of a copy of an event message from the line that sent it.
+#[derive(Clone, Copy, Debug, PartialEq, Eq)]
+pub(crate) struct Travel {
+    /// The number of the line that sent it.
+    pub(crate) origin: u64,
+    /// How long it was in clocks, in units of 2^-16 ns; 2^63 - 1 stands for more as well.
+    pub(crate) residence: u64,
+    /// Whether all readings on the way are right.
+    pub(crate) reads_right: bool,
+    /// Whether all octets on the way are right.
+    pub(crate) writes_right: bool,
+}
+
+/// A line that tells of something done, as far as later lines ask.
+#[derive(Clone, Copy, Debug, PartialEq, Eq)]
+pub(crate) struct Fact {
+    /// The line's number.
+    pub(crate) line: u64,
+    /// The line's event.
+    pub(crate) event: Event,
+    /// The line's reading, 0 where there is none.
+    pub(crate) reading: ScaledTime,
+    /// Whether it made a message.
+    pub(crate) made: bool,
+    /// Whether a message completed a pair.
+    pub(crate) completes: bool,
+    /// The sequenceId that its event drew.
+    pub(crate) number: Seq,
+    /// Whether its reading is right.
+    pub(crate) reads_right: bool,
+    /// Whether its octets are right.
+    pub(crate) writes_right: bool,
+    /// The number of the last line before it at which its node sent a two-step Sync.
+    pub(crate) last_sync: Option<u64>,
+    /// The way of the copy that it made, where that is a Sync or a Delay_Req.
+    pub(crate) travel: Option<Travel>,
+}
+
+/// What the lines so far say of a node.
+#[derive(Clone, Copy, Debug, Default, PartialEq, Eq)]
+pub(crate) struct Site {
+    /// How far its clock is ahead of the true time, in units of 2^-16 ns.
+    pub(crate) difference: i128,
+    /// How many Syncs it sent, modulo 65,536.
+    pub(crate) syncs: Seq,
+    /// How many requests it sent, modulo 65,536.
+    pub(crate) requests: Seq,
+    /// The number of the line of its last two-step Sync.
+    pub(crate) last_sync: Option<u64>,
+    /// The number of the line of its last request.
+    pub(crate) last_request: Option<u64>,
+    /// The master that it was told last, and the number of that line.
+    pub(crate) set_master: Option<(Name, u64)>,
+}
+
+/// What is known of a line from the line itself and from its node.
+#[derive(Clone, Copy, Debug)]
+pub(crate) struct Known {
+    /// The line's number.
+    pub(crate) line: u64,
+    /// The line's reading, 0 where there is none.
+    pub(crate) reading: ScaledTime,
+    /// The sequenceId that its event draws.
+    pub(crate) number: Seq,
+    /// Whether its reading is right.
+    pub(crate) reads: bool,
+    /// The number of the last line before it at which its node sent a two-step Sync.
+    pub(crate) last_sync: Option<u64>,
+}
+
+/// The way of a copy, with the line that sent it.
+#[derive(Clone, Copy, Debug)]
+pub(crate) struct Way {
+    pub(crate) travel: Travel,
+    pub(crate) origin: Fact,
+}
+
+/// The lines of a report.
+#[derive(Clone, Copy, Debug)]
+pub(crate) struct Found {
+    /// The Sync's arrival at the slave.
+    pub(crate) sync: Fact,
+    /// The line that sent the Follow_Up, of a two-step Sync.
+    pub(crate) follow: Option<Fact>,
+    /// The line that sent the Delay_Req.
+    pub(crate) request: Fact,
+    /// The Delay_Req's arrival at a master, which sent the Delay_Resp.
+    pub(crate) arrival: Fact,
+}

@@ -1,0 +1,512 @@
+//! How a report is judged by what is kept.
+
+ghost use Rattle.std.specs.Prelude.{◌≡◌, ◌+◌, ◌<◌, ◌-ℤ◌, ◌&&◌, pos, option_map};
+ghost use Rattle.std.specs.Prelude.{nat_eq};
+ghost use Rattle.std.specs.HashMap.{get};
+ghost use Rattle.ptp_units.specs.Exchange.{IsBracket, offset2, path2};
+ghost use Rattle.std.specs.Ordering.{int_eq};
+ghost use Rattle.ptp_units.specs.Moment.{bound};
+ghost use Rattle.network_model.specs.Kinds.{draws_sync, is_request, spent_transit};
+ghost use Rattle.network_model.specs.Run.{site_of};
+ghost use Rattle.exchange_check.specs.Line.{is_arrival, is_hearing};
+ghost use Rattle.exchange_check.specs.Sound.{is_of_line, is_domain, are_later, below};
+ghost use Rattle.exchange_check.specs.Kept.{fact_in, site_in, port_setup};
+ghost use Rattle.exchange_check.specs.Judged.{line_of_by, sender_by, sync_by, follow_by, follows_by, arrival_by, completion_by, is_here, is_stamped_by, found_by, way_at, entered_by, stay_before, is_once, once_by, way_from, way_to, is_followed_by, paired_by, is_told, of_master_by, readings_by, fraction_by, fits_by, bracket_by, results_by, octets_by, ways_reason, both_ways, found_reason, fact_reason, reason_by};
+
+use crate::events::{
+    draws_sync, entered_copy, heard_copy, is_arrival, is_follow, is_hearing, is_one_step_sync,
+    is_request, site,
+};
+use crate::facts::{Fact, Found, Site, Way};
+use crate::kept::Kept;
+use crate::octets::{Port, master_at, slave_at};
+use crate::verdict::Why;
+use network_model::{Event, Name, Nodes, Report};
+use ptp_units::{ScaledTime, offset2, path2};
+
+/// The longest residence that is counted exactly is below this, in units of 2^-16 ns.
+const LONGEST: u64 = (1 << 63) - 1;
+
+/// The stay that an event ends, by the number of its Enter line.
+fn spent_transit(event: &Event) -> Option<u64>
+    ensures { result ≡ spent_transit event.now }
+{
+    match event {
+        Event::Leave { transit, .. } => Some(*transit),
+        _ => None,
+    }
+}
+
+/// Whether a report is of the line of this number.
+fn is_of_line(number: u64, report: &Report) -> bool
+    ensures { result ≡ is_of_line number report.now }
+{
+    let heard = match report.follow_tag {
+        Some(hearing) => hearing == number,
+        None => false,
+    };
+    report.sync_tag == number || heard || report.response_tag == number
+}
+
+/// Whether the lines of a report are later than the line of this number.
+fn are_later(number: u64, report: &Report) -> bool
+    ensures { result ≡ are_later number report.now }
+{
+    let heard = match report.follow_tag {
+        Some(hearing) => number < hearing,
+        None => true,
+    };
+    number < report.sync_tag && heard && number < report.request_tag && number < report.response_tag
+}
+
+/// Whether two ports have one domainNumber.
+fn is_domain(one: &Option<Port>, other: &Option<Port>) -> bool
+    ensures { result ≡ is_domain (option_map port_setup one.now) (option_map port_setup other.now) }
+{
+    match (one, other) {
+        (Some(one), Some(other)) => one.config.domain == other.config.domain,
+        _ => false,
+    }
+}
+
+/// Whether the Follow_Up follows the Sync of this line; without a Follow_Up, whether it is one-step.
+fn is_followed(follow: &Option<Fact>, origin: &Fact) -> bool
+    ensures { result ≡ is_followed_by follow.now origin.now }
+{
+    match follow {
+        Some(follow) => match follow.last_sync {
+            Some(last) => last == origin.line,
+            None => false,
+        },
+        None => is_one_step_sync(&origin.event),
+    }
+}
+
+/// Whether the Follow_Up is the Sync's, and the Delay_Req the slave's own.
+fn are_paired(found: &Found, sync: &Way, request: &Way) -> bool
+    ensures { result ≡ paired_by found.now sync.now request.now }
+{
+    is_followed(&found.follow, &sync.origin) && request.origin.line == found.request.line
+}
+
+/// Whether a slave was told this master last, before all lines of the report.
+fn is_told(set: &Option<(Name, u64)>, master: &Name, report: &Report) -> bool
+    ensures { result ≡ is_told set.now master.now report.now }
+{
+    match set {
+        Some((told, number)) => *told == *master && are_later(*number, report),
+        None => false,
+    }
+}
+
+/// Whether the exchange is with the slave's present master.
+fn is_of_master(
+    nodes: &Nodes,
+    at: &Site,
+    slave: &Name,
+    report: &Report,
+    found: &Found,
+    sync: &Way,
+) -> bool
+    ensures { result ≡ of_master_by nodes.now at.now slave.now report.now found.now sync.now }
+{
+    let master = site(&sync.origin.event);
+    is_told(&at.set_master, &master, report)
+        && site(&found.arrival.event) == master
+        && is_domain(&slave_at(nodes, slave), &master_at(nodes, &master))
+}
+
+/// Whether all readings are right.
+fn are_readings(found: &Found, sync: &Way, request: &Way) -> bool
+    ensures { result ≡ readings_by found.now sync.now request.now }
+{
+    found.sync.reads_right
+        && sync.travel.reads_right
+        && found.arrival.reads_right
+        && request.travel.reads_right
+}
+
+/// The fraction of a nanosecond that a message is sent with in its correctionField.
+fn fraction_sent(origin: &Fact) -> u16
+    ensures { result ≡ fraction_by origin.now }
+{
+    if is_one_step_sync(&origin.event) {
+        origin.reading.split().1
+    } else {
+        0
+    }
+}
+
+/// Whether the correctionField holds the residence of a journey.
+fn fits(way: &Way) -> bool
+    ensures { result ≡ fits_by way.now }
+{
+    u128::from(fraction_sent(&way.origin)) + u128::from(way.travel.residence) < u128::from(LONGEST)
+}
+
+/// The units of a moment, as a signed number.
+fn signed_units(time: ScaledTime) -> i128
+    ensures value { result ≡ pos time }
+    ensures within { time < bound }
+{
+    time.value() as i128
+}
+
+/// What a clock read at the arrival, less what another read at the departure, less the residence.
+fn elapsed(arrival: ScaledTime, departure: ScaledTime, residence: u64) -> i128
+    ensures value { result ≡ (pos arrival -ℤ pos departure) -ℤ pos residence }
+    ensures within { IsBracket result }
+{
+    signed_units(arrival) - signed_units(departure) - i128::from(residence)
+}
+
+/// The same of an arrival and the way to it.
+fn bracket(arrival: &Fact, way: &Way) -> i128
+    ensures value { result ≡ bracket_by arrival.now way.now }
+    ensures within { IsBracket result }
+{
+    elapsed(arrival.reading, way.origin.reading, way.travel.residence)
+}
+
+/// Whether two numbers are one.
+fn is_number(one: i128, other: i128) -> bool
+    ensures { result ≡ int_eq one other }
+{
+    one == other
+}
+
+/// Whether two results are those of two brackets.
+fn are_of_brackets(offset: i128, path: i128, a: i128, b: i128) -> bool
+    requires a_within { IsBracket a }
+    requires b_within { IsBracket b }
+    ensures { result ≡ (int_eq offset (offset2 a b) && int_eq path (path2 a b)) }
+{
+    is_number(offset, offset2(a, b)) && is_number(path, path2(a, b))
+}
+
+/// Whether the two results are those of the readings.
+fn are_results(report: &Report, found: &Found, sync: &Way, request: &Way) -> bool
+    ensures { result ≡ results_by report.now found.now sync.now request.now }
+{
+    let a = bracket(&found.sync, sync);
+    let b = bracket(&found.arrival, request);
+    are_of_brackets(report.offset2, report.path2, a, b)
+}
+
+/// Whether all octets are right.
+fn are_octets(found: &Found, sync: &Way, request: &Way) -> bool
+    ensures { result ≡ octets_by found.now sync.now request.now }
+{
+    let follow = match &found.follow {
+        Some(follow) => follow.writes_right,
+        None => true,
+    };
+    sync.travel.writes_right && follow && request.travel.writes_right && found.arrival.writes_right
+}
+
+/// The first condition on an exchange and its journeys that fails.
+fn ways_reason(
+    nodes: &Nodes,
+    at: &Site,
+    slave: &Name,
+    report: &Report,
+    found: &Found,
+    sync: &Way,
+    request: &Way,
+) -> Option<Why>
+    ensures { result ≡ ways_reason nodes.now at.now slave.now report.now found.now sync.now request.now }
+{
+    if !are_paired(found, sync, request) {
+        return Some(Why::OtherNumber);
+    }
+    if !is_of_master(nodes, at, slave, report, found, sync) {
+        return Some(Why::OtherMaster);
+    }
+    if !are_readings(found, sync, request) {
+        return Some(Why::WrongReading);
+    }
+    if !(fits(sync) && fits(request)) {
+        return Some(Why::TooBig);
+    }
+    if !are_results(report, found, sync, request) {
+        return Some(Why::WrongValue);
+    }
+    if !are_octets(found, sync, request) {
+        return Some(Why::Bytes);
+    }
+    None
+}
+
+/// Whether an event is of the wanted kind and at this node.
+fn is_here(wanted: bool, event: &Event, slave: &Name) -> bool
+    ensures { result ≡ is_here wanted event.now slave.now }
+{
+    wanted && site(event) == *slave
+}
+
+impl Kept {
+    /// The arrival of this number at a slave.
+    fn arrival_at(&self, slave: &Name, number: u64) -> Option<Fact>
+        ensures { result ≡ line_of_by (fact_in self.now.facts.items) is_arrival slave.now number }
+    {
+        match self.at(number) {
+            Some(fact) if is_here(is_arrival(&fact.event), &fact.event, slave) => Some(fact),
+            _ => None,
+        }
+    }
+
+    /// The hearing of this number at a slave.
+    fn hearing_at(&self, slave: &Name, number: u64) -> Option<Fact>
+        ensures { result ≡ line_of_by (fact_in self.now.facts.items) is_hearing slave.now number }
+    {
+        match self.at(number) {
+            Some(fact) if is_here(is_hearing(&fact.event), &fact.event, slave) => Some(fact),
+            _ => None,
+        }
+    }
+
+    /// The request of this number at a slave.
+    fn request_at(&self, slave: &Name, number: u64) -> Option<Fact>
+        ensures { result ≡ line_of_by (fact_in self.now.facts.items) is_request slave.now number }
+    {
+        match self.at(number) {
+            Some(fact) if is_here(is_request(&fact.event), &fact.event, slave) => Some(fact),
+            _ => None,
+        }
+    }
+
+    /// The line that made the copy which is heard at a line, and stands below it.
+    fn sender(&self, fact: &Fact) -> Option<Fact>
+        ensures { result ≡ sender_by (fact_in self.now.facts.items) fact.now }
+    {
+        let copy = heard_copy(&fact.event)?;
+        if copy < fact.line {
+            self.at(copy)
+        } else {
+            None
+        }
+    }
+
+    /// The Sync's arrival.
+    fn sync(&self, slave: &Name, report: &Report) -> Option<Fact>
+        ensures { result ≡ sync_by (fact_in self.now.facts.items) slave.now report.now }
+    {
+        match self.arrival_at(slave, report.sync_tag) {
+            Some(fact) if report.follow_tag.is_some() || fact.completes => Some(fact),
+            _ => None,
+        }
+    }
+
+    /// The line that sent the Follow_Up which was heard at the line of this number.
+    fn follow(&self, slave: &Name, hearing: u64) -> Option<Fact>
+        ensures { result ≡ follow_by (fact_in self.now.facts.items) slave.now hearing }
+    {
+        let sender = match self.hearing_at(slave, hearing) {
+            Some(heard) => self.sender(&heard),
+            None => None,
+        };
+        match sender {
+            Some(fact) if is_follow(&fact.event) => Some(fact),
+            _ => None,
+        }
+    }
+
+    /// The same where the report has a Follow_Up.
+    fn follows(&self, slave: &Name, hearing: Option<u64>) -> Option<Option<Fact>>
+        ensures { result ≡ follows_by (fact_in self.now.facts.items) slave.now hearing }
+    {
+        match hearing {
+            Some(hearing) => match self.follow(slave, hearing) {
+                Some(fact) => Some(Some(fact)),
+                None => None,
+            },
+            None => Some(None),
+        }
+    }
+
+    /// The hearing of this number at a slave, where it completed a pair.
+    fn completion_at(&self, slave: &Name, hearing: u64) -> Option<Fact>
+        ensures { result ≡ completion_by (fact_in self.now.facts.items) slave.now hearing }
+    {
+        match self.hearing_at(slave, hearing) {
+            Some(fact) if fact.completes => Some(fact),
+            _ => None,
+        }
+    }
+
+    /// The arrival at a master that sent the Delay_Resp which was heard at the line of this number.
+    fn arrival(&self, slave: &Name, hearing: u64) -> Option<Fact>
+        ensures { result ≡ arrival_by (fact_in self.now.facts.items) slave.now hearing }
+    {
+        let sender = match self.completion_at(slave, hearing) {
+            Some(heard) => self.sender(&heard),
+            None => None,
+        };
+        match sender {
+            Some(fact) if is_arrival(&fact.event) && fact.made => Some(fact),
+            _ => None,
+        }
+    }
+
+    /// Whether the slave learned between these two lines when its request departed.
+    fn is_stamped(&self, request: u64, hearing: u64) -> bool
+        ensures { result ≡ is_stamped_by (get nat_eq self.now.stamps) request hearing }
+    {
+        let stamped = match self.stamps.get(&request) {
+            Some(stamp) => *stamp < hearing,
+            None => false,
+        };
+        request < hearing && stamped
+    }
+
+    /// The lines of a report of the line of this number.
+    fn found(&self, slave: &Name, number: u64, report: &Report) -> Option<Found>
+        ensures { result ≡ found_by (fact_in self.now.facts.items) (get nat_eq self.now.stamps) slave.now number report.now }
+    {
+        if !(is_of_line(number, report)
+            && self.is_stamped(report.request_tag, report.response_tag))
+        {
+            return None;
+        }
+        match (
+            self.sync(slave, report),
+            self.follows(slave, report.follow_tag),
+            self.request_at(slave, report.request_tag),
+            self.arrival(slave, report.response_tag),
+        ) {
+            (Some(sync), Some(follow), Some(request), Some(arrival)) => Some(Found {
+                sync,
+                follow,
+                request,
+                arrival,
+            }),
+            _ => None,
+        }
+    }
+
+    /// The journey of the copy that the line of this number made.
+    fn way_at(&self, copy: u64) -> Option<Way>
+        ensures { result ≡ way_at (fact_in self.now.facts.items) copy }
+    {
+        let travel = self.travel_at(copy)?;
+        match self.at(travel.origin) {
+            Some(origin) => Some(Way { travel, origin }),
+            None => None,
+        }
+    }
+
+    /// A stay: the number of its Enter line, and the copy that entered there.
+    fn entered(&self, transit: u64) -> Option<(u64, u64)>
+        ensures { result ≡ entered_by (fact_in self.now.facts.items) transit }
+    {
+        match self.at(transit) {
+            Some(fact) => Some((transit, entered_copy(&fact.event)?)),
+            None => None,
+        }
+    }
+
+    /// The last stay of a copy.
+    fn stay_before(&self, copy: u64) -> Option<(u64, u64)>
+        ensures { result ≡ stay_before (fact_in self.now.facts.items) copy }
+    {
+        match self.at(copy) {
+            Some(fact) => self.entered(spent_transit(&fact.event)?),
+            None => None,
+        }
+    }
+
+    /// Whether a stay was ended, and not again.
+    fn is_once(&self, transit: u64) -> bool
+        ensures { result ≡ is_once (get nat_eq self.now.leaves transit) }
+    {
+        match self.leaves.get(&transit) {
+            Some(again) => !*again,
+            None => false,
+        }
+    }
+
+    /// Whether each stay on the way of a copy was ended once, among so many last ones.
+    #[tactic(auto, using(crate::proofs::Once::once_steps))]
+    fn once(&self, count: u64, copy: u64) -> bool
+        ensures { result ≡ once_by (fact_in self.now.facts.items) (get nat_eq self.now.leaves) count copy }
+    {
+        let mut copy = copy;
+        for _turn in 0..count {
+            let Some((transit, entered)) = self.stay_before(copy) else {
+                return true;
+            };
+            if !self.is_once(transit) {
+                return false;
+            }
+            copy = entered;
+        }
+        true
+    }
+
+    /// The journey of a Sync that arrives at a line.
+    fn sync_way(&self, arrival: &Fact) -> Option<Way>
+        ensures { result ≡ way_to (fact_in self.now.facts.items) (get nat_eq self.now.leaves) draws_sync arrival.now }
+    {
+        let copy = heard_copy(&arrival.event)?;
+        if copy >= arrival.line {
+            return None;
+        }
+        match self.way_at(copy) {
+            Some(way) if draws_sync(&way.origin.event) && self.once(arrival.line, copy) => Some(
+                way,
+            ),
+            _ => None,
+        }
+    }
+
+    /// The journey of a Delay_Req that arrives at a line.
+    fn request_way(&self, arrival: &Fact) -> Option<Way>
+        ensures { result ≡ way_to (fact_in self.now.facts.items) (get nat_eq self.now.leaves) is_request arrival.now }
+    {
+        let copy = heard_copy(&arrival.event)?;
+        if copy >= arrival.line {
+            return None;
+        }
+        match self.way_at(copy) {
+            Some(way) if is_request(&way.origin.event) && self.once(arrival.line, copy) => Some(
+                way,
+            ),
+            _ => None,
+        }
+    }
+
+    /// Why a report of a slave isn't sound, or nothing where it is.
+    fn found_reason(
+        &self,
+        nodes: &Nodes,
+        slave: &Name,
+        report: &Report,
+        found: Option<Found>,
+    ) -> Option<Why>
+        ensures { result ≡ found_reason nodes.now (fact_in self.now.facts.items) (get nat_eq self.now.leaves) (site_in self.now.sites slave.now) slave.now report.now found }
+    {
+        let Some(found) = found else {
+            return Some(Why::NoSuchLine);
+        };
+        let Some(sync) = self.sync_way(&found.sync) else {
+            return Some(Why::BrokenJourney);
+        };
+        let Some(request) = self.request_way(&found.arrival) else {
+            return Some(Why::BrokenJourney);
+        };
+        let at = self.site(slave);
+        ways_reason(nodes, &at, slave, report, &found, &sync, &request)
+    }
+
+    /// Why a report at a line isn't sound, or nothing where it is.
+    pub(crate) fn reason(&self, nodes: &Nodes, fact: &Option<Fact>, report: &Report) -> Option<Why>
+        ensures { result ≡ reason_by nodes.now (fact_in self.now.facts.items) (get nat_eq self.now.leaves) (get nat_eq self.now.stamps) (site_in self.now.sites) fact.now report.now }
+    {
+        let Some(fact) = fact else {
+            return Some(Why::NoSuchLine);
+        };
+        let slave = site(&fact.event);
+        let found = self.found(&slave, fact.line, report);
+        self.found_reason(nodes, &slave, report, found)
+    }
+}

@@ -1,0 +1,487 @@
+//! What is kept of the lines so far, and what one more line adds to it.
+
+ghost use Rattle.std.specs.Prelude.{◌≡◌, ◌≤ℤ◌, ◌+ℤ◌, ◌+◌, pos, option_map, unwrap_or, IfSome};
+ghost use Rattle.std.specs.Prelude.{ℕ, ◌==◌, nat_eq, is_some, if◌then◌else◌, Some, None, OnOk, OnErr};
+ghost use Rattle.std.specs.Prelude.{◌<◌, MatchResult};
+ghost use Rattle.std.specs.HashMap.{get};
+ghost use Rattle.exchange_check.specs.Verdict.{accepted_count};
+ghost use Rattle.exchange_check.specs.Machine.{Machine, IsKept, start, judged, after_line, sites_told, leaves_told, stamps_told};
+ghost use Rattle.std.specs.Option.{option_map_or, option_or};
+ghost use Rattle.network_model.specs.Network.{NodeName};
+ghost use Rattle.exchange_check.specs.Kept.{moved, moved_at, left_again, stamped, sites_after, leaves_after, stamps_after};
+ghost use Rattle.ptp_units.specs.Sequence.{of_count};
+ghost use Rattle.exchange_check.specs.Kept.{fact_in, site_in, travel_at, copy_entered_by, stayed, begun_by, travel_by, travelled_by, followed_by, answered_by, message_by, known_by, number_by, fact_known, fact_by, travel_left, written_travel, port_setup, contents_of};
+ghost use Rattle.exchange_check.specs.Record.{is_reading};
+
+use crate::events::{entered_copy, site, true_moment};
+use crate::facts::{Fact, Known, Site, Travel};
+use crate::good::counts;
+use crate::line::{TraceLine, TraceOut};
+use crate::octets::{
+    Port, Written, delay_resp, follow_up, is_written, master_at, sent, slave_at,
+    with_residence_time,
+};
+use crate::refusal::CheckFault;
+use crate::verdict::Verdict;
+use network_model::{Event, Name, Nodes};
+use ptp_units::{ScaledTime, Seq};
+use std::alloc::Global;
+use std::collections::HashMap;
+
+/// The longest residence that is counted exactly is below this, in units of 2^-16 ns.
+const LONGEST: u128 = (1 << 63) - 1;
+
+/// What is kept of the lines so far.
+#[derive(Drop)]
+pub(crate) struct Kept {
+    /// Of each line that tells of something done.
+    pub(crate) facts: Vec<Option<Fact>>,
+    /// Of each node.
+    pub(crate) sites: HashMap<Name, Site>,
+    /// Of each Enter line that a Leave line names: whether another one names it too.
+    pub(crate) leaves: HashMap<u64, bool>,
+    /// Of each request: the number of the line at which its departure was learned.
+    pub(crate) stamps: HashMap<u64, u64>,
+    /// The verdict so far.
+    pub(crate) verdict: Verdict,
+}
+
+/// Whether a line's reading is what the clock showed at a true moment.
+fn is_reading(reading: Option<ScaledTime>, at: Option<ScaledTime>, site: &Site) -> bool
+    ensures { result ≡ is_reading reading (option_map (λ moment. pos moment +ℤ site.now.difference) at) }
+{
+    let difference = site.difference;
+    match (reading, at) {
+        (Some(reading), Some(at)) => reading.value() as i128 - at.value() as i128 == difference,
+        _ => false,
+    }
+}
+
+/// A reading, 0 where there is none.
+fn moment_or_zero(reading: Option<ScaledTime>) -> ScaledTime
+    ensures { result ≡ unwrap_or reading 0 }
+{
+    match reading {
+        Some(moment) => moment,
+        None => ScaledTime::default(),
+    }
+}
+
+/// The number after so many that a port drew, 0 where there is no port.
+fn drawn(port: Option<Port>, count: Seq) -> Seq
+    ensures { result.0 ≡ option_map_or (λ setup. of_count (setup.first + count.0)) (option_map port_setup port) 0 }
+{
+    match port {
+        Some(port) => Seq(port.first.0.wrapping_add(count.0)),
+        None => Seq(0),
+    }
+}
+
+/// The copy that entered at a line, where that is a line of this clock and the copy was made below
+/// it.
+fn copy_entered(clock: &Name, entered: &Fact) -> Option<u64>
+    ensures { result ≡ copy_entered_by clock.now entered.now }
+{
+    let copy = entered_copy(&entered.event)?;
+    if site(&entered.event) == *clock && copy < entered.line {
+        Some(copy)
+    } else {
+        None
+    }
+}
+
+/// A journey and one more stay.
+fn stayed(known: &Known, entered: &Fact, before: &Travel) -> Travel
+    ensures { result ≡ stayed known.now entered.now before.now }
+{
+    let stay = known
+        .reading
+        .value()
+        .saturating_sub(entered.reading.value());
+    let residence = (u128::from(before.residence) + stay).min(LONGEST);
+    let rises = known.reading.value() >= entered.reading.value();
+    Travel {
+        origin: before.origin,
+        residence: residence as u64,
+        reads_right: before.reads_right && (entered.reads_right && known.reads && rises),
+        writes_right: before.writes_right,
+    }
+}
+
+/// The journey of a message that a line sends.
+fn begun(known: &Known) -> Travel
+    ensures { result ≡ begun_by known.now }
+{
+    Travel {
+        origin: known.line,
+        residence: 0,
+        reads_right: known.reads,
+        writes_right: true,
+    }
+}
+
+impl Kept {
+    /// What is kept before the first line.
+    pub(crate) fn new(alloc: Global) -> Kept
+        ensures { IsKept result 0 start }
+    {
+        Kept {
+            facts: Vec::new(alloc),
+            sites: HashMap::new(alloc),
+            leaves: HashMap::new(alloc),
+            stamps: HashMap::new(alloc),
+            verdict: Verdict::Accepted(0),
+        }
+    }
+
+    /// What is kept of the line of this number, where it tells of something done.
+    pub(crate) fn at(&self, number: u64) -> Option<Fact>
+        ensures { result ≡ fact_in self.now.facts.items number }
+    {
+        match self.facts.get(number as usize) {
+            Some(fact) => *fact,
+            None => None,
+        }
+    }
+
+    /// What is kept of a node.
+    pub(crate) fn site(&self, name: &Name) -> Site
+        ensures { result ≡ site_in self.now.sites name.now }
+    {
+        match self.sites.get(name) {
+            Some(site) => *site,
+            None => Site::default(),
+        }
+    }
+
+    /// The journey of the copy that the line of this number made.
+    pub(crate) fn travel_at(&self, copy: u64) -> Option<Travel>
+        ensures { result ≡ travel_at (fact_in self.now.facts.items) copy }
+    {
+        match self.at(copy) {
+            Some(fact) => fact.travel,
+            None => None,
+        }
+    }
+
+    /// The sequenceId that an event draws.
+    fn number(&self, nodes: &Nodes, event: &Event) -> Seq
+        ensures { result.0 ≡ number_by nodes.now (site_in self.now.sites) event.now }
+    {
+        match event {
+            Event::Sync { node, .. } | Event::SyncOne { node, .. } => {
+                drawn(master_at(nodes, node), self.site(node).syncs)
+            }
+            Event::Request { node, .. } => drawn(slave_at(nodes, node), self.site(node).requests),
+            _ => Seq(0),
+        }
+    }
+
+    /// What is known of a line from the line itself and from its node.
+    fn known(&self, nodes: &Nodes, line: &TraceLine, number: u64) -> Known
+        ensures { result ≡ known_by nodes.now (site_in self.now.sites) line.now number }
+    {
+        let site = self.site(&site(&line.event));
+        Known {
+            line: number,
+            reading: moment_or_zero(line.reading),
+            number: self.number(nodes, &line.event),
+            reads: is_reading(line.reading, true_moment(&line.event), &site),
+            last_sync: site.last_sync,
+        }
+    }
+
+    /// The journey of a copy that leaves a clock, its own octets left out.
+    fn left(&self, clock: &Name, transit: u64, known: &Known) -> Option<Travel>
+        ensures { result ≡ travel_left (fact_in self.now.facts.items) clock.now transit known.now }
+    {
+        let Some(entered) = self.at(transit) else {
+            return None;
+        };
+        let copy = copy_entered(clock, &entered)?;
+        let before = self.travel_at(copy)?;
+        Some(stayed(known, &entered, &before))
+    }
+
+    /// The journey of the copy that a line made, its own octets left out.
+    fn travel(&self, known: &Known, event: &Event) -> Option<Travel>
+        ensures { result ≡ travel_by (fact_in self.now.facts.items) known.now event.now }
+    {
+        match event {
+            Event::Sync { .. } | Event::SyncOne { .. } | Event::Request { .. } => {
+                Some(begun(known))
+            }
+            Event::Leave { node, transit, .. } => self.left(node, *transit, known),
+            _ => None,
+        }
+    }
+
+    /// The message at the end of a journey.
+    fn travelled(&self, nodes: &Nodes, travel: &Travel) -> Option<Written>
+        ensures value { option_map contents_of result ≡ travelled_by nodes.now (fact_in self.now.facts.items) travel.now }
+        ensures sign { IfSome result (λ m. pos 0 ≤ℤ m.header.correction.0) }
+    {
+        let Some(origin) = self.at(travel.origin) else {
+            return None;
+        };
+        let Fact {
+            event,
+            number,
+            reading,
+            ..
+        } = origin;
+        let message = sent(nodes, &event, number, reading)?;
+        Some(with_residence_time(&message, travel.residence))
+    }
+
+    /// The Follow_Up of the Sync line of this number.
+    fn followed(&self, port: &Port, last: Option<u64>) -> Option<Written>
+        ensures { option_map contents_of result ≡ followed_by (fact_in self.now.facts.items) (port_setup port.now) last }
+    {
+        let Some(sync) = self.at(last?) else {
+            return None;
+        };
+        Some(follow_up(&port.config, sync.number, sync.reading))
+    }
+
+    /// The Delay_Resp to a message that made this journey and arrives now.
+    fn answered(
+        &self,
+        nodes: &Nodes,
+        port: &Port,
+        now: ScaledTime,
+        travel: Option<Travel>,
+    ) -> Option<Written>
+        ensures { option_map contents_of result ≡ answered_by nodes.now (fact_in self.now.facts.items) (port_setup port.now) now travel }
+    {
+        let request = self.travelled(nodes, &travel?)?;
+        Some(delay_resp(&port.config, &request.header, now))
+    }
+
+    /// The message that a line makes.
+    fn message(
+        &self,
+        nodes: &Nodes,
+        known: &Known,
+        travel: Option<Travel>,
+        event: &Event,
+    ) -> Option<Written>
+        ensures { option_map contents_of result ≡ message_by nodes.now (fact_in self.now.facts.items) known.now travel event.now }
+    {
+        match event {
+            Event::Sync { .. } | Event::SyncOne { .. } | Event::Request { .. } => {
+                sent(nodes, event, known.number, known.reading)
+            }
+            Event::Follow { node } => self.followed(&master_at(nodes, node)?, known.last_sync),
+            Event::Leave { .. } => self.travelled(nodes, &travel?),
+            Event::Arrive { node, copy, .. } => {
+                let port = master_at(nodes, node)?;
+                self.answered(nodes, &port, known.reading, self.travel_at(*copy))
+            }
+            _ => None,
+        }
+    }
+
+    /// What is kept of a line that tells of something done.
+    fn told(&self, nodes: &Nodes, line: &TraceLine, known: &Known) -> Fact
+        ensures { result ≡ fact_known nodes.now (fact_in self.now.facts.items) line.now known.now (travel_by (fact_in self.now.facts.items) known.now line.now.event) }
+    {
+        let travel = self.travel(known, &line.event);
+        let message = self.message(nodes, known, travel, &line.event);
+        let writes_right = is_written(&message, &line.out);
+        Fact {
+            line: known.line,
+            event: line.event,
+            reading: known.reading,
+            made: line.out.is_made(),
+            completes: line.out.completes(),
+            number: known.number,
+            reads_right: known.reads,
+            writes_right,
+            last_sync: known.last_sync,
+            travel: with_octets(travel, writes_right),
+        }
+    }
+
+    /// What is kept of a line of this number.
+    pub(crate) fn fact(&self, nodes: &Nodes, line: &TraceLine, number: u64) -> Option<Fact>
+        ensures { result ≡ fact_by nodes.now (fact_in self.now.facts.items) (site_in self.now.sites) line.now number }
+    {
+        if !counts(nodes, line) {
+            return None;
+        }
+        Some(self.told(nodes, line, &self.known(nodes, line, number)))
+    }
+
+    /// Notes an event at the line of this number, of which a fact was kept.
+    fn note(&mut self, event: &Event, number: u64) -> Result<(), CheckFault>
+        ensures sites { OnOk result (site_in self.new.sites ≡ sites_after event.now number (site_in self.old.sites)) }
+        ensures leaves { OnOk result (get nat_eq self.new.leaves ≡ leaves_after event.now (get nat_eq self.old.leaves)) }
+        ensures stamps { OnOk result (get nat_eq self.new.stamps ≡ stamps_after event.now number (site_in self.old.sites) (get nat_eq self.old.stamps)) }
+        ensures facts { self.new.facts.items ≡ self.old.facts.items }
+        ensures verdict { self.new.verdict ≡ self.old.verdict }
+        ensures same_sites { OnErr result (site_in self.new.sites ≡ site_in self.old.sites) }
+        ensures same_leaves { OnErr result (get nat_eq self.new.leaves ≡ get nat_eq self.old.leaves) }
+        ensures same_stamps { OnErr result (get nat_eq self.new.stamps ≡ get nat_eq self.old.stamps) }
+    {
+        match event {
+            Event::Sync { .. }
+            | Event::SyncOne { .. }
+            | Event::Request { .. }
+            | Event::SetMaster { .. }
+            | Event::StepClock { .. } => move_site(&mut self.sites, event, number),
+            Event::Leave { transit, .. } => leave(&mut self.leaves, *transit),
+            Event::Stamped { node } => {
+                let last = self.site(node).last_request;
+                stamp(&mut self.stamps, last, number)
+            }
+            _ => Ok(()),
+        }
+    }
+
+    /// Notes the event of a line with this fact.
+    fn tell(&mut self, fact: &Option<Fact>, number: u64) -> Result<(), CheckFault>
+        ensures sites { OnOk result (site_in self.new.sites ≡ sites_told fact.now number (site_in self.old.sites)) }
+        ensures leaves { OnOk result (get nat_eq self.new.leaves ≡ leaves_told fact.now (get nat_eq self.old.leaves)) }
+        ensures stamps { OnOk result (get nat_eq self.new.stamps ≡ stamps_told fact.now number (site_in self.old.sites) (get nat_eq self.old.stamps)) }
+        ensures facts { self.new.facts.items ≡ self.old.facts.items }
+        ensures verdict { self.new.verdict ≡ self.old.verdict }
+        ensures same_sites { OnErr result (site_in self.new.sites ≡ site_in self.old.sites) }
+        ensures same_leaves { OnErr result (get nat_eq self.new.leaves ≡ get nat_eq self.old.leaves) }
+        ensures same_stamps { OnErr result (get nat_eq self.new.stamps ≡ get nat_eq self.old.stamps) }
+    {
+        match fact {
+            Some(told) => self.note(&told.event, number),
+            None => Ok(()),
+        }
+    }
+
+    /// The verdict after a line of this number with this fact, which is kept already.
+    fn judged(&self, nodes: &Nodes, fact: &Option<Fact>, out: &TraceOut, number: u64) -> Verdict
+        ensures { accepted_count self.now.verdict < 18446744073709551615 → result ≡ judged nodes.now (fact_in self.now.facts.items)
+            (get nat_eq self.now.leaves) (get nat_eq self.now.stamps) (site_in self.now.sites) fact.now out.now number self.now.verdict }
+    {
+        let (Verdict::Accepted(count), TraceOut::Report(report)) = (self.verdict, out) else {
+            return self.verdict;
+        };
+        match self.reason(nodes, fact, report) {
+            Some(why) => Verdict::Refused { line: number, why },
+            None => Verdict::Accepted(count.saturating_add(1)),
+        }
+    }
+
+    /// Takes in one more line. Where memory for it is refused, nothing changes.
+    pub(crate) fn step(&mut self, nodes: &Nodes, line: &TraceLine) -> Result<(), CheckFault>
+        ensures kept { (count : ℕ) (m : Machine) → IsKept self.old count m → MatchResult result
+            (λ _. IsKept self.new (count + 1) (after_line nodes.now line.now count m))
+            (λ _. IsKept self.new count m) }
+    {
+        let number = self.facts.len() as u64;
+        let fact = self.fact(nodes, line, number);
+        if self.facts.push(fact).is_err() {
+            return Err(CheckFault::Memory);
+        }
+        let total = self.facts.len() as u64;
+        let verdict = self.judged(nodes, &fact, &line.out, total - 1);
+        if self.tell(&fact, number).is_err() {
+            self.facts.pop();
+            return Err(CheckFault::Memory);
+        }
+        self.verdict = verdict;
+        Ok(())
+    }
+}
+
+/// What is kept of a node after an event of it at the line of this number.
+fn moved(event: &Event, number: u64, site: Site) -> Site
+    ensures { result ≡ moved event.now number site }
+{
+    match event {
+        Event::Sync { .. } => Site {
+            syncs: site.syncs.next(),
+            last_sync: Some(number),
+            ..site
+        },
+        Event::SyncOne { .. } => Site {
+            syncs: site.syncs.next(),
+            ..site
+        },
+        Event::Request { .. } => Site {
+            requests: site.requests.next(),
+            last_request: Some(number),
+            ..site
+        },
+        Event::SetMaster { master, .. } => Site {
+            set_master: Some((*master, number)),
+            ..site
+        },
+        Event::StepClock { diff, .. } => Site {
+            difference: *diff,
+            ..site
+        },
+        _ => site,
+    }
+}
+
+/// What a map has of a node.
+fn site_in(sites: &HashMap<Name, Site>, name: &Name) -> Site
+    ensures { result ≡ site_in sites.now name.now }
+{
+    match sites.get(name) {
+        Some(site) => *site,
+        None => Site::default(),
+    }
+}
+
+/// An event at a node, at the line of this number.
+fn move_site(sites: &mut HashMap<Name, Site>, event: &Event, number: u64) -> Result<(), CheckFault>
+    ensures moved { OnOk result (site_in sites.new ≡ moved_at event.now number (site_in sites.old)) }
+    ensures unchanged { OnErr result (site_in sites.new ≡ site_in sites.old) }
+{
+    let name = site(event);
+    let after = moved(event, number, site_in(sites, &name));
+    match sites.insert(name, after) {
+        Ok(_) => Ok(()),
+        Err(_) => Err(CheckFault::Memory),
+    }
+}
+
+/// A Leave line that names an Enter line.
+fn leave(leaves: &mut HashMap<u64, bool>, transit: u64) -> Result<(), CheckFault>
+    ensures left { OnOk result (get nat_eq leaves.new ≡ left_again transit (get nat_eq leaves.old)) }
+    ensures unchanged { OnErr result (get nat_eq leaves.new ≡ get nat_eq leaves.old) }
+{
+    let again = leaves.contains_key(&transit);
+    match leaves.insert(transit, again) {
+        Ok(_) => Ok(()),
+        Err(_) => Err(CheckFault::Memory),
+    }
+}
+
+/// The line of this number tells when the last request of its node departed.
+fn stamp(stamps: &mut HashMap<u64, u64>, last: Option<u64>, number: u64) -> Result<(), CheckFault>
+    ensures stamped { OnOk result (get nat_eq stamps.new ≡ stamped last number (get nat_eq stamps.old)) }
+    ensures unchanged { OnErr result (get nat_eq stamps.new ≡ get nat_eq stamps.old) }
+{
+    let Some(request) = last else {
+        return Ok(());
+    };
+    if stamps.contains_key(&request) {
+        return Ok(());
+    }
+    match stamps.insert(request, number) {
+        Ok(_) => Ok(()),
+        Err(_) => Err(CheckFault::Memory),
+    }
+}
+
+/// A journey with the line's own octets.
+fn with_octets(travel: Option<Travel>, writes_right: bool) -> Option<Travel>
+    ensures { result ≡ option_map (written_travel writes_right) travel }
+{
+    let travel = travel?;
+    Some(Travel {
+        writes_right: travel.writes_right && writes_right,
+        ..travel
+    })
+}

@@ -1,0 +1,182 @@
+//! The octets that ports and clocks write.
+
+ghost use Rattle.std.specs.Prelude.{◌≡◌, ◌≤◌, ◌≤ℤ◌, pos, [], length, option_map, IfSome};
+ghost use Rattle.event_codec.specs.Packet.{Contents, contents};
+ghost use Rattle.master_port.specs.Written.{follow_up, delay_resp};
+ghost use Rattle.network_model.specs.Network.{PortSetup};
+ghost use Rattle.network_model.specs.Truth.{master_at, slave_at};
+ghost use Rattle.exchange_check.specs.Kept.{sent_by, port_setup, contents_of};
+ghost use Rattle.exchange_check.specs.Octets.{is_packet, is_written, drawing_port, message_sent, with_residence_time};
+
+use crate::line::TraceOut;
+use event_codec::{Body, Header, Message, PortConfig, encode};
+use network_model::{Event, Name, NodeKind, Nodes};
+use ptp_units::{Interval, ScaledTime, Seq, Timestamp};
+
+/// flagField of a two-step Sync.
+const TWO_STEP: [u8; 2] = [0x02, 0x00];
+
+/// flagField of the other messages.
+const NO_FLAGS: [u8; 2] = [0x00, 0x00];
+
+/// The configuration of a port, and the first number of its pool.
+#[derive(Clone, Copy)]
+pub(crate) struct Port {
+    pub(crate) config: PortConfig,
+    pub(crate) first: Seq,
+}
+
+/// The port of a master of this name.
+pub(crate) fn master_at(nodes: &Nodes, name: &Name) -> Option<Port>
+    ensures { option_map port_setup result ≡ master_at nodes.now name.now }
+{
+    match nodes.get(name)?.kind {
+        NodeKind::Master { config, first } => Some(Port { config, first }),
+        NodeKind::Slave { .. } | NodeKind::Clock => None,
+    }
+}
+
+/// The port of a slave of this name.
+pub(crate) fn slave_at(nodes: &Nodes, name: &Name) -> Option<Port>
+    ensures { option_map port_setup result ≡ slave_at nodes.now name.now }
+{
+    match nodes.get(name)?.kind {
+        NodeKind::Slave { config, first } => Some(Port { config, first }),
+        NodeKind::Master { .. } | NodeKind::Clock => None,
+    }
+}
+
+/// The port that draws a number at an event.
+pub(crate) fn drawing_port(nodes: &Nodes, event: &Event) -> Option<Port>
+    ensures { option_map port_setup result ≡ drawing_port nodes.now event.now }
+{
+    match event {
+        Event::Sync { node, .. } | Event::SyncOne { node, .. } => master_at(nodes, node),
+        Event::Request { node, .. } => slave_at(nodes, node),
+        _ => None,
+    }
+}
+
+/// A message without suffix.
+#[derive(Clone, Copy)]
+pub(crate) struct Written {
+    pub(crate) header: Header,
+    pub(crate) body: Body,
+}
+
+/// The message that a port sends at an event, under this number and at this reading.
+fn message_sent(config: &PortConfig, event: &Event, number: Seq, now: ScaledTime) -> Option<Written>
+    ensures value { option_map contents_of result ≡ message_sent config.now event.now number.0 now }
+    ensures sign { IfSome result (λ m. pos 0 ≤ℤ m.header.correction.0) }
+{
+    let origin = Timestamp::default();
+    match event {
+        Event::Sync { .. } => {
+            let header = config.header(TWO_STEP, Interval(0), number, 0, config.log);
+            Some(Written {
+                header,
+                body: Body::Sync { origin },
+            })
+        }
+        Event::SyncOne { .. } => {
+            let (origin, fraction) = now.split();
+            let correction = Interval(i64::from(fraction));
+            let header = config.header(NO_FLAGS, correction, number, 0, config.log);
+            Some(Written {
+                header,
+                body: Body::Sync { origin },
+            })
+        }
+        Event::Request { .. } => {
+            let header = config.header(NO_FLAGS, Interval(0), number, 1, 127);
+            Some(Written {
+                header,
+                body: Body::DelayReq { origin },
+            })
+        }
+        _ => None,
+    }
+}
+
+/// The message that an event sends, under this number and at this reading.
+pub(crate) fn sent(nodes: &Nodes, event: &Event, number: Seq, now: ScaledTime) -> Option<Written>
+    ensures value { option_map contents_of result ≡ sent_by nodes.now event.now number.0 now }
+    ensures sign { IfSome result (λ m. pos 0 ≤ℤ m.header.correction.0) }
+{
+    let port = drawing_port(nodes, event)?;
+    message_sent(&port.config, event, number, now)
+}
+
+/// A message with a residence added to its correction.
+pub(crate) fn with_residence_time(message: &Written, time: u64) -> Written
+    requires { pos 0 ≤ℤ message.now.header.correction.0 }
+    ensures value { contents_of result ≡ with_residence_time time (contents_of message.now) }
+    ensures sign { pos 0 ≤ℤ result.header.correction.0 }
+{
+    let mut header = message.header;
+    header.correction = header.correction.plus_residence(u128::from(time));
+    Written {
+        header,
+        body: message.body,
+    }
+}
+
+/// The Follow_Up of the Sync of this number, which left at t1.
+pub(crate) fn follow_up(config: &PortConfig, number: Seq, t1: ScaledTime) -> Written
+    ensures { contents_of result ≡ follow_up config.now number.0 t1 }
+{
+    let (precise, fraction) = t1.split();
+    let correction = Interval(i64::from(fraction));
+    let header = config.header(NO_FLAGS, correction, number, 2, config.log);
+    Written {
+        header,
+        body: Body::FollowUp { precise },
+    }
+}
+
+/// The Delay_Resp to a Delay_Req that arrived at t4.
+pub(crate) fn delay_resp(config: &PortConfig, request: &Header, t4: ScaledTime) -> Written
+    requires { pos 0 ≤ℤ request.now.correction.0 }
+    ensures { contents_of result ≡ delay_resp config.now request.now t4 }
+{
+    let (receive, fraction) = t4.split();
+    let correction = request.correction.minus_fraction(fraction).unwrap();
+    let header = config.header(NO_FLAGS, correction, request.sequence, 3, config.log);
+    let body = Body::DelayResp {
+        receive,
+        requesting: request.source,
+    };
+    Written { header, body }
+}
+
+/// Whether octets are a message, octet for octet.
+fn is_packet(message: &Message<'_>, octets: &[u8]) -> bool
+    requires { length octets.now ≤ 54 }
+    ensures { result ≡ is_packet (contents message.now) octets.now }
+{
+    let mut room = [0; 54];
+    match encode(message, &mut room) {
+        Ok(length) => octets == &room[..length],
+        Err(_) => false,
+    }
+}
+
+/// Whether a line made this message.
+pub(crate) fn is_written(message: &Option<Written>, out: &TraceOut) -> bool
+    ensures { result ≡ is_written (option_map contents_of message.now) out.now }
+{
+    let Some(message) = message else {
+        return false;
+    };
+    match out {
+        TraceOut::Made(octets) => {
+            let message = Message {
+                header: message.header,
+                body: message.body,
+                suffix: &[],
+            };
+            is_packet(&message, octets.as_slice())
+        }
+        _ => false,
+    }
+}

@@ -1,0 +1,23 @@
+ghost use Rattle.std.specs.Prelude.{◌≡◌};
+
+use std::alloc::{AllocError, AllocFailed};
+
+/// Why there is no verdict.
+#[derive(Clone, Copy, Debug, PartialEq, Eq)]
+pub enum CheckFault {
+    /// Memory for a growth was refused.
+    Memory,
+}
+
+impl CheckFault {
+    ghost use Rattle.exchange_check.specs.Refusal.{fault_code};
+
+    /// The number of the fault.
+    pub fn code(&self) -> u16
+        ensures { result ≡ fault_code self.now }
+    {
+        match self {
+            CheckFault::Memory => 709,
+        }
+    }
+}

@@ -1,0 +1,58 @@
+ghost use Rattle.std.specs.Prelude.{◌≡◌};
+
+/// Why a report isn't sound. A line is called by the number of lines before it.
+#[derive(Clone, Copy, Debug, PartialEq, Eq)]
+pub enum Why {
+    /// A tag of the report isn't the number of a line as the report needs it, or no line tells when
+    /// the Delay_Req departed.
+    NoSuchLine,
+    /// The Sync isn't the one that the Follow_Up follows, or the Delay_Req isn't the slave's request.
+    OtherNumber,
+    /// The messages aren't of the slave's present master, or came before it was told this master.
+    OtherMaster,
+    /// The way of the Sync or of the Delay_Req can't be followed back to where it was sent.
+    BrokenJourney,
+    /// A reading isn't the one of the node's clock, or isn't there, or a clock read less at the end
+    /// of a stay than at its beginning.
+    WrongReading,
+    /// The two results aren't those of the readings.
+    WrongValue,
+    /// The Sync or the Delay_Req was too long in clocks for its correctionField.
+    TooBig,
+    /// The octets of a message aren't those that a port or a clock writes.
+    Bytes,
+}
+
+impl Why {
+    ghost use Rattle.exchange_check.specs.Refusal.{why_code};
+
+    /// The number of the reason.
+    pub fn code(&self) -> u16
+        ensures { result ≡ why_code self.now }
+    {
+        match self {
+            Why::NoSuchLine => 701,
+            Why::OtherNumber => 702,
+            Why::OtherMaster => 703,
+            Why::BrokenJourney => 704,
+            Why::WrongReading => 705,
+            Why::WrongValue => 706,
+            Why::TooBig => 707,
+            Why::Bytes => 708,
+        }
+    }
+}
+
+/// What a transcript is found to be.
+#[derive(Clone, Copy, Debug, PartialEq, Eq)]
+pub enum Verdict {
+    /// Every report line is sound; there are so many.
+    Accepted(u64),
+    /// There is a report line that isn't sound.
+    Refused {
+        /// The first such line: the number of lines before it.
+        line: u64,
+        /// The first reason that applies to it.
+        why: Why,
+    },
+}
