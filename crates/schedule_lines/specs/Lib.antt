@@ -1,2 +1,3 @@
 pub mod Json
 pub mod Line
+pub mod Transcript

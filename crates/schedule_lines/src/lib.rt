@@ -5,5 +5,8 @@
 mod entry;
 mod fields;
 mod kind;
+mod members;
+mod transcript;
 
 pub use entry::Line;
+pub use transcript::{event_value, line_text, node_value};
