@@ -12,6 +12,8 @@ mod datagrams;
 #[cfg(test)]
 mod devices;
 #[cfg(test)]
+mod json_lines;
+#[cfg(test)]
 mod master;
 #[cfg(test)]
 mod nodes;
