@@ -16,6 +16,8 @@ mod devices;
 #[cfg(test)]
 mod exchanges;
 #[cfg(test)]
+mod json_lines;
+#[cfg(test)]
 mod master;
 #[cfg(test)]
 mod memory;

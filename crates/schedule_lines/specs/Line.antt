@@ -1,0 +1,115 @@
+-- Which node or event a line is, from its JSON value. Each form has just its keys: as many as it has, and each of these.
+use Rattle.std.specs.Prelude.{ℕ, List, codes, if◌then◌else◌, Option, Some, None, option_map, option_and_then, is_some}
+use Rattle.std.specs.Str.{bytes_eq}
+use Rattle.serde_json.specs.Data.{Data}
+use Rattle.serde_json.specs.Find.{get, as_str}
+use Rattle.event_codec.specs.declared.port.PortConfig.{PortConfig}
+use Rattle.ptp_units.specs.declared.sequence.Seq.{Seq}
+use Rattle.network_model.specs.declared.event.Event.{Event}
+use Rattle.network_model.specs.declared.event.Event.TheVariants as events
+use Rattle.network_model.specs.declared.node.NodeKind.{NodeKind}
+use Rattle.network_model.specs.declared.node.NodeKind.TheVariants as kinds
+use Rattle.network_model.specs.declared.node.NodeSpec.{NodeSpec}
+use Rattle.schedule_lines.specs.declared.kind.EventKind.{EventKind}
+use Rattle.schedule_lines.specs.declared.kind.EventKind.TheVariants.{Sync, SyncOne, Follow, Enter, Leave, Arrive, Hear, Request, Stamped, Tick, SetMaster, StepClock}
+use Rattle.schedule_lines.specs.declared.entry.Line.{Line}
+use Rattle.schedule_lines.specs.declared.entry.Line.TheVariants as lines
+use Rattle.schedule_lines.specs.Json.{field, has_keys, name_in, moment_in, whole_in, whole_below, signed_octet_in, clock_in, difference_in}
+
+-- the kind of event that the text of `ev` names
+abbrev pub kind_of : List ℕ → Option EventKind
+kind_of text =
+    if bytes_eq text (codes "sync") then Some Sync
+    else if bytes_eq text (codes "syncone") then Some SyncOne
+    else if bytes_eq text (codes "follow") then Some Follow
+    else if bytes_eq text (codes "enter") then Some Enter
+    else if bytes_eq text (codes "leave") then Some Leave
+    else if bytes_eq text (codes "arrive") then Some Arrive
+    else if bytes_eq text (codes "hear") then Some Hear
+    else if bytes_eq text (codes "request") then Some Request
+    else if bytes_eq text (codes "stamped") then Some Stamped
+    else if bytes_eq text (codes "tick") then Some Tick
+    else if bytes_eq text (codes "setmaster") then Some SetMaster
+    else if bytes_eq text (codes "stepclock") then Some StepClock
+    else None
+
+-- how many keys an event of this kind has, `ev` and `node` among them
+abbrev pub key_count : EventKind → ℕ
+key_count Sync = 3
+key_count SyncOne = 3
+key_count Follow = 2
+key_count Enter = 4
+key_count Leave = 4
+key_count Arrive = 4
+key_count Hear = 3
+key_count Request = 3
+key_count Stamped = 2
+key_count Tick = 2
+key_count SetMaster = 3
+key_count StepClock = 3
+
+-- the keys of events
+abbrev pub node_in : Data → Option (List ℕ)
+node_in d = field name_in (codes "node") d
+
+abbrev pub at_in : Data → Option ℕ
+at_in d = field moment_in (codes "at") d
+
+abbrev pub copy_in : Data → Option ℕ
+copy_in d = field whole_in (codes "copy") d
+
+-- an event of a kind at a node
+abbrev pub event_at : EventKind → List ℕ → Data → Option Event
+event_at Sync node d = option_map (events.Sync node) (at_in d)
+event_at SyncOne node d = option_map (events.SyncOne node) (at_in d)
+event_at Follow node d = Some (events.Follow node)
+event_at Enter node d = option_and_then (λ copy. option_map (events.Enter node copy) (at_in d)) (copy_in d)
+event_at Leave node d = option_and_then (λ transit. option_map (events.Leave node transit) (at_in d)) (field whole_in (codes "transit") d)
+event_at Arrive node d = option_and_then (λ copy. option_map (events.Arrive node copy) (at_in d)) (copy_in d)
+event_at Hear node d = option_map (events.Hear node) (copy_in d)
+event_at Request node d = option_map (events.Request node) (at_in d)
+event_at Stamped node d = Some (events.Stamped node)
+event_at Tick node d = Some (events.Tick node)
+event_at SetMaster node d = option_map (events.SetMaster node) (field name_in (codes "master") d)
+event_at StepClock node d = option_map (events.StepClock node) (field difference_in (codes "diff") d)
+
+-- an event of a kind, with just its keys
+abbrev pub event_of : EventKind → Data → Option Event
+event_of kind d = if has_keys (key_count kind) d then option_and_then (λ node. event_at kind node d) (node_in d) else None
+
+-- the event that an object with key `ev` is
+abbrev pub event_in : Data → Option Event
+event_in d = option_and_then (λ kind. event_of kind d) (option_and_then kind_of (field as_str (codes "ev") d))
+
+-- the configuration of a node's port
+abbrev pub config_in : Data → Option PortConfig
+config_in d =
+    option_and_then (λ clock. option_and_then (λ port. option_and_then (λ domain. option_map (λ log.
+    record { identity = record { clock = clock; port = port }; domain = domain; log = log })
+    (field signed_octet_in (codes "log") d)) (field (whole_below 256) (codes "domain") d)) (field (whole_below 65536) (codes "port") d)) (field clock_in (codes "id") d)
+
+-- the number that a node's port draws first
+abbrev pub first_in : Data → Option Seq
+first_in d = option_map (λ first. record { 0 = first }) (field (whole_below 65536) (codes "first") d)
+
+-- a node that has a port
+abbrev pub port_in : (PortConfig → Seq → NodeKind) → Data → Option NodeKind
+port_in kind d =
+    if has_keys 7 d then option_and_then (λ config. option_map (kind config) (first_in d)) (config_in d) else None
+
+-- what a node is, from the text of `kind`
+abbrev pub node_kind : List ℕ → Data → Option NodeKind
+node_kind text d =
+    if bytes_eq text (codes "master") then port_in kinds.Master d
+    else if bytes_eq text (codes "slave") then port_in kinds.Slave d
+    else if bytes_eq text (codes "clock") then (if has_keys 2 d then Some kinds.Clock else None)
+    else None
+
+-- the node that an object without key `ev` is
+abbrev pub node_spec_in : Data → Option NodeSpec
+node_spec_in d =
+    option_and_then (λ text. option_and_then (λ name. option_map (λ kind. record { name = name; kind = kind }) (node_kind text d)) (node_in d)) (field as_str (codes "kind") d)
+
+-- the line that a value is; None where a key is missing, one is too many, or one's value isn't what is asked for
+abbrev pub line_of : Data → Option Line
+line_of d = if is_some (get (codes "ev") d) then option_map lines.Event (event_in d) else option_map lines.Node (node_spec_in d)
