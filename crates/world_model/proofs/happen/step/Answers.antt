@@ -102,3 +102,8 @@ returns-in-Err-clause-steps c =
           c.in-Some.index here less old c.happen.new.station c.index_mut.ensures.value c.room_for_one-room.result c.in-Err.why c.room_for_one-room.ensures.refused ans.1,
       ap run_of whole,
     )
+
+pub index_mut-requires : goal.index_mut-requires
+index_mut-requires c =
+    let here = found c.args.nodes.now c.site.result c.in-Some.index c.in-Some.ensures.node c.in-Some.ensures.found in
+    omega (arith, slice_get_within c.args.nodes.now c.in-Some.index here.node here.at, c.requires.nodes.count, c.args.stations.now.ok.0)
