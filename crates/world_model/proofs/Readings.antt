@@ -2,13 +2,13 @@
 use Rattle.std.proofs.Common.{◌≡◌, ℕ, List, length, Option, Some, None, Ok, sym, ap, refl, subst, arith}
 use Rattle.std.proofs.lemmas.List.{length-drop, take_all}
 use Rattle.event_codec.specs.Packet.{Contents, Packet}
-use Rattle.event_codec.specs.Layout.{fields_length}
+use Rattle.event_codec.specs.Layout.{type_of, fields_length}
 use Rattle.event_codec.specs.Reading.{IsReading}
 use Rattle.event_codec.specs.Refusal.{message_length}
 use Rattle.network_model.specs.Truth.{TellsTruth}
 
 pub whole : (m : Contents) (b : List ℕ) → Packet m b → message_length m ≡ length b
-whole m b p = omega (arith, ap (length {A = ℕ}) p.suffix, length-drop (fields_length m.body) b, p.least)
+whole m b p = omega (arith, ap (length {A = ℕ}) p.suffix, length-drop (fields_length (type_of m.body)) b, p.least)
 
 -- octets that are a message say it
 pub IsReading-packet : (m : Contents) (b : List ℕ) → Packet m b → IsReading b (Ok m)

@@ -8,13 +8,13 @@ ghost use Rattle.world_model.specs.Acts.{Acts};
 use crate::entry::{Happened, Left};
 use master_port::MasterPort;
 use network_model::{Event, NodeKind, Nodes, Outcome, WorldRefusal};
-use pairing::ListTable;
+use pairing::RingTable;
 use ptp_units::{BOUND, ScaledTime, Seq};
 use slave_port::{HeldFollow, HeldRequest, HeldSync, SlavePort};
 use std::alloc::Global;
 
 /// What holds the messages of a slave: at most 16 of each kind.
-pub(crate) type Table<V> = ListTable<V, 16>;
+pub(crate) type Table<V> = RingTable<V, 16>;
 
 /// Room for one more entry, or why there is none.
 pub(crate) type Room = Result<(), WorldRefusal>;
