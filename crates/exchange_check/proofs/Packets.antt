@@ -11,10 +11,11 @@ use Rattle.std.proofs.lemmas.Slice.Eq.{bytes_eq-Decides}
 use Rattle.event_codec.specs.declared.message.Body.{Body}
 use Rattle.event_codec.specs.declared.message.Body.TheVariants as bodies
 use Rattle.event_codec.specs.declared.port.PortIdentity.{PortIdentity}
-use Rattle.event_codec.specs.Layout.{number, type_of, fields_length, stamp_in}
+use Rattle.event_codec.specs.Layout.{number, number_of, type_of, fields_length, stamp_in}
 use Rattle.event_codec.specs.Packet.{Contents, Packet, IsIdentityAt, IsRequesting}
 use Rattle.event_codec.specs.declared.refusal.EncodeRefusal.{EncodeRefusal}
-use Rattle.event_codec.specs.Refusal.{encode_refusal, message_length}
+use Rattle.event_codec.specs.EncodeRefusal.{encode_refusal}
+use Rattle.event_codec.specs.Refusal.{message_length}
 use Rattle.exchange_check.specs.Octets.{is_identity_at, is_requesting, is_packet}
 
 octet_at : (x : ℕ) (xs : List ℕ) → x < 256 → EachIndex xs (λ k. slice_index xs k < 256) → (k : ℕ) → k < length (x ∷ xs) → slice_index (x ∷ xs) k < 256
@@ -64,22 +65,22 @@ decided1 : (m : Contents) (b : List ℕ) → Decides (tests1 m b) (Parts1 m b)
 decided1 m b = both (list_all (λ octet. nat_lt octet 256) b) (number b 2 2 == length b) (octets_decided b) (Decides-eqb _ _)
 
 abbrev Parts2 : Contents → List ℕ → Type 0
-Parts2 m b = Both (Parts1 m b) (fields_length m.body ≤ length b)
+Parts2 m b = Both (Parts1 m b) (fields_length (type_of m.body) ≤ length b)
 
 abbrev tests2 : Contents → List ℕ → Bool
-tests2 m b = (tests1 m b) && not (nat_lt (length b) (fields_length m.body))
+tests2 m b = (tests1 m b) && not (nat_lt (length b) (fields_length (type_of m.body)))
 
 decided2 : (m : Contents) (b : List ℕ) → Decides (tests2 m b) (Parts2 m b)
-decided2 m b = both (tests1 m b) (not (nat_lt (length b) (fields_length m.body))) (decided1 m b) (Decides-at_most (fields_length m.body) (length b))
+decided2 m b = both (tests1 m b) (not (nat_lt (length b) (fields_length (type_of m.body)))) (decided1 m b) (Decides-at_most (fields_length (type_of m.body)) (length b))
 
 abbrev Parts3 : Contents → List ℕ → Type 0
-Parts3 m b = Both (Parts2 m b) (slice_index b 0 ≡ 16 * m.header.major_sdo + type_of m.body)
+Parts3 m b = Both (Parts2 m b) (slice_index b 0 ≡ 16 * m.header.major_sdo + number_of (type_of m.body))
 
 abbrev tests3 : Contents → List ℕ → Bool
-tests3 m b = (tests2 m b) && slice_index b 0 == 16 * m.header.major_sdo + type_of m.body
+tests3 m b = (tests2 m b) && slice_index b 0 == 16 * m.header.major_sdo + number_of (type_of m.body)
 
 decided3 : (m : Contents) (b : List ℕ) → Decides (tests3 m b) (Parts3 m b)
-decided3 m b = both (tests2 m b) (slice_index b 0 == 16 * m.header.major_sdo + type_of m.body) (decided2 m b) (Decides-eqb _ _)
+decided3 m b = both (tests2 m b) (slice_index b 0 == 16 * m.header.major_sdo + number_of (type_of m.body)) (decided2 m b) (Decides-eqb _ _)
 
 abbrev Parts4 : Contents → List ℕ → Type 0
 Parts4 m b = Both (Parts3 m b) (slice_index b 1 ≡ 16 * m.header.minor_version + 2)
@@ -208,19 +209,26 @@ decided17 : (m : Contents) (b : List ℕ) → Decides (tests17 m b) (Parts17 m b
 decided17 m b = both (tests16 m b) (is_requesting m.body b) (decided16 m b) (requesting_decided m.body b)
 
 abbrev Parts18 : Contents → List ℕ → Type 0
-Parts18 m b = Both (Parts17 m b) (m.suffix ≡ drop (fields_length m.body) b)
+Parts18 m b = Both (Parts17 m b) (m.suffix ≡ drop (fields_length (type_of m.body)) b)
 
 abbrev tests18 : Contents → List ℕ → Bool
-tests18 m b = (tests17 m b) && bytes_eq m.suffix (drop (fields_length m.body) b)
+tests18 m b = (tests17 m b) && bytes_eq m.suffix (drop (fields_length (type_of m.body)) b)
 
 decided18 : (m : Contents) (b : List ℕ) → Decides (tests18 m b) (Parts18 m b)
-decided18 m b = both (tests17 m b) (bytes_eq m.suffix (drop (fields_length m.body) b)) (decided17 m b) (bytes_eq-Decides _ _)
+decided18 m b = both (tests17 m b) (bytes_eq m.suffix (drop (fields_length (type_of m.body)) b)) (decided17 m b) (bytes_eq-Decides _ _)
 
 packet_told : (m : Contents) (b : List ℕ) → Parts18 m b → Packet m b
-packet_told m b p = record { octets = p.0.0.0.0.0.0.0.0.0.0.0.0.0.0.0.0.0.0; message_length = p.0.0.0.0.0.0.0.0.0.0.0.0.0.0.0.0.0.1; least = p.0.0.0.0.0.0.0.0.0.0.0.0.0.0.0.0.1; major_sdo_and_type = p.0.0.0.0.0.0.0.0.0.0.0.0.0.0.0.1; minor_version_and_version = p.0.0.0.0.0.0.0.0.0.0.0.0.0.0.1; domain = p.0.0.0.0.0.0.0.0.0.0.0.0.0.1; minor_sdo = p.0.0.0.0.0.0.0.0.0.0.0.0.1; flags = p.0.0.0.0.0.0.0.0.0.0.0.1; correction = p.0.0.0.0.0.0.0.0.0.0.1; specific = p.0.0.0.0.0.0.0.0.0.1; source = p.0.0.0.0.0.0.0.0.1; sequence = p.0.0.0.0.0.0.0.1; control = p.0.0.0.0.0.0.1; log = p.0.0.0.0.0.1; seconds = p.0.0.0.0.1; nanoseconds = p.0.0.0.1; within_second = p.0.0.1; requesting = p.0.1; suffix = p.1 }
+packet_told m b p = record {
+  octets = p.0.0.0.0.0.0.0.0.0.0.0.0.0.0.0.0.0.0;
+  least = p.0.0.0.0.0.0.0.0.0.0.0.0.0.0.0.0.1;
+  header = record { major_sdo_and_type = p.0.0.0.0.0.0.0.0.0.0.0.0.0.0.0.1; minor_version_and_version = p.0.0.0.0.0.0.0.0.0.0.0.0.0.0.1; message_length = p.0.0.0.0.0.0.0.0.0.0.0.0.0.0.0.0.0.1; domain = p.0.0.0.0.0.0.0.0.0.0.0.0.0.1; minor_sdo = p.0.0.0.0.0.0.0.0.0.0.0.0.1; flags = p.0.0.0.0.0.0.0.0.0.0.0.1; correction = p.0.0.0.0.0.0.0.0.0.0.1; specific = p.0.0.0.0.0.0.0.0.0.1; source = p.0.0.0.0.0.0.0.0.1; sequence = p.0.0.0.0.0.0.0.1; control = p.0.0.0.0.0.0.1; log = p.0.0.0.0.0.1 };
+  timestamp = record { seconds = p.0.0.0.0.1; nanoseconds = p.0.0.0.1; within_second = p.0.0.1 };
+  requesting = p.0.1;
+  suffix = p.1;
+}
 
 parts_of : (m : Contents) (b : List ℕ) → Packet m b → Parts18 m b
-parts_of m b packet = ((((((((((((((((((packet.octets, packet.message_length), packet.least), packet.major_sdo_and_type), packet.minor_version_and_version), packet.domain), packet.minor_sdo), packet.flags), packet.correction), packet.specific), packet.source), packet.sequence), packet.control), packet.log), packet.seconds), packet.nanoseconds), packet.within_second), packet.requesting), packet.suffix)
+parts_of m b packet = ((((((((((((((((((packet.octets, packet.header.message_length), packet.least), packet.header.major_sdo_and_type), packet.header.minor_version_and_version), packet.header.domain), packet.header.minor_sdo), packet.header.flags), packet.header.correction), packet.header.specific), packet.header.source), packet.header.sequence), packet.header.control), packet.header.log), packet.timestamp.seconds), packet.timestamp.nanoseconds), packet.timestamp.within_second), packet.requesting), packet.suffix)
 
 -- the test is true exactly where the octets are the message
 pub is_packet-Decides : (m : Contents) (b : List ℕ) → Decides (is_packet m b) (Packet m b)
@@ -235,7 +243,7 @@ is_packet-written m b room same written again tested =
     ) in same_from_decides same (is_packet m b) decided (is_packet-Decides m b)
 
 length-message : (m : Contents) (b : List ℕ) → Packet m b → message_length m ≡ length b
-length-message m b packet = omega (arith, packet.least, ap length packet.suffix, length-drop (fields_length m.body) b)
+length-message m b packet = omega (arith, packet.least, ap length packet.suffix, length-drop (fields_length (type_of m.body)) b)
 
 not_refused : (m : Contents) (refusal : EncodeRefusal) (n : ℕ) → n ≡ message_length m → n ≤ 54 → encode_refusal m 54 ≡ Some refusal → ⊥
 not_refused m refusal n same within refused = grind (arith, nat_tests)

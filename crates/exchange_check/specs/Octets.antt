@@ -10,7 +10,7 @@ use Rattle.event_codec.specs.declared.message.Body.TheVariants as bodies
 use Rattle.event_codec.specs.declared.port.PortConfig.{PortConfig}
 use Rattle.event_codec.specs.declared.port.PortIdentity.{PortIdentity}
 use Rattle.event_codec.specs.Correction.{with_correction}
-use Rattle.event_codec.specs.Layout.{number, type_of, fields_length, stamp_in}
+use Rattle.event_codec.specs.Layout.{number, number_of, type_of, fields_length, stamp_in}
 use Rattle.event_codec.specs.Packet.{Contents}
 use Rattle.master_port.specs.Written.{sync, one_step_sync, follow_up, delay_resp}
 use Rattle.slave_port.specs.Written.{delay_req}
@@ -40,8 +40,8 @@ abbrev pub is_packet : Contents → List ℕ → Bool
 is_packet m b =
     list_all (λ octet. nat_lt octet 256) b
     && number b 2 2 == length b
-    && not (nat_lt (length b) (fields_length m.body))
-    && slice_index b 0 == 16 * m.header.major_sdo + type_of m.body
+    && not (nat_lt (length b) (fields_length (type_of m.body)))
+    && slice_index b 0 == 16 * m.header.major_sdo + number_of (type_of m.body)
     && slice_index b 1 == 16 * m.header.minor_version + 2
     && m.header.domain == slice_index b 4
     && m.header.minor_sdo == slice_index b 5
@@ -56,7 +56,7 @@ is_packet m b =
     && (stamp_in m.body).nanos == number b 40 4
     && nat_lt (number b 40 4) (10 ^ 9)
     && is_requesting m.body b
-    && bytes_eq m.suffix (drop (fields_length m.body) b)
+    && bytes_eq m.suffix (drop (fields_length (type_of m.body)) b)
 
 -- the port that draws a number at an event
 abbrev pub drawing_port : Network → Event → Option PortSetup
