@@ -11,6 +11,7 @@ use world_model::{Event, Outcome, World};
 const EVENTS: u64 = 16;
 
 /// A master, a clock near it, one near the slave, and the slave.
+#[derive(Clone, Copy)]
 struct Names {
     master: Name,
     near: Name,

@@ -355,8 +355,8 @@ const NO_READING: &str = "
 - request S [0,0,0] -> 607
 ";
 
-/// A run whose third event is refused.
-pub(crate) const STOPPED: &str = "
+/// Two Syncs, and between them an event that is refused.
+const STOPPED: &str = "
 0 setmaster S M -> done
 1 sync M [1,0,0] -> made
 - stamped S -> 608

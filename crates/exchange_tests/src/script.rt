@@ -68,17 +68,6 @@ fn config(words: &mut Words<'_>) -> Result<PortConfig, Fail> {
     })
 }
 
-/// The events of a script.
-pub(crate) fn events_of(alloc: Global, script: &str) -> Result<Vec<Event>, Fail> {
-    let mut events = Vec::new(alloc);
-    for line in script.lines() {
-        if let Some((happens, _)) = line.split_once(" -> ") {
-            events.push(read_row(happens)?.event)?;
-        }
-    }
-    Ok(events)
-}
-
 /// What a line says before the arrow.
 pub(crate) fn read_row(happens: &str) -> Result<Row, Fail> {
     let mut words = happens.split_whitespace();

@@ -1,14 +1,15 @@
 //! Worked exchanges in a world, and runs that are too long for a script.
 
 use crate::exchanges::{
-    EXCHANGES, Exchange, LINE, PAIR, QUARTERS, REFUSED, SLAVES_AGREE, STOPPED, TICKED_IN_TIME,
+    EXCHANGES, Exchange, LINE, PAIR, QUARTERS, REFUSED, SLAVES_AGREE, TICKED_IN_TIME,
     TICKED_TOO_SELDOM, TURN_BEGINS, TURN_ENDS, TURN_ENDS_AFTER_TICKS, TWO_SLAVES, TWO_TICKS,
 };
-use crate::script::{events_of, nodes_of, read_row};
+use crate::script::{nodes_of, read_row};
 use network_model::{Name, Nodes};
 use ptp_units::{ScaledTime, Timestamp};
 use std::alloc::{AllocError, Global};
 use std::process::Abort;
+use std::slice;
 use std::test::Fail;
 use world_model::{Event, Heard, Outcome, Report, RunStop, Stepped, World, WorldRefusal, run};
 
@@ -108,8 +109,9 @@ fn assert_refused(
 
 /// The event of a line comes out, in a run of its own, as the line says.
 fn assert_line(rt: &(impl Abort + AllocGlobal), world: &mut World, line: &str) -> Result<(), Fail> {
-    let events = events_of(rt.alloc(), line)?;
-    match run(rt.alloc(), world, events.as_slice()) {
+    let (happens, _) = line.split_once(" -> ").ok_or("no arrow")?;
+    let row = read_row(happens)?;
+    match run(rt.alloc(), world, slice::from_ref(&row.event)) {
         Ok(answers) => {
             let stepped = answers.first().ok_or("no answer")?;
             assert_stepped(rt, world, line, stepped)
@@ -151,28 +153,33 @@ fn exchanges_come_out_as_worked(rt: HostRuntime) -> Result<(), Fail> {
 #[test]
 fn refused_events_take_no_tag(rt: HostRuntime) -> Result<(), Fail> {
     let mut world = world_of(rt.alloc(), LINE)?;
-    for event in events_of(rt.alloc(), REFUSED)?.iter() {
-        assert!(rt; world.step(event).is_err(), "{event:?}");
-        assert_eq!(rt; world.len(), 0, "{event:?}");
+    for line in REFUSED.lines() {
+        if let Some((happens, _)) = line.split_once(" -> ") {
+            let row = read_row(happens)?;
+            assert!(rt; world.step(&row.event).is_err(), "{line}");
+            assert_eq!(rt; world.len(), 0, "{line}");
+        }
     }
     assert_script(&rt, &mut world, REFUSED)
 }
 
-/// The third of four events is refused: the two before it happened.
+/// Of three Follow_Ups there is a Sync for the first alone.
 #[test]
 fn a_run_stops_at_a_refused_event(rt: HostRuntime) -> Result<(), Fail> {
     let mut world = world_of(rt.alloc(), PAIR)?;
-    let answers = run(rt.alloc(), &mut world, &[])?;
-    assert_eq!(rt; answers.len(), 0);
-    let events = events_of(rt.alloc(), STOPPED)?;
+    assert_eq!(rt; run(rt.alloc(), &mut world, &[])?.len(), 0);
+    assert_script(&rt, &mut world, "0 sync M [1,0,0] -> made")?;
+    let node = Name::new("M").ok_or("no name")?;
+    let mut events = Vec::new(rt.alloc());
+    for _ in 0..3 {
+        events.push(Event::Follow { node })?;
+    }
     let expected = RunStop {
-        done: 2,
+        done: 1,
         why: WorldRefusal::NothingWaiting,
     };
-    assert_eq!(rt;
-        run(rt.alloc(), &mut world, events.as_slice()).err(),
-        Some(expected)
-    );
+    let answer = run(rt.alloc(), &mut world, events.as_slice());
+    assert_eq!(rt; answer.err(), Some(expected));
     assert_eq!(rt; world.len(), 2);
     Ok(())
 }
