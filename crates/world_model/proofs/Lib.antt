@@ -11,3 +11,4 @@ mod Ended
 mod Leaves
 mod Happening
 mod InTurn
+mod Laws

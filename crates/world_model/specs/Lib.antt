@@ -3,3 +3,4 @@ pub mod Turns
 pub mod Stands
 pub mod Acts
 pub mod Steps
+pub mod Exact

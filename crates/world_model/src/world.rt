@@ -2,7 +2,9 @@ ghost use Rattle.std.specs.Prelude.{◌≡◌, length, option_map, IfOk, IfErr, 
 ghost use Rattle.network_model.specs.declared.refusal.WorldRefusal.TheVariants.{Memory};
 ghost use Rattle.network_model.specs.Truth.{TellsTruth, copy_of};
 ghost use Rattle.network_model.specs.Outcome.{IsRun, IsStepped};
+ghost use Rattle.network_model.specs.Premises.{IsFreshAndTicked, IsWithinTurn, exact_limits};
 ghost use Rattle.world_model.specs.State.{new_state, after, IsRefused};
+ghost use Rattle.world_model.specs.Exact.{IsExactAnswer, RunsKeepLaws};
 
 use crate::entry::{Entry, octets_of};
 use crate::happen::step;
@@ -57,6 +59,10 @@ impl World {
         ensures unchanged { OnErr result (self.new ≡ self.old) }
         // Every event of the run was accepted.
         ensures run { IsRun self.new.network self.new.run }
+        // A report is exact where no message that is used is too old and slaves tick often enough, or where no number came round.
+        ensures exact { IfOk result (IsExactAnswer (IsFreshAndTicked exact_limits) self.old event.now) }
+        ensures exact_within_one_turn { IfOk result (IsExactAnswer IsWithinTurn self.old event.now) }
+        ensures laws { RunsKeepLaws }
     {
         step(&self.nodes, &mut self.stations, &mut self.entries, event)
     }

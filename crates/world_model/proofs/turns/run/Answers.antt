@@ -1,10 +1,13 @@
-use Rattle.std.proofs.Common.{◌≡◌, ◌∙◌, ◌+◌, List, [], ◌∷◌, ◌++◌, take, get_or, sym, ap, subst, inl, arith}
-use Rattle.std.proofs.lemmas.List.{take_more}
+use Rattle.std.proofs.Common.{◌≡◌, ◌∙◌, ℕ, ◌+◌, ◌≤◌, List, [], ◌∷◌, ◌++◌, length, take, get_or, sym, ap, subst, inl, arith}
+use Rattle.std.proofs.lemmas.List.{take_more, take_all}
 use Rattle.network_model.specs.declared.event.Event.{Event}
+use Rattle.network_model.specs.declared.stepped.Stepped.{Stepped}
 use Rattle.network_model.specs.Outcome.{IsStepped}
 use Rattle.world_model.specs.State.{State, after, after_all, IsRefused}
+use Rattle.world_model.specs.Turns.{AnswersInTurn}
 use Rattle.world_model.proofs.Happening.{reads_at}
 use Rattle.world_model.proofs.InTurn.{after_all-more, AnswersInTurn-more}
+use Rattle.world_model.proofs.Laws.{answers_exact, answers_exact-one_turn, runs_keep_laws}
 use Rattle.world_model.proofs.turns.run.Goals as goal
 
 pub loop-done-preserved : goal.loop-done-preserved
@@ -33,3 +36,22 @@ returns-in-Err-clause-stopped c = record {
     refused = subst (λ (w : State). IsRefused w c.index-events-done.result c.in-Err.why) (sym c.in-Err.ensures.unchanged) c.in-Err.ensures.refused;
   });
 }
+
+-- the loop ended, so all events have their answers
+answered_all : (events : List Event) (done : ℕ) (answers : List Stepped) (world : State) → length events ≤ done
+    → AnswersInTurn world (take done events) answers → AnswersInTurn world events answers
+answered_all events done answers world ended answered = subst (λ (es : List Event). AnswersInTurn world es answers) (take_all done events ended) answered
+
+pub returns-clause-exact : goal.returns-clause-exact
+returns-clause-exact c = answers_exact c.args.world.now c.args.events.now c.loop-done.answers.items
+    (answered_all c.args.events.now c.loop-done.done c.loop-done.answers.items c.args.world.now (omega (arith, c.loop-done-test.false)) c.loop-done.invariant.answered)
+
+pub returns-clause-exact_within_one_turn : goal.returns-clause-exact_within_one_turn
+returns-clause-exact_within_one_turn c = answers_exact-one_turn c.args.world.now c.args.events.now c.loop-done.answers.items
+    (answered_all c.args.events.now c.loop-done.done c.loop-done.answers.items c.args.world.now (omega (arith, c.loop-done-test.false)) c.loop-done.invariant.answered)
+
+pub returns-clause-laws : goal.returns-clause-laws
+returns-clause-laws c = runs_keep_laws
+
+pub returns-in_default-clause-laws : goal.returns-in_default-clause-laws
+returns-in_default-clause-laws c = runs_keep_laws

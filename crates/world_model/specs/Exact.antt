@@ -1,0 +1,38 @@
+-- What the laws over runs say of the answers of a world.
+use Rattle.std.specs.Prelude.{◌≡◌, List, [], ◌∷◌}
+use Rattle.slave_port.specs.declared.heard.Heard.TheVariants as answers
+use Rattle.slave_port.specs.declared.heard.Report.{Report}
+use Rattle.network_model.specs.declared.event.Event.{Event}
+use Rattle.network_model.specs.declared.stepped.Outcome.TheVariants as outcomes
+use Rattle.network_model.specs.declared.stepped.Stepped.{Stepped}
+use Rattle.network_model.specs.Run.{site_of}
+use Rattle.network_model.specs.Premises.{Premise}
+use Rattle.network_model.specs.Exact.{IsMeasurement}
+use Rattle.network_model.specs.Pairs.{NoPairIsMissed}
+use Rattle.network_model.specs.TrueTime.{TellsTrueTime}
+use Rattle.network_model.specs.Order.{ReportsDontGoBack}
+use Rattle.network_model.specs.Evidence.{ShowsEvidence}
+use Rattle.world_model.specs.State.{State, after}
+
+-- A report that this event answers is exact: of one Sync and one Delay_Req, and twice the standard's two results over them
+-- (IEEE 1588-2019, 11.2, 11.3). That is so where the run with the event meets the premise.
+abbrev pub IsExactAnswer : Premise → State → Event → Stepped → Type 0
+IsExactAnswer premise world event stepped =
+    (report : Report) → stepped.outcome ≡ outcomes.Heard (answers.Report report)
+    → premise world.network (event ∷ world.run)
+    → IsMeasurement (event ∷ world.run) (site_of event) report
+
+-- the same of the answers to several events, in turn
+abbrev pub AreExactAnswers : Premise → State → List Event → List Stepped → Type 0
+AreExactAnswers premise world [] [] = Unit {0}
+AreExactAnswers premise world (event ∷ later) (stepped ∷ others) =
+    IsExactAnswer premise world event stepped × AreExactAnswers premise (after event world) later others
+AreExactAnswers premise world [] (stepped ∷ others) = ⊥
+AreExactAnswers premise world (event ∷ later) [] = ⊥
+
+-- the other laws over the runs that a world accepts
+pub record RunsKeepLaws : Type 0 where
+  pub pairs : NoPairIsMissed
+  pub true_time : TellsTrueTime
+  pub order : ReportsDontGoBack
+  pub evidence : ShowsEvidence
