@@ -30,6 +30,14 @@ impl Names {
     }
 }
 
+/// The slave is told its master.
+fn set_master(names: &Names) -> Event {
+    Event::SetMaster {
+        node: names.slave,
+        master: names.master,
+    }
+}
+
 /// A world of these nodes, in which the slave follows the master.
 fn world_of(alloc: Global, names: &Names) -> Option<World> {
     let first = Seq(0);
@@ -54,12 +62,10 @@ fn world_of(alloc: Global, names: &Names) -> Option<World> {
     .map(|(name, kind)| NodeSpec { name, kind });
     let nodes = Nodes::new(alloc, &specs).ok()?;
     let mut world = World::new(alloc, nodes).ok()?;
-    let set_master = Event::SetMaster {
-        node: names.slave,
-        master: names.master,
-    };
-    world.step(&set_master).ok()?;
-    Some(world)
+    match world.step(&set_master(names)) {
+        Ok(_) => Some(world),
+        Err(_) => None,
+    }
 }
 
 /// One exchange, whose first event has this tag.
