@@ -4,8 +4,8 @@ use ptp_units::ScaledTime;
 /// What happens at a node. A moment is in units of 2^-16 ns and is the true one, from which the
 /// node's own reading differs by what its last [`Event::StepClock`] set.
 ///
-/// An event's tag is its place among the events that happened, from 0. A message that an event
-/// made is called by that event's tag: its copies may go into any number of later events.
+/// Events are counted from 0 as they are accepted, and an event's count is its tag. What an event
+/// sends goes by that tag too: any number of later events may take it in or hear it.
 #[derive(Clone, Copy, Debug, PartialEq, Eq)]
 pub enum Event {
     /// A master sends a two-step Sync, which then waits for its Follow_Up.

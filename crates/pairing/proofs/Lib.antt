@@ -1,6 +1,6 @@
 mod Found
 mod Links
-mod Lists
+pub mod Lists
 mod Pairs
 mod Rings
 mod Walks

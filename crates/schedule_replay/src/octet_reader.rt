@@ -1,4 +1,4 @@
-ghost use Rattle.std.specs.Prelude.{◌≡◌, ◌≢◌, ◌<◌, ◌≤◌, [], ◌∷◌, OnOk};
+ghost use Rattle.std.specs.Prelude.{◌≡◌, ◌≢◌, ◌<◌, ◌≤◌, [], ◌∷◌, OnOk, IsOk};
 ghost use Rattle.std.specs.Io.{ReadsAtMost};
 ghost use Rattle.std.specs.Io.KnownBytes.{Consumes, IsAtEnd, Keeps, ReadConsumes};
 
@@ -69,11 +69,12 @@ impl<R: Read> Read for OctetReader<R> {
 
     ghost remaining = { remaining_of R.remaining };
 
-    /// Gives the next octet. The source is asked only where none is left.
+    /// Gives the next octet. The source is asked only where none is left, and so an error comes only then.
     fn read(&mut self, buf: &mut [u8]) -> io::Result<usize>
         ensures bound { ReadsAtMost result buf.new }
         ensures bytes { ReadConsumes (remaining_of R.remaining self.old) (remaining_of R.remaining self.new) result buf.new }
         ensures ahead { ahead_of self.old ≢ [] → source_of self.new ≡ source_of self.old }
+        ensures given { ahead_of self.old ≢ [] → IsOk result }
     {
         let Some(room) = buf.first_mut() else {
             return Ok(0);

@@ -1,8 +1,8 @@
 -- A port that stands for a history stands for the longer one after each call that hears no message.
-use Rattle.std.proofs.Common.{◌≡◌, ◌∙◌, ℕ, zero, suc, ◌+◌, ◌%◌, refl, sym, ap, arith, List, ◌∷◌, take, option_and_then, Some, None}
-use Rattle.std.proofs.lemmas.List.{take-take}
+use Rattle.std.proofs.Common.{◌≡◌, ◌∙◌, ℕ, ◌+◌, ◌%◌, refl, sym, ap, arith, List, ◌∷◌, take, option_and_then, Some, None}
 use Rattle.ptp_units.specs.Sequence.{next}
 use Rattle.pairing.specs.Marked.{Entry, entry, first_value, replace_first, find}
+use Rattle.pairing.proofs.Lists.{take-more}
 use Rattle.pairing.proofs.Laws.{newest_first-push, newest_first-set, HoldsLatest-tick}
 use Rattle.slave_port.specs.History.{Setup, Call, Tick, NextRequest, RequestLeft, requests_drawn, next_number}
 use Rattle.slave_port.specs.Values.{RequestValue}
@@ -12,10 +12,6 @@ use Rattle.slave_port.specs.StandsFor.{Port, StandsFor}
 use Rattle.slave_port.specs.Changes.{aged, ticked, with_request, left, with_departure}
 use Rattle.slave_port.proofs.Completions.{last_of-tick}
 use Rattle.slave_port.proofs.Requests.{take-stamped, stamped-none, stamped-some}
-
-take-more : {X : Type 0} (n : ℕ) (x : X) (xs : List X) → take n (x ∷ take n xs) ≡ take n (x ∷ xs)
-take-more zero x xs = refl
-take-more (suc n) x xs = ap (λ rest. x ∷ rest) (take-take n (suc n) xs (omega arith))
 
 next-mod : (next_number first drawn : ℕ) → next_number ≡ (first + drawn) % 65536 → next next_number ≡ (first + (drawn + 1)) % 65536
 next-mod next_number first drawn same = omega (arith, same)
