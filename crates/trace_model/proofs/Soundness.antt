@@ -11,7 +11,7 @@ use Rattle.trace_model.specs.declared.verdict.Verdict.TheVariants.{Accepted, Ref
 use Rattle.trace_model.specs.declared.verdict.Why.{Why}
 use Rattle.trace_model.specs.declared.verdict.Why.TheVariants.{OtherNumber, OtherMaster, WrongReading, WrongValue, TooBig, Bytes}
 use Rattle.trace_model.specs.Line.{Lines}
-use Rattle.trace_model.specs.Record.{Entry, entry, line_number, site}
+use Rattle.trace_model.specs.Record.{LinePlace, line_place, line_number, site}
 use Rattle.trace_model.specs.Journey.{Journey}
 use Rattle.trace_model.specs.Sound.{Exchange, Sound, exchange_of, unbroken, are_paired, is_of_master, are_readings, fits, are_results, are_octets, journeys_reason, exchange_reason, reason}
 use Rattle.trace_model.specs.Verdict.{report_in, one_more, with_line, verdict}
@@ -32,7 +32,7 @@ none_fails true true false d f g h = cc
 none_fails true false c d f g h = cc
 none_fails false b c d f g h = cc
 
-module _ (network : Network) (e : Entry) (report : Report) where
+module _ (network : Network) (e : LinePlace) (report : Report) where
   sound_reason : Sound network e report → reason network e report ≡ None
   sound_reason s =
       ap (exchange_reason network e report) s.lines
@@ -76,7 +76,7 @@ reasons_miss_nothing network e report = (reason_sound network e report, sound_re
 
 module _ (network : Network) where
   -- the reason at a line that has a report
-  abbrev reasons : Entry → Option (Option Why)
+  abbrev reasons : LinePlace → Option (Option Why)
   reasons e = option_map (reason network e) (report_in e.line.out)
 
   counted : (line : TraceLine) (earlier : Lines) (o : Option Report) → report_in line.out ≡ o → report_count (line ∷ earlier) ≡ cond (is_some o) 1 0 + report_count earlier
@@ -91,23 +91,23 @@ module _ (network : Network) where
       at [] h = cc
       at (line ∷ later) h = cc
 
-  earlier_line : (line : TraceLine) (earlier : Lines) (e : Entry) (report : Report) → ReportLine earlier e report → ReportLine (line ∷ earlier) e report
+  earlier_line : (line : TraceLine) (earlier : Lines) (e : LinePlace) (report : Report) → ReportLine earlier e report → ReportLine (line ∷ earlier) e report
   earlier_line line earlier e report there = record { later = line ∷ there.later; there = ap (λ (xs : Lines). line ∷ xs) there.there; reports = there.reports }
 
-  this_line : (line : TraceLine) (earlier : Lines) (report : Report) → report_in line.out ≡ Some report → ReportLine (line ∷ earlier) (entry line earlier) report
+  this_line : (line : TraceLine) (earlier : Lines) (report : Report) → report_in line.out ≡ Some report → ReportLine (line ∷ earlier) (line_place line earlier) report
   this_line line earlier report h = record { later = []; there = refl; reports = h }
 
   -- with one more line that has no report, or a sound one
   one_more_sound : (line : TraceLine) (earlier : Lines) → AllSound network earlier
-      → ((report : Report) → report_in line.out ≡ Some report → Sound network (entry line earlier) report) → AllSound network (line ∷ earlier)
+      → ((report : Report) → report_in line.out ≡ Some report → Sound network (line_place line earlier) report) → AllSound network (line ∷ earlier)
   one_more_sound line earlier before here e report there = at there.later there.there
     where
       at : (later : Lines) → line ∷ earlier ≡ later ++ e.line ∷ e.earlier → Sound network e report
       at [] h =
           let first : line ≡ e.line = cc in
           let rest : earlier ≡ e.earlier = cc in
-          let one : entry line earlier ≡ e = λ i. entry (first i) (rest i) in
-          subst (λ (x : Entry). Sound network x report) one (here report (ap (λ (x : TraceLine). report_in x.out) first ∙ there.reports))
+          let one : line_place line earlier ≡ e = λ i. line_place (first i) (rest i) in
+          subst (λ (x : LinePlace). Sound network x report) one (here report (ap (λ (x : TraceLine). report_in x.out) first ∙ there.reports))
       at (x ∷ later) h =
           let rest : earlier ≡ later ++ e.line ∷ e.earlier = cc in
           before e report (record { later = later; there = rest; reports = there.reports })
@@ -115,19 +115,19 @@ module _ (network : Network) where
   sound_counted : (lines : Lines) → AllSound network lines → verdict network lines ≡ Accepted (report_count lines)
   sound_counted [] all = refl
   sound_counted (line ∷ earlier) all =
-      ap (with_line network (entry line earlier)) (sound_counted earlier (λ e report there. all e report (earlier_line line earlier e report there)))
+      ap (with_line network (line_place line earlier)) (sound_counted earlier (λ e report there. all e report (earlier_line line earlier e report there)))
       ∙ at (report_in line.out) refl
     where
-      at : (o : Option Report) → report_in line.out ≡ o → with_line network (entry line earlier) (Accepted (report_count earlier)) ≡ Accepted (report_count (line ∷ earlier))
+      at : (o : Option Report) → report_in line.out ≡ o → with_line network (line_place line earlier) (Accepted (report_count earlier)) ≡ Accepted (report_count (line ∷ earlier))
       at None h =
-          ap (λ (o : Option Report). one_more (report_count earlier) (length earlier) (option_map (reason network (entry line earlier)) o)) h
+          ap (λ (o : Option Report). one_more (report_count earlier) (length earlier) (option_map (reason network (line_place line earlier)) o)) h
           ∙ ap Accepted (sym (counted line earlier None h ∙ omega arith))
       at (Some report) h =
-          ap (λ (o : Option Report). one_more (report_count earlier) (length earlier) (option_map (reason network (entry line earlier)) o)) h
-          ∙ ap (λ (o : Option Why). one_more (report_count earlier) (length earlier) (Some o)) (sound_reason network (entry line earlier) report (all (entry line earlier) report (this_line line earlier report h)))
+          ap (λ (o : Option Report). one_more (report_count earlier) (length earlier) (option_map (reason network (line_place line earlier)) o)) h
+          ∙ ap (λ (o : Option Why). one_more (report_count earlier) (length earlier) (Some o)) (sound_reason network (line_place line earlier) report (all (line_place line earlier) report (this_line line earlier report h)))
           ∙ ap Accepted (sym (counted line earlier (Some report) h ∙ omega arith))
 
-  unsound_line : (number count : ℕ) (why : Why) (e : Entry) (report : Report) → report_in e.line.out ≡ Some report → reason network e report ≡ Some why
+  unsound_line : (number count : ℕ) (why : Why) (e : LinePlace) (report : Report) → report_in e.line.out ≡ Some report → reason network e report ≡ Some why
       → with_line network e (Accepted count) ≡ Refused (line_number e) why
   unsound_line number count why e report h fails =
       ap (λ (o : Option Report). one_more count (line_number e) (option_map (reason network e) o)) h
@@ -141,7 +141,7 @@ module _ (network : Network) where
       at [] =
           ap (with_line network first.e) (sound_counted first.e.earlier first.before)
           ∙ unsound_line number (report_count first.e.earlier) why first.e first.report first.there.reports first.fails
-      at (line ∷ later) = ap (with_line network (entry line (later ++ first.e.line ∷ first.e.earlier))) (at later)
+      at (line ∷ later) = ap (with_line network (line_place line (later ++ first.e.line ∷ first.e.earlier))) (at later)
 
   -- what a verdict says of lines, each way
   abbrev Says : Lines → Verdict → Type 0
@@ -149,26 +149,26 @@ module _ (network : Network) where
   Says lines (Refused number why) = FirstUnsound network lines number why
 
   said_here : (line : TraceLine) (earlier : Lines) (count : ℕ) (o : Option Report) → report_in line.out ≡ o → AllSound network earlier
-      → Says (line ∷ earlier) (one_more count (length earlier) (option_map (reason network (entry line earlier)) o))
+      → Says (line ∷ earlier) (one_more count (length earlier) (option_map (reason network (line_place line earlier)) o))
   said_here line earlier count None h before = one_more_sound line earlier before (λ report some. let no : None ≡ Some report = sym h ∙ some in cc)
-  said_here line earlier count (Some report) h before = at (reason network (entry line earlier) report) refl
+  said_here line earlier count (Some report) h before = at (reason network (line_place line earlier) report) refl
     where
-      at : (o : Option Why) → reason network (entry line earlier) report ≡ o → Says (line ∷ earlier) (one_more count (length earlier) (Some o))
+      at : (o : Option Why) → reason network (line_place line earlier) report ≡ o → Says (line ∷ earlier) (one_more count (length earlier) (Some o))
       at None fails = one_more_sound line earlier before
           (λ other some. let both : Some report ≡ Some other = sym h ∙ some in
           let one : report ≡ other = cc in
-          subst (λ (r : Report). Sound network (entry line earlier) r) one (reason_sound network (entry line earlier) report fails))
+          subst (λ (r : Report). Sound network (line_place line earlier) r) one (reason_sound network (line_place line earlier) report fails))
       at (Some why) fails = record {
-        e = entry line earlier;
+        e = line_place line earlier;
         report = report;
         there = this_line line earlier report h;
         number_is = refl;
         before = before;
         fails = fails;
-        unsound = λ sound. let no : Some why ≡ None = sym fails ∙ sound_reason network (entry line earlier) report sound in cc;
+        unsound = λ sound. let no : Some why ≡ None = sym fails ∙ sound_reason network (line_place line earlier) report sound in cc;
       }
 
-  said_more : (line : TraceLine) (earlier : Lines) (v : Verdict) → Says earlier v → Says (line ∷ earlier) (with_line network (entry line earlier) v)
+  said_more : (line : TraceLine) (earlier : Lines) (v : Verdict) → Says earlier v → Says (line ∷ earlier) (with_line network (line_place line earlier) v)
   said_more line earlier (Accepted count) before = said_here line earlier count (report_in line.out) refl before
   said_more line earlier (Refused number why) first = record {
     e = first.e;

@@ -6,24 +6,24 @@ use Rattle.trace_model.specs.declared.verdict.Verdict.{Verdict}
 use Rattle.trace_model.specs.declared.verdict.Verdict.TheVariants.{Accepted, Refused}
 use Rattle.trace_model.specs.declared.verdict.Why.{Why}
 use Rattle.trace_model.specs.Line.{Lines}
-use Rattle.trace_model.specs.Record.{Entry, line_number}
+use Rattle.trace_model.specs.Record.{LinePlace, line_number}
 use Rattle.trace_model.specs.Sound.{Sound, reason}
 use Rattle.trace_model.specs.Verdict.{report_in, verdict}
 
 -- there is no reason exactly where all eight conditions hold
 abbrev pub ReasonsMissNothing : Type 0
 ReasonsMissNothing =
-    (network : Network) (e : Entry) (report : Report) → reason network e report ≡ None ↔ Sound network e report
+    (network : Network) (e : LinePlace) (report : Report) → reason network e report ≡ None ↔ Sound network e report
 
 -- a line among these lines has this report; it need not be good
-pub record ReportLine (lines : Lines) (e : Entry) (report : Report) : Type 0 where
+pub record ReportLine (lines : Lines) (e : LinePlace) (report : Report) : Type 0 where
   pub later : Lines
   pub there : lines ≡ later ++ e.line ∷ e.earlier
   pub reports : report_in e.line.out ≡ Some report
 
 -- each report line is sound
 abbrev pub AllSound : Network → Lines → Type 0
-AllSound network lines = (e : Entry) (report : Report) → ReportLine lines e report → Sound network e report
+AllSound network lines = (e : LinePlace) (report : Report) → ReportLine lines e report → Sound network e report
 
 -- how many report lines there are
 abbrev pub report_count : Lines → ℕ
@@ -31,7 +31,7 @@ report_count lines = count_by (λ line. is_some (report_in line.out)) lines
 
 -- the line of this number is the first report line that isn't sound, and this is the first condition that it fails
 pub record FirstUnsound (network : Network) (lines : Lines) (number : ℕ) (why : Why) : Type 0 where
-  pub e : Entry
+  pub e : LinePlace
   pub report : Report
   pub there : ReportLine lines e report
   pub number_is : line_number e ≡ number
