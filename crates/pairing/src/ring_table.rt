@@ -110,7 +110,7 @@ impl<V: Copy + Default, const N: usize> RingTable<V, N> {
         }
     }
 
-    /// How many places a slot stands behind the oldest.
+    /// How many places after the oldest a slot comes.
     fn place_of(&self, slot: usize) -> usize
         requires { slot < N }
         ensures { result ≡ place_of N self.now.oldest slot }
@@ -156,7 +156,7 @@ impl<V: Copy + Default, const N: usize> RingTable<V, N> {
         None
     }
 
-    /// Puts a value behind the newest.
+    /// Puts a value after the newest.
     fn add(&mut self, number: Seq, value: V)
         requires { self.old.count < N }
         ensures members { members self.new.oldest self.new.count self.new.slots.items
