@@ -1,8 +1,8 @@
 //! Exchanges through a master, one clock and a slave, or the same messages merely decoded and
-//! encoded, as often as the arguments say: `exchange 1000000`, or `codec 1000000` over the octets of a
-//! Sync, a Follow_Up, a Delay_Req and a Delay_Resp on standard input; or numbers put in a table and
-//! sought there, `list16`, `ring16`, `list256` or `ring256`; or exchanges through two clocks, of so
-//! many events, in a `world`, which then tells its memory, or by calls of the `ports`.
+//! encoded, as often as the arguments say: `exchange 1000000`, or `codec 1000000` over the octets
+//! of a Sync, a Follow_Up, a Delay_Req and a Delay_Resp on standard input; or numbers put in a table
+//! and sought there, `list16`, `ring16`, `list256` or `ring256`; or exchanges through two clocks, of
+//! so many events, in a `world`, which then tells its memory, or by calls of the `ports`.
 #![tactic(auto)]
 
 mod networks;

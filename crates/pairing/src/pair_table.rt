@@ -38,8 +38,8 @@ pub trait PairTable<V: Copy + Default> {
         ensures held { result ≡ is_some (find number.0 (marked self.old)) }
         ensures replaced { marked self.new ≡ set number.0 value (marked self.old) };
 
-    /// Drops the marked values, and marks all that are left. So a value goes at the second tick
-    /// after it came.
+    /// Drops the marked values, and marks all that are left. So a value outlives one tick, and
+    /// goes at the next.
     fn tick(&mut self)
         ensures { marked self.new ≡ tick (marked self.old) };
 

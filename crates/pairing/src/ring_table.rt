@@ -5,9 +5,9 @@ use crate::pair_table::PairTable;
 use arrayvec::ArrayVec;
 use ptp_units::Seq;
 
-/// A table that keeps its values in a ring of `N` slots, oldest first. A number falls into the
-/// bucket of its remainder modulo `N`: `find` and `set` walk the values of one bucket, from the
-/// newest back. `push`, `tick` and `clear` take the same time, however large the table is.
+/// A table that keeps its values in a ring of `N` slots. Numbers with one remainder modulo `N` share
+/// a bucket, and `find` and `set` walk the values of one bucket, from the newest back. `push`, `tick`
+/// and `clear` take the same time, however large the table is.
 ///
 /// A link to a slot counts only while it leads to an older value of the same bucket. So a value
 /// that is dropped leaves its bucket with no link changed.
