@@ -30,7 +30,7 @@ abbrev pub is_same_way : (from to other_from other_to : Place) → Bool
 is_same_way from to other_from other_to =
     is_named (site_of from.event) (site_of other_from.event) && is_named (site_of to.event) (site_of other_to.event)
 
--- two crossings go over one cable, which is an unordered pair of nodes
+-- two crossings go over one cable: between the same two nodes, either way
 abbrev pub is_same_cable : Crossing → Crossing → Bool
 is_same_cable c d = is_same_way c.from c.to d.from d.to || is_same_way c.from c.to d.to d.from
 
