@@ -1,4 +1,4 @@
-ghost use Rattle.std.specs.Prelude.{◌≡◌, length, option_map, IfOk, IfErr, OnOk, OnErr, IsTrue, ◌↔◌, []};
+ghost use Rattle.std.specs.Prelude.{◌≡◌, ◌≤◌, length, option_map, IfSome, IfOk, IfErr, OnOk, OnErr, IsTrue, ◌↔◌, []};
 ghost use Rattle.network_model.specs.declared.refusal.WorldRefusal.TheVariants.{Memory};
 ghost use Rattle.network_model.specs.Network.{IsNetwork};
 ghost use Rattle.network_model.specs.Truth.{TellsTruth, copy_of};
@@ -73,6 +73,8 @@ impl World {
     /// The octets of the copy that the event of this tag made, or None where it made none.
     pub fn octets(&self, copy: u64) -> Option<&[u8]>
         ensures truth { TellsTruth (copy_of self.now.network self.now.run copy) (option_map (λ octets. octets.now) result) }
+        // A Delay_Resp is the longest message of a world.
+        ensures fits { IfSome result (λ octets. length octets.now ≤ 54) }
         ensures network { IsNetwork self.now.network }
         ensures run { IsRun self.now.network self.now.run }
     {
