@@ -1,4 +1,4 @@
--- The test of a message's octets is the relation between a message and its octets.
+-- The test of a message's octets decides `Packet`.
 use Rattle.std.proofs.Common.{◌≡◌, ℕ, ◌+◌, ◌*◌, ◌^◌, ◌<◌, ◌≤◌, Bool, true, false, ◌&&◌, not, List, [], ◌∷◌, length, drop, Decides, refl, sym, ap, subst, ◌∙◌, arith, zero, suc, ◌==◌, Some, length-drop}
 use Rattle.std.specs.Prelude.{nat_lt, slice_index, slice_range, EachIndex}
 use Rattle.std.specs.Int.{w8, w64, cast_signed}
@@ -16,7 +16,7 @@ use Rattle.event_codec.specs.Packet.{Contents, Packet, IsIdentityAt, IsRequestin
 use Rattle.event_codec.specs.declared.refusal.EncodeRefusal.{EncodeRefusal}
 use Rattle.event_codec.specs.EncodeRefusal.{encode_refusal}
 use Rattle.event_codec.specs.Refusal.{message_length}
-use Rattle.exchange_check.specs.Octets.{is_identity_at, is_requesting, is_packet}
+use Rattle.trace_model.specs.Octets.{is_identity_at, is_requesting, is_packet}
 
 octet_at : (x : ℕ) (xs : List ℕ) → x < 256 → EachIndex xs (λ k. slice_index xs k < 256) → (k : ℕ) → k < length (x ∷ xs) → slice_index (x ∷ xs) k < 256
 octet_at x xs first others zero within = first

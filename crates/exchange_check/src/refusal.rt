@@ -12,11 +12,11 @@ pub enum CheckFault {
 }
 
 impl CheckFault {
-    ghost use Rattle.exchange_check.specs.Refusal.{fault_code};
+    ghost use Rattle.exchange_check.specs.Refusal.{code_of};
 
     /// The number of the fault.
     pub fn code(&self) -> u16
-        ensures { result ≡ fault_code self.now }
+        ensures { result ≡ code_of self.now }
     {
         match self {
             CheckFault::Memory => 709,

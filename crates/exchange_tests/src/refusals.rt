@@ -1,7 +1,7 @@
 //! What each refusal says in words.
 
 use event_codec::{DecodeRefusal, EncodeRefusal};
-use exchange_check::{CheckFault, Why};
+use exchange_check::CheckFault;
 use master_port::MasterRefusal;
 use network_model::{RunStop, WorldRefusal};
 use ptp_units::UnitRefusal;
@@ -10,6 +10,7 @@ use slave_port::{Reason, SlaveRefusal};
 use std::error::Error;
 use std::process::Abort;
 use std::test::Fail;
+use trace_model::Why;
 use transparent_clock::ClockRefusal;
 
 /// Each of these errors says its text.

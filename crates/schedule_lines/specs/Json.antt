@@ -63,11 +63,11 @@ field reads key d = option_and_then reads (get key d)
 abbrev pub has_keys : ℕ → Data → Bool
 has_keys count d = unwrap_or (option_map (λ members. members_len members == count) (as_object d)) false
 
--- a positive number: digits, of which the first isn't 0
+-- a number above 0, in digits without leading zeros
 abbrev pub positive_of : List ℕ → Option ℕ
 positive_of digits = if nat_lt 48 (slice_index digits 0) && all_ascii_digits digits then Some (digits_value 10 digits) else None
 
--- a signed number in at most 32 octets: `0`, or an optional `-` and digits of which the first isn't 0
+-- a signed number in 32 octets at the most: `0`, or a number above 0, alone or after a `-`
 abbrev pub difference_of : List ℕ → Option ℤ
 difference_of text =
     if bytes_eq text (codes "0") then Some (pos 0)

@@ -83,8 +83,8 @@ pub(crate) fn clock_in(value: &Value) -> Option<[u8; 8]>
     <[u8; 8] as FromHex>::from_hex(value.as_str()?).ok()
 }
 
-/// A signed number: the text `0`, or at most 32 octets that are an optional `-` and digits of which
-/// the first isn't 0.
+/// A signed number, as a text of 32 octets at the most: no sign but a `-`, no leading zeros, and `0`
+/// without a sign.
 pub(crate) fn difference_in(value: &Value) -> Option<i128>
     ensures { result ≡ difference_in (view value.now) }
 {

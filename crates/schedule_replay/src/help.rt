@@ -35,7 +35,7 @@ from 1, and what was written for those before stands. Line 0 is before all lines
 
 Exit statuses:
   0  each line was answered, with its fields or its refusal
-  2  the words are no command
+  2  the arguments aren't a command
   3  a fault
 
 Limits: a line has 4096 octets before its LF at the most, so a datagram has 2048, and an input has

@@ -5,7 +5,6 @@ ghost use Rattle.world_model.specs.Stands.{IsWorld, run_of};
 ghost use Rattle.world_model.specs.Steps.{Steps};
 
 use crate::entry::{Entry, Happened};
-use crate::room::put;
 use crate::station::{Room, Station};
 use network_model::{Event, Name, Nodes, Stepped, WorldRefusal};
 
@@ -57,7 +56,7 @@ fn happen(
     }
 }
 
-/// Puts the entry of an event behind the others, for which there is room.
+/// Puts the entry of an event after the others, for which there is room.
 fn append(entries: &mut Vec<Entry>, event: &Event, happened: Happened) -> Stepped
     requires { vec_len entries.old < vec_capacity entries.old }
     ensures entries { entries.new.items ≡ entries.old.items ++ record { event = event.now; left = happened.left } ∷ [] }
@@ -68,11 +67,10 @@ fn append(entries: &mut Vec<Entry>, event: &Event, happened: Happened) -> Steppe
         reading: happened.reading,
         outcome: happened.outcome,
     };
-    let entry = Entry {
+    entries.push_reserved(Entry {
         event: *event,
         left: happened.left,
-    };
-    put(entries, entry);
+    });
     stepped
 }
 

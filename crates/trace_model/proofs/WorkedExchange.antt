@@ -1,4 +1,4 @@
--- One exchange through a clock, as a transcript: the slave is 1,000 ns ahead, two cables take 500 ns each way, the Sync is in
+-- One exchange through a clock, as a transcript: the slave's clock leads by 1,000 ns, both cables take 500 ns each way, the Sync is in
 -- the clock for 2,000 ns and the Delay_Req for 3,500.25 ns. What the definitions say of it is computed.
 use Rattle.std.proofs.Common.{◌≡◌, ℕ, ℤ, pos, refl, List, [], ◌∷◌, reverse, Option, Some, None}
 use Rattle.ptp_units.specs.Moment.{stamp, moment}
@@ -8,11 +8,11 @@ use Rattle.network_model.specs.declared.event.Event.{Event}
 use Rattle.network_model.specs.declared.event.Event.TheVariants.{Sync, Follow, Enter, Leave, Arrive, Hear, Request, Stamped, SetMaster, StepClock}
 use Rattle.network_model.specs.declared.node.NodeKind.TheVariants.{Master, Slave, Clock}
 use Rattle.network_model.specs.Network.{Network, NodeName}
-use Rattle.exchange_check.specs.declared.line.TraceLine.{TraceLine}
-use Rattle.exchange_check.specs.declared.line.TraceOut.{TraceOut}
-use Rattle.exchange_check.specs.declared.line.TraceOut.TheVariants as outs
-use Rattle.exchange_check.specs.declared.verdict.Verdict.TheVariants.{Accepted}
-use Rattle.exchange_check.specs.Verdict.{verdict}
+use Rattle.trace_model.specs.declared.line.TraceLine.{TraceLine}
+use Rattle.trace_model.specs.declared.line.TraceOut.{TraceOut}
+use Rattle.trace_model.specs.declared.line.TraceOut.TheVariants as outs
+use Rattle.trace_model.specs.declared.verdict.Verdict.TheVariants.{Accepted}
+use Rattle.trace_model.specs.Verdict.{verdict}
 
 abbrev m : NodeName
 m = 77 ∷ []

@@ -34,11 +34,11 @@ pub enum Why {
 }
 
 impl Why {
-    ghost use Rattle.exchange_check.specs.Refusal.{why_code};
+    ghost use Rattle.trace_model.specs.Refusal.{code_of};
 
     /// The number of the reason.
     pub fn code(&self) -> u16
-        ensures { result ≡ why_code self.now }
+        ensures { result ≡ code_of self.now }
     {
         match self {
             Why::NoSuchLine => 701,

@@ -1,0 +1,2 @@
+pub mod WorkedExchange
+pub mod Soundness
