@@ -1,1 +1,2 @@
 pub mod WorkedExchange
+pub mod Good

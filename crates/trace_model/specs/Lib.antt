@@ -6,3 +6,4 @@ pub mod Octets
 pub mod Sound
 pub mod Verdict
 pub mod Told
+pub mod Faithful

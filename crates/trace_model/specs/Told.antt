@@ -1,5 +1,5 @@
 -- Lines that tell what happened in a world.
-use Rattle.std.specs.Prelude.{◌≡◌, ℕ, ⊥, List, [], ◌∷◌, Option, Some, None}
+use Rattle.std.specs.Prelude.{◌≡◌, ℕ, List, [], ◌∷◌, Option, Some, None}
 use Rattle.event_codec.specs.Packet.{Contents, Packet}
 use Rattle.slave_port.specs.declared.heard.Heard.{Heard}
 use Rattle.slave_port.specs.declared.heard.Heard.TheVariants as answers
@@ -43,8 +43,8 @@ TellsOutcome copy (outcomes.Heard heard) out = out ≡ heard_out heard
 TellsOutcome copy (outcomes.Refused code) out = out ≡ outs.Refused code
 
 -- a line has this event, and what it was answered in a world with this run
-pub record TellsAnswer (network : Network) (run : Run) (event : Event) (stepped : Stepped) (line : TraceLine) : Type 0 where
-  pub event : line.event ≡ event
+pub record TellsAnswer (network : Network) (run : Run) (happened : Event) (stepped : Stepped) (line : TraceLine) : Type 0 where
+  pub event : line.event ≡ happened
   pub reading : line.reading ≡ stepped.reading
   pub outcome : TellsOutcome (copy_of network run stepped.tag) stepped.outcome line.out
 

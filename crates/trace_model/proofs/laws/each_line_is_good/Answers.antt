@@ -1,0 +1,6 @@
+-- Each line, by the kind of its event.
+use Rattle.trace_model.proofs.Good.{each_line_is_good as good}
+use Rattle.trace_model.proofs.laws.each_line_is_good.Goals as goal
+
+pub returns : goal.returns
+returns c = good

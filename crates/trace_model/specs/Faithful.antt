@@ -1,0 +1,38 @@
+-- What lines that tell a run have of it: which of them count, the line of each tag, what clocks read and which numbers were
+-- drawn, and journeys. `laws::lines_tell_their_run` promises it.
+use Rattle.std.specs.Prelude.{◌≡◌, ℕ, Bool, true, false, Ok, Err, Result}
+use Rattle.network_model.specs.declared.event.Event.{Event}
+use Rattle.network_model.specs.declared.refusal.WorldRefusal.{WorldRefusal}
+use Rattle.network_model.specs.declared.stepped.Outcome.{Outcome}
+use Rattle.network_model.specs.declared.stepped.Outcome.TheVariants as outcomes
+use Rattle.network_model.specs.Network.{Network}
+use Rattle.network_model.specs.Run.{Run}
+use Rattle.network_model.specs.Outcome.{outcome_of}
+use Rattle.network_model.specs.Premises.{is_of_use}
+use Rattle.trace_model.specs.declared.line.TraceLine.{TraceLine}
+use Rattle.trace_model.specs.Line.{counts, may_happen}
+use Rattle.trace_model.specs.Told.{TellsEvent}
+
+-- an event took effect: no port and no clock refused it, and no slave ignored it
+abbrev pub is_effective : Outcome → Bool
+is_effective outcomes.Done = true
+is_effective outcomes.Made = true
+is_effective outcomes.Entered = true
+is_effective (outcomes.Heard heard) = is_of_use heard
+is_effective (outcomes.Refused code) = false
+
+-- an event was accepted and took effect
+abbrev pub took_effect : Result Outcome WorldRefusal → Bool
+took_effect (Ok outcome) = is_effective outcome
+took_effect (Err refusal) = false
+
+-- a good line, which counts exactly where its event took effect
+pub record IsGood (network : Network) (event : Event) (earlier : Run) (line : TraceLine) : Type 0 where
+  pub good : may_happen network line.event line.out ≡ true
+  pub counts : counts network line ≡ took_effect (outcome_of network earlier event)
+
+-- Each line that tells an event is good, and counts exactly where the event took effect.
+abbrev pub EachLineIsGood : Type 0
+EachLineIsGood =
+    (network : Network) (event : Event) (earlier : Run) (line : TraceLine) → TellsEvent network event earlier line
+    → IsGood network event earlier line

@@ -1,0 +1,10 @@
+//! Laws of lines that tell a run, each the contract of a function that does nothing: a caller that
+//! needs the law in its proof calls it.
+
+ghost use Rattle.trace_model.specs.Faithful.{EachLineIsGood};
+
+/// Each line that tells an event of a world is good, and counts exactly where the event took effect:
+/// where no port and no clock refused it, and no slave ignored it.
+pub fn each_line_is_good()
+    ensures { EachLineIsGood }
+{}
