@@ -1,2 +1,4 @@
 pub mod WorkedExchange
 pub mod Good
+pub mod Certain
+pub mod Found

@@ -1,17 +1,18 @@
 -- What lines that tell a run have of it: which of them count, the line of each tag, what clocks read and which numbers were
 -- drawn, and journeys. `laws::lines_tell_their_run` promises it.
-use Rattle.std.specs.Prelude.{◌≡◌, ℕ, Bool, true, false, Ok, Err, Result}
+use Rattle.std.specs.Prelude.{◌≡◌, ℕ, Bool, true, false, Some, Ok, Err, Result}
 use Rattle.network_model.specs.declared.event.Event.{Event}
 use Rattle.network_model.specs.declared.refusal.WorldRefusal.{WorldRefusal}
 use Rattle.network_model.specs.declared.stepped.Outcome.{Outcome}
 use Rattle.network_model.specs.declared.stepped.Outcome.TheVariants as outcomes
 use Rattle.network_model.specs.Network.{Network}
-use Rattle.network_model.specs.Run.{Run}
+use Rattle.network_model.specs.Run.{Run, Place, place_at}
 use Rattle.network_model.specs.Outcome.{outcome_of}
 use Rattle.network_model.specs.Premises.{is_of_use}
 use Rattle.trace_model.specs.declared.line.TraceLine.{TraceLine}
-use Rattle.trace_model.specs.Line.{counts, may_happen}
-use Rattle.trace_model.specs.Told.{TellsEvent}
+use Rattle.trace_model.specs.Line.{Lines, counts, may_happen}
+use Rattle.trace_model.specs.Record.{Entry, line_at}
+use Rattle.trace_model.specs.Told.{TellsEvent, TellsRun}
 
 -- an event took effect: no port and no clock refused it, and no slave ignored it
 abbrev pub is_effective : Outcome → Bool
@@ -36,3 +37,21 @@ abbrev pub EachLineIsGood : Type 0
 EachLineIsGood =
     (network : Network) (event : Event) (earlier : Run) (line : TraceLine) → TellsEvent network event earlier line
     → IsGood network event earlier line
+
+-- a line and those before it tell an event of a run and those before it
+pub record TellsPlace (network : Network) (p : Place) (e : Entry) : Type 0 where
+  pub told : TellsEvent network p.event p.earlier e.line
+  pub before : TellsRun network p.earlier e.earlier
+
+-- lines have a line of this number that counts, and that tells an event
+pub record HasLine (network : Network) (lines : Lines) (number : ℕ) (p : Place) : Type 0 where
+  pub e : Entry
+  pub there : line_at network lines number ≡ Some e
+  pub tells : TellsPlace network p e
+
+-- An event that took effect is told by the line that has its tag for a number.
+abbrev pub EachEventHasItsLine : Type 0
+EachEventHasItsLine =
+    (network : Network) (run : Run) (lines : Lines) (tag : ℕ) (p : Place) → TellsRun network run lines
+    → place_at run tag ≡ Some p → took_effect (outcome_of network p.earlier p.event) ≡ true
+    → HasLine network lines tag p

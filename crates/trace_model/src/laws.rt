@@ -1,10 +1,12 @@
 //! Laws of lines that tell a run, each the contract of a function that does nothing: a caller that
 //! needs the law in its proof calls it.
 
-ghost use Rattle.trace_model.specs.Faithful.{EachLineIsGood};
+ghost use Rattle.trace_model.specs.Faithful.{EachEventHasItsLine, EachLineIsGood};
 
 /// Each line that tells an event of a world is good, and counts exactly where the event took effect:
-/// where no port and no clock refused it, and no slave ignored it.
+/// where no port and no clock refused it, and no slave ignored it. An event that took effect is told
+/// by the line that has its tag for a number.
 pub fn each_line_is_good()
-    ensures { EachLineIsGood }
+    ensures good { EachLineIsGood }
+    ensures found { EachEventHasItsLine }
 {}
