@@ -2,3 +2,5 @@ pub mod WorkedExchange
 pub mod Good
 pub mod Certain
 pub mod Found
+pub mod Recorded
+pub mod Last

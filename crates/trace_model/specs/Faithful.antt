@@ -1,17 +1,18 @@
 -- What lines that tell a run have of it: which of them count, the line of each tag, what clocks read and which numbers were
 -- drawn, and journeys. `laws::lines_tell_their_run` promises it.
-use Rattle.std.specs.Prelude.{◌≡◌, ℕ, Bool, true, false, Some, Ok, Err, Result}
+use Rattle.std.specs.Prelude.{◌≡◌, ℕ, is_some, Bool, true, false, Some, Ok, Err, Result}
 use Rattle.network_model.specs.declared.event.Event.{Event}
 use Rattle.network_model.specs.declared.refusal.WorldRefusal.{WorldRefusal}
 use Rattle.network_model.specs.declared.stepped.Outcome.{Outcome}
 use Rattle.network_model.specs.declared.stepped.Outcome.TheVariants as outcomes
 use Rattle.network_model.specs.Network.{Network}
-use Rattle.network_model.specs.Run.{Run, Place, place_at}
-use Rattle.network_model.specs.Outcome.{outcome_of}
+use Rattle.network_model.specs.Run.{Run, Place, place_at, until, true_moment}
+use Rattle.network_model.specs.Clock.{reading}
+use Rattle.network_model.specs.Outcome.{outcome_of, IsRun}
 use Rattle.network_model.specs.Premises.{is_of_use}
 use Rattle.trace_model.specs.declared.line.TraceLine.{TraceLine}
 use Rattle.trace_model.specs.Line.{Lines, counts, may_happen}
-use Rattle.trace_model.specs.Record.{Entry, line_at}
+use Rattle.trace_model.specs.Record.{Entry, line_at, reads_right}
 use Rattle.trace_model.specs.Told.{TellsEvent, TellsRun}
 
 -- an event took effect: no port and no clock refused it, and no slave ignored it
@@ -55,3 +56,14 @@ EachEventHasItsLine =
     (network : Network) (run : Run) (lines : Lines) (tag : ℕ) (p : Place) → TellsRun network run lines
     → place_at run tag ≡ Some p → took_effect (outcome_of network p.earlier p.event) ≡ true
     → HasLine network lines tag p
+
+-- a line has the reading of the event that it tells, and that is what the clock showed by the lines before it
+pub record IsRecorded (network : Network) (p : Place) (e : Entry) : Type 0 where
+  pub reading : e.line.reading ≡ Some (reading p)
+  pub right : reads_right network e ≡ true
+
+-- Each line that tells an event with a true moment has its reading, the one that the lines before it ask for.
+abbrev pub EachEventIsRecorded : Type 0
+EachEventIsRecorded =
+    (network : Network) (p : Place) (e : Entry) → IsRun network (until p) → TellsPlace network p e
+    → is_some (true_moment p.event) ≡ true → IsRecorded network p e

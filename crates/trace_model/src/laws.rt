@@ -1,7 +1,7 @@
 //! Laws of lines that tell a run, each the contract of a function that does nothing: a caller that
 //! needs the law in its proof calls it.
 
-ghost use Rattle.trace_model.specs.Faithful.{EachEventHasItsLine, EachLineIsGood};
+ghost use Rattle.trace_model.specs.Faithful.{EachEventHasItsLine, EachEventIsRecorded, EachLineIsGood};
 
 /// Each line that tells an event of a world is good, and counts exactly where the event took effect:
 /// where no port and no clock refused it, and no slave ignored it. An event that took effect is told
@@ -9,4 +9,10 @@ ghost use Rattle.trace_model.specs.Faithful.{EachEventHasItsLine, EachLineIsGood
 pub fn each_line_is_good()
     ensures good { EachLineIsGood }
     ensures found { EachEventHasItsLine }
+{}
+
+/// Each line that tells an event with a true moment has its reading, and the lines before it ask for
+/// no other: they tell of each step of the clock.
+pub fn each_reading_is_recorded()
+    ensures { EachEventIsRecorded }
 {}
