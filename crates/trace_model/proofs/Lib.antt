@@ -4,3 +4,4 @@ pub mod Certain
 pub mod Found
 pub mod Recorded
 pub mod Last
+pub mod Left
