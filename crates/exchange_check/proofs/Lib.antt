@@ -1,0 +1,11 @@
+pub mod Packets
+pub mod Once
+pub mod Keeping
+pub mod Reversed
+pub mod Noted
+pub mod Told
+pub mod Messages
+pub mod FactLines
+pub mod Stays
+pub mod Exchanges
+pub mod Standing

@@ -113,5 +113,5 @@ fn may_happen(nodes: &Nodes, event: &Event, out: &TraceOut) -> bool
 pub(crate) fn counts(nodes: &Nodes, line: &TraceLine) -> bool
     ensures { result ≡ counts nodes.now line.now }
 {
-    may_happen(nodes, &line.event, &line.out) && !(line.is_refused(out) || is_ignored(&line.out))
+    may_happen(nodes, &line.event, &line.out) && !(is_refused(&line.out) || is_ignored(&line.out))
 }
