@@ -5,3 +5,4 @@ pub mod Found
 pub mod Recorded
 pub mod Last
 pub mod Left
+pub mod Travelled

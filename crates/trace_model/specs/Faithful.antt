@@ -1,6 +1,6 @@
 -- What lines that tell a run have of it: which of them count, the line of each tag, what clocks read and which numbers were
 -- drawn, and journeys. `laws::lines_tell_their_run` promises it.
-use Rattle.std.specs.Prelude.{◌≡◌, ℕ, is_some, Bool, true, false, Some, Ok, Err, Result}
+use Rattle.std.specs.Prelude.{◌≡◌, ℕ, List, [], ◌∷◌, is_some, Bool, true, false, Some, Ok, Err, Result}
 use Rattle.network_model.specs.declared.event.Event.{Event}
 use Rattle.network_model.specs.declared.refusal.WorldRefusal.{WorldRefusal}
 use Rattle.network_model.specs.declared.stepped.Outcome.{Outcome}
@@ -8,11 +8,13 @@ use Rattle.network_model.specs.declared.stepped.Outcome.TheVariants as outcomes
 use Rattle.network_model.specs.Network.{Network}
 use Rattle.network_model.specs.Run.{Run, Place, place_at, until, true_moment}
 use Rattle.network_model.specs.Clock.{reading}
+use Rattle.network_model.specs.Journey as made
 use Rattle.network_model.specs.Outcome.{outcome_of, IsRun}
 use Rattle.network_model.specs.Premises.{is_of_use}
 use Rattle.trace_model.specs.declared.line.TraceLine.{TraceLine}
 use Rattle.trace_model.specs.Line.{Lines, counts, may_happen}
 use Rattle.trace_model.specs.Record.{Entry, line_at, reads_right}
+use Rattle.trace_model.specs.Journey as lined
 use Rattle.trace_model.specs.Told.{TellsEvent, TellsRun}
 
 -- an event took effect: no port and no clock refused it, and no slave ignored it
@@ -67,3 +69,32 @@ abbrev pub EachEventIsRecorded : Type 0
 EachEventIsRecorded =
     (network : Network) (p : Place) (e : Entry) → IsRun network (until p) → TellsPlace network p e
     → is_some (true_moment p.event) ≡ true → IsRecorded network p e
+
+-- two lines tell a stay in a clock
+pub record TellsStay (network : Network) (stay : made.Stay) (lines : lined.Stay) : Type 0 where
+  pub entered : TellsPlace network stay.entered lines.entered
+  pub left : TellsPlace network stay.left lines.left
+
+-- lines tell stays, one by one
+abbrev pub TellsStays : Network → List made.Stay → List lined.Stay → Type 0
+TellsStays network [] [] = Unit {0}
+TellsStays network (stay ∷ stays) (lines ∷ others) = TellsStay network stay lines × TellsStays network stays others
+TellsStays network [] (lines ∷ others) = ⊥
+TellsStays network (stay ∷ stays) [] = ⊥
+
+-- lines tell a journey: where it began, and its stays
+pub record TellsJourney (network : Network) (journey : made.Journey) (lines : lined.Journey) : Type 0 where
+  pub origin : TellsPlace network journey.origin lines.origin
+  pub stays : TellsStays network journey.stays lines.stays
+
+-- by these lines the copy of a line made a journey, and they tell this one
+pub record HasJourney (network : Network) (lines : Lines) (number : ℕ) (journey : made.Journey) : Type 0 where
+  pub by_lines : lined.Journey
+  pub there : lined.journey_of network lines number ≡ Some by_lines
+  pub tells : TellsJourney network journey by_lines
+
+-- The journey of each copy is the one that lines tell.
+abbrev pub EachJourneyIsTold : Type 0
+EachJourneyIsTold =
+    (network : Network) (run : Run) (lines : Lines) (tag : ℕ) (journey : made.Journey) → TellsRun network run lines
+    → made.journey_of run tag ≡ Some journey → HasJourney network lines tag journey

@@ -1,7 +1,7 @@
 //! Laws of lines that tell a run, each the contract of a function that does nothing: a caller that
 //! needs the law in its proof calls it.
 
-ghost use Rattle.trace_model.specs.Faithful.{EachEventHasItsLine, EachEventIsRecorded, EachLineIsGood};
+ghost use Rattle.trace_model.specs.Faithful.{EachEventHasItsLine, EachEventIsRecorded, EachJourneyIsTold, EachLineIsGood};
 
 /// Each line that tells an event of a world is good, and counts exactly where the event took effect:
 /// where no port and no clock refused it, and no slave ignored it. An event that took effect is told
@@ -15,4 +15,10 @@ pub fn each_line_is_good()
 /// no other: they tell of each step of the clock.
 pub fn each_reading_is_recorded()
     ensures { EachEventIsRecorded }
+{}
+
+/// The journey of each copy of a Sync or a Delay_Req is the one that lines tell: it begins at the line
+/// of the same event, and each of its stays is the stay of the same two events.
+pub fn each_journey_is_told()
+    ensures { EachJourneyIsTold }
 {}
