@@ -6,3 +6,4 @@ pub mod Recorded
 pub mod Last
 pub mod Left
 pub mod Travelled
+pub mod Stays
