@@ -20,9 +20,9 @@ use crate::events::{
 use crate::facts::{Fact, Found, Site, Way};
 use crate::kept::Kept;
 use crate::octets::{Port, master_at, slave_at};
-use trace_model::Why;
 use network_model::{Event, Name, Nodes, Report};
 use ptp_units::{ScaledTime, offset2, path2};
+use trace_model::Why;
 
 /// The longest residence that is counted exactly is below this, in units of 2^-16 ns.
 const LONGEST: u64 = (1 << 63) - 1;

@@ -16,16 +16,15 @@ ghost use Rattle.trace_model.specs.Record.{is_reading};
 use crate::events::{entered_copy, site, true_moment};
 use crate::facts::{Fact, Known, Site, Travel};
 use crate::good::{completes, counts, is_made};
-use trace_model::{TraceLine, TraceOut, Verdict};
 use crate::octets::{
-    Port, Written, delay_resp, follow_up, is_written, master_at, sent, slave_at,
-    with_residence_time,
+    Port, Written, delay_resp, follow_up, is_written, master_at, resided, sent, slave_at,
 };
 use crate::refusal::CheckFault;
 use network_model::{Event, Name, Nodes};
 use ptp_units::{ScaledTime, Seq};
 use std::alloc::Global;
 use std::collections::HashMap;
+use trace_model::{TraceLine, TraceOut, Verdict};
 
 /// The longest residence that is counted exactly is below this, in units of 2^-16 ns.
 const LONGEST: u128 = (1 << 63) - 1;
@@ -230,7 +229,7 @@ impl Kept {
             ..
         } = origin;
         let message = sent(nodes, &event, number, reading)?;
-        Some(with_residence_time(&message, travel.residence))
+        Some(resided(&message, travel.residence))
     }
 
     /// The Follow_Up of the Sync line of this number.

@@ -7,7 +7,7 @@ use Rattle.network_model.specs.Run.{Run, Place, place, place_at, tag_of}
 use Rattle.network_model.specs.Outcome.{outcome_of}
 use Rattle.trace_model.specs.declared.line.TraceLine.{TraceLine}
 use Rattle.trace_model.specs.Line.{Lines, counts}
-use Rattle.trace_model.specs.Record.{Entry, entry, event_of, line_number, line_at}
+use Rattle.trace_model.specs.Record.{LinePlace, line_place, event_of, line_number, line_at}
 use Rattle.trace_model.specs.Told.{TellsEvent, TellsRun}
 use Rattle.trace_model.specs.Faithful.{took_effect, IsGood, TellsPlace, HasLine, EachEventHasItsLine}
 use Rattle.trace_model.proofs.Good.{each_line_is_good}
@@ -23,11 +23,11 @@ same_length network (event ∷ earlier) (line ∷ lines) told = ap suc (same_len
 pub event_told : (network : Network) (event : Event) (earlier : Run) (line : TraceLine) → TellsEvent network event earlier line → line.event ≡ event
 event_told network event earlier line told = told.told.event
 
-pub same_event : (network : Network) (p : Place) (e : Entry) → TellsPlace network p e → event_of e ≡ p.event
+pub same_event : (network : Network) (p : Place) (e : LinePlace) → TellsPlace network p e → event_of e ≡ p.event
 same_event network p e tells = event_told network p.event p.earlier e.line tells.told
 
 -- a line's number is its event's tag
-pub same_number : (network : Network) (p : Place) (e : Entry) → TellsPlace network p e → line_number e ≡ tag_of p
+pub same_number : (network : Network) (p : Place) (e : LinePlace) → TellsPlace network p e → line_number e ≡ tag_of p
 same_number network p e tells = same_length network p.earlier e.earlier tells.before
 
 -- the line of an event that took effect counts
@@ -36,15 +36,15 @@ pub line_counts : (network : Network) (event : Event) (earlier : Run) (line : Tr
 line_counts network event earlier line told took = let good = each_line_is_good network event earlier line told in good.counts ∙ took
 
 pub line_at-here : (network : Network) (line : TraceLine) (lines : Lines) (number : ℕ) → (length lines == number) ≡ true → counts network line ≡ true
-    → line_at network (line ∷ lines) number ≡ Some (entry line lines)
+    → line_at network (line ∷ lines) number ≡ Some (line_place line lines)
 line_at-here network line lines number here counted =
-    ap (λ (b : Bool). if b then (if counts network line then Some (entry line lines) else None) else line_at network lines number) here
-    ∙ ap (λ (b : Bool). if b then Some (entry line lines) else None) counted
+    ap (λ (b : Bool). if b then (if counts network line then Some (line_place line lines) else None) else line_at network lines number) here
+    ∙ ap (λ (b : Bool). if b then Some (line_place line lines) else None) counted
 
 pub line_at-before : (network : Network) (line : TraceLine) (lines : Lines) (number : ℕ) → (length lines == number) ≡ false
     → line_at network (line ∷ lines) number ≡ line_at network lines number
 line_at-before network line lines number before =
-    ap (λ (b : Bool). if b then (if counts network line then Some (entry line lines) else None) else line_at network lines number) before
+    ap (λ (b : Bool). if b then (if counts network line then Some (line_place line lines) else None) else line_at network lines number) before
 
 pub each_event_has_its_line : EachEventHasItsLine
 each_event_has_its_line network [] [] tag p told there took = cc
@@ -61,11 +61,11 @@ each_event_has_its_line network (event ∷ earlier) (line ∷ lines) tag p told 
     at true is there before =
         let same : place event earlier ≡ p = cc in
         let took_here : took_effect (outcome_of network earlier event) ≡ true = subst (λ (o : Place). took_effect (outcome_of network o.earlier o.event) ≡ true) (sym same) took in
-        let here : TellsPlace network (place event earlier) (entry line lines) = record { told = told.0; before = told.1 } in
+        let here : TellsPlace network (place event earlier) (line_place line lines) = record { told = told.0; before = told.1 } in
         record {
-          e = entry line lines;
+          e = line_place line lines;
           there = line_at-here network line lines tag (numbers ∙ is) (line_counts network event earlier line told.0 took_here);
-          tells = subst (λ (o : Place). TellsPlace network o (entry line lines)) same here;
+          tells = subst (λ (o : Place). TellsPlace network o (line_place line lines)) same here;
         }
     at false is there before =
         let found = before there in

@@ -12,7 +12,7 @@ use Rattle.network_model.proofs.Sites.{at_kind}
 use Rattle.network_model.proofs.Sequences.{count-yes, count-no}
 use Rattle.trace_model.specs.declared.line.TraceLine.{TraceLine}
 use Rattle.trace_model.specs.Line.{Lines, counts}
-use Rattle.trace_model.specs.Record.{Entry, entry, last_line}
+use Rattle.trace_model.specs.Record.{LinePlace, line_place, last_line}
 use Rattle.trace_model.specs.Told.{TellsEvent, TellsRun}
 use Rattle.trace_model.specs.Faithful.{TellsPlace}
 use Rattle.trace_model.proofs.Certain.{is_certain}
@@ -64,7 +64,7 @@ last_at-alone kind node (event ∷ earlier) tag p there at none = by (length ear
 
 -- lines have a last line of this kind at this node, and it tells this event
 pub record HasLast (network : Network) (kind : Event → Bool) (node : NodeName) (lines : Lines) (p : Place) : Type 0 where
-  pub e : Entry
+  pub e : LinePlace
   pub there : last_line network kind node lines ≡ Some e
   pub tells : TellsPlace network p e
 
@@ -83,18 +83,18 @@ last_told network kind certain node (event ∷ earlier) (line ∷ lines) p told 
     by true is last before =
         let same : place event earlier ≡ p = cc in
         let counted : counts network line ≡ true = certain_counts network event earlier line told.0 (certain event (at_kind kind node event is)) in
-        let here : TellsPlace network (place event earlier) (entry line lines) = record { told = told.0; before = told.1 } in
+        let here : TellsPlace network (place event earlier) (line_place line lines) = record { told = told.0; before = told.1 } in
         record {
-          e = entry line lines;
-          there = ap (λ (b : Bool). if b && is_at kind node line.event then Some (entry line lines) else last_line network kind node lines) counted
-              ∙ ap (λ (b : Bool). if b then Some (entry line lines) else last_line network kind node lines) (of_line ∙ is);
-          tells = subst (λ (o : Place). TellsPlace network o (entry line lines)) same here;
+          e = line_place line lines;
+          there = ap (λ (b : Bool). if b && is_at kind node line.event then Some (line_place line lines) else last_line network kind node lines) counted
+              ∙ ap (λ (b : Bool). if b then Some (line_place line lines) else last_line network kind node lines) (of_line ∙ is);
+          tells = subst (λ (o : Place). TellsPlace network o (line_place line lines)) same here;
         }
     by false is last before =
         let found = before last in
         record {
           e = found.e;
-          there = ap (λ (b : Bool). if b then Some (entry line lines) else last_line network kind node lines) (neither (counts network line) (is_at kind node line.event) (of_line ∙ is)) ∙ found.there;
+          there = ap (λ (b : Bool). if b then Some (line_place line lines) else last_line network kind node lines) (neither (counts network line) (is_at kind node line.event) (of_line ∙ is)) ∙ found.there;
           tells = found.tells;
         }
       where

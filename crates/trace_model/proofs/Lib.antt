@@ -7,3 +7,4 @@ pub mod Last
 pub mod Left
 pub mod Travelled
 pub mod Stays
+pub mod Soundness

@@ -22,7 +22,7 @@ use Rattle.network_model.proofs.Journeys.{IsIn-last}
 use Rattle.network_model.proofs.Readings.{shown_reading}
 use Rattle.trace_model.specs.declared.line.TraceLine.{TraceLine}
 use Rattle.trace_model.specs.Line.{Lines, counts}
-use Rattle.trace_model.specs.Record.{Entry, events, place_of, is_reading, reads_right, sequence}
+use Rattle.trace_model.specs.Record.{LinePlace, events, place_of, is_reading, reads_right, sequence}
 use Rattle.trace_model.specs.Record as lined
 use Rattle.trace_model.specs.Told.{TellsEvent, TellsRun}
 use Rattle.trace_model.specs.Faithful.{is_effective, took_effect, TellsPlace, IsRecorded, EachEventIsRecorded}
@@ -139,7 +139,7 @@ drawn_certain (SyncOne node at) other is = draws_certain other (at_kind draws_sy
 drawn_certain (Request node at) other is = request_certain other (at_kind is_request node other is)
 drawn_certain _ other is = cc
 
-module _ (network : Network) (p : Place) (e : Entry) (tells : TellsPlace network p e) where
+module _ (network : Network) (p : Place) (e : LinePlace) (tells : TellsPlace network p e) where
   -- what the clock showed
   shown_told : shown_at (place_of network e) ≡ shown_at p
   shown_told =

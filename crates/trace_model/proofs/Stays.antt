@@ -21,7 +21,7 @@ use Rattle.network_model.proofs.Spent.{spent_once}
 use Rattle.network_model.proofs.Ways.{IsStay, AreStays, gone_on}
 use Rattle.trace_model.specs.declared.line.TraceLine.{TraceLine}
 use Rattle.trace_model.specs.Line.{Lines, counts}
-use Rattle.trace_model.specs.Record.{Entry, line_number, events, reading, reads_right}
+use Rattle.trace_model.specs.Record.{LinePlace, line_number, events, reading, reads_right}
 use Rattle.trace_model.specs.Journey as lined
 use Rattle.trace_model.specs.Sound.{stay_reads_right}
 use Rattle.trace_model.specs.Told.{TellsEvent, TellsRun}
@@ -35,7 +35,7 @@ pub until_accepted : (network : Network) (run : Run) (p : Place) → IsRun netwo
 until_accepted network run p accepted there = (accepted-place_at network run (tag_of p) p accepted there, IsRun-place_at network run (tag_of p) p accepted there)
 
 -- the reading of a line is the reading in the run
-pub reading_told : (network : Network) (run : Run) (p : Place) (e : Entry) → IsRun network run → IsIn run p → TellsPlace network p e → is_some (true_moment p.event) ≡ true
+pub reading_told : (network : Network) (run : Run) (p : Place) (e : LinePlace) → IsRun network run → IsIn run p → TellsPlace network p e → is_some (true_moment p.event) ≡ true
     → (reading e ≡ clocks.reading p) × (reads_right network e ≡ true)
 reading_told network run p e accepted there tells timed =
     let recorded = each_event_is_recorded network p e (until_accepted network run p accepted there) tells timed in

@@ -17,7 +17,7 @@ use Rattle.network_model.proofs.Journeys.{continued, same_origin}
 use Rattle.network_model.proofs.Ways.{gone_on}
 use Rattle.trace_model.specs.declared.line.TraceLine.{TraceLine}
 use Rattle.trace_model.specs.Line.{Lines, counts}
-use Rattle.trace_model.specs.Record.{Entry, entry, event_of, site, line_number, line_at}
+use Rattle.trace_model.specs.Record.{LinePlace, line_place, event_of, site, line_number, line_at}
 use Rattle.trace_model.specs.Journey as lined
 use Rattle.trace_model.specs.Told.{TellsEvent, TellsRun}
 use Rattle.trace_model.specs.Faithful.{is_effective, took_effect, TellsPlace, HasLine, TellsStay, TellsStays, TellsJourney, HasJourney, EachJourneyIsTold}
@@ -55,11 +55,11 @@ enter_certain (StepClock node diff) copy takes = cc
 pub record HasMade (network : Network) (line : TraceLine) (lines : Lines) (journey : made.Journey) : Type 0 where
   pub by_lines : lined.Journey
   pub counted : counts network line ≡ true
-  pub there : lined.journey_made network line.event (entry line lines) (lined.journey_of network lines) ≡ Some by_lines
+  pub there : lined.journey_made network line.event (line_place line lines) (lined.journey_of network lines) ≡ Some by_lines
   pub tells : TellsJourney network journey by_lines
 
 -- the copy that entered a clock, by its line
-copy_entered_told : (network : Network) (node : NodeName) (entered : Place) (e : Entry) (copy : ℕ) → TellsPlace network entered e → site_of entered.event ≡ node
+copy_entered_told : (network : Network) (node : NodeName) (entered : Place) (e : LinePlace) (copy : ℕ) → TellsPlace network entered e → site_of entered.event ≡ node
     → entered_copy entered.event ≡ Some copy → copy < length entered.earlier → lined.copy_entered node e ≡ Some copy
 copy_entered_told network node entered e copy tells here takes below =
     let takes_here : entered_copy (event_of e) ≡ Some copy = ap entered_copy (same_event network entered e tells) ∙ takes in
@@ -73,16 +73,16 @@ module _ (network : Network) (earlier : Run) (line : TraceLine) (lines : Lines) 
     (before : (tag : ℕ) (journey : made.Journey) → made.journey_of earlier tag ≡ Some journey → HasJourney network lines tag journey) where
   -- a journey that begins here
   begins : (event : Event) (journey : made.Journey) → TellsEvent network event earlier line → is_certain event ≡ true
-      → lined.journey_made network event (entry line lines) (lined.journey_of network lines) ≡ Some (lined.begun (entry line lines))
+      → lined.journey_made network event (line_place line lines) (lined.journey_of network lines) ≡ Some (lined.begun (line_place line lines))
       → made.begun event earlier ≡ journey → HasMade network line lines journey
   begins event journey tells certain there same =
-      let here : TellsJourney network (made.begun event earlier) (lined.begun (entry line lines)) =
+      let here : TellsJourney network (made.begun event earlier) (lined.begun (line_place line lines)) =
       record { origin = record { told = tells; before = told }; stays = tt } in
       record {
-        by_lines = lined.begun (entry line lines);
+        by_lines = lined.begun (line_place line lines);
         counted = certain_counts network event earlier line tells certain;
-        there = ap (λ (e : Event). lined.journey_made network e (entry line lines) (lined.journey_of network lines)) (event_told network event earlier line tells) ∙ there;
-        tells = subst (λ (j : made.Journey). TellsJourney network j (lined.begun (entry line lines))) same here;
+        there = ap (λ (e : Event). lined.journey_made network e (line_place line lines) (lined.journey_of network lines)) (event_told network event earlier line tells) ∙ there;
+        tells = subst (λ (j : made.Journey). TellsJourney network j (lined.begun (line_place line lines))) same here;
       }
 
   -- and one that goes on
@@ -103,7 +103,7 @@ module _ (network : Network) (earlier : Run) (line : TraceLine) (lines : Lines) 
       (certain_took network from.0.event from.0.earlier (enter_certain from.0.event from.1 from.4) accepted) in
       let prior = before from.1 from.2 from.5 in
       let copy_is = copy_entered_told network node from.0 entered.e from.1 entered.tells (ap (λ (p : Place). site_of p.event) (sym one) ∙ left.site) from.4 below in
-      let by_lines : lined.Journey = lined.with_stay (entry line lines) entered.e prior.by_lines in
+      let by_lines : lined.Journey = lined.with_stay (line_place line lines) entered.e prior.by_lines in
       let on = gone_on here from.0 from.2 journey from.6 in
       let stays : TellsStays network (record { entered = from.0; left = here } ∷ from.2.stays) by_lines.stays =
       (record { entered = entered.tells; left = record { told = tells; before = told } }, prior.tells.stays) in
@@ -111,10 +111,10 @@ module _ (network : Network) (earlier : Run) (line : TraceLine) (lines : Lines) 
         by_lines = by_lines;
         counted = line_counts network (Leave node transit at) earlier line tells
             (ap took_effect tells.answered.outcome ∙ ap is_effective (left_made network earlier node transit at tells.stepped.outcome journey tells.answered.outcome is));
-        there = ap (λ (e : Event). lined.journey_made network e (entry line lines) (lined.journey_of network lines)) (event_told network (Leave node transit at) earlier line tells)
-            ∙ ap (option_and_then (lined.left_from node (entry line lines) (lined.journey_of network lines))) entered.there
-            ∙ ap (option_and_then (λ (copy : ℕ). option_map (lined.with_stay (entry line lines) entered.e) (lined.journey_of network lines copy))) copy_is
-            ∙ ap (option_map (lined.with_stay (entry line lines) entered.e)) prior.there;
+        there = ap (λ (e : Event). lined.journey_made network e (line_place line lines) (lined.journey_of network lines)) (event_told network (Leave node transit at) earlier line tells)
+            ∙ ap (option_and_then (lined.left_from node (line_place line lines) (lined.journey_of network lines))) entered.there
+            ∙ ap (option_and_then (λ (copy : ℕ). option_map (lined.with_stay (line_place line lines) entered.e) (lined.journey_of network lines copy))) copy_is
+            ∙ ap (option_map (lined.with_stay (line_place line lines) entered.e)) prior.there;
         tells = record {
           origin = subst (λ (o : Place). TellsPlace network o prior.by_lines.origin) (same_origin here from.0 from.2 journey from.6) prior.tells.origin;
           stays = subst (λ (s : _). TellsStays network s by_lines.stays) (sym on.1) stays;
@@ -147,7 +147,7 @@ each_journey_is_told network (event ∷ earlier) (line ∷ lines) tag journey to
 
     unfolded : Bool → Bool → Option lined.Journey
     unfolded here counted = if here
-        then (if counted then lined.journey_made network line.event (entry line lines) (lined.journey_of network lines) else None)
+        then (if counted then lined.journey_made network line.event (line_place line lines) (lined.journey_of network lines) else None)
         else lined.journey_of network lines tag
 
     at : (same : Bool) → (length earlier == tag) ≡ same → (if same then made.journey_made event earlier (made.journey_of earlier) else made.journey_of earlier tag) ≡ Some journey

@@ -13,7 +13,7 @@ use Rattle.network_model.specs.Outcome.{outcome_of, IsRun}
 use Rattle.network_model.specs.Premises.{is_of_use}
 use Rattle.trace_model.specs.declared.line.TraceLine.{TraceLine}
 use Rattle.trace_model.specs.Line.{Lines, counts, may_happen}
-use Rattle.trace_model.specs.Record.{Entry, line_at, reads_right}
+use Rattle.trace_model.specs.Record.{LinePlace, line_at, reads_right}
 use Rattle.trace_model.specs.Journey as lined
 use Rattle.trace_model.specs.Told.{TellsEvent, TellsRun}
 
@@ -42,13 +42,13 @@ EachLineIsGood =
     → IsGood network event earlier line
 
 -- a line and those before it tell an event of a run and those before it
-pub record TellsPlace (network : Network) (p : Place) (e : Entry) : Type 0 where
+pub record TellsPlace (network : Network) (p : Place) (e : LinePlace) : Type 0 where
   pub told : TellsEvent network p.event p.earlier e.line
   pub before : TellsRun network p.earlier e.earlier
 
 -- lines have a line of this number that counts, and that tells an event
 pub record HasLine (network : Network) (lines : Lines) (number : ℕ) (p : Place) : Type 0 where
-  pub e : Entry
+  pub e : LinePlace
   pub there : line_at network lines number ≡ Some e
   pub tells : TellsPlace network p e
 
@@ -60,14 +60,14 @@ EachEventHasItsLine =
     → HasLine network lines tag p
 
 -- a line has the reading of the event that it tells, and that is what the clock showed by the lines before it
-pub record IsRecorded (network : Network) (p : Place) (e : Entry) : Type 0 where
+pub record IsRecorded (network : Network) (p : Place) (e : LinePlace) : Type 0 where
   pub reading : e.line.reading ≡ Some (reading p)
   pub right : reads_right network e ≡ true
 
 -- Each line that tells an event with a true moment has its reading, the one that the lines before it ask for.
 abbrev pub EachEventIsRecorded : Type 0
 EachEventIsRecorded =
-    (network : Network) (p : Place) (e : Entry) → IsRun network (until p) → TellsPlace network p e
+    (network : Network) (p : Place) (e : LinePlace) → IsRun network (until p) → TellsPlace network p e
     → is_some (true_moment p.event) ≡ true → IsRecorded network p e
 
 -- two lines tell a stay in a clock

@@ -7,3 +7,4 @@ pub mod Sound
 pub mod Verdict
 pub mod Told
 pub mod Faithful
+pub mod Soundness
