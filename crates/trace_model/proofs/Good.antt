@@ -40,7 +40,7 @@ use Rattle.trace_model.specs.Told.{TellsMade, TellsOutcome, TellsEvent, heard_ou
 use Rattle.trace_model.specs.Faithful.{is_effective, took_effect, IsGood, EachLineIsGood}
 
 -- what a node is that was asked to be something
-node_is : {X : Type 0} (wanted : NodeKind → Option X) (network : Network) (node : NodeName) {x : X} → node_as wanted network node ≡ Ok x
+pub node_is : {X : Type 0} (wanted : NodeKind → Option X) (network : Network) (node : NodeName) {x : X} → node_as wanted network node ≡ Ok x
     → option_and_then wanted (kind_of network node) ≡ Some x
 node_is wanted network node {x = x} is = by (kind_of network node) is
   where
@@ -64,7 +64,7 @@ clock_is network node {clock = clock} is = by (kind_of network node) (node_is cl
     by (Some kinds.Clock) is = refl
 
 -- a master or a slave, at which a message arrives
-port_is : (network : Network) (node : NodeName) (own : NodeKind) → node_as port_of network node ≡ Ok own → kind_of network node ≡ Some own
+pub port_is : (network : Network) (node : NodeName) (own : NodeKind) → node_as port_of network node ≡ Ok own → kind_of network node ≡ Some own
 port_is network node own is = by (kind_of network node) (node_is port_of network node {x = own} is)
   where
     by : (kind : Option NodeKind) → option_and_then port_of kind ≡ Some own → kind ≡ Some own
@@ -90,7 +90,7 @@ heard_told answers.Completed = refl
 heard_told (answers.Report report) = refl
 heard_told (answers.Ignored reason) = refl
 
-the_value : (one other : Outcome) → ◌≡◌ {A = Result Outcome WorldRefusal} (Ok one) (Ok other) → one ≡ other
+pub the_value : (one other : Outcome) → ◌≡◌ {A = Result Outcome WorldRefusal} (Ok one) (Ok other) → one ≡ other
 the_value one other is = cc
 
 -- what came of an event that makes a message or is refused

@@ -3,12 +3,14 @@ use Rattle.std.proofs.Common.{◌≡◌, ◌∙◌, ℕ, ◌+◌, ◌≤◌, ◌
 use Rattle.std.specs.Prelude.{◌==◌, ◌&&◌, count_by}
 use Rattle.network_model.specs.declared.event.Event.{Event}
 use Rattle.network_model.specs.Network.{Network, NodeName}
-use Rattle.network_model.specs.Run.{Run, Place, place, place_at, events_after}
+use Rattle.network_model.specs.Run.{Run, Place, place, place_at, tag_of, IsIn, events_after}
 use Rattle.network_model.specs.Kinds.{is_at, is_sync, is_follow, is_set_master}
 use Rattle.network_model.specs.Numbering.{waiting_sync}
 use Rattle.network_model.specs.Present.{last_set_master}
 use Rattle.network_model.specs.Outcome.{outcome_of}
+use Rattle.network_model.proofs.Places.{place_at-later}
 use Rattle.network_model.proofs.Sites.{at_kind}
+use Rattle.network_model.proofs.Journeys.{IsIn-last}
 use Rattle.network_model.proofs.Sequences.{count-yes, count-no}
 use Rattle.trace_model.specs.declared.line.TraceLine.{TraceLine}
 use Rattle.trace_model.specs.Line.{Lines, counts}
@@ -101,3 +103,15 @@ last_told network kind certain node (event ∷ earlier) (line ∷ lines) p told 
         neither : (x y : Bool) → y ≡ false → (x && y) ≡ false
         neither true y none = none
         neither false y none = refl
+
+-- the last event of a kind at a node is one of the run
+pub last_at-is : (kind : Event → Bool) (node : NodeName) (run : Run) (p : Place) → last_at kind node run ≡ Some p → IsIn run p × (is_at kind node p.event ≡ true)
+last_at-is kind node [] p last = cc
+last_at-is kind node (event ∷ earlier) p last = by (is_at kind node event) refl last (last_at-is kind node earlier p)
+  where
+    by : (is : Bool) → is_at kind node event ≡ is → (if is then Some (place event earlier) else last_at kind node earlier) ≡ Some p
+        → (last_at kind node earlier ≡ Some p → IsIn earlier p × (is_at kind node p.event ≡ true)) → IsIn (event ∷ earlier) p × (is_at kind node p.event ≡ true)
+    by true is last before =
+        let same : place event earlier ≡ p = cc in
+        (subst (λ (o : Place). IsIn (event ∷ earlier) o) same (IsIn-last event earlier), subst (λ (o : Place). is_at kind node o.event ≡ true) same is)
+    by false is last before = let found = before last in (place_at-later event earlier (tag_of p) p found.0, found.1)

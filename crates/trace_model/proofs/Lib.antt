@@ -8,3 +8,6 @@ pub mod Left
 pub mod Travelled
 pub mod Stays
 pub mod Soundness
+pub mod Packets
+pub mod Written
+pub mod Octets

@@ -141,19 +141,19 @@ drawn_certain _ other is = cc
 
 module _ (network : Network) (p : Place) (e : LinePlace) (tells : TellsPlace network p e) where
   -- what the clock showed
-  shown_told : shown_at (place_of network e) ≡ shown_at p
+  pub shown_told : shown_at (place_of network e) ≡ shown_at p
   shown_told =
       ap (λ (event : Event). shown_at (place event (events network e.earlier))) (event_told network p.event p.earlier e.line tells.told)
       ∙ ap (λ (d : ℤ). option_map (λ (at : ℕ). pos at +ℤ d) (true_moment p.event)) (difference_told network (site_of p.event) p.earlier e.earlier tells.before)
 
   -- the number that is drawn
-  sequence_told : (port : PortSetup) → sequence network port e ≡ of_count (number_of port p)
+  pub sequence_told : (port : PortSetup) → sequence network port e ≡ of_count (number_of port p)
   sequence_told port =
       ap (λ (event : Event). of_count (number_of port (place event (events network e.earlier)))) (event_told network p.event p.earlier e.line tells.told)
       ∙ ap (λ (n : ℕ). of_count (port.first + n)) (count_told network (draws_with p.event) (drawn_certain p.event) p.earlier e.earlier tells.before)
 
   -- the reading that was told
-  read_told : IsRun network (until p) → is_some (true_moment p.event) ≡ true → (e.line.reading ≡ Some (reading p)) × (reads_right network e ≡ true)
+  pub read_told : IsRun network (until p) → is_some (true_moment p.event) ≡ true → (e.line.reading ≡ Some (reading p)) × (reads_right network e ≡ true)
   read_told accepted timed =
       let shown : shown_at p ≡ Some (pos (reading p)) = shown_reading network (until p) p accepted (IsIn-last p.event p.earlier) timed in
       let said : e.line.reading ≡ reading_of p = tells.told.told.reading ∙ tells.told.answered.reading in
