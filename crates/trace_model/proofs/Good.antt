@@ -74,7 +74,7 @@ port_is network node own is = by (kind_of network node) (node_is port_of network
     by (Some kinds.Clock) is = cc
 
 -- what lines have of outcomes
-made_told : (copy : Option Contents) (out : TraceOut) → TellsMade copy out → is_made out ≡ true
+pub made_told : (copy : Option Contents) (out : TraceOut) → TellsMade copy out → is_made out ≡ true
 made_told copy outs.Done told = absurd told
 made_told copy (outs.Made octets) told = refl
 made_told copy outs.Entered told = absurd told

@@ -11,3 +11,4 @@ pub mod Soundness
 pub mod Packets
 pub mod Written
 pub mod Octets
+pub mod Exchanges
