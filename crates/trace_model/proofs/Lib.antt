@@ -12,3 +12,4 @@ pub mod Packets
 pub mod Written
 pub mod Octets
 pub mod Exchanges
+pub mod Measured
