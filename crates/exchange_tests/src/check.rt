@@ -391,43 +391,6 @@ fn another_stay_that_is_left_twice(rt: HostRuntime) -> Result<(), Fail> {
     Ok(())
 }
 
-/// The verdict is that of ample memory, or memory was refused.
-#[test]
-fn checks_whatever_memory_there_is(rt: HostRuntime) -> Result<(), Fail> {
-    let Ok(nodes) = Nodes::new(rt.alloc(), &specs()?) else {
-        return Ok(());
-    };
-    match check(rt.alloc(), &nodes, &exchange()?) {
-        Ok(verdict) => assert_eq!(rt; verdict, Verdict::Accepted(1)),
-        Err(why) => assert_eq!(rt; why, CheckFault::Memory),
-    }
-    Ok(())
-}
-
-/// Where memory was refused for a line, the same line, made anew, can be fed again, and the verdict
-/// is that of ample memory.
-#[test]
-fn feeds_whatever_memory_there_is(rt: HostRuntime) -> Result<(), Fail> {
-    let Ok(nodes) = Nodes::new(rt.alloc(), &specs()?) else {
-        return Ok(());
-    };
-    let mut checker = match Checker::new(rt.alloc(), nodes) {
-        Ok(checker) => checker,
-        Err(why) => {
-            assert_eq!(rt; why, CheckFault::Memory);
-            return Ok(());
-        }
-    };
-    for (line, again) in exchange()?.into_iter().zip(exchange()?) {
-        if let Err(why) = checker.feed(line) {
-            assert_eq!(rt; why, CheckFault::Memory);
-            checker.feed(again)?;
-        }
-    }
-    assert_eq!(rt; checker.verdict(), Verdict::Accepted(1));
-    Ok(())
-}
-
 /// The number of a line, what stands there instead, and why the report isn't sound then.
 type Change = (usize, TraceLine, Why);
 
@@ -485,6 +448,49 @@ fn one_line_changed(rt: HostRuntime) -> Result<(), Fail> {
             "{number}"
         );
     }
+    Ok(())
+}
+
+/// The verdict is that of ample memory, or memory was refused, and the same lines get it then.
+#[test]
+fn checks_whatever_memory_there_is(rt: HostRuntime) -> Result<(), Fail> {
+    let Ok(nodes) = Nodes::new(rt.alloc(), &specs()?) else {
+        return Ok(());
+    };
+    let lines = exchange()?;
+    let verdict = match check(rt.alloc(), &nodes, &lines) {
+        Ok(verdict) => verdict,
+        Err(fault) => {
+            assert_eq!(rt; fault, CheckFault::Memory);
+            check(rt.alloc(), &nodes, &lines)?
+        }
+    };
+    assert_eq!(rt; verdict, Verdict::Accepted(1));
+    Ok(())
+}
+
+/// A line that is refused for want of memory changes nothing, and can be fed again.
+#[test]
+fn is_fed_whatever_memory_there_is(rt: HostRuntime) -> Result<(), Fail> {
+    let Ok(nodes) = Nodes::new(rt.alloc(), &specs()?) else {
+        return Ok(());
+    };
+    let mut checker = match Checker::new(rt.alloc(), nodes) {
+        Ok(checker) => checker,
+        Err(fault) => {
+            assert_eq!(rt; fault, CheckFault::Memory);
+            return Ok(());
+        }
+    };
+    for (line, again) in exchange()?.into_iter().zip(exchange()?) {
+        let before = checker.verdict();
+        if let Err(fault) = checker.feed(line) {
+            assert_eq!(rt; fault, CheckFault::Memory);
+            assert_eq!(rt; checker.verdict(), before);
+            checker.feed(again)?;
+        }
+    }
+    assert_eq!(rt; checker.verdict(), Verdict::Accepted(1));
     Ok(())
 }
 
