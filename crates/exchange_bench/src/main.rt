@@ -2,9 +2,12 @@
 //! encoded, as often as the arguments say: `exchange 1000000`, or `codec 1000000` over the octets
 //! of a Sync, a Follow_Up, a Delay_Req and a Delay_Resp on standard input; or numbers put in a table
 //! and sought there, `list16`, `ring16`, `list256` or `ring256`; or exchanges through two clocks, of
-//! so many events, in a `world`, which then tells its memory, or by calls of the `ports`.
+//! so many events, in a `world`, which then tells its memory, or by calls of the `ports`; or so many
+//! lines that a checker is fed, of whole exchanges, `checked`, which then tells the memory, or of one
+//! `journey` that is reported again and again.
 #![tactic(auto)]
 
+mod checked;
 mod networks;
 mod tables;
 
@@ -152,6 +155,16 @@ fn main(rt: HostRuntime) -> io::Result<()> {
             println!(rt; "{reports} reports")?;
             let status = fs::read_to_string(&rt, "/proc/self/status")?;
             return println!(rt; "{} kB", kilobytes(status.as_str()));
+        }
+        "checked" => {
+            let verdict = checked::mixed(rt.alloc(), rounds);
+            println!(rt; "{verdict:?}")?;
+            let status = fs::read_to_string(&rt, "/proc/self/status")?;
+            return println!(rt; "{} kB", kilobytes(status.as_str()));
+        }
+        "journey" => {
+            let verdict = checked::long_journey(rt.alloc(), rounds);
+            return println!(rt; "{verdict:?}");
         }
         "ports" => {
             let reports = networks::reports_of_ports(rounds).unwrap_or(0);

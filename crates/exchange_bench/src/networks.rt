@@ -12,15 +12,15 @@ const EVENTS: u64 = 16;
 
 /// A master, a clock near it, one near the slave, and the slave.
 #[derive(Clone, Copy)]
-struct Names {
-    master: Name,
-    near: Name,
-    far: Name,
-    slave: Name,
+pub struct Names {
+    pub master: Name,
+    pub near: Name,
+    pub far: Name,
+    pub slave: Name,
 }
 
 impl Names {
-    fn new() -> Option<Names> {
+    pub fn new() -> Option<Names> {
         Some(Names {
             master: Name::new("M")?,
             near: Name::new("T1")?,
@@ -31,17 +31,17 @@ impl Names {
 }
 
 /// The slave is told its master.
-fn set_master(names: &Names) -> Event {
+pub fn set_master(names: &Names) -> Event {
     Event::SetMaster {
         node: names.slave,
         master: names.master,
     }
 }
 
-/// A world of these nodes, in which the slave follows the master.
-fn world_of(alloc: Global, names: &Names) -> Option<World> {
+/// The nodes of these names.
+pub fn nodes_of(names: &Names) -> [NodeSpec; 4] {
     let first = Seq(0);
-    let specs = [
+    [
         (
             names.master,
             NodeKind::Master {
@@ -59,8 +59,12 @@ fn world_of(alloc: Global, names: &Names) -> Option<World> {
             },
         ),
     ]
-    .map(|(name, kind)| NodeSpec { name, kind });
-    let nodes = Nodes::new(alloc, &specs).ok()?;
+    .map(|(name, kind)| NodeSpec { name, kind })
+}
+
+/// A world of these nodes, in which the slave follows the master.
+fn world_of(alloc: Global, names: &Names) -> Option<World> {
+    let nodes = Nodes::new(alloc, &nodes_of(names)).ok()?;
     let mut world = World::new(alloc, nodes).ok()?;
     match world.step(&set_master(names)) {
         Ok(_) => Some(world),
@@ -69,7 +73,7 @@ fn world_of(alloc: Global, names: &Names) -> Option<World> {
 }
 
 /// One exchange, whose first event has this tag.
-fn exchange(names: &Names, first: u64, second: u64) -> [Event; 16] {
+pub fn exchange(names: &Names, first: u64, second: u64) -> [Event; 16] {
     let tag = |place: u64| first.wrapping_add(place);
     let at = |nanoseconds: u32| moment(second, nanoseconds);
     let Names {
