@@ -13,3 +13,4 @@ pub mod Written
 pub mod Octets
 pub mod Exchanges
 pub mod Measured
+pub mod Complete

@@ -1,6 +1,7 @@
 //! Laws of lines, each the contract of a function that does nothing: a caller that needs the law in its
 //! proof calls it.
 
+ghost use Rattle.trace_model.specs.Complete.{Complete};
 ghost use Rattle.trace_model.specs.Faithful.{EachEventHasItsLine, EachEventIsRecorded, EachJourneyIsTold, EachLineIsGood};
 ghost use Rattle.trace_model.specs.Soundness.{ReasonsMissNothing, VerdictsTellSoundness};
 
@@ -35,4 +36,12 @@ pub fn each_reading_is_recorded()
 /// of the same event, and each of its stays is the stay of the same two events.
 pub fn each_journey_is_told()
     ensures { EachJourneyIsTold }
+{}
+
+/// The checker misses nothing. Over runs of any length that are fresh and ticked, each line that tells
+/// a report meets every condition of a sound line, first those on lines, journeys, masters, readings
+/// and results, then those on octets. So lines that tell the run are accepted, with the number of its
+/// reports.
+pub fn verdicts_miss_nothing()
+    ensures { Complete }
 {}

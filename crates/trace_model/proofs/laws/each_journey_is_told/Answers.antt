@@ -5,6 +5,7 @@ use Rattle.trace_model.proofs.Written.{drawn_written}
 use Rattle.trace_model.proofs.Octets.{arrival_written}
 use Rattle.trace_model.proofs.Exchanges.{passes}
 use Rattle.trace_model.proofs.Measured.{followed}
+use Rattle.trace_model.proofs.Complete.{IsSoundSo}
 use Rattle.trace_model.proofs.laws.each_journey_is_told.Goals as goal
 
 pub returns : goal.returns
