@@ -14,7 +14,7 @@ gives, in one line,
   Sync sdo=000 version=2.1 domain=0 flags=0200 correction=0 specific=00000000
   source=001122fffe334455/1 seq=0 control=0 log=0 stamp=0.000000000 suffix=0 used=44
 A correction counts units of 2^-16 ns, or is too-big. A stamp has seconds and nanoseconds. suffix is
-the count of octets behind the fields, and used is messageLength. A Delay_Resp has requesting, too.
+the count of octets after the fields, and used is messageLength. A Delay_Resp has requesting, too.
 
 Refusals, each an answer to its line:
   refused 201          there are fewer than the 34 octets of a header
@@ -30,7 +30,7 @@ from 1, and what was written for those before stands. Line 0 is before all lines
   802  the output can't be written
   803  a line has more than 4096 octets
   804  an octet comes after the last of 1048576 lines
-  806  a line isn't hexadecimal, or has an odd number of digits
+  806  a line isn't pairs of hexadecimal digits
   808  memory was refused
 
 Exit statuses:
