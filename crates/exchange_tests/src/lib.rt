@@ -36,6 +36,8 @@ mod slave;
 #[cfg(test)]
 mod tables;
 #[cfg(test)]
+mod traces;
+#[cfg(test)]
 mod units;
 #[cfg(test)]
 mod values;
