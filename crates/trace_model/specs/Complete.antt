@@ -14,6 +14,7 @@ use Rattle.network_model.specs.Kinds.{draws_sync, is_request}
 use Rattle.network_model.specs.Outcome.{outcome_of}
 use Rattle.network_model.specs.Premises.{Premise, exact_limits, IsFreshAndTicked}
 use Rattle.network_model.specs.Reported.{Reports}
+use Rattle.trace_model.specs.declared.verdict.Verdict.{Verdict}
 use Rattle.trace_model.specs.declared.verdict.Verdict.TheVariants.{Accepted}
 use Rattle.trace_model.specs.Line.{Lines}
 use Rattle.trace_model.specs.Record.{LinePlace, site}
@@ -72,6 +73,11 @@ abbrev pub reports_in : Network → Run → ℕ
 reports_in network [] = 0
 reports_in network (event ∷ earlier) =
     if answers_report (outcome_of network earlier event) then reports_in network earlier + 1 else reports_in network earlier
+
+-- a verdict accepts the truth: where its lines tell a run that meets the premise, it is accepted, with the number of the run's reports
+abbrev pub AcceptsTruth : Premise → Network → Lines → Verdict → Type 0
+AcceptsTruth premise network lines answer =
+    (run : Run) → premise network run → TellsRun network run lines → answer ≡ Accepted (reports_in network run)
 
 -- Lines that tell a run are accepted, with the number of its reports.
 abbrev pub MissesNothing : Premise → Type 0
