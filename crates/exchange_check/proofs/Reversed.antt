@@ -28,7 +28,7 @@ next_kept network lines next line kept count after same front total h =
 reverse_push : (lines : List TraceLine) (line : TraceLine) → reverse (lines ++ line ∷ []) ≡ line ∷ reverse lines
 reverse_push lines line = grind (arith, common_steps)
 
--- with a line behind the others
+-- with a line after the others
 pub IsKept-push : (network : Network) (lines : List TraceLine) (line : TraceLine) (kept : Kept)
     → IsKept kept (length lines + 1) (after_line network line (length lines) (machine network (reverse lines)))
     → IsKept kept (length (lines ++ line ∷ [])) (machine network (reverse (lines ++ line ∷ [])))

@@ -1,11 +1,13 @@
 ghost use Rattle.std.specs.Prelude.{◌≡◌};
 
 use std::alloc::{AllocError, AllocFailed};
+use thiserror::Error;
 
 /// Why there is no verdict.
-#[derive(Clone, Copy, Debug, PartialEq, Eq)]
+#[derive(Clone, Copy, Debug, PartialEq, Eq, Error)]
 pub enum CheckFault {
     /// Memory for a growth was refused.
+    #[error("memory was refused")]
     Memory,
 }
 

@@ -26,6 +26,8 @@ mod nodes;
 #[cfg(test)]
 mod program;
 #[cfg(test)]
+mod refusals;
+#[cfg(test)]
 mod script;
 #[cfg(test)]
 mod show;
@@ -34,6 +36,10 @@ mod slave;
 #[cfg(test)]
 mod tables;
 #[cfg(test)]
+mod traces;
+#[cfg(test)]
 mod units;
+#[cfg(test)]
+mod values;
 #[cfg(test)]
 mod worlds;

@@ -63,7 +63,7 @@ journey_made network (Tick node) e journeys = None
 journey_made network (SetMaster node master) e journeys = None
 journey_made network (StepClock node diff) e journeys = None
 
--- the journey of the copy that the line of this number made, where that is a copy of a Sync or Delay_Req
+-- the journey of the copy that the line of this number made, where that is an event message
 abbrev pub journey_of : Network → Lines → ℕ → Option Journey
 journey_of network [] n = None
 journey_of network (line ∷ earlier) n =

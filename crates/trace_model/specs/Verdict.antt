@@ -1,4 +1,4 @@
--- The verdict on lines: the first report line that isn't sound, or how many there are.
+-- The verdict on lines: how many reports there are, or the first that isn't sound.
 use Rattle.std.specs.Prelude.{ℕ, ◌+◌, [], ◌∷◌, Option, Some, None, option_map}
 use Rattle.slave_port.specs.declared.heard.Report.{Report}
 use Rattle.network_model.specs.Network.{Network}
