@@ -22,17 +22,18 @@ use Rattle.network_model.specs.Truth.{copy_of, master_at, slave_at}
 use Rattle.network_model.specs.Journey as made
 use Rattle.network_model.specs.Present.{last_set_master}
 use Rattle.network_model.specs.Outcome.{outcome_of, IsRun}
-use Rattle.network_model.specs.Premises.{Premise, exact_limits, IsAcceptedRun, IsFreshAndTicked}
+use Rattle.network_model.specs.Premises.{Premise, exact_limits, IsAcceptedRun, IsFreshAndTicked, IsWithinTurn}
 use Rattle.network_model.specs.Reported.{Reports}
-use Rattle.network_model.specs.Exact.{Arrives, HearsOf, OfPresentMaster, AreLater, IsMeasurement}
+use Rattle.network_model.specs.Exact.{Arrives, HearsOf, OfPresentMaster, AreLater, IsOfOneSync, IsOfOneRequest, IsMeasurement}
 use Rattle.network_model.specs.Evidence.{HasEvidence, ShareDomain, WasStamped}
 use Rattle.network_model.proofs.Places.{IsIn-place_at, IsIn-within, tag_of-place_at, place_at-bound}
 use Rattle.network_model.proofs.Sites.{named-self, at_kind, at_site}
+use Rattle.network_model.proofs.Sequences.{count-more}
 use Rattle.network_model.proofs.Journeys.{IsIn-origin}
 use Rattle.network_model.proofs.Readings.{sync_timed, request_timed}
 use Rattle.network_model.proofs.Reach.{last_set_master-later}
 use Rattle.network_model.proofs.Pairing.{fresh_ticked_shorter}
-use Rattle.network_model.proofs.Reports.{report_event, each_of_one_sync, each_of_one_request}
+use Rattle.network_model.proofs.Reports.{report_event, each_of_one_sync, each_of_one_request, each_of_one_sync-one_turn, each_of_one_request-one_turn}
 use Rattle.network_model.proofs.Twice.{each_twice}
 use Rattle.network_model.proofs.TrueTime.{origin_drawn}
 use Rattle.network_model.proofs.Evidence.{each_has_evidence}
@@ -49,7 +50,7 @@ use Rattle.trace_model.specs.Verdict.{report_in, verdict}
 use Rattle.trace_model.specs.Soundness.{ReportLine, AllSound, report_count}
 use Rattle.trace_model.specs.Told.{TellsMade, TellsOutcome, TellsEvent, TellsRun, heard_out}
 use Rattle.trace_model.specs.Faithful.{took_effect, TellsPlace}
-use Rattle.trace_model.specs.Complete.{HasExchange, EachReportHasExchange, EachExchangeIsWritten, is_report, answers_report, reports_in, MissesNothing, Complete}
+use Rattle.trace_model.specs.Complete.{HasExchange, EachReportHasExchange, EachExchangeIsWritten, is_report, answers_report, reports_in, MissesNothing, Complete, CompleteWithinOneTurn}
 use Rattle.trace_model.proofs.Soundness.{verdicts_tell_soundness}
 use Rattle.trace_model.proofs.Certain.{set_master_certain}
 use Rattle.trace_model.proofs.Found.{same_event, same_number, line_counts}
@@ -290,19 +291,40 @@ report_told copy (outcomes.Heard (answers.Report other)) out report told is =
 report_told copy (outcomes.Heard (answers.Ignored reason)) out report told is = let none : None ≡ Some report = sym (ap report_in told) ∙ is in cc
 report_told copy (outcomes.Refused code) out report told is = let none : None ≡ Some report = sym (ap report_in told) ∙ is in cc
 
--- each report of a run that is fresh and ticked
-each_sound : (network : Network) (answered : Place) (e : LinePlace) (report : Report) → IsFreshAndTicked exact_limits network (until answered) → TellsPlace network answered e
-    → Reports network answered report → IsSoundSo network e report
-each_sound network answered e report premise tells reports =
-    let plain : IsAcceptedRun network (until answered) = record { apart = premise.apart; accepted = premise.accepted } in
-    let one_sync = each_of_one_sync network answered report premise reports in
-    let one_request = each_of_one_request network answered report premise reports in
+-- each report that is of one Sync and of one Delay_Req
+sound_of : (network : Network) (answered : Place) (e : LinePlace) (report : Report) → IsAcceptedRun network (until answered) → TellsPlace network answered e
+    → Reports network answered report → IsOfOneSync (until answered) (site_of answered.event) report → IsOfOneRequest (until answered) (site_of answered.event) report
+    → IsSoundSo network e report
+sound_of network answered e report premise tells reports one_sync one_request =
     let measured : IsMeasurement (until answered) (site_of answered.event) report =
-    record { one_sync = one_sync; one_request = one_request; exact = each_twice network answered report plain reports one_sync one_request } in
-    sound network answered e report tells reports measured (each_has_evidence network answered report plain reports measured)
+    record { one_sync = one_sync; one_request = one_request; exact = each_twice network answered report premise reports one_sync one_request } in
+    sound network answered e report tells reports measured (each_has_evidence network answered report premise reports measured)
 
-pub each_report_has_exchange : EachReportHasExchange (IsFreshAndTicked exact_limits)
-each_report_has_exchange network answered e report premise tells reports = (each_sound network answered e report premise tells reports).has
+-- each report line of a run that meets a premise is sound
+abbrev EachIsSound : Premise → Type 0
+EachIsSound premise =
+    (network : Network) (answered : Place) (e : LinePlace) (report : Report) → premise network (until answered) → TellsPlace network answered e
+    → Reports network answered report → IsSoundSo network e report
+
+fresh_sound : EachIsSound (IsFreshAndTicked exact_limits)
+fresh_sound network answered e report premise tells reports =
+    sound_of network answered e report (record { apart = premise.apart; accepted = premise.accepted }) tells reports
+    (each_of_one_sync network answered report premise reports) (each_of_one_request network answered report premise reports)
+
+turn_sound : EachIsSound IsWithinTurn
+turn_sound network answered e report premise tells reports =
+    sound_of network answered e report (record { apart = premise.apart; accepted = premise.accepted }) tells reports
+    (each_of_one_sync-one_turn network answered report premise reports) (each_of_one_request-one_turn network answered report premise reports)
+
+turn_shorter : (network : Network) (event : Event) (earlier : Run) → IsWithinTurn network (event ∷ earlier) → IsWithinTurn network earlier
+turn_shorter network event earlier premise = record {
+  apart = premise.apart;
+  accepted = premise.accepted.1;
+  one_turn = record {
+    syncs = λ node. let few = premise.one_turn.syncs node in omega (arith, count-more (is_at draws_sync node) event earlier);
+    requests = λ node. let few = premise.one_turn.requests node in omega (arith, count-more (is_at is_request node) event earlier);
+  };
+}
 
 -- whatever exchange a report line has, it is this one
 same_exchange : (network : Network) (e : LinePlace) (report : Report) (one other : HasExchange network e report)
@@ -316,47 +338,44 @@ same_exchange network e report one other octets =
     let request : one.request ≡ other.request = cc in
     (λ i. are_octets network (sym x i) (sym sync i) (sym request i)) ∙ octets
 
-pub each_exchange_is_written : EachExchangeIsWritten (IsFreshAndTicked exact_limits)
-each_exchange_is_written network answered e report premise tells reports has =
-    let is = each_sound network answered e report premise tells reports in same_exchange network e report is.has has is.octets
+module _ (premise : Premise) (shorter : (network : Network) (event : Event) (earlier : Run) → premise network (event ∷ earlier) → premise network earlier) (each : EachIsSound premise) where
+  -- a report line is sound
+  sound_line : (network : Network) (event : Event) (earlier : Run) (e : LinePlace) (report : Report) → premise network (event ∷ earlier)
+      → TellsPlace network (place event earlier) e → report_in e.line.out ≡ Some report → Sound network e report
+  sound_line network event earlier e report holds tells is =
+      let stepped = tells.told.stepped in
+      let answered = report_told (copy_of network (event ∷ earlier) stepped.tag) stepped.outcome e.line.out report tells.told.told.outcome is in
+      let reports : Reports network (place event earlier) report = tells.told.answered.outcome ∙ ap Ok answered in
+      let all = each network (place event earlier) e report holds tells reports in
+      let has = all.has in
+      record {
+        x = has.x;
+        sync = has.sync;
+        request = has.request;
+        lines = has.lines;
+        sync_unbroken = has.sync_unbroken;
+        request_unbroken = has.request_unbroken;
+        paired = has.paired;
+        of_master = has.of_master;
+        readings = has.readings;
+        sync_fits = has.sync_fits;
+        request_fits = has.request_fits;
+        results = has.results;
+        octets = all.octets;
+      }
 
--- a report line is sound
-sound_line : (network : Network) (event : Event) (earlier : Run) (e : LinePlace) (report : Report) → IsFreshAndTicked exact_limits network (event ∷ earlier)
-    → TellsPlace network (place event earlier) e → report_in e.line.out ≡ Some report → Sound network e report
-sound_line network event earlier e report premise tells is =
-    let stepped = tells.told.stepped in
-    let answered = report_told (copy_of network (event ∷ earlier) stepped.tag) stepped.outcome e.line.out report tells.told.told.outcome is in
-    let reports : Reports network (place event earlier) report = tells.told.answered.outcome ∙ ap Ok answered in
-    let whole = each_sound network (place event earlier) e report premise tells reports in
-    let has = whole.has in
-    record {
-      x = has.x;
-      sync = has.sync;
-      request = has.request;
-      lines = has.lines;
-      sync_unbroken = has.sync_unbroken;
-      request_unbroken = has.request_unbroken;
-      paired = has.paired;
-      of_master = has.of_master;
-      readings = has.readings;
-      sync_fits = has.sync_fits;
-      request_fits = has.request_fits;
-      results = has.results;
-      octets = whole.octets;
-    }
+  -- all report lines are
+  sound_behind : (network : Network) (run : Run) (later : Lines) (e : LinePlace) (report : Report) → premise network run
+      → TellsRun network run (later ++ e.line ∷ e.earlier) → report_in e.line.out ≡ Some report → Sound network e report
+  sound_behind network [] [] e report holds tells is = absurd tells
+  sound_behind network [] (line ∷ later) e report holds tells is = absurd tells
+  sound_behind network (event ∷ earlier) [] e report holds tells is = sound_line network event earlier e report holds (record { told = tells.0; before = tells.1 }) is
+  sound_behind network (event ∷ earlier) (line ∷ later) e report holds tells is =
+      sound_behind network earlier later e report (shorter network event earlier holds) tells.1 is
 
--- all report lines are
-sound_behind : (network : Network) (run : Run) (later : Lines) (e : LinePlace) (report : Report) → IsFreshAndTicked exact_limits network run
-    → TellsRun network run (later ++ e.line ∷ e.earlier) → report_in e.line.out ≡ Some report → Sound network e report
-sound_behind network [] [] e report premise told is = absurd told
-sound_behind network [] (line ∷ later) e report premise told is = absurd told
-sound_behind network (event ∷ earlier) [] e report premise told is = sound_line network event earlier e report premise (record { told = told.0; before = told.1 }) is
-sound_behind network (event ∷ earlier) (line ∷ later) e report premise told is =
-    sound_behind network earlier later e report (fresh_ticked_shorter exact_limits network event earlier premise) told.1 is
-
-all_sound : (network : Network) (run : Run) (lines : Lines) → IsFreshAndTicked exact_limits network run → TellsRun network run lines → AllSound network lines
-all_sound network run lines premise told e report line =
-    sound_behind network run line.later e report premise (subst (TellsRun network run) line.there told) line.reports
+  all_sound : (network : Network) (run : Run) (lines : Lines) → premise network run → TellsRun network run lines → AllSound network lines
+  all_sound network run lines holds tells e report line =
+      sound_behind network run line.later e report holds (subst (TellsRun network run) line.there tells) line.reports
 
 -- the reports of a run are those of its lines
 heard_reports : (answer : Heard) → is_some (report_in (heard_out answer)) ≡ is_report answer
@@ -399,9 +418,29 @@ counted_alike network (event ∷ earlier) (line ∷ lines) told =
     by true false same more before = cc
     by false true same more before = cc
 
-pub misses_nothing : MissesNothing (IsFreshAndTicked exact_limits)
-misses_nothing network run lines premise told =
-    ((verdicts_tell_soundness network lines).accepted (reports_in network run)).1 (all_sound network run lines premise told, counted_alike network run lines told)
+module _ (premise : Premise) (shorter : (network : Network) (event : Event) (earlier : Run) → premise network (event ∷ earlier) → premise network earlier) (each : EachIsSound premise) where
+  -- each report line has its exchange, the octets of each are right, and all lines are accepted
+  exchanges_of : EachReportHasExchange premise
+  exchanges_of network answered e report holds tells reports = (each network answered e report holds tells reports).has
+
+  octets_of : EachExchangeIsWritten premise
+  octets_of network answered e report holds tells reports has =
+      let is = each network answered e report holds tells reports in same_exchange network e report is.has has is.octets
+
+  accepted_by : MissesNothing premise
+  accepted_by network run lines holds tells =
+      ((verdicts_tell_soundness network lines).accepted (reports_in network run)).1
+      (all_sound premise shorter each network run lines holds tells, counted_alike network run lines tells)
 
 pub complete : Complete
-complete = record { exchanges = each_report_has_exchange; octets = each_exchange_is_written; verdicts = misses_nothing }
+complete =
+    let premise : Premise = IsFreshAndTicked exact_limits in
+    let shorter = fresh_ticked_shorter exact_limits in
+    record { exchanges = exchanges_of premise shorter fresh_sound; octets = octets_of premise shorter fresh_sound; verdicts = accepted_by premise shorter fresh_sound }
+
+pub complete_within_one_turn : CompleteWithinOneTurn
+complete_within_one_turn = record {
+  exchanges = exchanges_of IsWithinTurn turn_shorter turn_sound;
+  octets = octets_of IsWithinTurn turn_shorter turn_sound;
+  verdicts = accepted_by IsWithinTurn turn_shorter turn_sound;
+}

@@ -14,3 +14,4 @@ pub mod Octets
 pub mod Exchanges
 pub mod Measured
 pub mod Complete
+pub mod Messages

@@ -69,7 +69,7 @@ forwarded_of : (sent : Result Contents ClockRefusal) → left_outcome sent ≡ o
 forwarded_of (Ok m) is = (m, refl)
 forwarded_of (Err refusal) is = cc
 
-left_written : (network : Network) (node : NodeName) (transit at : ℕ) (earlier : Run) (e : LinePlace) → TellsPlace network (place (Leave node transit at) earlier) e
+pub left_written : (network : Network) (node : NodeName) (transit at : ℕ) (earlier : Run) (e : LinePlace) → TellsPlace network (place (Leave node transit at) earlier) e
     → outcome_of network earlier (Leave node transit at) ≡ Ok outcomes.Made → writes_right network e ≡ true
 left_written network node transit at earlier e tells is =
     let left = left_parts network earlier node transit at outcomes.Made is in

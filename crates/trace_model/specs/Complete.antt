@@ -1,6 +1,6 @@
 -- The checker misses nothing: of lines that tell a run, each report line is sound. In two parts: all but the octets follows from
 -- the definitions of runs and from what exact reports are, and the octets from readings, numbers and what ports and clocks write.
--- `laws` promises each.
+-- `laws::verdicts_miss_nothing`, `laws::verdicts_miss_nothing_within_one_turn` and `laws::each_message_is_written` promise it.
 use Rattle.std.specs.Prelude.{◌≡◌, ℕ, ◌+◌, Bool, true, false, [], ◌∷◌, IsTrue, Some, Ok, Err, Result, if◌then◌else◌}
 use Rattle.slave_port.specs.declared.heard.Heard.{Heard}
 use Rattle.slave_port.specs.declared.heard.Heard.TheVariants as answers
@@ -12,13 +12,14 @@ use Rattle.network_model.specs.Network.{Network}
 use Rattle.network_model.specs.Run.{Run, Place, until}
 use Rattle.network_model.specs.Kinds.{draws_sync, is_request}
 use Rattle.network_model.specs.Outcome.{outcome_of}
-use Rattle.network_model.specs.Premises.{Premise, exact_limits, IsFreshAndTicked}
+use Rattle.network_model.specs.Premises.{Premise, exact_limits, IsFreshAndTicked, IsWithinTurn}
 use Rattle.network_model.specs.Reported.{Reports}
 use Rattle.trace_model.specs.declared.verdict.Verdict.{Verdict}
 use Rattle.trace_model.specs.declared.verdict.Verdict.TheVariants.{Accepted}
 use Rattle.trace_model.specs.Line.{Lines}
 use Rattle.trace_model.specs.Record.{LinePlace, site}
 use Rattle.trace_model.specs.Journey.{Journey}
+use Rattle.trace_model.specs.Octets.{writes_right}
 use Rattle.trace_model.specs.Sound.{Exchange, Sound, exchange_of, unbroken, are_paired, is_of_master, are_readings, fits, are_results, are_octets}
 use Rattle.trace_model.specs.Verdict.{verdict}
 use Rattle.trace_model.specs.Told.{TellsRun}
@@ -39,6 +40,12 @@ pub record HasExchange (network : Network) (e : LinePlace) (report : Report) : T
   pub sync_fits : IsTrue (fits sync)
   pub request_fits : IsTrue (fits request)
   pub results : IsTrue (are_results report x sync request)
+
+-- Each line that tells of a message that was made has the octets that its port or its clock writes, by the lines before it.
+abbrev pub EachMessageIsWritten : Type 0
+EachMessageIsWritten =
+    (network : Network) (p : Place) (e : LinePlace) → TellsPlace network p e → outcome_of network p.earlier p.event ≡ Ok outcomes.Made
+    → IsTrue (writes_right network e)
 
 -- Each line that tells a report has its exchange.
 abbrev pub EachReportHasExchange : Premise → Type 0
@@ -91,3 +98,9 @@ pub record Complete : Type 0 where
   pub exchanges : EachReportHasExchange (IsFreshAndTicked exact_limits)
   pub octets : EachExchangeIsWritten (IsFreshAndTicked exact_limits)
   pub verdicts : MissesNothing (IsFreshAndTicked exact_limits)
+
+-- The same where the numbers of no port have come round, however old what is heard and however rare the ticks.
+pub record CompleteWithinOneTurn : Type 0 where
+  pub exchanges : EachReportHasExchange IsWithinTurn
+  pub octets : EachExchangeIsWritten IsWithinTurn
+  pub verdicts : MissesNothing IsWithinTurn
