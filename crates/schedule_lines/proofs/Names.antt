@@ -19,7 +19,7 @@ IsName-from_test text h =
     let fits : length text ≤ 16 = grind (arith, nat_tests, p.1) in
     record { some = some; fits = fits; octets = AllPass-from_list_all is_name_octet text p.2 }
 
-test-from_IsName : (text : List ℕ) → IsName text → is_name text ≡ true
+pub test-from_IsName : (text : List ℕ) → IsName text → is_name text ≡ true
 test-from_IsName text name =
     let some : nat_le 1 (length text) ≡ true = grind (arith, nat_tests, name.some) in
     let fits : nat_le (length text) 16 ≡ true = grind (arith, nat_tests, name.fits) in
