@@ -13,8 +13,8 @@ use Rattle.trace_model.specs.Verdict.{verdict}
 use Rattle.trace_model.specs.Soundness.{TellsSoundness}
 use Rattle.trace_model.proofs.Soundness.{tells_soundness}
 use Rattle.trace_model.specs.Complete.{AcceptsTruth}
-use Rattle.trace_model.proofs.Complete.{misses_nothing}
-use Rattle.network_model.specs.Premises.{IsFreshAndTicked, exact_limits}
+use Rattle.trace_model.proofs.Complete.{complete, complete_within_one_turn}
+use Rattle.network_model.specs.Premises.{IsFreshAndTicked, IsWithinTurn, exact_limits}
 use Rattle.exchange_check.specs.Machine.{Machine, IsKept, machine, after_line}
 
 -- what is kept of one more line
@@ -67,4 +67,8 @@ TellsSoundness-of network lines answer h = subst (TellsSoundness network lines) 
 -- what the verdict's answer says of lines that tell a run
 pub AcceptsTruth-of : (network : Network) (lines : Lines) (answer : Verdict) → answer ≡ verdict network lines
     → AcceptsTruth (IsFreshAndTicked exact_limits) network lines answer
-AcceptsTruth-of network lines answer h run premise told = h ∙ misses_nothing network run lines premise told
+AcceptsTruth-of network lines answer h run premise told = h ∙ complete.verdicts network lines run premise told
+
+pub AcceptsTruth-within_one_turn : (network : Network) (lines : Lines) (answer : Verdict) → answer ≡ verdict network lines
+    → AcceptsTruth IsWithinTurn network lines answer
+AcceptsTruth-within_one_turn network lines answer h run premise told = h ∙ complete_within_one_turn.verdicts network lines run premise told

@@ -428,7 +428,7 @@ module _ (premise : Premise) (shorter : (network : Network) (event : Event) (ear
       let is = each network answered e report holds tells reports in same_exchange network e report is.has has is.octets
 
   accepted_by : MissesNothing premise
-  accepted_by network run lines holds tells =
+  accepted_by network lines run holds tells =
       ((verdicts_tell_soundness network lines).accepted (reports_in network run)).1
       (all_sound premise shorter each network run lines holds tells, counted_alike network run lines tells)
 

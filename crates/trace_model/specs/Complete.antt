@@ -86,11 +86,9 @@ abbrev pub AcceptsTruth : Premise → Network → Lines → Verdict → Type 0
 AcceptsTruth premise network lines answer =
     (run : Run) → premise network run → TellsRun network run lines → answer ≡ Accepted (reports_in network run)
 
--- Lines that tell a run are accepted, with the number of its reports.
+-- Each verdict accepts the truth.
 abbrev pub MissesNothing : Premise → Type 0
-MissesNothing premise =
-    (network : Network) (run : Run) (lines : Lines) → premise network run → TellsRun network run lines
-    → verdict network lines ≡ Accepted (reports_in network run)
+MissesNothing premise = (network : Network) (lines : Lines) → AcceptsTruth premise network lines (verdict network lines)
 
 -- Over runs of any length that are fresh and ticked, each report line has its exchange, the octets of each are right, and all
 -- lines are accepted.
