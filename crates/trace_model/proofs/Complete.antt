@@ -1,9 +1,9 @@
 -- Lines that tell a run are accepted: each report line has its exchange, and the octets of the exchange are right.
-use Rattle.std.proofs.Common.{◌≡◌, ◌∙◌, ℕ, ℤ, ◌+◌, ◌<◌, ◌≤◌, Bool, true, false, cond, List, [], ◌∷◌, ◌++◌, length, Option, Some, None, Ok, Err, Result, refl, sym, ap, subst, inl, inr, arith, option_map, option_and_then, if◌then◌else◌}
-use Rattle.std.specs.Prelude.{◌==◌, ◌&&◌, ◌||◌, ◌⊎◌, is_some, nat_lt, count_by, IfSome}
+use Rattle.std.proofs.Common.{◌≡◌, ◌∙◌, ℕ, ◌+◌, ◌<◌, ◌≤◌, Bool, true, false, cond, [], ◌∷◌, ◌++◌, Option, Some, None, Ok, refl, sym, ap, subst, inl, inr, arith, option_map, option_and_then, if◌then◌else◌}
+use Rattle.std.specs.Prelude.{◌==◌, ◌&&◌, ◌||◌, ◌⊎◌, is_some, nat_lt, IfSome}
 use Rattle.std.specs.Option.{option_map_or}
 use Rattle.std.specs.Ordering.{int_eq}
-use Rattle.std.proofs.lemmas.Bool.{and_from, eq-eqb, lt-ltb}
+use Rattle.std.proofs.lemmas.Bool.{eq-eqb, lt-ltb}
 use Rattle.std.proofs.lemmas.Bool.Decides.{Decides-int_eq}
 use Rattle.std.proofs.lemmas.List.Sums.{sum_by-cons}
 use Rattle.ptp_units.specs.Exchange.{offset2, path2}
@@ -12,21 +12,18 @@ use Rattle.slave_port.specs.declared.heard.Heard.{Heard}
 use Rattle.slave_port.specs.declared.heard.Heard.TheVariants as answers
 use Rattle.slave_port.specs.declared.heard.Report.{Report}
 use Rattle.network_model.specs.declared.event.Event.{Event}
-use Rattle.network_model.specs.declared.refusal.WorldRefusal.{WorldRefusal}
 use Rattle.network_model.specs.declared.stepped.Outcome.{Outcome}
 use Rattle.network_model.specs.declared.stepped.Outcome.TheVariants as outcomes
 use Rattle.network_model.specs.Network.{Network, NodeName, PortSetup, is_named}
 use Rattle.network_model.specs.Run.{Run, Place, place, place_at, tag_of, until, site_of, IsIn, true_moment}
-use Rattle.network_model.specs.Kinds.{is_at, is_one_step_sync, draws_sync, is_request, is_set_master, named_master, heard_copy}
+use Rattle.network_model.specs.Kinds.{is_at, draws_sync, is_request, is_set_master, named_master, heard_copy}
 use Rattle.network_model.specs.Truth.{copy_of, master_at, slave_at}
-use Rattle.network_model.specs.Journey as made
-use Rattle.network_model.specs.Present.{last_set_master}
 use Rattle.network_model.specs.Outcome.{outcome_of, IsRun}
 use Rattle.network_model.specs.Premises.{Premise, exact_limits, IsAcceptedRun, IsFreshAndTicked, IsWithinTurn}
 use Rattle.network_model.specs.Reported.{Reports}
-use Rattle.network_model.specs.Exact.{Arrives, HearsOf, OfPresentMaster, AreLater, IsOfOneSync, IsOfOneRequest, IsMeasurement}
-use Rattle.network_model.specs.Evidence.{HasEvidence, ShareDomain, WasStamped}
-use Rattle.network_model.proofs.Places.{IsIn-place_at, IsIn-within, tag_of-place_at, place_at-bound}
+use Rattle.network_model.specs.Exact.{OfPresentMaster, AreLater, IsOfOneSync, IsOfOneRequest, IsMeasurement}
+use Rattle.network_model.specs.Evidence.{HasEvidence, ShareDomain}
+use Rattle.network_model.proofs.Places.{IsIn-place_at, IsIn-within, tag_of-place_at}
 use Rattle.network_model.proofs.Sites.{named-self, at_kind, at_site}
 use Rattle.network_model.proofs.Sequences.{count-more}
 use Rattle.network_model.proofs.Journeys.{IsIn-origin}
@@ -40,15 +37,12 @@ use Rattle.network_model.proofs.Evidence.{each_has_evidence}
 use Rattle.trace_model.specs.declared.line.TraceLine.{TraceLine}
 use Rattle.trace_model.specs.declared.line.TraceOut.{TraceOut}
 use Rattle.trace_model.specs.declared.line.TraceOut.TheVariants as outs
-use Rattle.trace_model.specs.declared.verdict.Verdict.TheVariants.{Accepted}
 use Rattle.trace_model.specs.Line.{Lines, counts}
-use Rattle.trace_model.specs.Record.{LinePlace, line_place, event_of, site, line_number, last_line, first_stamp, reading, reads_right}
-use Rattle.trace_model.specs.Journey as lined
-use Rattle.trace_model.specs.Octets.{writes_right}
-use Rattle.trace_model.specs.Sound.{Exchange, Sound, lines_to, sync_line, follow_lines, line_of, arrival_line, is_of_line, is_stamped_between, is_report_in_place, exchange_of, unbroken, is_followed, are_paired, are_later, is_present_master, is_domain, is_of_master, journey_reads_right, are_readings, fits, bracket, are_results, journey_writes_right, are_octets}
-use Rattle.trace_model.specs.Verdict.{report_in, verdict}
-use Rattle.trace_model.specs.Soundness.{ReportLine, AllSound, report_count}
-use Rattle.trace_model.specs.Told.{TellsMade, TellsOutcome, TellsEvent, TellsRun, heard_out}
+use Rattle.trace_model.specs.Record.{LinePlace, event_of, site, line_number, first_stamp}
+use Rattle.trace_model.specs.Sound.{Exchange, Sound, lines_to, sync_line, follow_lines, line_of, arrival_line, is_of_line, is_report_in_place, exchange_of, unbroken, are_later, is_present_master, is_domain, is_of_master, bracket, are_octets}
+use Rattle.trace_model.specs.Verdict.{report_in}
+use Rattle.trace_model.specs.Soundness.{AllSound, report_count}
+use Rattle.trace_model.specs.Told.{TellsMade, TellsOutcome, TellsRun, heard_out}
 use Rattle.trace_model.specs.Faithful.{took_effect, TellsPlace}
 use Rattle.trace_model.specs.Complete.{HasExchange, EachReportHasExchange, EachExchangeIsWritten, is_report, answers_report, reports_in, MissesNothing, Complete, CompleteWithinOneTurn}
 use Rattle.trace_model.proofs.Soundness.{verdicts_tell_soundness}
@@ -183,18 +177,18 @@ module _ (network : Network) (answered : Place) (e : LinePlace) (report : Report
       let follow = follow_found network run (lines_to e) told slave os.master report.follow_tag os.journey.origin os.sync.departure evidence.follow_used in
       let request = request_found network run (lines_to e) told slave report.request_tag or.journey.origin or.request.requested or.request.drawn in
       let answer = answer_found network run (lines_to e) told slave or.master report.response_tag or.arrival or.request.arrives.copy or.request.arrives.moment or.request.hears or.request.arrives.event
-          evidence.response_completes in
+      evidence.response_completes in
       let counted : counts network e.line ≡ true = line_counts network answered.event answered.earlier e.line tells.told (ap took_effect reports) in
       let of_its_line = of_line (line_number e) (tag_of answered) report number evidence.order.heard_now in
       let stamped_in = before_it answered evidence.stamped.stamped evidence.stamped.there
-          (stamped_before (tag_of evidence.stamped.stamped) report.response_tag (tag_of answered) evidence.stamped.before_response evidence.order.response) in
+      (stamped_before (tag_of evidence.stamped.stamped) report.response_tag (tag_of answered) evidence.stamped.before_response evidence.order.response) in
       let requested_in = before_it answered or.journey.origin (IsIn-place_at run report.request_tag or.journey.origin or.request.requested)
-          (requested_before (tag_of or.journey.origin) report.request_tag report.response_tag (tag_of answered)
-          (tag_of-place_at run report.request_tag or.journey.origin or.request.requested) evidence.order.request evidence.order.response) in
+      (requested_before (tag_of or.journey.origin) report.request_tag report.response_tag (tag_of answered)
+      (tag_of-place_at run report.request_tag or.journey.origin or.request.requested) evidence.order.request evidence.order.response) in
       let requested : place_at answered.earlier report.request_tag ≡ Some or.journey.origin =
       subst (λ (t : ℕ). place_at answered.earlier t ≡ Some or.journey.origin) (tag_of-place_at run report.request_tag or.journey.origin or.request.requested) requested_in in
       let stamp = stamp_found network answered.earlier e.earlier tells.before slave report.request_tag or.journey.origin evidence.stamped.stamped stamped_in evidence.stamped.event
-          evidence.stamped.done requested evidence.stamped.after_request or.request.drawn evidence.stamped.no_other in
+      evidence.stamped.done requested evidence.stamped.after_request or.request.drawn evidence.stamped.no_other in
       let between : nat_lt report.request_tag report.response_tag ≡ true = lt-ltb report.request_tag report.response_tag evidence.order.request in
       let first : option_map_or (λ (stamp : ℕ). nat_lt stamp report.response_tag) (first_stamp network report.request_tag e.earlier) false ≡ true =
       ap (λ (o : Option ℕ). option_map_or (λ (stamp : ℕ). nat_lt stamp report.response_tag) o false) stamp.1
@@ -205,9 +199,9 @@ module _ (network : Network) (answered : Place) (e : LinePlace) (report : Report
       let sync_timed_at : is_some (true_moment os.arrival.event) ≡ true = ap (λ (v : Event). is_some (true_moment v)) os.sync.arrives.event in
       let arrival_timed : is_some (true_moment or.arrival.event) ≡ true = ap (λ (v : Event). is_some (true_moment v)) or.request.arrives.event in
       let sync_way = followed network answered e tells draws_sync os.arrival sync.e os.journey os.sync.arrives.copy sync.tells sync_in (ap heard_copy os.sync.arrives.event) sync_timed_at
-          os.sync.arrives.travelled sync_kind (draws_sync_or os.journey.origin.event sync_kind) (sync_timed os.journey.origin.event sync_kind) in
+      os.sync.arrives.travelled sync_kind (draws_sync_or os.journey.origin.event sync_kind) (sync_timed os.journey.origin.event sync_kind) in
       let request_way = followed network answered e tells is_request or.arrival answer.found.e or.journey or.request.arrives.copy answer.found.tells arrival_in (ap heard_copy or.request.arrives.event)
-          arrival_timed or.request.arrives.travelled request_kind (draws_request_or or.journey.origin.event request_kind) (request_timed or.journey.origin.event request_kind) in
+      arrival_timed or.request.arrives.travelled request_kind (draws_request_or or.journey.origin.event request_kind) (request_timed or.journey.origin.event request_kind) in
       let sync_origin_in = IsIn-within run os.arrival os.journey.origin sync_in (IsIn-origin os.arrival.earlier os.sync.arrives.copy os.journey os.sync.arrives.travelled) in
       let request_origin_in = IsIn-place_at run report.request_tag or.journey.origin or.request.requested in
       let x : Exchange = record { sync = sync.e; follow = follow.found; request = request.e; arrival = answer.found.e } in
@@ -231,15 +225,15 @@ module _ (network : Network) (answered : Place) (e : LinePlace) (report : Report
       eq-eqb (line_number request_way.by_lines.origin) (line_number request.e)
       (same_number network or.journey.origin request_way.by_lines.origin request_way.tells.origin ∙ sym (same_number network or.journey.origin request.e request.tells)) in
       let a = bracket_told network run draws_sync e os.arrival sync.e os.journey measured.exact.a accepted sync_in sync_timed_at sync_origin_in (sync_timed os.journey.origin.event sync_kind)
-          measured.exact.of_sync sync_way in
+      measured.exact.of_sync sync_way in
       let b = bracket_told network run is_request e or.arrival answer.found.e or.journey measured.exact.b accepted arrival_in arrival_timed request_origin_in (request_timed or.journey.origin.event request_kind)
-          measured.exact.of_request request_way in
+      measured.exact.of_request request_way in
       let offset : int_eq report.offset2 (offset2 (bracket sync.e sync_way.by_lines) (bracket answer.found.e request_way.by_lines)) ≡ true =
       (Decides-int_eq report.offset2 (offset2 (bracket sync.e sync_way.by_lines) (bracket answer.found.e request_way.by_lines))).1 (measured.exact.offset ∙ (λ i. offset2 (a i) (b i))) in
       let path : int_eq report.path2 (path2 (bracket sync.e sync_way.by_lines) (bracket answer.found.e request_way.by_lines)) ≡ true =
       (Decides-int_eq report.path2 (path2 (bracket sync.e sync_way.by_lines) (bracket answer.found.e request_way.by_lines))).1 (measured.exact.path ∙ (λ i. path2 (a i) (b i))) in
       let response = arrival_written network or.master or.request.arrives.copy or.request.arrives.moment or.arrival answer.found.e answer.response or.journey or.request.arrives.event answer.found.tells
-          answer.copy or.request.arrives.travelled in
+      answer.copy or.request.arrives.travelled in
       record {
         has = record {
           x = x;

@@ -1,48 +1,45 @@
 -- The lines of an exchange are there: the lines that tell the events of a report's four tags, and that they were used.
-use Rattle.std.proofs.Common.{◌≡◌, ◌∙◌, ℕ, ◌+◌, ◌<◌, ◌≤◌, Bool, true, false, [], ◌∷◌, length, Option, Some, None, Ok, Err, Result, IsOk, refl, sym, ap, subst, inl, inr, arith, option_map, option_and_then, if◌then◌else◌}
-use Rattle.std.specs.Prelude.{◌==◌, ◌&&◌, ◌||◌, ◌⊎◌, is_some, nat_lt, ok_or, count_by, IfSome, IsTrue}
+use Rattle.std.proofs.Common.{◌≡◌, ◌∙◌, ℕ, ◌<◌, ◌≤◌, Bool, true, false, [], ◌∷◌, length, Option, Some, None, Ok, Err, Result, IsOk, refl, sym, ap, subst, arith, option_map, option_and_then, if◌then◌else◌}
+use Rattle.std.specs.Prelude.{◌==◌, ◌&&◌, ◌||◌, is_some, ok_or, count_by, IfSome}
 use Rattle.std.specs.Option.{option_or, option_map_or}
-use Rattle.std.proofs.lemmas.Bool.{and_from, or_left, or_right, eq-eqb, eqb-true, lt-ltb}
+use Rattle.std.proofs.lemmas.Bool.{and_from, eq-eqb, eqb-true, lt-ltb}
 use Rattle.event_codec.specs.Packet.{Contents}
 use Rattle.slave_port.specs.declared.heard.Heard.{Heard}
 use Rattle.slave_port.specs.declared.heard.Heard.TheVariants as answers
 use Rattle.slave_port.specs.declared.heard.Report.{Report}
 use Rattle.slave_port.specs.History as calls
-use Rattle.slave_port.proofs.Uses.{some_step}
 use Rattle.network_model.specs.declared.event.Event.{Event}
-use Rattle.network_model.specs.declared.event.Event.TheVariants.{Sync, SyncOne, Follow, Enter, Leave, Arrive, Hear, Request, Stamped, Tick, SetMaster, StepClock}
+use Rattle.network_model.specs.declared.event.Event.TheVariants.{Arrive, Hear, Stamped}
 use Rattle.network_model.specs.declared.refusal.WorldRefusal.{WorldRefusal}
 use Rattle.network_model.specs.declared.refusal.WorldRefusal.TheVariants.{NoCopy}
 use Rattle.network_model.specs.declared.stepped.Outcome.{Outcome}
 use Rattle.network_model.specs.declared.stepped.Outcome.TheVariants as outcomes
 use Rattle.network_model.specs.Network.{Network, NodeName, slave_port}
-use Rattle.network_model.specs.Run.{Run, Place, place, place_at, tag_of, until, site_of, IsIn, events_after}
+use Rattle.network_model.specs.Run.{Run, Place, place, place_at, tag_of, site_of, IsIn, events_after}
 use Rattle.network_model.specs.Kinds.{is_at, is_sync, is_one_step_sync, is_follow, is_request, is_stamped, heard_copy}
-use Rattle.network_model.specs.Numbering.{waiting_sync}
 use Rattle.network_model.specs.Truth.{copy_made, copy_of}
 use Rattle.network_model.specs.Outcome.{◌>>=◌, node_as, heard, outcome_of, IsRun}
 use Rattle.network_model.specs.Premises.{is_used}
-use Rattle.network_model.specs.Exact.{HearsOf, HearsFollowUp, LearnsDeparture}
+use Rattle.network_model.specs.Exact.{HearsOf, LearnsDeparture}
 use Rattle.network_model.specs.Evidence.{is_complete, is_completing, HasOutcome, SyncWasUsed}
 use Rattle.network_model.proofs.Options.{ok_step, ok_some, ok_value}
 use Rattle.network_model.proofs.Places.{IsIn-before, tag_of-place_at, place_at-bound, place_at-within, IsIn-place_at, accepted-place_at}
-use Rattle.network_model.proofs.Sites.{named-self, at_kind, at_site}
+use Rattle.network_model.proofs.Sites.{named-self, at_kind}
 use Rattle.network_model.proofs.Made.{copy_of-place_at}
 use Rattle.trace_model.specs.declared.line.TraceLine.{TraceLine}
 use Rattle.trace_model.specs.declared.line.TraceOut.{TraceOut}
-use Rattle.trace_model.specs.declared.line.TraceOut.TheVariants as outs
-use Rattle.trace_model.specs.Line.{Lines, counts, is_made, completes, is_arrival, is_hearing}
+use Rattle.trace_model.specs.Line.{Lines, is_made, completes, is_arrival, is_hearing}
 use Rattle.trace_model.specs.Record.{LinePlace, line_place, event_of, site, line_number, line_at, last_line, stamps, first_stamp}
 use Rattle.trace_model.specs.Octets.{writes_right}
-use Rattle.trace_model.specs.Sound.{where_passes, below, line_of, sender, sync_line, follow_line, follow_lines, arrival_line, is_followed}
-use Rattle.trace_model.specs.Told.{TellsMade, TellsOutcome, TellsEvent, TellsRun, heard_out}
-use Rattle.trace_model.specs.Faithful.{is_effective, took_effect, TellsPlace, HasLine}
-use Rattle.trace_model.proofs.Certain.{is_certain, sync_certain, follow_certain, request_certain}
+use Rattle.trace_model.specs.Sound.{where_passes, below, line_of, sender, sync_line, follow_lines, arrival_line, is_followed}
+use Rattle.trace_model.specs.Told.{TellsOutcome, TellsEvent, TellsRun, heard_out}
+use Rattle.trace_model.specs.Faithful.{is_effective, took_effect, TellsPlace}
+use Rattle.trace_model.proofs.Certain.{is_certain, sync_certain, request_certain}
 use Rattle.trace_model.proofs.Good.{made_told, the_value}
-use Rattle.trace_model.proofs.Found.{same_event, same_number, same_length, event_told, line_counts, each_event_has_its_line}
+use Rattle.trace_model.proofs.Found.{same_event, same_number, same_length, line_counts, each_event_has_its_line}
 use Rattle.trace_model.proofs.Last.{last_at-waiting, last_at-alone, last_told}
 use Rattle.trace_model.proofs.Travelled.{accepted_told, certain_took}
-use Rattle.trace_model.proofs.Octets.{IsAnswer, arrival_parts, follow_written}
+use Rattle.trace_model.proofs.Octets.{arrival_parts, follow_written}
 
 -- what is found, and that it tells an event
 pub record Finds (network : Network) (found : Option LinePlace) (p : Place) : Type 0 where
@@ -219,7 +216,7 @@ module _ (network : Network) (run : Run) (lines : Lines) (told : TellsRun networ
       by None used =
           let outcome = outcome_at is_completing report.sync_tag arrival there used in
           let found = kind_found is_arrival slave report.sync_tag arrival here
-              (line_found report.sync_tag arrival there (completing_took (outcome_of network arrival.earlier arrival.event) outcome)) in
+          (line_found report.sync_tag arrival there (completing_took (outcome_of network arrival.earlier arrival.event) outcome)) in
           record {
             e = found.e;
             there = ap (where_passes (λ (e : LinePlace). completes e.line.out)) found.there
@@ -229,7 +226,7 @@ module _ (network : Network) (run : Run) (lines : Lines) (told : TellsRun networ
       by (Some tag) used =
           let outcome = outcome_at is_used report.sync_tag arrival there used in
           let found = kind_found is_arrival slave report.sync_tag arrival here
-              (line_found report.sync_tag arrival there (used_took (outcome_of network arrival.earlier arrival.event) outcome)) in
+          (line_found report.sync_tag arrival there (used_took (outcome_of network arrival.earlier arrival.event) outcome)) in
           record { e = found.e; there = ap (where_passes (λ (e : LinePlace). true)) found.there; tells = found.tells }
 
   -- the Follow_Up
@@ -245,11 +242,11 @@ module _ (network : Network) (run : Run) (lines : Lines) (told : TellsRun networ
       let hears = learns.hears in
       let heard_at : is_at is_hearing slave hears.hearing.event ≡ true = ap (is_at is_hearing slave) hears.event ∙ named-self slave in
       let hearing = kind_found is_hearing slave tag hears.hearing heard_at
-          (line_found tag hears.hearing hears.there (used_took (outcome_of network hears.hearing.earlier hears.hearing.event) (outcome_at is_used tag hears.hearing hears.there used))) in
+      (line_found tag hears.hearing hears.there (used_took (outcome_of network hears.hearing.earlier hears.hearing.event) (outcome_at is_used tag hears.hearing hears.there used))) in
       let there = place_at-within run hears.hearing hears.copy learns.follow (IsIn-place_at run tag hears.hearing hears.there) hears.made_by in
       let made = certain_found hears.copy learns.follow there (ap is_certain learns.follows) in
       let sent = sender_found hears.hearing hearing.e hears.copy learns.follow hearing.tells (ap heard_copy hears.event)
-          (place_at-bound hears.hearing.earlier hears.copy learns.follow hears.made_by) made in
+      (place_at-bound hears.hearing.earlier hears.copy learns.follow hears.made_by) made in
       let follows : is_follow (event_of sent.e) ≡ true = ap is_follow (same_event network learns.follow sent.e sent.tells ∙ learns.follows) in
       let site_is : site sent.e ≡ master = ap site_of (same_event network learns.follow sent.e sent.tells ∙ learns.follows) in
       let last = last_told network is_sync sync_certain master learns.follow.earlier sent.e.earlier origin sent.tells.before (last_at-waiting master learns.follow.earlier origin learns.followed) in
@@ -278,21 +275,21 @@ module _ (network : Network) (run : Run) (lines : Lines) (told : TellsRun networ
       let outcome = outcome_at is_completing tag hears.hearing hears.there completes_at in
       let heard_at : is_at is_hearing slave hears.hearing.event ≡ true = ap (is_at is_hearing slave) hears.event ∙ named-self slave in
       let hearing = kind_found is_hearing slave tag hears.hearing heard_at
-          (line_found tag hears.hearing hears.there (completing_took (outcome_of network hears.hearing.earlier hears.hearing.event) outcome)) in
+      (line_found tag hears.hearing hears.there (completing_took (outcome_of network hears.hearing.earlier hears.hearing.event) outcome)) in
       let hearing_in = IsIn-place_at run tag hears.hearing hears.there in
       let there = place_at-within run hears.hearing hears.copy arrival hearing_in hears.made_by in
       let message = heard_parts network slave hears.copy hears.hearing.earlier
-          (subst (λ (v : Event). IsOk (outcome_of network hears.hearing.earlier v)) hears.event (accepted-place_at network run tag hears.hearing accepted hears.there)) in
+      (subst (λ (v : Event). IsOk (outcome_of network hears.hearing.earlier v)) hears.event (accepted-place_at network run tag hears.hearing accepted hears.there)) in
       let made : copy_made network arrival.event arrival.earlier (copy_of network arrival.earlier) ≡ Some message.0 =
       ap (option_and_then (λ (p : Place). copy_made network p.event p.earlier (copy_of network p.earlier))) (sym hears.made_by)
       ∙ sym (copy_of-place_at network hears.hearing.earlier hears.copy) ∙ message.1 in
       let arrived = ok_value (outcome_of network arrival.earlier arrival.event) (accepted-place_at network run hears.copy arrival accepted there) in
       let parts = arrival_parts network master copy moment arrival.earlier arrived.0 message.0
-          (subst (λ (v : Event). outcome_of network arrival.earlier v ≡ Ok arrived.0) event arrived.1)
-          (subst (λ (v : Event). copy_made network v arrival.earlier (copy_of network arrival.earlier) ≡ Some message.0) event made) in
+      (subst (λ (v : Event). outcome_of network arrival.earlier v ≡ Ok arrived.0) event arrived.1)
+      (subst (λ (v : Event). copy_made network v arrival.earlier (copy_of network arrival.earlier) ≡ Some message.0) event made) in
       let sent = sender_found hears.hearing hearing.e hears.copy arrival hearing.tells (ap heard_copy hears.event)
-          (place_at-bound hears.hearing.earlier hears.copy arrival hears.made_by)
-          (line_found hears.copy arrival there (ap took_effect arrived.1 ∙ ap is_effective parts.is_made)) in
+      (place_at-bound hears.hearing.earlier hears.copy arrival hears.made_by)
+      (line_found hears.copy arrival there (ap took_effect arrived.1 ∙ ap is_effective parts.is_made)) in
       let arrives : is_arrival (event_of sent.e) ≡ true = ap is_arrival (same_event network arrival sent.e sent.tells ∙ event) in
       let made_here : sent.tells.told.stepped.outcome ≡ outcomes.Made =
       the_value sent.tells.told.stepped.outcome outcomes.Made (sym sent.tells.told.answered.outcome ∙ arrived.1 ∙ ap Ok parts.is_made) in
@@ -321,7 +318,7 @@ module _ (network : Network) (run : Run) (lines : Lines) (told : TellsRun networ
       stamped_first network request run lines (tag_of p) p told there
       (λ e tells.
       let last = last_told network is_request request_certain slave p.earlier e.earlier origin tells.before
-          (last_at-alone is_request slave p.earlier request origin (before p request origin there requested after) drawn alone) in
+      (last_at-alone is_request slave p.earlier request origin (before p request origin there requested after) drawn alone) in
       let here : site_of (event_of e) ≡ slave = ap site_of (same_event network p e tells ∙ event) in
       let counted = line_counts network p.event p.earlier e.line tells.told (ap took_effect done) in
       let is : is_stamped (event_of e) ≡ true = ap is_stamped (same_event network p e tells ∙ event) in

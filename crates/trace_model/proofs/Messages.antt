@@ -1,9 +1,8 @@
 -- Each line that tells of a message has the right octets, whichever event made it.
-use Rattle.std.proofs.Common.{◌≡◌, ◌∙◌, ℕ, Bool, true, false, ◌∷◌, length, Option, Some, None, Ok, Err, Result, IsOk, int_lt, refl, sym, ap, subst, option_map, option_and_then, if◌then◌else◌}
-use Rattle.std.specs.Prelude.{◌==◌, ◌&&◌, ◌||◌, is_some, ok_or, unwrap_or}
+use Rattle.std.proofs.Common.{◌≡◌, ◌∙◌, ℕ, Bool, true, false, Option, Some, Ok, Err, Result, refl, sym, ap, subst, option_and_then}
+use Rattle.std.specs.Prelude.{◌&&◌, ◌||◌, is_some, ok_or, unwrap_or}
 use Rattle.std.specs.Result.{result_ok}
-use Rattle.ptp_units.specs.Moment.{Stamp, fraction_of}
-use Rattle.ptp_units.specs.Interval.{least, less_fraction}
+use Rattle.ptp_units.specs.Moment.{Stamp}
 use Rattle.event_codec.specs.declared.message.Body.{Body}
 use Rattle.event_codec.specs.declared.message.Body.TheVariants as bodies
 use Rattle.event_codec.specs.declared.message.Header.{Header}
@@ -15,9 +14,7 @@ use Rattle.network_model.specs.declared.event.Event.{Event}
 use Rattle.network_model.specs.declared.event.Event.TheVariants.{Sync, SyncOne, Follow, Enter, Leave, Arrive, Hear, Request, Stamped, Tick, SetMaster, StepClock}
 use Rattle.network_model.specs.declared.node.NodeKind.{NodeKind}
 use Rattle.network_model.specs.declared.node.NodeKind.TheVariants as kinds
-use Rattle.network_model.specs.declared.refusal.WorldRefusal.{WorldRefusal}
 use Rattle.network_model.specs.declared.refusal.WorldRefusal.TheVariants.{NoCopy, NothingWaiting, ReadingOutOfRange}
-use Rattle.network_model.specs.declared.stepped.Outcome.{Outcome}
 use Rattle.network_model.specs.declared.stepped.Outcome.TheVariants as outcomes
 use Rattle.network_model.specs.Network.{Network, NodeName, PortSetup, kind_of, master_port}
 use Rattle.network_model.specs.Run.{Run, Place, place, until}
@@ -33,7 +30,6 @@ use Rattle.network_model.proofs.Entries.{delay_req_copy}
 use Rattle.trace_model.specs.declared.line.TraceOut.{TraceOut}
 use Rattle.trace_model.specs.declared.line.TraceOut.TheVariants as outs
 use Rattle.trace_model.specs.Line.{is_made, is_entered, is_done, is_heard, is_refused, is_slave, is_clock, is_master, may_happen}
-use Rattle.trace_model.specs.Record.{LinePlace}
 use Rattle.trace_model.specs.Octets.{writes_right}
 use Rattle.trace_model.specs.Sound.{lines_to}
 use Rattle.trace_model.specs.Faithful.{TellsPlace}

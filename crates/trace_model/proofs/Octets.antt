@@ -1,7 +1,7 @@
 -- The octets of Follow_Ups, of Delay_Resps and of what leaves a clock, by lines: the message that the lines before a line ask
 -- for is the copy that its event made.
-use Rattle.std.proofs.Common.{◌≡◌, ◌∙◌, ℕ, Bool, true, false, List, [], ◌∷◌, length, Option, Some, None, Ok, Err, Result, IsOk, refl, sym, ap, subst, option_map, option_and_then, if◌then◌else◌}
-use Rattle.std.specs.Prelude.{◌==◌, ◌&&◌, ◌||◌, is_some, ok_or, unwrap_or, int_lt, sum_by}
+use Rattle.std.proofs.Common.{◌≡◌, ◌∙◌, ℕ, Bool, true, false, List, [], ◌∷◌, length, Option, Some, Ok, Err, Result, IsOk, refl, sym, ap, subst, option_map, option_and_then, if◌then◌else◌}
+use Rattle.std.specs.Prelude.{◌==◌, ◌||◌, ok_or, unwrap_or, int_lt}
 use Rattle.std.specs.List.{list_all}
 use Rattle.std.specs.Result.{result_ok}
 use Rattle.std.proofs.lemmas.Bool.{and_from, eq-eqb}
@@ -12,47 +12,39 @@ use Rattle.event_codec.specs.declared.message.Header.{Header}
 use Rattle.event_codec.specs.declared.message.Body.{Body}
 use Rattle.event_codec.specs.declared.message.Body.TheVariants as bodies
 use Rattle.event_codec.specs.declared.port.PortConfig.{PortConfig}
-use Rattle.event_codec.specs.Packet.{Contents, Packet}
+use Rattle.event_codec.specs.Packet.{Contents}
 use Rattle.master_port.specs.declared.refusal.MasterRefusal.{MasterRefusal}
 use Rattle.master_port.specs.declared.refusal.MasterRefusal.TheVariants.{CorrectionTooLow, OtherDomain}
-use Rattle.master_port.specs.Written.{sync, one_step_sync, follow_up, delay_resp, answer, answer_to}
-use Rattle.slave_port.specs.Written.{delay_req}
-use Rattle.slave_port.proofs.Uses.{some_step, some_image}
+use Rattle.master_port.specs.Written.{follow_up, delay_resp, answer, answer_to}
+use Rattle.slave_port.proofs.Uses.{some_step}
 use Rattle.transparent_clock.specs.declared.refusal.ClockRefusal.{ClockRefusal}
-use Rattle.transparent_clock.specs.Forwarding.{resided, forwarded}
+use Rattle.transparent_clock.specs.Forwarding.{forwarded}
 use Rattle.network_model.specs.declared.event.Event.{Event}
 use Rattle.network_model.specs.declared.event.Event.TheVariants.{Sync, SyncOne, Follow, Enter, Leave, Arrive, Hear, Request, Stamped, Tick, SetMaster, StepClock}
 use Rattle.network_model.specs.declared.node.NodeKind.{NodeKind}
 use Rattle.network_model.specs.declared.node.NodeKind.TheVariants as kinds
-use Rattle.network_model.specs.declared.refusal.WorldRefusal.{WorldRefusal}
 use Rattle.network_model.specs.declared.refusal.WorldRefusal.TheVariants.{NoCopy, NothingWaiting, ReadingOutOfRange}
 use Rattle.network_model.specs.declared.stepped.Outcome.{Outcome}
 use Rattle.network_model.specs.declared.stepped.Outcome.TheVariants as outcomes
-use Rattle.network_model.specs.Network.{Network, NodeName, PortSetup, kind_of, master_port, slave_port}
-use Rattle.network_model.specs.Run.{Run, Place, place, place_at, tag_of, until, IsIn, true_moment}
-use Rattle.network_model.specs.Kinds.{is_sync, is_one_step_sync, draws_sync, is_request, spends}
+use Rattle.network_model.specs.Network.{Network, NodeName, PortSetup, master_port}
+use Rattle.network_model.specs.Run.{Run, Place, place, tag_of}
+use Rattle.network_model.specs.Kinds.{is_sync, is_one_step_sync, draws_sync, spends}
 use Rattle.network_model.specs.Clock as clocks
 use Rattle.network_model.specs.Numbering.{number_of, waiting_sync}
 use Rattle.network_model.specs.Journey as made
 use Rattle.network_model.specs.Truth as truth
 use Rattle.network_model.specs.Truth.{drawn, copy_made, copy_of, master_at, slave_at}
 use Rattle.network_model.specs.Outcome.{◌>>=◌, node_as, port_of, reads, answered_outcome, left_outcome, arrived_outcome, outcome_of, IsRun}
-use Rattle.network_model.proofs.Options.{ok_step, ok_some, ok_value}
+use Rattle.network_model.proofs.Options.{ok_step, ok_some}
 use Rattle.network_model.proofs.Sites.{at_kind}
-use Rattle.network_model.proofs.Journeys.{IsIn-last, IsIn-origin}
+use Rattle.network_model.proofs.Journeys.{IsIn-last}
 use Rattle.network_model.proofs.Readings.{sync_timed}
 use Rattle.network_model.proofs.Travelled.{copy_of-travelled}
 use Rattle.network_model.proofs.Leaving.{copy_made-forwarded, copy_of-since}
-use Rattle.network_model.proofs.Ways.{AreStays, stays_are}
-use Rattle.trace_model.specs.declared.line.TraceLine.{TraceLine}
-use Rattle.trace_model.specs.declared.line.TraceOut.{TraceOut}
-use Rattle.trace_model.specs.declared.line.TraceOut.TheVariants as outs
-use Rattle.trace_model.specs.Line.{Lines}
-use Rattle.trace_model.specs.Record.{LinePlace, event_of, last_line, reading, sequence}
+use Rattle.trace_model.specs.Record.{LinePlace, last_line, reading}
 use Rattle.trace_model.specs.Journey as lined
-use Rattle.trace_model.specs.Octets.{drawing_port, message_sent, sent, travelled, followed, answered, message_made, is_packet, is_written, writes_right}
-use Rattle.trace_model.specs.Told.{TellsMade, TellsOutcome, TellsEvent, TellsRun}
-use Rattle.trace_model.specs.Faithful.{TellsPlace, TellsStays, TellsJourney}
+use Rattle.trace_model.specs.Octets.{travelled, followed, answered, message_made, writes_right}
+use Rattle.trace_model.specs.Faithful.{TellsPlace, TellsStays}
 use Rattle.trace_model.proofs.Good.{node_is, port_is, the_value}
 use Rattle.trace_model.proofs.Found.{same_event}
 use Rattle.trace_model.proofs.Recorded.{sequence_told}
@@ -60,7 +52,7 @@ use Rattle.trace_model.proofs.Last.{last_at-waiting, last_at-is, last_told}
 use Rattle.trace_model.proofs.Certain.{sync_certain}
 use Rattle.trace_model.proofs.Left.{left_parts}
 use Rattle.trace_model.proofs.Travelled.{accepted_told, made_told, each_journey_is_told}
-use Rattle.trace_model.proofs.Stays.{until_accepted, IsSpent, AreSpent, reading_told, stays_told}
+use Rattle.trace_model.proofs.Stays.{AreSpent, reading_told}
 use Rattle.trace_model.proofs.Written.{written, travelled_told}
 
 -- a message that left a clock
@@ -80,7 +72,7 @@ left_written network node transit at earlier e tells is =
     copy_made-forwarded network earlier node left.copy transit at left.entered left.m message left.there left.takes ∙ m.1 in
     let journey = some_step (truth.travelled network) (made.journey_made (Leave node transit at) earlier (made.journey_of earlier)) copy in
     let lines = made_told network earlier e.line e.earlier tells.before (λ tag j known. each_journey_is_told network earlier e.earlier tag j tells.before known)
-        (Leave node transit at) journey.0 tells.told journey.1 in
+    (Leave node transit at) journey.0 tells.told journey.1 in
     let run : Run = Leave node transit at ∷ earlier in
     let accepted : IsRun network run = (subst IsOk (sym is) refl, accepted_told network earlier e.earlier tells.before) in
     let there : made.journey_of run (length earlier) ≡ Some journey.0 =

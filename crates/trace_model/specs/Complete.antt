@@ -20,7 +20,7 @@ use Rattle.trace_model.specs.Line.{Lines}
 use Rattle.trace_model.specs.Record.{LinePlace, site}
 use Rattle.trace_model.specs.Journey.{Journey}
 use Rattle.trace_model.specs.Octets.{writes_right}
-use Rattle.trace_model.specs.Sound.{Exchange, Sound, exchange_of, unbroken, are_paired, is_of_master, are_readings, fits, are_results, are_octets}
+use Rattle.trace_model.specs.Sound.{Exchange, exchange_of, unbroken, are_paired, is_of_master, are_readings, fits, are_results, are_octets}
 use Rattle.trace_model.specs.Verdict.{verdict}
 use Rattle.trace_model.specs.Told.{TellsRun}
 use Rattle.trace_model.specs.Faithful.{TellsPlace}
