@@ -5,3 +5,4 @@ pub mod Recorded
 pub mod Texts
 pub mod Floats
 pub mod Names
+pub mod Nodes

@@ -20,7 +20,7 @@ use Rattle.schedule_lines.specs.Json.{field, has_keys, moment_in, name_in, whole
 use Rattle.schedule_lines.specs.Line.{event_in, event_keys, node_in, at_in, copy_in}
 use Rattle.schedule_lines.specs.Traced.{transcript_line_of, recorded_in, reading_in, reading_keys, out_of, out_keys, line_keys, code_in, report_in, report_of}
 use Rattle.schedule_lines.specs.Transcript.{whole, moment_data, difference_data, octets_data, tags_data, named_copy, event_text, made_octets, out_text, out_code, out_report, event_data}
-use Rattle.schedule_lines.specs.Recorded.{IsShort, IsOut, IsRecorded, ReadsBack}
+use Rattle.schedule_lines.specs.Recorded.{IsShort, IsOut, IsRecorded, EventsReadBack}
 use Rattle.schedule_lines.proofs.Keys.{members_of, line_fields}
 use Rattle.schedule_lines.proofs.Lookup.{find, get_member-members_of, option_or-none, are_distinct, one_if, count, members_len-members_of}
 use Rattle.schedule_lines.proofs.Texts.{name_back, below_back, octets_back, moment_back, difference_back, report_back}
@@ -213,7 +213,7 @@ read_out n line h =
     (read_report n line h)
 
 -- a line that tells what may be recorded is read as it was written
-pub reads_back : ReadsBack
+pub reads_back : EventsReadBack
 reads_back n line h =
     line_back n line (event_data n line)
     (stands n line (codes "ev") (Some (string (event_text line.event))) refl)

@@ -1,10 +1,11 @@
 //! Laws that follow from the definitions, each the contract of a function that does nothing: a caller
 //! that needs one in its proof calls it.
 
-ghost use Rattle.schedule_lines.specs.Recorded.{ReadsBack};
+ghost use Rattle.schedule_lines.specs.Recorded.{EventsReadBack, NodesReadBack};
 
-/// The line of an event, as it is written, is read as the number and what was recorded that it was
-/// written from, for whatever may be recorded of an event.
+/// What is written of a node is read as that node, and what is written of an event as the number and
+/// what was recorded that it was written from, for all values that are within their ranges.
 pub fn written_lines_are_read()
-    ensures { ReadsBack }
+    ensures nodes { NodesReadBack }
+    ensures events { EventsReadBack }
 {}
