@@ -25,11 +25,10 @@ use Rattle.network_model.specs.Exact.{OfPresentMaster, AreLater, IsOfOneSync, Is
 use Rattle.network_model.specs.Evidence.{HasEvidence, ShareDomain}
 use Rattle.network_model.proofs.Places.{IsIn-place_at, IsIn-within, tag_of-place_at}
 use Rattle.network_model.proofs.Sites.{named-self, at_kind, at_site}
-use Rattle.network_model.proofs.Sequences.{count-more}
 use Rattle.network_model.proofs.Journeys.{IsIn-origin}
 use Rattle.network_model.proofs.Readings.{sync_timed, request_timed}
 use Rattle.network_model.proofs.Reach.{last_set_master-later}
-use Rattle.network_model.proofs.Pairing.{fresh_ticked_shorter}
+use Rattle.network_model.proofs.Pairing.{fresh_ticked_shorter, within_turn_shorter}
 use Rattle.network_model.proofs.Reports.{report_event, each_of_one_sync, each_of_one_request, each_of_one_sync-one_turn, each_of_one_request-one_turn}
 use Rattle.network_model.proofs.Twice.{each_twice}
 use Rattle.network_model.proofs.TrueTime.{origin_drawn}
@@ -310,16 +309,6 @@ turn_sound network answered e report premise tells reports =
     sound_of network answered e report (record { apart = premise.apart; accepted = premise.accepted }) tells reports
     (each_of_one_sync-one_turn network answered report premise reports) (each_of_one_request-one_turn network answered report premise reports)
 
-turn_shorter : (network : Network) (event : Event) (earlier : Run) → IsWithinTurn network (event ∷ earlier) → IsWithinTurn network earlier
-turn_shorter network event earlier premise = record {
-  apart = premise.apart;
-  accepted = premise.accepted.1;
-  one_turn = record {
-    syncs = λ node. let few = premise.one_turn.syncs node in omega (arith, count-more (is_at draws_sync node) event earlier);
-    requests = λ node. let few = premise.one_turn.requests node in omega (arith, count-more (is_at is_request node) event earlier);
-  };
-}
-
 -- whatever exchange a report line has, it is this one
 same_exchange : (network : Network) (e : LinePlace) (report : Report) (one other : HasExchange network e report)
     → are_octets network one.x one.sync one.request ≡ true → are_octets network other.x other.sync other.request ≡ true
@@ -434,7 +423,7 @@ complete =
 
 pub complete_within_one_turn : CompleteWithinOneTurn
 complete_within_one_turn = record {
-  exchanges = exchanges_of IsWithinTurn turn_shorter turn_sound;
-  octets = octets_of IsWithinTurn turn_shorter turn_sound;
-  verdicts = accepted_by IsWithinTurn turn_shorter turn_sound;
+  exchanges = exchanges_of IsWithinTurn within_turn_shorter turn_sound;
+  octets = octets_of IsWithinTurn within_turn_shorter turn_sound;
+  verdicts = accepted_by IsWithinTurn within_turn_shorter turn_sound;
 }

@@ -1,21 +1,14 @@
 -- The octets of Follow_Ups, of Delay_Resps and of what leaves a clock, by lines: the message that the lines before a line ask
 -- for is the copy that its event made.
-use Rattle.std.proofs.Common.{◌≡◌, ◌∙◌, ℕ, Bool, true, false, List, [], ◌∷◌, length, Option, Some, Ok, Err, Result, IsOk, refl, sym, ap, subst, option_map, option_and_then, if◌then◌else◌}
-use Rattle.std.specs.Prelude.{◌==◌, ◌||◌, ok_or, unwrap_or, int_lt}
+use Rattle.std.proofs.Common.{◌≡◌, ◌∙◌, ℕ, Bool, true, List, [], ◌∷◌, length, Option, Some, Ok, Err, Result, IsOk, refl, sym, ap, subst, option_map, option_and_then, if◌then◌else◌}
+use Rattle.std.specs.Prelude.{◌||◌, ok_or, unwrap_or}
 use Rattle.std.specs.List.{list_all}
 use Rattle.std.specs.Result.{result_ok}
 use Rattle.std.proofs.lemmas.Bool.{and_from, eq-eqb}
-use Rattle.ptp_units.specs.Interval.{least, less_fraction}
-use Rattle.ptp_units.specs.Moment.{fraction_of}
 use Rattle.ptp_units.specs.Sequence.{of_count}
-use Rattle.event_codec.specs.declared.message.Header.{Header}
-use Rattle.event_codec.specs.declared.message.Body.{Body}
-use Rattle.event_codec.specs.declared.message.Body.TheVariants as bodies
-use Rattle.event_codec.specs.declared.port.PortConfig.{PortConfig}
 use Rattle.event_codec.specs.Packet.{Contents}
 use Rattle.master_port.specs.declared.refusal.MasterRefusal.{MasterRefusal}
-use Rattle.master_port.specs.declared.refusal.MasterRefusal.TheVariants.{CorrectionTooLow, OtherDomain}
-use Rattle.master_port.specs.Written.{follow_up, delay_resp, answer, answer_to}
+use Rattle.master_port.specs.Written.{follow_up, delay_resp, answer}
 use Rattle.slave_port.proofs.Uses.{some_step}
 use Rattle.transparent_clock.specs.declared.refusal.ClockRefusal.{ClockRefusal}
 use Rattle.transparent_clock.specs.Forwarding.{forwarded}
@@ -40,6 +33,7 @@ use Rattle.network_model.proofs.Sites.{at_kind}
 use Rattle.network_model.proofs.Journeys.{IsIn-last}
 use Rattle.network_model.proofs.Readings.{sync_timed}
 use Rattle.network_model.proofs.Travelled.{copy_of-travelled}
+use Rattle.network_model.proofs.Copies.{answered as answers_request}
 use Rattle.network_model.proofs.Leaving.{copy_made-forwarded, copy_of-since}
 use Rattle.trace_model.specs.Record.{LinePlace, last_line, reading}
 use Rattle.trace_model.specs.Journey as lined
@@ -150,19 +144,6 @@ follow_written network node p e origin event tells waits =
 
 -- a Delay_Resp
 
-answered_is : (config : PortConfig) (body : Body) (header : Header) (t4 : ℕ) (m : Contents) → result_ok (answer_to config body header t4) ≡ Some m → m ≡ delay_resp config header t4
-answered_is config (bodies.Sync origin) header t4 m e = cc
-answered_is config (bodies.FollowUp precise) header t4 m e = cc
-answered_is config (bodies.DelayResp receive requesting) header t4 m e = cc
-answered_is config (bodies.DelayReq origin) header t4 m e = given (header.domain == config.domain) (int_lt (less_fraction header.correction.0 (fraction_of t4)) least) e
-  where
-    given : (domain low : Bool)
-        → result_ok {T = Contents} {E = MasterRefusal} (if domain then (if low then Err CorrectionTooLow else Ok (delay_resp config header t4)) else Err OtherDomain) ≡ Some m
-        → m ≡ delay_resp config header t4
-    given false low e = cc
-    given true true e = cc
-    given true false e = cc
-
 -- what came of an arrival at a master that made a message
 pub record IsAnswer (network : Network) (node : NodeName) (copy at : ℕ) (earlier : Run) (outcome : Outcome) (response : Contents) : Type 0 where
   pub port : PortSetup
@@ -210,7 +191,7 @@ arrival_parts network node copy at earlier outcome response is made =
           ∙ master_of kind.0 port.0 own network node earlier now.0 message.0
           ∙ ap (λ (t : ℕ). answered_outcome (answer port.0.config (Ok message.0) t)) (sym read_is)
           ∙ made_answer (answer port.0.config (Ok message.0) (clocks.reading (place (Arrive node copy at) earlier))) response respond;
-      is = answered_is port.0.config message.0.body message.0.header (clocks.reading (place (Arrive node copy at) earlier)) response respond;
+      is = (answers_request port.0.config message.0.body message.0.header (clocks.reading (place (Arrive node copy at) earlier)) response respond).1;
     }
 
 arrival_written_at : (network : Network) (node : NodeName) (copy at : ℕ) (earlier : Run) (e : LinePlace) (response : Contents) (journey : made.Journey)
