@@ -1,4 +1,4 @@
--- Lines that tell a run are accepted: each report line has its exchange, and the octets of the exchange are right.
+-- Lines that tell a run are accepted: each report line has its exchange, and so is sound.
 use Rattle.std.proofs.Common.{◌≡◌, ◌∙◌, ℕ, ◌+◌, ◌<◌, ◌≤◌, Bool, true, false, cond, [], ◌∷◌, ◌++◌, Option, Some, None, Ok, refl, sym, ap, subst, inl, inr, arith, option_map, option_and_then, if◌then◌else◌}
 use Rattle.std.specs.Prelude.{◌==◌, ◌&&◌, ◌||◌, ◌⊎◌, is_some, nat_lt, IfSome}
 use Rattle.std.specs.Option.{option_map_or}
@@ -25,11 +25,10 @@ use Rattle.network_model.specs.Exact.{OfPresentMaster, AreLater, IsOfOneSync, Is
 use Rattle.network_model.specs.Evidence.{HasEvidence, ShareDomain}
 use Rattle.network_model.proofs.Places.{IsIn-place_at, IsIn-within, tag_of-place_at}
 use Rattle.network_model.proofs.Sites.{named-self, at_kind, at_site}
-use Rattle.network_model.proofs.Sequences.{count-more}
 use Rattle.network_model.proofs.Journeys.{IsIn-origin}
 use Rattle.network_model.proofs.Readings.{sync_timed, request_timed}
 use Rattle.network_model.proofs.Reach.{last_set_master-later}
-use Rattle.network_model.proofs.Pairing.{fresh_ticked_shorter}
+use Rattle.network_model.proofs.Pairing.{fresh_ticked_shorter, within_turn_shorter}
 use Rattle.network_model.proofs.Reports.{report_event, each_of_one_sync, each_of_one_request, each_of_one_sync-one_turn, each_of_one_request-one_turn}
 use Rattle.network_model.proofs.Twice.{each_twice}
 use Rattle.network_model.proofs.TrueTime.{origin_drawn}
@@ -39,18 +38,18 @@ use Rattle.trace_model.specs.declared.line.TraceOut.{TraceOut}
 use Rattle.trace_model.specs.declared.line.TraceOut.TheVariants as outs
 use Rattle.trace_model.specs.Line.{Lines, counts}
 use Rattle.trace_model.specs.Record.{LinePlace, event_of, site, line_number, first_stamp}
-use Rattle.trace_model.specs.Sound.{Exchange, Sound, lines_to, sync_line, follow_lines, line_of, arrival_line, is_of_line, is_report_in_place, exchange_of, unbroken, are_later, is_present_master, is_domain, is_of_master, bracket, are_octets}
+use Rattle.trace_model.specs.Sound.{Exchange, Sound, lines_to, sync_line, follow_lines, line_of, arrival_line, is_of_line, is_report_in_place, exchange_of, are_later, is_present_master, is_domain, is_of_master, bracket}
 use Rattle.trace_model.specs.Verdict.{report_in}
 use Rattle.trace_model.specs.Soundness.{AllSound, report_count}
 use Rattle.trace_model.specs.Told.{TellsMade, TellsOutcome, TellsRun, heard_out}
 use Rattle.trace_model.specs.Faithful.{took_effect, TellsPlace}
-use Rattle.trace_model.specs.Complete.{HasExchange, EachReportHasExchange, EachExchangeIsWritten, is_report, answers_report, reports_in, MissesNothing, Complete, CompleteWithinOneTurn}
+use Rattle.trace_model.specs.Complete.{HasExchange, EachReportHasExchange, is_report, answers_report, reports_in, MissesNothing, Complete, CompleteWithinOneTurn}
 use Rattle.trace_model.proofs.Soundness.{verdicts_tell_soundness}
 use Rattle.trace_model.proofs.Certain.{set_master_certain}
 use Rattle.trace_model.proofs.Found.{same_event, same_number, line_counts}
 use Rattle.trace_model.proofs.Last.{last_at, last_at-set_master, last_told}
 use Rattle.trace_model.proofs.Travelled.{accepted_told}
-use Rattle.trace_model.proofs.Octets.{arrival_written}
+use Rattle.trace_model.proofs.OctetsOfExchanges.{each_exchange_is_written}
 use Rattle.trace_model.proofs.Exchanges.{sync_found, follow_found, request_found, answer_found, stamp_found}
 use Rattle.trace_model.proofs.Measured.{before_it, followed, bracket_told, fits_told}
 
@@ -99,27 +98,11 @@ one_domain network slave master shared =
     ∙ ap (is_domain (Some shared.own)) shared.master_port
     ∙ eq-eqb shared.own.config.domain shared.other.config.domain shared.domain
 
--- the kind of a Sync that was sent, as an event that draws a number
-draws_sync_or : (event : Event) → draws_sync event ≡ true → (draws_sync event || is_request event) ≡ true
-draws_sync_or event is = λ i. is i || is_request event
-
-draws_request_or : (event : Event) → is_request event ≡ true → (draws_sync event || is_request event) ≡ true
-draws_request_or event is = by (draws_sync event)
-  where
-    by : (b : Bool) → (b || is_request event) ≡ true
-    by true = refl
-    by false = is
-
 -- the lines of an exchange
 abbrev whole : Option LinePlace → Option (Option LinePlace) → Option LinePlace → Option LinePlace → Option Exchange
 whole s f r a =
     option_and_then (λ sync. option_and_then (λ follow. option_and_then (λ request.
     option_map (λ arrival. record { sync = sync; follow = follow; request = request; arrival = arrival }) a) r) f) s
-
--- what has an exchange and octets is sound
-pub record IsSoundSo (network : Network) (e : LinePlace) (report : Report) : Type 0 where
-  pub has : HasExchange network e report
-  pub octets : are_octets network has.x has.sync has.request ≡ true
 
 module _ (network : Network) (answered : Place) (e : LinePlace) (report : Report) (tells : TellsPlace network answered e) (reports : Reports network answered report)
     (measured : IsMeasurement (until answered) (site_of answered.event) report) (evidence : HasEvidence network answered (site_of answered.event) report measured) where
@@ -167,8 +150,8 @@ module _ (network : Network) (answered : Place) (e : LinePlace) (report : Report
   sync_drawn : is_at draws_sync measured.one_sync.master measured.one_sync.journey.origin.event ≡ true
   sync_drawn = origin_drawn run slave measured.one_sync.master report.follow_tag measured.one_sync.journey.origin measured.one_sync.sync.departure
 
-  sound : IsSoundSo network e report
-  sound =
+  measured_exchange : HasExchange network e report
+  measured_exchange =
       let os = measured.one_sync in
       let or = measured.one_request in
       let sync_in : IsIn run os.arrival = IsIn-place_at run report.sync_tag os.arrival os.sync.arrives.there in
@@ -199,23 +182,23 @@ module _ (network : Network) (answered : Place) (e : LinePlace) (report : Report
       let sync_timed_at : is_some (true_moment os.arrival.event) ≡ true = ap (λ (v : Event). is_some (true_moment v)) os.sync.arrives.event in
       let arrival_timed : is_some (true_moment or.arrival.event) ≡ true = ap (λ (v : Event). is_some (true_moment v)) or.request.arrives.event in
       let sync_way = followed network answered e tells draws_sync os.arrival sync.e os.journey os.sync.arrives.copy sync.tells sync_in (ap heard_copy os.sync.arrives.event) sync_timed_at
-      os.sync.arrives.travelled sync_kind (draws_sync_or os.journey.origin.event sync_kind) (sync_timed os.journey.origin.event sync_kind) in
-      let request_way = followed network answered e tells is_request or.arrival answer.found.e or.journey or.request.arrives.copy answer.found.tells arrival_in (ap heard_copy or.request.arrives.event)
-      arrival_timed or.request.arrives.travelled request_kind (draws_request_or or.journey.origin.event request_kind) (request_timed or.journey.origin.event request_kind) in
+      os.sync.arrives.travelled sync_kind (sync_timed os.journey.origin.event sync_kind) in
+      let request_way = followed network answered e tells is_request or.arrival answer.e or.journey or.request.arrives.copy answer.tells arrival_in (ap heard_copy or.request.arrives.event)
+      arrival_timed or.request.arrives.travelled request_kind (request_timed or.journey.origin.event request_kind) in
       let sync_origin_in = IsIn-within run os.arrival os.journey.origin sync_in (IsIn-origin os.arrival.earlier os.sync.arrives.copy os.journey os.sync.arrives.travelled) in
       let request_origin_in = IsIn-place_at run report.request_tag or.journey.origin or.request.requested in
-      let x : Exchange = record { sync = sync.e; follow = follow.found; request = request.e; arrival = answer.found.e } in
+      let x : Exchange = record { sync = sync.e; follow = follow.found; request = request.e; arrival = answer.e } in
       let lines : exchange_of network slave e report ≡ Some x =
       ap (λ (b : Bool). if b then whole (sync_line network (lines_to e) slave report) (follow_lines network (lines_to e) slave report.follow_tag)
       (line_of network (lines_to e) is_request slave report.request_tag) (arrival_line network (lines_to e) slave report.response_tag) else None) in_place
-      ∙ (λ i. whole (sync.there i) (follow.there i) (request.there i) (answer.found.there i)) in
+      ∙ (λ i. whole (sync.there i) (follow.there i) (request.there i) (answer.there i)) in
       let site_sync : site sync_way.by_lines.origin ≡ os.master =
       ap site_of (same_event network os.journey.origin sync_way.by_lines.origin sync_way.tells.origin) ∙ at_site draws_sync os.master os.journey.origin.event sync_drawn in
-      let site_arrival : site answer.found.e ≡ os.master =
-      ap site_of (same_event network or.arrival answer.found.e answer.found.tells ∙ or.request.arrives.event) ∙ one_master in
+      let site_arrival : site answer.e ≡ os.master =
+      ap site_of (same_event network or.arrival answer.e answer.tells ∙ or.request.arrives.event) ∙ one_master in
       let of_present : is_present_master network slave (site sync_way.by_lines.origin) e report ≡ true =
       ap (λ (m : NodeName). is_present_master network slave m e report) site_sync ∙ present os.master os.present in
-      let named : is_named (site answer.found.e) (site sync_way.by_lines.origin) ≡ true =
+      let named : is_named (site answer.e) (site sync_way.by_lines.origin) ≡ true =
       ap (λ (m : NodeName). is_named m (site sync_way.by_lines.origin)) site_arrival ∙ ap (is_named os.master) site_sync ∙ named-self os.master in
       let domain : is_domain (slave_at network slave) (master_at network (site sync_way.by_lines.origin)) ≡ true =
       ap (λ (m : NodeName). is_domain (slave_at network slave) (master_at network m)) site_sync ∙ one_domain network slave os.master evidence.domain in
@@ -226,30 +209,25 @@ module _ (network : Network) (answered : Place) (e : LinePlace) (report : Report
       (same_number network or.journey.origin request_way.by_lines.origin request_way.tells.origin ∙ sym (same_number network or.journey.origin request.e request.tells)) in
       let a = bracket_told network run draws_sync e os.arrival sync.e os.journey measured.exact.a accepted sync_in sync_timed_at sync_origin_in (sync_timed os.journey.origin.event sync_kind)
       measured.exact.of_sync sync_way in
-      let b = bracket_told network run is_request e or.arrival answer.found.e or.journey measured.exact.b accepted arrival_in arrival_timed request_origin_in (request_timed or.journey.origin.event request_kind)
+      let b = bracket_told network run is_request e or.arrival answer.e or.journey measured.exact.b accepted arrival_in arrival_timed request_origin_in (request_timed or.journey.origin.event request_kind)
       measured.exact.of_request request_way in
-      let offset : int_eq report.offset2 (offset2 (bracket sync.e sync_way.by_lines) (bracket answer.found.e request_way.by_lines)) ≡ true =
-      (Decides-int_eq report.offset2 (offset2 (bracket sync.e sync_way.by_lines) (bracket answer.found.e request_way.by_lines))).1 (measured.exact.offset ∙ (λ i. offset2 (a i) (b i))) in
-      let path : int_eq report.path2 (path2 (bracket sync.e sync_way.by_lines) (bracket answer.found.e request_way.by_lines)) ≡ true =
-      (Decides-int_eq report.path2 (path2 (bracket sync.e sync_way.by_lines) (bracket answer.found.e request_way.by_lines))).1 (measured.exact.path ∙ (λ i. path2 (a i) (b i))) in
-      let response = arrival_written network or.master or.request.arrives.copy or.request.arrives.moment or.arrival answer.found.e answer.response or.journey or.request.arrives.event answer.found.tells
-      answer.copy or.request.arrives.travelled in
+      let offset : int_eq report.offset2 (offset2 (bracket sync.e sync_way.by_lines) (bracket answer.e request_way.by_lines)) ≡ true =
+      (Decides-int_eq report.offset2 (offset2 (bracket sync.e sync_way.by_lines) (bracket answer.e request_way.by_lines))).1 (measured.exact.offset ∙ (λ i. offset2 (a i) (b i))) in
+      let path : int_eq report.path2 (path2 (bracket sync.e sync_way.by_lines) (bracket answer.e request_way.by_lines)) ≡ true =
+      (Decides-int_eq report.path2 (path2 (bracket sync.e sync_way.by_lines) (bracket answer.e request_way.by_lines))).1 (measured.exact.path ∙ (λ i. path2 (a i) (b i))) in
       record {
-        has = record {
-          x = x;
-          sync = sync_way.by_lines;
-          request = request_way.by_lines;
-          lines = subst (λ (name : NodeName). exchange_of network name e report ≡ Some x) (sym here) lines;
-          sync_unbroken = sync_way.there;
-          request_unbroken = request_way.there;
-          paired = λ i. followed_by i && own i;
-          of_master = subst (λ (name : NodeName). is_of_master network name e report x sync_way.by_lines ≡ true) (sym here) of_master;
-          readings = λ i. sync_way.arrival_right i && sync_way.journey_right i && request_way.arrival_right i && request_way.journey_right i;
-          sync_fits = fits_told network draws_sync e os.arrival sync.e os.journey evidence.sync_small sync_way;
-          request_fits = fits_told network is_request e or.arrival answer.found.e or.journey evidence.request_small request_way;
-          results = λ i. offset i && path i;
-        };
-        octets = λ i. sync_way.octets i && follow.octets i && request_way.octets i && response i;
+        x = x;
+        sync = sync_way.by_lines;
+        request = request_way.by_lines;
+        lines = subst (λ (name : NodeName). exchange_of network name e report ≡ Some x) (sym here) lines;
+        sync_unbroken = sync_way.there;
+        request_unbroken = request_way.there;
+        paired = λ i. followed_by i && own i;
+        of_master = subst (λ (name : NodeName). is_of_master network name e report x sync_way.by_lines ≡ true) (sym here) of_master;
+        readings = λ i. sync_way.arrival_right i && sync_way.journey_right i && request_way.arrival_right i && request_way.journey_right i;
+        sync_fits = fits_told network draws_sync e os.arrival sync.e os.journey evidence.sync_small sync_way;
+        request_fits = fits_told network is_request e or.arrival answer.e or.journey evidence.request_small request_way;
+        results = λ i. offset i && path i;
       }
     where
       stamped_before : (stamp response now : ℕ) → stamp < response → response ≤ now → stamp < now
@@ -286,53 +264,25 @@ report_told copy (outcomes.Heard (answers.Ignored reason)) out report told is = 
 report_told copy (outcomes.Refused code) out report told is = let none : None ≡ Some report = sym (ap report_in told) ∙ is in cc
 
 -- each report that is of one Sync and of one Delay_Req
-sound_of : (network : Network) (answered : Place) (e : LinePlace) (report : Report) → IsAcceptedRun network (until answered) → TellsPlace network answered e
+exchange_from : (network : Network) (answered : Place) (e : LinePlace) (report : Report) → IsAcceptedRun network (until answered) → TellsPlace network answered e
     → Reports network answered report → IsOfOneSync (until answered) (site_of answered.event) report → IsOfOneRequest (until answered) (site_of answered.event) report
-    → IsSoundSo network e report
-sound_of network answered e report premise tells reports one_sync one_request =
+    → HasExchange network e report
+exchange_from network answered e report premise tells reports one_sync one_request =
     let measured : IsMeasurement (until answered) (site_of answered.event) report =
     record { one_sync = one_sync; one_request = one_request; exact = each_twice network answered report premise reports one_sync one_request } in
-    sound network answered e report tells reports measured (each_has_evidence network answered report premise reports measured)
+    measured_exchange network answered e report tells reports measured (each_has_evidence network answered report premise reports measured)
 
--- each report line of a run that meets a premise is sound
-abbrev EachIsSound : Premise → Type 0
-EachIsSound premise =
-    (network : Network) (answered : Place) (e : LinePlace) (report : Report) → premise network (until answered) → TellsPlace network answered e
-    → Reports network answered report → IsSoundSo network e report
-
-fresh_sound : EachIsSound (IsFreshAndTicked exact_limits)
-fresh_sound network answered e report premise tells reports =
-    sound_of network answered e report (record { apart = premise.apart; accepted = premise.accepted }) tells reports
+fresh_exchange : EachReportHasExchange (IsFreshAndTicked exact_limits)
+fresh_exchange network answered e report premise tells reports =
+    exchange_from network answered e report (record { apart = premise.apart; accepted = premise.accepted }) tells reports
     (each_of_one_sync network answered report premise reports) (each_of_one_request network answered report premise reports)
 
-turn_sound : EachIsSound IsWithinTurn
-turn_sound network answered e report premise tells reports =
-    sound_of network answered e report (record { apart = premise.apart; accepted = premise.accepted }) tells reports
+turn_exchange : EachReportHasExchange IsWithinTurn
+turn_exchange network answered e report premise tells reports =
+    exchange_from network answered e report (record { apart = premise.apart; accepted = premise.accepted }) tells reports
     (each_of_one_sync-one_turn network answered report premise reports) (each_of_one_request-one_turn network answered report premise reports)
 
-turn_shorter : (network : Network) (event : Event) (earlier : Run) → IsWithinTurn network (event ∷ earlier) → IsWithinTurn network earlier
-turn_shorter network event earlier premise = record {
-  apart = premise.apart;
-  accepted = premise.accepted.1;
-  one_turn = record {
-    syncs = λ node. let few = premise.one_turn.syncs node in omega (arith, count-more (is_at draws_sync node) event earlier);
-    requests = λ node. let few = premise.one_turn.requests node in omega (arith, count-more (is_at is_request node) event earlier);
-  };
-}
-
--- whatever exchange a report line has, it is this one
-same_exchange : (network : Network) (e : LinePlace) (report : Report) (one other : HasExchange network e report)
-    → are_octets network one.x one.sync one.request ≡ true → are_octets network other.x other.sync other.request ≡ true
-same_exchange network e report one other octets =
-    let xs : Some one.x ≡ Some other.x = sym one.lines ∙ other.lines in
-    let x : one.x ≡ other.x = cc in
-    let syncs : Some one.sync ≡ Some other.sync = sym one.sync_unbroken ∙ ap (λ (y : Exchange). unbroken network e draws_sync y.sync) x ∙ other.sync_unbroken in
-    let sync : one.sync ≡ other.sync = cc in
-    let requests : Some one.request ≡ Some other.request = sym one.request_unbroken ∙ ap (λ (y : Exchange). unbroken network e is_request y.arrival) x ∙ other.request_unbroken in
-    let request : one.request ≡ other.request = cc in
-    (λ i. are_octets network (sym x i) (sym sync i) (sym request i)) ∙ octets
-
-module _ (premise : Premise) (shorter : (network : Network) (event : Event) (earlier : Run) → premise network (event ∷ earlier) → premise network earlier) (each : EachIsSound premise) where
+module _ (premise : Premise) (shorter : (network : Network) (event : Event) (earlier : Run) → premise network (event ∷ earlier) → premise network earlier) (each : EachReportHasExchange premise) where
   -- a report line is sound
   sound_line : (network : Network) (event : Event) (earlier : Run) (e : LinePlace) (report : Report) → premise network (event ∷ earlier)
       → TellsPlace network (place event earlier) e → report_in e.line.out ≡ Some report → Sound network e report
@@ -340,8 +290,7 @@ module _ (premise : Premise) (shorter : (network : Network) (event : Event) (ear
       let stepped = tells.told.stepped in
       let answered = report_told (copy_of network (event ∷ earlier) stepped.tag) stepped.outcome e.line.out report tells.told.told.outcome is in
       let reports : Reports network (place event earlier) report = tells.told.answered.outcome ∙ ap Ok answered in
-      let all = each network (place event earlier) e report holds tells reports in
-      let has = all.has in
+      let has = each network (place event earlier) e report holds tells reports in
       record {
         x = has.x;
         sync = has.sync;
@@ -355,7 +304,7 @@ module _ (premise : Premise) (shorter : (network : Network) (event : Event) (ear
         sync_fits = has.sync_fits;
         request_fits = has.request_fits;
         results = has.results;
-        octets = all.octets;
+        octets = each_exchange_is_written network (place event earlier) e report tells has;
       }
 
   -- all report lines are
@@ -412,29 +361,18 @@ counted_alike network (event ∷ earlier) (line ∷ lines) told =
     by true false same more before = cc
     by false true same more before = cc
 
-module _ (premise : Premise) (shorter : (network : Network) (event : Event) (earlier : Run) → premise network (event ∷ earlier) → premise network earlier) (each : EachIsSound premise) where
-  -- each report line has its exchange, the octets of each are right, and all lines are accepted
-  exchanges_of : EachReportHasExchange premise
-  exchanges_of network answered e report holds tells reports = (each network answered e report holds tells reports).has
-
-  octets_of : EachExchangeIsWritten premise
-  octets_of network answered e report holds tells reports has =
-      let is = each network answered e report holds tells reports in same_exchange network e report is.has has is.octets
-
-  accepted_by : MissesNothing premise
-  accepted_by network lines run holds tells =
-      ((verdicts_tell_soundness network lines).accepted (reports_in network run)).1
-      (all_sound premise shorter each network run lines holds tells, counted_alike network run lines tells)
+-- lines are accepted that tell a run which meets a premise
+accepted_by : (premise : Premise) → ((network : Network) (event : Event) (earlier : Run) → premise network (event ∷ earlier) → premise network earlier)
+    → EachReportHasExchange premise → MissesNothing premise
+accepted_by premise shorter each network lines run holds tells =
+    ((verdicts_tell_soundness network lines).accepted (reports_in network run)).1
+    (all_sound premise shorter each network run lines holds tells, counted_alike network run lines tells)
 
 pub complete : Complete
-complete =
-    let premise : Premise = IsFreshAndTicked exact_limits in
-    let shorter = fresh_ticked_shorter exact_limits in
-    record { exchanges = exchanges_of premise shorter fresh_sound; octets = octets_of premise shorter fresh_sound; verdicts = accepted_by premise shorter fresh_sound }
+complete = record {
+  exchanges = fresh_exchange;
+  verdicts = accepted_by (IsFreshAndTicked exact_limits) (fresh_ticked_shorter exact_limits) fresh_exchange;
+}
 
 pub complete_within_one_turn : CompleteWithinOneTurn
-complete_within_one_turn = record {
-  exchanges = exchanges_of IsWithinTurn turn_shorter turn_sound;
-  octets = octets_of IsWithinTurn turn_shorter turn_sound;
-  verdicts = accepted_by IsWithinTurn turn_shorter turn_sound;
-}
+complete_within_one_turn = record { exchanges = turn_exchange; verdicts = accepted_by IsWithinTurn within_turn_shorter turn_exchange }

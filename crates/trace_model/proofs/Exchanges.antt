@@ -30,7 +30,6 @@ use Rattle.trace_model.specs.declared.line.TraceLine.{TraceLine}
 use Rattle.trace_model.specs.declared.line.TraceOut.{TraceOut}
 use Rattle.trace_model.specs.Line.{Lines, is_made, completes, is_arrival, is_hearing}
 use Rattle.trace_model.specs.Record.{LinePlace, line_place, event_of, site, line_number, line_at, last_line, stamps, first_stamp}
-use Rattle.trace_model.specs.Octets.{writes_right}
 use Rattle.trace_model.specs.Sound.{where_passes, below, line_of, sender, sync_line, follow_lines, arrival_line, is_followed}
 use Rattle.trace_model.specs.Told.{TellsOutcome, TellsEvent, TellsRun, heard_out}
 use Rattle.trace_model.specs.Faithful.{is_effective, took_effect, TellsPlace}
@@ -39,7 +38,7 @@ use Rattle.trace_model.proofs.Good.{made_told, the_value}
 use Rattle.trace_model.proofs.Found.{same_event, same_number, same_length, line_counts, each_event_has_its_line}
 use Rattle.trace_model.proofs.Last.{last_at-waiting, last_at-alone, last_told}
 use Rattle.trace_model.proofs.Travelled.{accepted_told, certain_took}
-use Rattle.trace_model.proofs.Octets.{arrival_parts, follow_written}
+use Rattle.trace_model.proofs.Octets.{arrival_parts}
 
 -- what is found, and that it tells an event
 pub record Finds (network : Network) (found : Option LinePlace) (p : Place) : Type 0 where
@@ -148,18 +147,11 @@ stamped_first network request (event ∷ earlier) (line ∷ lines) tag p told th
         by (Some n) e h number = let bound = stamp_bound network request lines n e in (n, ap (λ (o : Option ℕ). option_or o here) e, omega arith)
     at false is there before = let found = before there in (found.0, ap (λ (o : Option ℕ). option_or o here) found.1, found.2)
 
--- the Follow_Up of a report, where it has one: its line follows the Sync, and its octets are right
+-- the Follow_Up of a report, where it has one: its line follows the Sync
 pub record HasFollow (network : Network) (lines : Lines) (slave : NodeName) (follow : Option ℕ) (origin : Place) : Type 0 where
   pub found : Option LinePlace
   pub there : follow_lines network lines slave follow ≡ Some found
   pub followed : (e : LinePlace) → TellsPlace network origin e → is_followed network found e ≡ true
-  pub octets : option_map_or (writes_right network) found true ≡ true
-
--- an arrival that sent a Delay_Resp, and what it made
-pub record HasAnswer (network : Network) (lines : Lines) (slave : NodeName) (tag : ℕ) (arrival : Place) : Type 0 where
-  pub found : Finds network (arrival_line network lines slave tag) arrival
-  pub response : Contents
-  pub copy : copy_made network arrival.event arrival.earlier (copy_of network arrival.earlier) ≡ Some response
 
 module _ (network : Network) (run : Run) (lines : Lines) (told : TellsRun network run lines) where
   accepted : IsRun network run
@@ -236,7 +228,6 @@ module _ (network : Network) (run : Run) (lines : Lines) (told : TellsRun networ
     found = None;
     there = refl;
     followed = λ e tells. ap is_one_step_sync (same_event network origin e tells) ∙ at_kind is_one_step_sync master origin.event learns;
-    octets = refl;
   }
   follow_found slave master (Some tag) origin learns used =
       let hears = learns.hears in
@@ -259,7 +250,6 @@ module _ (network : Network) (run : Run) (lines : Lines) (told : TellsRun networ
             ap (λ (node : NodeName). option_map_or (λ (last : LinePlace). line_number last == line_number e) (last_line network is_sync node sent.e.earlier) false) site_is
             ∙ ap (λ (o : Option LinePlace). option_map_or (λ (last : LinePlace). line_number last == line_number e) o false) last.there
             ∙ eq-eqb (line_number last.e) (line_number e) (same_number network origin last.e last.tells ∙ sym (same_number network origin e tells));
-        octets = follow_written network master learns.follow sent.e origin learns.follows sent.tells learns.followed;
       }
 
   -- the line that sent the Delay_Req
@@ -270,7 +260,7 @@ module _ (network : Network) (run : Run) (lines : Lines) (told : TellsRun networ
 
   -- the arrival of the Delay_Req
   pub answer_found : (slave master : NodeName) (tag : ℕ) (arrival : Place) (copy moment : ℕ) → HearsOf run tag slave arrival → arrival.event ≡ Arrive master copy moment
-      → HasOutcome network run is_completing tag → HasAnswer network lines slave tag arrival
+      → HasOutcome network run is_completing tag → Finds network (arrival_line network lines slave tag) arrival
   answer_found slave master tag arrival copy moment hears event completes_at =
       let outcome = outcome_at is_completing tag hears.hearing hears.there completes_at in
       let heard_at : is_at is_hearing slave hears.hearing.event ≡ true = ap (is_at is_hearing slave) hears.event ∙ named-self slave in
@@ -295,18 +285,14 @@ module _ (network : Network) (run : Run) (lines : Lines) (told : TellsRun networ
       the_value sent.tells.told.stepped.outcome outcomes.Made (sym sent.tells.told.answered.outcome ∙ arrived.1 ∙ ap Ok parts.is_made) in
       let is_made_here = is_made_told network arrival.event arrival.earlier sent.e.line sent.tells.told made_here in
       record {
-        found = record {
-          e = sent.e;
-          there = ap (λ (o : Option LinePlace). where_passes (λ (e : LinePlace). is_arrival (event_of e) && is_made e.line.out)
-              (option_and_then (sender network lines) (where_passes (λ (e : LinePlace). completes e.line.out) o))) hearing.there
-              ∙ ap (λ (o : Option LinePlace). where_passes (λ (e : LinePlace). is_arrival (event_of e) && is_made e.line.out) (option_and_then (sender network lines) o))
-              (passes (λ (e : LinePlace). completes e.line.out) hearing.e (completes_told network hears.hearing.event hears.hearing.earlier hearing.e.line hearing.tells.told outcome))
-              ∙ ap (where_passes (λ (e : LinePlace). is_arrival (event_of e) && is_made e.line.out)) sent.there
-              ∙ passes (λ (e : LinePlace). is_arrival (event_of e) && is_made e.line.out) sent.e (and_from (is_arrival (event_of sent.e)) (is_made sent.e.line.out) arrives is_made_here);
-          tells = sent.tells;
-        };
-        response = message.0;
-        copy = made;
+        e = sent.e;
+        there = ap (λ (o : Option LinePlace). where_passes (λ (e : LinePlace). is_arrival (event_of e) && is_made e.line.out)
+            (option_and_then (sender network lines) (where_passes (λ (e : LinePlace). completes e.line.out) o))) hearing.there
+            ∙ ap (λ (o : Option LinePlace). where_passes (λ (e : LinePlace). is_arrival (event_of e) && is_made e.line.out) (option_and_then (sender network lines) o))
+            (passes (λ (e : LinePlace). completes e.line.out) hearing.e (completes_told network hears.hearing.event hears.hearing.earlier hearing.e.line hearing.tells.told outcome))
+            ∙ ap (where_passes (λ (e : LinePlace). is_arrival (event_of e) && is_made e.line.out)) sent.there
+            ∙ passes (λ (e : LinePlace). is_arrival (event_of e) && is_made e.line.out) sent.e (and_from (is_arrival (event_of sent.e)) (is_made sent.e.line.out) arrives is_made_here);
+        tells = sent.tells;
       }
 
   -- a Stamped between the request and the hearing of its answer

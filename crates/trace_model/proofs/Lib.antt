@@ -15,3 +15,4 @@ pub mod Exchanges
 pub mod Measured
 pub mod Complete
 pub mod Messages
+pub mod OctetsOfExchanges

@@ -2,14 +2,9 @@
 use Rattle.std.proofs.Common.{◌≡◌, ◌∙◌, ℕ, Bool, true, false, Option, Some, Ok, Err, Result, refl, sym, ap, subst, option_and_then}
 use Rattle.std.specs.Prelude.{◌&&◌, ◌||◌, is_some, ok_or, unwrap_or}
 use Rattle.std.specs.Result.{result_ok}
-use Rattle.ptp_units.specs.Moment.{Stamp}
-use Rattle.event_codec.specs.declared.message.Body.{Body}
-use Rattle.event_codec.specs.declared.message.Body.TheVariants as bodies
-use Rattle.event_codec.specs.declared.message.Header.{Header}
-use Rattle.event_codec.specs.declared.port.PortConfig.{PortConfig}
 use Rattle.event_codec.specs.Packet.{Contents}
 use Rattle.master_port.specs.declared.refusal.MasterRefusal.{MasterRefusal}
-use Rattle.master_port.specs.Written.{answer, answer_to}
+use Rattle.master_port.specs.Written.{answer}
 use Rattle.network_model.specs.declared.event.Event.{Event}
 use Rattle.network_model.specs.declared.event.Event.TheVariants.{Sync, SyncOne, Follow, Enter, Leave, Arrive, Hear, Request, Stamped, Tick, SetMaster, StepClock}
 use Rattle.network_model.specs.declared.node.NodeKind.{NodeKind}
@@ -26,6 +21,7 @@ use Rattle.network_model.specs.Truth as truth
 use Rattle.network_model.specs.Truth.{copy_made, copy_of, master_at}
 use Rattle.network_model.specs.Outcome.{◌>>=◌, node_as, port_of, reads, answered_outcome, arrived_outcome, outcome_of, IsRun}
 use Rattle.network_model.proofs.Options.{ok_step, ok_some}
+use Rattle.network_model.proofs.Copies.{answered as answers_request}
 use Rattle.network_model.proofs.Entries.{delay_req_copy}
 use Rattle.trace_model.specs.declared.line.TraceOut.{TraceOut}
 use Rattle.trace_model.specs.declared.line.TraceOut.TheVariants as outs
@@ -47,14 +43,6 @@ follow_waits network node earlier is =
     let port = ok_step (node_as master_port network node) (λ port. ok_or (waiting_sync node earlier) NothingWaiting >>= (λ waiting. Ok outcomes.Made)) is in
     let waiting = ok_step (ok_or (waiting_sync node earlier) NothingWaiting) (λ waiting. Ok outcomes.Made) port.2 in
     (waiting.0, ok_some (waiting_sync node earlier) NothingWaiting {x = waiting.0} waiting.1)
-
--- a master answers a Delay_Req alone
-answers_request : (config : PortConfig) (body : Body) (header : Header) (t4 : ℕ) (m : Contents) → result_ok (answer_to config body header t4) ≡ Some m
-    → (origin : Stamp) × (body ≡ bodies.DelayReq origin)
-answers_request config (bodies.Sync origin) header t4 m e = cc
-answers_request config (bodies.FollowUp precise) header t4 m e = cc
-answers_request config (bodies.DelayResp receive requesting) header t4 m e = cc
-answers_request config (bodies.DelayReq origin) header t4 m e = (origin, refl)
 
 -- the master at which a message arrived that it answered
 record IsAtMaster (kind : NodeKind) (now : ℕ) (m : Contents) : Type 0 where
@@ -92,7 +80,7 @@ responds network node copy at earlier is =
     let m_is : copy_of network earlier copy ≡ Some message.0 = ok_some (copy_of network earlier copy) NoCopy {x = message.0} message.1 in
     let master = at_master network kind.0 node earlier now.0 message.0 (the_value (arrived_outcome network kind.0 node earlier now.0 message.0) outcomes.Made now.2) in
     let master_is : master_at network node ≡ Some master.port = ap (option_and_then master_port) (port_is network node kind.0 kind.1) ∙ master.master in
-    let asked = answers_request master.port.config message.0.body message.0.header now.0 master.response (ap result_ok master.is) in
+    let asked = (answers_request master.port.config message.0.body message.0.header now.0 master.response (ap result_ok master.is)).0 in
     let drawn = delay_req_copy network earlier copy message.0 asked.0 m_is asked.1 in
     record {
       response = master.response;

@@ -17,6 +17,7 @@ use Rattle.network_model.proofs.Sites.{at_kind}
 use Rattle.network_model.proofs.Sequences.{count-yes, count-no, count-more}
 use Rattle.network_model.proofs.Journeys.{IsIn-last}
 use Rattle.network_model.proofs.Readings.{shown_reading}
+use Rattle.network_model.proofs.Steady.{unstepped}
 use Rattle.trace_model.specs.declared.line.TraceLine.{TraceLine}
 use Rattle.trace_model.specs.Line.{Lines, counts}
 use Rattle.trace_model.specs.Record.{LinePlace, events, place_of, is_reading, reads_right, sequence}
@@ -51,15 +52,6 @@ uncounted network event earlier line kind certain told other = by (kind event) r
     by false is = is
 
 -- a clock's difference
-unstepped : (node : NodeName) (event : Event) (earlier : Run) → is_step event ≡ false → difference node (event ∷ earlier) ≡ difference node earlier
-unstepped node event earlier none = by (step_of event) refl (is_named (site_of event) node)
-  where
-    by : (step : Option ℤ) → step_of event ≡ step → (named : Bool)
-        → (if named then unwrap_or (step_of event) (difference node earlier) else difference node earlier) ≡ difference node earlier
-    by None e true = ap (λ (s : Option ℤ). unwrap_or s (difference node earlier)) e
-    by (Some d) e true = let stepped : is_step event ≡ true = ap is_some e in cc
-    by step e false = refl
-
 stepped_alike : (node : NodeName) (event : Event) (one other : Run) → difference node one ≡ difference node other
     → difference node (event ∷ one) ≡ difference node (event ∷ other)
 stepped_alike node event one other same =

@@ -53,11 +53,11 @@ EachReportHasExchange premise =
     (network : Network) (answered : Place) (e : LinePlace) (report : Report) → premise network (until answered) → TellsPlace network answered e
     → Reports network answered report → HasExchange network e report
 
--- Where it has one, the octets of the exchange are those that ports and clocks write.
-abbrev pub EachExchangeIsWritten : Premise → Type 0
-EachExchangeIsWritten premise =
-    (network : Network) (answered : Place) (e : LinePlace) (report : Report) → premise network (until answered) → TellsPlace network answered e
-    → Reports network answered report → (has : HasExchange network e report) → IsTrue (are_octets network has.x has.sync has.request)
+-- Whatever exchange a line has by lines that tell a run, its octets are those that ports and clocks write.
+abbrev pub EachExchangeIsWritten : Type 0
+EachExchangeIsWritten =
+    (network : Network) (p : Place) (e : LinePlace) (report : Report) → TellsPlace network p e → (has : HasExchange network e report)
+    → IsTrue (are_octets network has.x has.sync has.request)
 
 -- a slave answers a report
 abbrev pub is_report : Heard → Bool
@@ -90,15 +90,12 @@ AcceptsTruth premise network lines answer =
 abbrev pub MissesNothing : Premise → Type 0
 MissesNothing premise = (network : Network) (lines : Lines) → AcceptsTruth premise network lines (verdict network lines)
 
--- Over runs of any length that are fresh and ticked, each report line has its exchange, the octets of each are right, and all
--- lines are accepted.
+-- Over runs of any length that are fresh and ticked, each report line has its exchange, and all lines are accepted.
 pub record Complete : Type 0 where
   pub exchanges : EachReportHasExchange (IsFreshAndTicked exact_limits)
-  pub octets : EachExchangeIsWritten (IsFreshAndTicked exact_limits)
   pub verdicts : MissesNothing (IsFreshAndTicked exact_limits)
 
 -- The same where the numbers of no port have come round, however old what is heard and however rare the ticks.
 pub record CompleteWithinOneTurn : Type 0 where
   pub exchanges : EachReportHasExchange IsWithinTurn
-  pub octets : EachExchangeIsWritten IsWithinTurn
   pub verdicts : MissesNothing IsWithinTurn

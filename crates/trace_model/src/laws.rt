@@ -1,7 +1,7 @@
 //! Laws of lines, each the contract of a function that does nothing: a caller that needs the law in its
 //! proof calls it.
 
-ghost use Rattle.trace_model.specs.Complete.{Complete, CompleteWithinOneTurn, EachMessageIsWritten};
+ghost use Rattle.trace_model.specs.Complete.{Complete, CompleteWithinOneTurn, EachExchangeIsWritten, EachMessageIsWritten};
 ghost use Rattle.trace_model.specs.Faithful.{EachEventHasItsLine, EachEventIsRecorded, EachJourneyIsTold, EachLineIsGood};
 ghost use Rattle.trace_model.specs.Soundness.{ReasonsMissNothing, VerdictsTellSoundness};
 
@@ -38,16 +38,17 @@ pub fn each_journey_is_told()
     ensures { EachJourneyIsTold }
 {}
 
-/// Each line that tells of a message that was made has the octets that its port or its clock writes, by
-/// the readings and the numbers that the lines before it tell.
+/// Of lines that tell any run of a world, each that tells of a message has the octets that its port or
+/// its clock writes, by the readings and the numbers that the lines before it tell. So whatever
+/// exchange a line has, its octets are right.
 pub fn each_message_is_written()
-    ensures { EachMessageIsWritten }
+    ensures message { EachMessageIsWritten }
+    ensures exchange { EachExchangeIsWritten }
 {}
 
 /// The checker misses nothing. Over runs of any length that are fresh and ticked, each line that tells
-/// a report meets every condition of a sound line, first those on lines, journeys, masters, readings
-/// and results, then those on octets. So lines that tell the run are accepted, with the number of its
-/// reports.
+/// a report meets every condition of a sound line but that on octets, which each exchange meets. So
+/// lines that tell the run are accepted, with the number of its reports.
 pub fn verdicts_miss_nothing()
     ensures { Complete }
 {}
