@@ -26,6 +26,8 @@ mod nodes;
 #[cfg(test)]
 mod program;
 #[cfg(test)]
+mod refusals;
+#[cfg(test)]
 mod script;
 #[cfg(test)]
 mod show;
@@ -33,6 +35,8 @@ mod show;
 mod slave;
 #[cfg(test)]
 mod tables;
+#[cfg(test)]
+mod traces;
 #[cfg(test)]
 mod units;
 #[cfg(test)]

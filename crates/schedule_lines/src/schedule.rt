@@ -22,8 +22,8 @@ pub enum Line {
 }
 
 impl Line {
-    /// The node or the event that a line's value is: an object with key `ev` is an event, and one
-    /// without it and with `kind` a node. None for every other value, and where a key of the form
+    /// The node or the event that a line's value is: with the key `ev` it is an event, without it and
+    /// with `kind` a node. None for every other value, and where a key of the form
     /// is missing, one is there that isn't of the form, or a key's value isn't what is asked for.
     pub fn of(value: &Value) -> Option<Line>
         ensures { result ≡ line_of (view value.now) }
@@ -137,7 +137,7 @@ fn at_in(value: &Value) -> Option<ScaledTime>
     moment_in(value.get("at")?)
 }
 
-/// The tag of the event that made the copy.
+/// The copy, named by its tag.
 fn copy_in(value: &Value) -> Option<u64>
     ensures { result ≡ copy_in (view value.now) }
 {

@@ -13,11 +13,12 @@ use Rattle.network_model.specs.Numbering.{waiting_sync}
 use Rattle.network_model.specs.Truth.{master_at}
 use Rattle.network_model.specs.Kinds.{is_at, is_follow}
 use Rattle.network_model.specs.Outcome.{◌>>=◌, reads}
+use Rattle.network_model.proofs.Sites.{named-self}
 use Rattle.world_model.specs.declared.entry.Left.TheVariants.{Copy}
 use Rattle.world_model.specs.declared.station.Master.{Master}
 use Rattle.world_model.specs.Stands.{departure, sequence_of, MasterStands}
 use Rattle.world_model.specs.Acts.{Brings}
-use Rattle.world_model.proofs.Own.{named, next_sync-drawn, reading_of-read, reading-read, node_as-at}
+use Rattle.world_model.proofs.Own.{next_sync-drawn, reading_of-read, reading-read, node_as-at}
 
 -- a master that waits for the Follow_Up of the Sync that it drew
 abbrev pub with_sync : (now : ℕ) → Master → Master
@@ -36,7 +37,7 @@ with_one_step_sync master = record {
 module _ (network : Network) (run : Run) (node : NodeName) (at now : ℕ) (setup : PortSetup) (master : Master) (octets : ArrayVec ℕ)
     (is : master_at network node ≡ Some setup) (stands : MasterStands run node setup master) where
   waits : waiting_sync node (Sync node at ∷ run) ≡ Some (place (Sync node at) run)
-  waits = ap (λ b. if b then Some (place (Sync node at) run) else (if is_at is_follow node (Sync node at) then None else waiting_sync node run)) (named node)
+  waits = ap (λ b. if b then Some (place (Sync node at) run) else (if is_at is_follow node (Sync node at) then None else waiting_sync node run)) (named-self node)
 
   pub sync-brings : Ok now ≡ reads (Sync node at) run → Packet (sync master.port.config master.port.next) octets.items
       → Brings network run (Sync node at) (MasterStands (Sync node at ∷ run) node setup (with_sync now master))

@@ -21,11 +21,12 @@ use Rattle.network_model.specs.Numbering.{draws_with, waiting_request}
 use Rattle.network_model.specs.Truth.{slave_at, copy_of, master_at}
 use Rattle.network_model.specs.SlaveHistory.{slave_setup, call_made, history_of}
 use Rattle.network_model.specs.Outcome.{◌>>=◌, reads}
+use Rattle.network_model.proofs.Sites.{named-self}
 use Rattle.world_model.specs.declared.entry.Left.TheVariants.{Copy}
 use Rattle.world_model.specs.declared.station.Slave.{Slave}
 use Rattle.world_model.specs.Stands.{departure, sequence_of, SlaveStands}
 use Rattle.world_model.specs.Acts.{Brings}
-use Rattle.world_model.proofs.Own.{named, history-made, reading_of-read, reading-read, node_as-at}
+use Rattle.world_model.proofs.Own.{history-made, reading_of-read, reading-read, node_as-at}
 
 -- a call that an event makes where it makes one, which draws nothing
 none_drawn : {X : Type 0} (o : Option X) (call : X → Call) (history : List Call)
@@ -78,7 +79,7 @@ module _ (network : Network) (run : Run) (node : NodeName) (at now : ℕ) (setup
     (is : slave_at network node ≡ Some setup) (stands : SlaveStands network run node setup slave) (shown : Ok now ≡ reads (Request node at) run)
     (octets : ArrayVec ℕ) (number : Seq) (new : Port) where
   waits : waiting_request node (Request node at ∷ run) ≡ Some (place (Request node at) run)
-  waits = ap (λ b. if b then Some (place (Request node at) run) else (if is_at is_stamped node (Request node at) then None else waiting_request node run)) (named node)
+  waits = ap (λ b. if b then Some (place (Request node at) run) else (if is_at is_stamped node (Request node at) then None else waiting_request node run)) (named-self node)
 
   pub request-brings : Packet (delay_req setup.config (next_number (slave_setup setup) (history_of network setup node run))) octets.items
       → number.0 ≡ next_number (slave_setup setup) (history_of network setup node run)
