@@ -6,3 +6,4 @@ pub mod Texts
 pub mod Floats
 pub mod Names
 pub mod Nodes
+pub mod Ranges

@@ -12,7 +12,7 @@ parts true true false h = (refl, refl, h)
 parts true false octets h = absurd (cc)
 parts false fits octets h = absurd (cc)
 
-IsName-from_test : (text : List ℕ) → is_name text ≡ true → IsName text
+pub IsName-from_test : (text : List ℕ) → is_name text ≡ true → IsName text
 IsName-from_test text h =
     let p = parts (nat_le 1 (length text)) (nat_le (length text) 16) (list_all is_name_octet text) h in
     let some : 1 ≤ length text = grind (arith, nat_tests, p.0) in

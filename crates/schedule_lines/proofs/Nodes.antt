@@ -1,5 +1,5 @@
 -- The line of a node, read again.
-use Rattle.std.proofs.Common.{◌≡◌, ◌≤◌, ◌<◌, ◌≤ℤ◌, ◌&&◌, ℕ, ℤ, pos, negsuc, nat_lt, int_le, nat_le, List, length, codes, true, Some, None, ◌^◌, refl, ap, ◌∙◌, arith}
+use Rattle.std.proofs.Common.{◌≡◌, ◌≤◌, ◌<◌, ◌≤ℤ◌, ℕ, ℤ, pos, negsuc, nat_lt, nat_le, List, length, codes, true, Some, None, ◌^◌, refl, arith}
 use Rattle.std.proofs.lemmas.Bool.Decides.{nat_tests}
 use Rattle.std.proofs.lemmas.Int.{ints}
 use Rattle.hex.specs.Hex.{IsBytes}
@@ -12,13 +12,13 @@ use Rattle.network_model.specs.declared.node.NodeKind.{NodeKind}
 use Rattle.network_model.specs.declared.node.NodeKind.TheVariants as kinds
 use Rattle.network_model.specs.declared.node.NodeSpec.{NodeSpec}
 use Rattle.network_model.specs.Name.{IsName}
-use Rattle.schedule_lines.specs.Json.{signed_octet_in, clock_in, name_in}
+use Rattle.schedule_lines.specs.Json.{signed_octet_in, clock_in}
 use Rattle.schedule_lines.specs.Line.{config_in, first_in, node_spec_in, line_of}
 use Rattle.schedule_lines.specs.Traced.{transcript_line_of}
 use Rattle.schedule_lines.specs.declared.schedule.Line.TheVariants as schedules
 use Rattle.schedule_lines.specs.declared.traced.TranscriptLine.TheVariants as lines
-use Rattle.schedule_lines.specs.Transcript.{octets_data, port_data, kind_data, node_data}
-use Rattle.schedule_lines.specs.Recorded.{IsConfig, IsKind, IsNode, NodesReadBack}
+use Rattle.schedule_lines.specs.Transcript.{octets_data, port_data, kind_data}
+use Rattle.schedule_lines.specs.Recorded.{IsConfig, IsKind, NodesReadBack}
 use Rattle.schedule_lines.proofs.Texts.{name_back, below_back}
 
 clock_back : (clock : List ℕ) → length clock ≡ 8 → IsBytes clock → clock_in (octets_data clock) ≡ Some clock

@@ -1,10 +1,9 @@
 -- A written line, read again.
-use Rattle.std.proofs.Common.{◌≡◌, ◌==◌, ℕ, ℤ, ◌+◌, ◌<◌, List, codes, Bool, Option, Some, None, true, false, is_some, IfSome, option_map, option_and_then, refl, ap, sym, ◌∙◌, arith}
+use Rattle.std.proofs.Common.{◌≡◌, ◌==◌, ℕ, ℤ, ◌+◌, ◌<◌, List, codes, Option, Some, None, true, is_some, IfSome, option_map, option_and_then, refl, ap, ◌∙◌, arith}
 use Rattle.std.specs.Option.{option_or}
 use Rattle.std.proofs.lemmas.Bool.Decides.{nat_tests}
 use Rattle.serde_json.specs.Data.{Data, string}
 use Rattle.serde_json.specs.Find.{get, as_str}
-use Rattle.serde_json.specs.Events.{members_len}
 use Rattle.ptp_units.specs.Moment.{bound}
 use Rattle.slave_port.specs.declared.heard.Report.{Report}
 use Rattle.network_model.specs.declared.event.Event.{Event}
@@ -18,11 +17,11 @@ use Rattle.trace_model.specs.declared.line.TraceOut.TheVariants as outs
 use Rattle.schedule_lines.specs.declared.traced.TranscriptLine.TheVariants as lines
 use Rattle.schedule_lines.specs.Json.{field, has_keys, moment_in, name_in, whole_in, whole_below, octets_in, difference_in}
 use Rattle.schedule_lines.specs.Line.{event_in, event_keys, node_in, at_in, copy_in}
-use Rattle.schedule_lines.specs.Traced.{transcript_line_of, recorded_in, reading_in, reading_keys, out_of, out_keys, line_keys, code_in, report_in, report_of}
+use Rattle.schedule_lines.specs.Traced.{transcript_line_of, recorded_in, reading_in, reading_keys, out_of, out_keys, line_keys, code_in, report_in}
 use Rattle.schedule_lines.specs.Transcript.{whole, moment_data, difference_data, octets_data, tags_data, named_copy, event_text, made_octets, out_text, out_code, out_report, event_data}
 use Rattle.schedule_lines.specs.Recorded.{IsShort, IsOut, IsRecorded, EventsReadBack}
-use Rattle.schedule_lines.proofs.Keys.{members_of, line_fields}
-use Rattle.schedule_lines.proofs.Lookup.{find, get_member-members_of, option_or-none, are_distinct, one_if, count, members_len-members_of}
+use Rattle.schedule_lines.proofs.Keys.{line_fields}
+use Rattle.schedule_lines.proofs.Lookup.{find, get_member-members_of, option_or-none, one_if, count, members_len-members_of}
 use Rattle.schedule_lines.proofs.Texts.{name_back, below_back, octets_back, moment_back, difference_back, report_back}
 
 -- ---- an event, from its keys

@@ -1,21 +1,19 @@
 -- Fields that were written, read again.
-use Rattle.std.proofs.Common.{◌≡◌, ◌≢◌, ℕ, zero, suc, ◌+◌, ◌*◌, ◌^◌, ◌<◌, ◌≤◌, ℤ, pos, negsuc, neg_ℤ, nat_lt, nat_le, ◌==◌, List, [], ◌∷◌, ◌++◌, length, drop, get_or, slice_index, codes, Bool, true, false, ◌&&◌, Option, Some, None, option_map, option_and_then, IfSome, if◌then◌else◌, bytes_eq, Ok, refl, ap, sym, ◌∙◌, arith, ◌/◌, ◌%◌, length-append}
+use Rattle.std.proofs.Common.{◌≡◌, ℕ, zero, suc, ◌+◌, ◌^◌, ◌<◌, ◌≤◌, ℤ, pos, negsuc, nat_lt, ◌==◌, List, [], ◌∷◌, length, get_or, slice_index, codes, true, false, Option, Some, None, bytes_eq, refl, ap, arith, ◌/◌, ◌%◌, length-append}
 use Rattle.std.proofs.Math.ListN.{get_or-append}
-use Rattle.std.specs.Fmt.{decimal, signed_decimal}
-use Rattle.std.specs.Result.{result_ok}
+use Rattle.std.specs.Fmt.{decimal}
 use Rattle.std.specs.Str.{all_ascii_digits}
-use Rattle.std.specs.Str.Parse.{digits_value, AllDigits}
+use Rattle.std.specs.Str.Parse.{digits_value}
 use Rattle.std.proofs.lemmas.Str.Parse.{IsNumeralModel, numerals_by_value, tells_all_ascii_digits}
 use Rattle.std.proofs.lemmas.Fmt.{decimal_digit, decimal_is_IsNumeral_wide, decimal_by_steps_wide, length-decimal-le_wide}
 use Rattle.std.proofs.lemmas.Bool.Decides.{nat_tests}
-use Rattle.std.proofs.lemmas.Slice.Eq.{bytes_eq-Decides}
-use Rattle.hex.specs.Hex.{IsBytes, encode_lower, decode_of, lower_digits}
+use Rattle.hex.specs.Hex.{IsBytes, encode_lower, lower_digits}
 use Rattle.hex.proofs.HexLemmas.{length-encode_with, decode_of-encode_lower}
-use Rattle.serde_json.specs.Data.{Data, string}
+use Rattle.serde_json.specs.Data.{string}
 use Rattle.ptp_units.specs.Moment.{bound, stamp_of, fraction_of, moment}
 use Rattle.network_model.specs.Name.{IsName}
 use Rattle.slave_port.specs.declared.heard.Report.{Report}
-use Rattle.schedule_lines.specs.Json.{below, whole_in, whole_below, is_name, name_in, octets_in, moment_in, positive_of, difference_of, difference_in}
+use Rattle.schedule_lines.specs.Json.{whole_below, name_in, octets_in, moment_in, positive_of, difference_of, difference_in}
 use Rattle.schedule_lines.specs.Traced.{follow_in, report_of}
 use Rattle.schedule_lines.specs.Transcript.{whole, moment_data, difference_data, octets_data, follow_data, tags_data}
 use Rattle.schedule_lines.specs.Recorded.{IsShort}

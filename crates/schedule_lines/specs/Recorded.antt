@@ -13,7 +13,10 @@ use Rattle.network_model.specs.declared.node.NodeSpec.{NodeSpec}
 use Rattle.trace_model.specs.declared.line.TraceLine.{TraceLine}
 use Rattle.trace_model.specs.declared.line.TraceOut.{TraceOut}
 use Rattle.trace_model.specs.declared.line.TraceOut.TheVariants as outs
+use Rattle.serde_json.specs.Data.{Data}
+use Rattle.schedule_lines.specs.declared.schedule.Line.{Line}
 use Rattle.schedule_lines.specs.declared.schedule.Line.TheVariants as schedules
+use Rattle.schedule_lines.specs.declared.traced.TranscriptLine.{TranscriptLine}
 use Rattle.schedule_lines.specs.declared.traced.TranscriptLine.TheVariants as lines
 use Rattle.schedule_lines.specs.Line.{line_of}
 use Rattle.schedule_lines.specs.Traced.{transcript_line_of}
@@ -75,3 +78,17 @@ NodesReadBack =
 -- each line that tells what may be recorded is read as it was written
 abbrev pub EventsReadBack : Type 0
 EventsReadBack = (n : ℕ) (line : TraceLine) → IsRecorded line → transcript_line_of (event_data n line) ≡ Some (lines.Event n line)
+
+-- a line of a schedule whose values are within their ranges
+abbrev pub IsLine : Line → Type 0
+IsLine (schedules.Node node) = IsNode node
+IsLine (schedules.Event event) = IsEvent event
+
+-- a line of a transcript whose values are within their ranges
+abbrev pub IsTranscriptLine : TranscriptLine → Type 0
+IsTranscriptLine (lines.Node node) = IsNode node
+IsTranscriptLine (lines.Event n line) = IsRecorded line
+
+-- whatever is read is within its ranges
+abbrev pub ReadsInRange : Type 0
+ReadsInRange = (d : Data) → IfSome (line_of d) IsLine × IfSome (transcript_line_of d) IsTranscriptLine
