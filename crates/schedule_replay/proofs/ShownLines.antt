@@ -7,7 +7,7 @@ use Rattle.schedule_replay.proofs.KnownOctets.{Keeps-known, Appends-known}
 use Rattle.schedule_replay.specs.declared.counted.Counted.{Counted}
 use Rattle.schedule_replay.specs.declared.fault.Fault.{Fault}
 use Rattle.schedule_replay.specs.declared.fault.FaultKind.{FaultKind}
-use Rattle.schedule_replay.specs.declared.fault.FaultKind.TheVariants.{Read, Write, LineTooLong, TooManyLines, Field, Memory}
+use Rattle.schedule_replay.specs.declared.fault.FaultKind.TheVariants.{Read, Write, LineTooLong, TooManyLines, Json, Field, Refused, Memory}
 use Rattle.schedule_replay.specs.Lines.{lines_of, lfs_in, after_lines, without_cr, reading_fault, LeavesUnread, StopsReading, ReadsLine, IsFromReading}
 use Rattle.schedule_replay.specs.Show.{IsAnswer, line_fault, digits_fault, own_fault, ShowsLines, WentOutAs, IsFaultAt, IsFromAnswering, ShowsAll, ShowsUntil}
 
@@ -138,7 +138,9 @@ stopped_reading octets held count left left' now TooManyLines input input' so_fa
     let place = is_at count (lines_of octets) line others (so_far.rest ∙ cut) in
     until octets held count left left' now now TooManyLines so_far so_far.output (rw place.at (at_reading (count + 1) line TooManyLines fault)) unread
 stopped_reading octets held count left left' now Write input input' so_far stops allowed = absurd allowed
+stopped_reading octets held count left left' now Json input input' so_far stops allowed = absurd allowed
 stopped_reading octets held count left left' now Field input input' so_far stops allowed = absurd allowed
+stopped_reading octets held count left left' now Refused input input' so_far stops allowed = absurd allowed
 stopped_reading octets held count left left' now Memory input input' so_far stops allowed = absurd allowed
 
 pub stopped_answering : (octets held : List ℕ) (count : ℕ) (ended : Bool) (left left' now now' : Option (List ℕ)) (line : List ℕ) (what : FaultKind) {W : Type 0} (output output' : Counted W)
@@ -155,6 +157,8 @@ stopped_answering octets held count ended left left' now now' line Memory output
     let place = is_at count (lines_of octets) line _ (so_far.rest ∙ cut) in
     until octets held count left left' now now' Memory so_far (Keeps-known now now' _ out so_far.output) (rw place.at (at_answering (count + 1) line Memory read own)) behind
 stopped_answering octets held count ended left left' now now' line Read output output' so_far read own out allowed = absurd allowed
+stopped_answering octets held count ended left left' now now' line Json output output' so_far read own out allowed = absurd allowed
+stopped_answering octets held count ended left left' now now' line Refused output output' so_far read own out allowed = absurd allowed
 stopped_answering octets held count ended left left' now now' line LineTooLong output output' so_far read own out allowed = absurd allowed
 stopped_answering octets held count ended left left' now now' line TooManyLines output output' so_far read own out allowed = absurd allowed
 

@@ -14,6 +14,8 @@ use std::alloc::{AllocError, Global};
 pub(crate) enum Subcommand {
     /// Print the datagrams that standard input gives in hexadecimal.
     Show,
+    /// Print what comes of the schedule that standard input gives.
+    Replay,
 }
 
 /// What the words of the command line ask for.
@@ -34,11 +36,15 @@ fn program<'a>(alloc: Global) -> Result<Command<'a>, AllocError>
     let show = Command::new(alloc, "show").about(
         "Print the datagrams that standard input gives in hexadecimal, one a line",
     );
+    let replay = Command::new(alloc, "replay").about(
+        "Print what comes of the nodes and events that standard input gives, one a line",
+    );
     Command::new(alloc, "ptpx")
         .bin_name("ptpx")?
         .about("The delay request-response exchange of the Precision Time Protocol (IEEE 1588)")
         .subcommand_required(true)
-        .subcommand(show)
+        .subcommand(show)?
+        .subcommand(replay)
 }
 
 /// Reads the words, of which the first is the program's own name. Memory fails by `AllocError`.
@@ -58,6 +64,7 @@ fn chosen(matches: &ArgMatches<'_>) -> Subcommand
 {
     match matches.subcommand_name() {
         Some("show") => Subcommand::Show,
+        Some("replay") => Subcommand::Replay,
         _ => unreachable!(),
     }
 }

@@ -1,0 +1,155 @@
+//! A schedule that is replayed line by line.
+ghost use Rattle.std.specs.Prelude.{◌≡◌, ◌⊎◌, ◌++◌, ◌∷◌, false, [], length, take, MatchResult, OnOk};
+ghost use Rattle.std.specs.Option.{ForSome};
+ghost use Rattle.std.specs.Io.KnownBytes.{Appends, Keeps};
+ghost use Rattle.serde_json.specs.View.{view};
+ghost use Rattle.serde_json.specs.Written.{has_float};
+ghost use Rattle.network_model.specs.Clash.{first_clash};
+ghost use Rattle.world_model.specs.State.{new_state};
+ghost use Rattle.schedule_lines.specs.Transcript.{line_text};
+ghost use Rattle.schedule_replay.specs.Counted.{device_of, HasFailed, HasNotFailed};
+ghost use Rattle.schedule_replay.specs.Fault.{FailedWith};
+ghost use Rattle.schedule_replay.specs.Lines.{input_limit, ReadsWithin};
+ghost use Rattle.schedule_replay.specs.Schedule.{entry_in, FaultsIn};
+ghost use Rattle.schedule_replay.specs.Replay.{nodes_text, NodesWentOut, IsEventLine, ReplaysAnswer};
+ghost use Rattle.schedule_replay.specs.Show.{WentOutAs};
+ghost use Rattle.schedule_replay.specs.Stage.{nodes_of, run_of, owed_by, IsStage, IsWorldOf, HasNodes, HasWorld, TakesLine, ShowsFault, IsFromReplaying};
+
+use crate::counted::Counted;
+use crate::fault::{Fault, FaultKind};
+use crate::lines::Lines;
+use network_model::{Event, NodeSpec, Nodes};
+use schedule_lines::{Line, event_value, line_text, node_value};
+use serde_json::Value;
+use std::alloc::Global;
+use std::io::{Read, Write};
+use world_model::World;
+
+/// How far a schedule was replayed.
+#[derive(Drop)]
+enum Stage {
+    /// These are its nodes so far.
+    Nodes(Vec<NodeSpec>),
+    /// Events happened in a world of its nodes.
+    Events(World),
+}
+
+impl Stage {
+    /// Takes one more line.
+    fn after<W: Write>(
+        self,
+        alloc: Global,
+        line: &[u8],
+        output: &mut Counted<W>,
+    ) -> Result<Stage, FaultKind> {
+        match read_entry(alloc, line)? {
+            Line::Node(node) => self.with_node(node),
+            Line::Event(event) => {
+                let mut world = self.into_world(alloc, output)?;
+                happen(alloc, &mut world, &event, output)?;
+                Ok(Stage::Events(world))
+            }
+        }
+    }
+
+    /// Takes one more node, which stands before all events.
+    fn with_node(self, node: NodeSpec) -> Result<Stage, FaultKind> {
+        match self {
+            Stage::Nodes(mut nodes) => {
+                nodes.push(node)?;
+                Ok(Stage::Nodes(nodes))
+            }
+            Stage::Events(_) => Err(FaultKind::Field),
+        }
+    }
+
+    /// The world of the nodes and events, which begins where there was no event yet.
+    fn into_world<W: Write>(
+        self,
+        alloc: Global,
+        output: &mut Counted<W>,
+    ) -> Result<World, FaultKind> {
+        match self {
+            Stage::Nodes(nodes) => begin(alloc, nodes.as_slice(), output),
+            Stage::Events(world) => Ok(world),
+        }
+    }
+}
+
+/// The node or the event that a line is.
+fn read_entry(alloc: Global, line: &[u8]) -> Result<Line, FaultKind> {
+    match Value::from_slice(alloc, line) {
+        Ok(value) => Line::of(&value).ok_or(FaultKind::Field),
+        Err(error) if error.is_memory() => Err(FaultKind::Memory),
+        Err(_) => Err(FaultKind::Json),
+    }
+}
+
+/// Writes a line, in one write.
+fn write_line<W: Write>(
+    alloc: Global,
+    value: &Value,
+    output: &mut Counted<W>,
+) -> Result<(), FaultKind> {
+    let text = line_text(alloc, value)?;
+    match output.write_all(text.as_bytes()) {
+        Ok(()) => Ok(()),
+        Err(_) => Err(FaultKind::Write),
+    }
+}
+
+/// Begins a world of these nodes, and writes their lines.
+fn begin<W: Write>(
+    alloc: Global,
+    nodes: &[NodeSpec],
+    output: &mut Counted<W>,
+) -> Result<World, FaultKind> {
+    let network = Nodes::new(alloc, nodes)?;
+    let world = World::new(alloc, network)?;
+    for node in nodes {
+        let value = node_value(alloc, node)?;
+        write_line(alloc, &value, output)?;
+    }
+    Ok(world)
+}
+
+/// Lets an event happen, and writes its line.
+fn happen<W: Write>(
+    alloc: Global,
+    world: &mut World,
+    event: &Event,
+    output: &mut Counted<W>,
+) -> Result<(), FaultKind> {
+    let stepped = world.step(event)?;
+    let value = event_value(alloc, event, &stepped, world.octets(stepped.tag))?;
+    write_line(alloc, &value, output)
+}
+
+/// Replays a schedule: lines of nodes and then of events, each a JSON object. The nodes' lines are
+/// written before the first event happens, or at the end of the input where there is none; then,
+/// before the next line is read, one line for each event, with what came of it. Answers how many
+/// events there were.
+///
+/// The faults are 801 to 804; 805 for a line that is no JSON; 806 for a line that is neither a node
+/// nor an event, or a node after an event; 807 where the nodes are no network, or an event can't
+/// happen in it; and 808. What the nodes are refused for stands at the line of the first event, or
+/// after the last line where there is none. The lines before a fault were answered then.
+pub fn replay<R: Read, W: Write>(
+    alloc: Global,
+    input: &mut Counted<R>,
+    output: &mut Counted<W>,
+) -> Result<u64, Fault>
+{
+    let mut lines = Lines::new();
+    let mut stage = Stage::Nodes(Vec::new(alloc));
+    while lines.read_next(input)? {
+        stage = match stage.after(alloc, lines.line(), output) {
+            Ok(next) => next,
+            Err(what) => return Err(lines.fault(what)),
+        };
+    }
+    match stage.into_world(alloc, output) {
+        Ok(world) => Ok(world.len()),
+        Err(what) => Err(lines.fault_after(what)),
+    }
+}
