@@ -1,8 +1,10 @@
 -- How far a schedule was replayed, and what one more line does.
-use Rattle.std.specs.Prelude.{◌≡◌, ◌≢◌, ◌⊎◌, ℕ, List, [], ◌∷◌, ◌++◌, Option, None, Ok, ⊤}
-use Rattle.std.specs.Io.KnownBytes.{Appends}
+use Rattle.std.specs.Prelude.{◌≡◌, ◌≢◌, ◌⊎◌, ℕ, List, [], ◌∷◌, ◌++◌, Option, None, Ok, Err, IsOk, ⊤}
+use Rattle.std.specs.Io.KnownBytes.{Appends, Keeps}
 use Rattle.network_model.specs.declared.event.Event.{Event}
+use Rattle.network_model.specs.declared.refusal.WorldRefusal.{WorldRefusal}
 use Rattle.network_model.specs.Network.{Network}
+use Rattle.network_model.specs.Outcome.{outcome_of}
 use Rattle.network_model.specs.Run.{Run}
 use Rattle.network_model.specs.Clash.{first_clash}
 use Rattle.world_model.specs.State.{State}
@@ -43,6 +45,11 @@ abbrev pub IsStage : Stage → Type 0
 IsStage (Nodes nodes) = ⊤
 IsStage (Events world) = (world.run ≢ []) × (first_clash world.network ≡ None)
 
+-- events happened
+abbrev pub IsBegun : Stage → Type 0
+IsBegun (Nodes nodes) = ⊥
+IsBegun (Events world) = ⊤
+
 -- there are these nodes, and no event
 abbrev pub HasNodes : Network → Stage → Type 0
 HasNodes network (Nodes nodes) = nodes.items ≡ network
@@ -77,6 +84,24 @@ WritesAtFault kind (Events world) written = written ≡ []
 -- what the output shows of it, where the writer didn't fail
 abbrev pub ShowsFault : FaultKind → Stage → Option (List ℕ) → Option (List ℕ) → Type 0
 ShowsFault kind stage before after = (written : List ℕ) × WritesAtFault kind stage written × WentOutAs kind (Appends before after written)
+
+-- a fault of the line alone
+abbrev pub IsOwnFault : FaultKind → List ℕ → Type 0
+IsOwnFault kind line = ((kind ≡ Json) ⊎ (kind ≡ Field)) × (entry_in line ≡ Err kind)
+
+-- where this fault comes nothing was written, but where the writer failed
+abbrev pub WritesNone : FaultKind → Option (List ℕ) → Option (List ℕ) → Type 0
+WritesNone Memory before after = Keeps before after
+WritesNone Refused before after = Keeps before after
+WritesNone Write before after = ⊤
+WritesNone kind before after = ⊥
+
+-- why no line of an event was written
+abbrev pub StopsEvent : FaultKind → State → Event → Type 0
+StopsEvent Memory world event = ⊤
+StopsEvent Refused world event = (why : WorldRefusal) × (outcome_of world.network world.run event ≡ Err why)
+StopsEvent Write world event = IsOk (outcome_of world.network world.run event)
+StopsEvent kind world event = ⊥
 
 -- the kinds of fault after a line was read, of which one says that the writer failed
 abbrev pub IsFromReplaying : {W : Type 0} → FaultKind → Counted W → Counted W → Type 0

@@ -1,19 +1,19 @@
 //! A schedule that is replayed line by line.
-ghost use Rattle.std.specs.Prelude.{◌≡◌, ◌⊎◌, ◌++◌, ◌∷◌, false, [], length, take, MatchResult, OnOk};
+ghost use Rattle.std.specs.Prelude.{◌≡◌, ◌⊎◌, ◌++◌, ◌∷◌, ℕ, List, [], false, IfOk, MatchResult, Ok, None};
 ghost use Rattle.std.specs.Option.{ForSome};
-ghost use Rattle.std.specs.Io.KnownBytes.{Appends, Keeps};
+ghost use Rattle.std.specs.Io.KnownBytes.{Appends};
 ghost use Rattle.serde_json.specs.View.{view};
 ghost use Rattle.serde_json.specs.Written.{has_float};
 ghost use Rattle.network_model.specs.Clash.{first_clash};
-ghost use Rattle.world_model.specs.State.{new_state};
+ghost use Rattle.world_model.specs.State.{new_state, after};
 ghost use Rattle.schedule_lines.specs.Transcript.{line_text};
-ghost use Rattle.schedule_replay.specs.Counted.{device_of, HasFailed, HasNotFailed};
+ghost use Rattle.schedule_replay.specs.Counted.{device_of, HasNotFailed};
 ghost use Rattle.schedule_replay.specs.Fault.{FailedWith};
 ghost use Rattle.schedule_replay.specs.Lines.{input_limit, ReadsWithin};
-ghost use Rattle.schedule_replay.specs.Schedule.{entry_in, FaultsIn};
+ghost use Rattle.schedule_replay.specs.Schedule.{entry_in, FaultsIn, FaultsAtEnd};
 ghost use Rattle.schedule_replay.specs.Replay.{nodes_text, NodesWentOut, IsEventLine, ReplaysAnswer};
 ghost use Rattle.schedule_replay.specs.Show.{WentOutAs};
-ghost use Rattle.schedule_replay.specs.Stage.{nodes_of, run_of, owed_by, IsStage, IsWorldOf, HasNodes, HasWorld, TakesLine, ShowsFault, IsFromReplaying};
+ghost use Rattle.schedule_replay.specs.Stage.{nodes_of, run_of, begun_of, owed_by, IsStage, IsBegun, IsWorldOf, HasNodes, TakesLine, ShowsFault, IsOwnFault, WritesNone, StopsEvent, IsFromReplaying};
 
 use crate::counted::Counted;
 use crate::fault::{Fault, FaultKind};
@@ -41,7 +41,18 @@ impl Stage {
         alloc: Global,
         line: &[u8],
         output: &mut Counted<W>,
-    ) -> Result<Stage, FaultKind> {
+    ) -> Result<Stage, FaultKind>
+        requires { IsStage self }
+        ensures taken { let before = W.contents (device_of output.old) in
+            let after = W.contents (device_of output.new) in
+            MatchResult result
+            (λ next. (written : List ℕ) × TakesLine line.now self next written × Appends before after written)
+            (λ kind. FaultsIn kind (nodes_of self) (run_of self) line.now × ShowsFault kind self before after) }
+        ensures stage { IfOk result IsStage }
+        ensures failures { MatchResult result
+            (λ _. HasNotFailed output.old output.new)
+            (λ kind. IsFromReplaying kind output.old output.new) }
+    {
         match read_entry(alloc, line)? {
             Line::Node(node) => self.with_node(node),
             Line::Event(event) => {
@@ -53,7 +64,11 @@ impl Stage {
     }
 
     /// Takes one more node, which stands before all events.
-    fn with_node(self, node: NodeSpec) -> Result<Stage, FaultKind> {
+    fn with_node(self, node: NodeSpec) -> Result<Stage, FaultKind>
+        ensures { MatchResult result
+            (λ next. (run_of self ≡ []) × (begun_of self ≡ []) × HasNodes (nodes_of self ++ node ∷ []) next)
+            (λ kind. (kind ≡ FaultKind.Memory) ⊎ ((kind ≡ FaultKind.Field) × IsBegun self)) }
+    {
         match self {
             Stage::Nodes(mut nodes) => {
                 nodes.push(node)?;
@@ -68,7 +83,17 @@ impl Stage {
         self,
         alloc: Global,
         output: &mut Counted<W>,
-    ) -> Result<World, FaultKind> {
+    ) -> Result<World, FaultKind>
+        requires { IsStage self }
+        ensures world { let before = W.contents (device_of output.old) in
+            let after = W.contents (device_of output.new) in
+            MatchResult result
+            (λ world. IsWorldOf self world × Appends before after (owed_by self))
+            (λ kind. FaultsAtEnd kind (nodes_of self) × (run_of self ≡ []) × ShowsFault kind self before after) }
+        ensures failures { MatchResult result
+            (λ _. HasNotFailed output.old output.new)
+            (λ kind. IsFromReplaying kind output.old output.new) }
+    {
         match self {
             Stage::Nodes(nodes) => begin(alloc, nodes.as_slice(), output),
             Stage::Events(world) => Ok(world),
@@ -77,7 +102,11 @@ impl Stage {
 }
 
 /// The node or the event that a line is.
-fn read_entry(alloc: Global, line: &[u8]) -> Result<Line, FaultKind> {
+fn read_entry(alloc: Global, line: &[u8]) -> Result<Line, FaultKind>
+    ensures { MatchResult result
+        (λ entry. entry_in line.now ≡ Ok entry)
+        (λ kind. (kind ≡ FaultKind.Memory) ⊎ IsOwnFault kind line.now) }
+{
     match Value::from_slice(alloc, line) {
         Ok(value) => Line::of(&value).ok_or(FaultKind::Field),
         Err(error) if error.is_memory() => Err(FaultKind::Memory),
@@ -90,7 +119,17 @@ fn write_line<W: Write>(
     alloc: Global,
     value: &Value,
     output: &mut Counted<W>,
-) -> Result<(), FaultKind> {
+) -> Result<(), FaultKind>
+    requires { has_float (view value.now) ≡ false }
+    ensures written { let before = W.contents (device_of output.old) in
+        let after = W.contents (device_of output.new) in
+        MatchResult result
+        (λ _. Appends before after (line_text (view value.now)))
+        (λ kind. WritesNone kind before after) }
+    ensures failures { MatchResult result
+        (λ _. HasNotFailed output.old output.new)
+        (λ kind. IsFromReplaying kind output.old output.new) }
+{
     let text = line_text(alloc, value)?;
     match output.write_all(text.as_bytes()) {
         Ok(()) => Ok(()),
@@ -103,7 +142,17 @@ fn begin<W: Write>(
     alloc: Global,
     nodes: &[NodeSpec],
     output: &mut Counted<W>,
-) -> Result<World, FaultKind> {
+) -> Result<World, FaultKind>
+    ensures begun { let before = W.contents (device_of output.old) in
+        let after = W.contents (device_of output.new) in
+        MatchResult result
+        (λ world. (world ≡ new_state nodes.now) × (first_clash nodes.now ≡ None) × Appends before after (nodes_text nodes.now))
+        (λ kind. FaultsAtEnd kind nodes.now
+        × ((written : List ℕ) × NodesWentOut kind nodes.now written × WentOutAs kind (Appends before after written))) }
+    ensures failures { MatchResult result
+        (λ _. HasNotFailed output.old output.new)
+        (λ kind. IsFromReplaying kind output.old output.new) }
+{
     let network = Nodes::new(alloc, nodes)?;
     let world = World::new(alloc, network)?;
     for node in nodes {
@@ -119,7 +168,17 @@ fn happen<W: Write>(
     world: &mut World,
     event: &Event,
     output: &mut Counted<W>,
-) -> Result<(), FaultKind> {
+) -> Result<(), FaultKind>
+    ensures happens { let before = W.contents (device_of output.old) in
+        let after_it = W.contents (device_of output.new) in
+        MatchResult result
+        (λ _. (world.new ≡ after event.now world.old)
+        × ((line : List ℕ) × IsEventLine world.old.network world.old.run event.now line × Appends before after_it line))
+        (λ kind. StopsEvent kind world.old event.now × WritesNone kind before after_it) }
+    ensures failures { MatchResult result
+        (λ _. HasNotFailed output.old output.new)
+        (λ kind. IsFromReplaying kind output.old output.new) }
+{
     let stepped = world.step(event)?;
     let value = event_value(alloc, event, &stepped, world.octets(stepped.tag))?;
     write_line(alloc, &value, output)
@@ -139,6 +198,11 @@ pub fn replay<R: Read, W: Write>(
     input: &mut Counted<R>,
     output: &mut Counted<W>,
 ) -> Result<u64, Fault>
+    ensures replayed { ReplaysAnswer R.remaining W.contents result input.old input.new output.old output.new }
+    // However the writer is, only so much is read of a reader that tells its octets.
+    ensures bounded { ForSome (R.remaining (device_of input.old)) (λ octets.
+        ReadsWithin input_limit octets (R.remaining (device_of input.new))) }
+    ensures failures { FailedWith result input.old input.new output.old output.new }
 {
     let mut lines = Lines::new();
     let mut stage = Stage::Nodes(Vec::new(alloc));
