@@ -68,7 +68,7 @@ module _ (n i j : ℕ) (a b : List ℕ) (agree : take n (drop i a) ≡ take n (d
 pub take_agrees : (n m : ℕ) (a b : List ℕ) → take n a ≡ take n b → m ≤ n → take m a ≡ take m b
 take_agrees n m a b agree le = sym (take-take m n a le) ∙ ap (take m) agree ∙ take-take m n b le
 
--- less of what agrees behind
+-- less of what agrees from there on
 pub drop_further : (m n : ℕ) (xs ys : List ℕ) → m ≤ n → drop m xs ≡ drop m ys → drop n xs ≡ drop n ys
 drop_further m n xs ys le e =
     let k : n ≡ m + (n - m) = omega arith in

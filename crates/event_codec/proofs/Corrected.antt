@@ -11,7 +11,7 @@ use Rattle.event_codec.proofs.Fields.{fields_length_above}
 use Rattle.event_codec.proofs.Numbers.{number-take, number-to_be_bytes_8}
 use Rattle.event_codec.proofs.Agreement.{drop_further, number_agrees, IsHeader-corrected, IsTimestampAt-agrees, IsRequesting-agrees}
 
--- in front, in the middle and behind
+-- the octets before the correction, its own, and those after it
 pub record IsCorrected (a b : List ℕ) (c : ℤ) : Type 0 where
   pub front : take 8 a ≡ take 8 b
   pub correction : c ≡ cast_signed w64 (number a 8 8)
@@ -35,7 +35,7 @@ IsCorrected-corrected b c fits long =
       same = omega (arith, length-append (front ++ bytes) (drop 16 b), length-drop 16 b);
     }
 
--- of a part that ends behind the correction
+-- of a part that ends after the correction
 IsCorrected-take : (a b : List ℕ) (c : ℤ) (n : ℕ) → 16 ≤ n → n ≤ length b → IsCorrected a b c → IsCorrected (take n a) (take n b) c
 IsCorrected-take a b c n le fits h =
     let k : 16 + (n - 16) ≡ n = omega arith in

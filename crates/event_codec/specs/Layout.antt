@@ -29,7 +29,7 @@ number_of types.DelayResp = 9
 abbrev pub type_numbered : ℕ → Option MessageType
 type_numbered number = find (λ kind. number_of kind == number) (types.Sync ∷ types.DelayReq ∷ types.FollowUp ∷ types.DelayResp ∷ [])
 
--- how many octets the fields of a message take, behind which its suffix begins
+-- how many octets the fields of a message take; its suffix begins after them
 abbrev pub fields_length : MessageType → ℕ
 fields_length types.DelayResp = 54
 fields_length _ = 44

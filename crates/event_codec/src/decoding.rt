@@ -76,7 +76,7 @@ fn header_of(octets: &[u8]) -> Header
     }
 }
 
-/// The timestamp behind the header.
+/// The timestamp after the header.
 fn timestamp_of(octets: &[u8]) -> Result<Timestamp, DecodeRefusal>
     requires { 44 ≤ length octets.now }
     ensures { MatchResult result
@@ -169,7 +169,7 @@ fn message_at_front(octets: &[u8]) -> Result<(Message<'_>, usize), DecodeRefusal
     Ok((message_of(kind, timestamp, packet), packet.len()))
 }
 
-/// The message that the octets begin with, and its messageLength. The octets behind that are
+/// The message that the octets begin with, and its messageLength. The octets after that are
 /// padding, and each value of a field that the layout doesn't limit is kept
 /// (IEEE 1588-2019, 13.3). Refused with the first of 201 to 206 that applies.
 ///

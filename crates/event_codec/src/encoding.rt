@@ -15,7 +15,7 @@ fn put<const N: usize>(buffer: &mut [u8], at: usize, octets: [u8; N])
     requires { at + N ≤ length buffer.old }
     ensures before { take at buffer.new ≡ take at buffer.old }
     ensures here { slice_range buffer.new at (at + N) ≡ octets.entry }
-    ensures behind { drop (at + N) buffer.new ≡ drop (at + N) buffer.old }
+    ensures after { drop (at + N) buffer.new ≡ drop (at + N) buffer.old }
 {
     buffer[at..at + N].copy_from_slice(&octets);
 }
@@ -71,7 +71,7 @@ fn put_fields(buffer: &mut [u8], message: &Message<'_>, message_length: u16)
     ensures header { IsHeader message.now.header (number_of (type_of message.now.body)) message_length buffer.new }
     ensures timestamp { IsTimestampAt (stamp_in message.now.body) buffer.new 34 }
     ensures requesting { IsRequesting message.now.body buffer.new }
-    ensures behind { drop (fields_length (type_of message.now.body)) buffer.new ≡ drop (fields_length (type_of message.now.body)) buffer.old }
+    ensures after { drop (fields_length (type_of message.now.body)) buffer.new ≡ drop (fields_length (type_of message.now.body)) buffer.old }
 {
     let Message { header, body, .. } = message;
     put(
@@ -90,14 +90,14 @@ fn put_message(buffer: &mut [u8], message: &Message<'_>, message_length: u16)
     requires whole { message_length ≡ fields_length (type_of message.now.body) + length message.now.suffix.now }
     requires room { message_length ≤ length buffer.old }
     ensures written { Packet (contents message.now) (take message_length buffer.new) }
-    ensures behind { drop message_length buffer.new ≡ drop message_length buffer.old }
+    ensures after { drop message_length buffer.new ≡ drop message_length buffer.old }
 {
     put_fields(buffer, message, message_length);
     let fields_length = message.body.message_type().fields_length();
     buffer[fields_length..usize::from(message_length)].copy_from_slice(message.suffix);
 }
 
-/// Writes the message into the front of the buffer, and gives its messageLength. The octets behind
+/// Writes the message into the front of the buffer, and gives its messageLength. The octets after
 /// that stay as they are, and on a refusal all octets do. Refused with 211 where the buffer is
 /// shorter than the message, else with 212 where messageLength would pass 65,535.
 ///

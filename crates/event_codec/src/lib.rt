@@ -1,5 +1,6 @@
 //! Sync, Delay_Req, Follow_Up and Delay_Resp of the Precision Time Protocol as octets: one relation
-//! between a message and its octets, read and written exactly (IEEE 1588-2019, clause 13).
+//! says which octets are which message, and is met exactly in reading and in writing (IEEE 1588-2019,
+//! clause 13).
 #![tactic(auto)]
 
 mod correction;

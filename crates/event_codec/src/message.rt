@@ -92,6 +92,6 @@ pub struct Message<'a> {
     pub header: Header,
     /// The fields of the message's own type.
     pub body: Body,
-    /// The octets behind the last field, up to messageLength.
+    /// The octets after the last field, up to messageLength.
     pub suffix: &'a [u8],
 }

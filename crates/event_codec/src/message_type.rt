@@ -35,7 +35,7 @@ impl MessageType {
         self as u8
     }
 
-    /// The octets of the fields of a message of this type, behind which the suffix begins.
+    /// The octets of the fields of a message of this type; the suffix begins after them.
     pub(crate) fn fields_length(self) -> usize
         ensures { result ≡ fields_length self }
     {

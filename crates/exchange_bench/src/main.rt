@@ -1,8 +1,8 @@
 //! Exchanges through a master, one clock and a slave, or the same messages merely decoded and
-//! encoded, as often as the words say: `exchange 1000000`, or `codec 1000000` over the octets of a
-//! Sync, a Follow_Up, a Delay_Req and a Delay_Resp on standard input; or numbers put in a table and
-//! sought there, `list16`, `ring16`, `list256` or `ring256`; or exchanges through two clocks, of so
-//! many events, in a `world`, which then tells its memory, or by calls of the `ports`.
+//! encoded, as often as the arguments say: `exchange 1000000`, or `codec 1000000` over the octets
+//! of a Sync, a Follow_Up, a Delay_Req and a Delay_Resp on standard input; or numbers put in a table
+//! and sought there, `list16`, `ring16`, `list256` or `ring256`; or exchanges through two clocks, of
+//! so many events, in a `world`, which then tells its memory, or by calls of the `ports`.
 #![tactic(auto)]
 
 mod networks;
@@ -41,7 +41,7 @@ const SLAVE: PortConfig = PortConfig {
     log: 0,
 };
 
-/// A moment so many nanoseconds behind the beginning of a second.
+/// The moment so many nanoseconds after the beginning of a second.
 fn moment(second: u64, nanoseconds: u32) -> ScaledTime {
     let nanoseconds = u128::from(second) * 1_000_000_000 + u128::from(nanoseconds);
     ScaledTime::new(nanoseconds * 65_536).unwrap_or_default()
@@ -91,7 +91,7 @@ fn exchanges(rounds: u64) -> u64 {
     reports
 }
 
-/// How many octets the messages have that stand one behind the other in `messages`, decoded and
+/// How many octets the messages have that stand one after the other in `messages`, decoded and
 /// encoded so many times, each time with another sequenceId.
 fn coded(messages: &[u8], rounds: u64) -> u64 {
     let mut octets: u64 = 0;
@@ -133,18 +133,20 @@ fn kilobytes(status: &str) -> u64 {
 }
 
 fn main(rt: HostRuntime) -> io::Result<()> {
-    let words: Vec<String> = env::args(&rt)?.collect(rt.alloc())?;
-    let rounds = words
+    let arguments: Vec<String> = env::args(&rt)?.collect(rt.alloc())?;
+    let rounds = arguments
         .get(2)
-        .and_then(|word| word.as_str().parse::<u64>().ok())
+        .and_then(|argument| argument.as_str().parse::<u64>().ok())
         .unwrap_or(1);
-    let word = words.get(1).map_or("exchange", |word| word.as_str());
-    if word == "codec" {
+    let measured = arguments
+        .get(1)
+        .map_or("exchange", |argument| argument.as_str());
+    if measured == "codec" {
         let mut messages = Vec::new(rt.alloc());
         rt.reader().read_to_end(&mut messages)?;
         return println!(rt; "{} octets", coded(&messages, rounds));
     }
-    match word {
+    match measured {
         "world" => {
             let reports = networks::reports_in_world(rt.alloc(), rounds).unwrap_or(0);
             println!(rt; "{reports} reports")?;
@@ -157,7 +159,7 @@ fn main(rt: HostRuntime) -> io::Result<()> {
         }
         _ => {}
     }
-    match tables::found_in(word, rounds) {
+    match tables::found_in(measured, rounds) {
         Some(found) => println!(rt; "{found} found"),
         None => println!(rt; "{} reports", exchanges(rounds)),
     }

@@ -5,7 +5,7 @@ use ptp_units::Seq;
 use slave_port::HeldSync;
 
 /// Of numbers drawn one after the other, how many were found once they were in the table that the
-/// word names, and not before. None where it names none.
+/// argument names, and not before. None where it names none.
 pub fn found_in(table: &str, rounds: u64) -> Option<u64> {
     match table {
         "list16" => Some(found::<ListTable<HeldSync, 16>>(rounds)),

@@ -9,10 +9,10 @@ use Rattle.exchange_check.specs.declared.facts.Fact.{Fact}
 use Rattle.exchange_check.specs.declared.facts.Found.{Found}
 use Rattle.exchange_check.specs.declared.facts.Travel.{Travel}
 use Rattle.exchange_check.specs.declared.facts.Way.{Way}
-use Rattle.exchange_check.specs.Line.{Lines, completes, is_arrival, is_hearing}
-use Rattle.exchange_check.specs.Record.{Entry, line_number, event_of, line_at}
-use Rattle.exchange_check.specs.Journey.{Journey, journey_of}
-use Rattle.exchange_check.specs.Sound.{where_passes, below, Exchange, line_of, sender, sync_line, follow_line, follow_lines, arrival_line}
+use Rattle.trace_model.specs.Line.{Lines, completes, is_arrival, is_hearing}
+use Rattle.trace_model.specs.Record.{Entry, line_number, event_of, line_at}
+use Rattle.trace_model.specs.Journey.{Journey, journey_of}
+use Rattle.trace_model.specs.Sound.{where_passes, below, Exchange, line_of, sender, sync_line, follow_line, follow_lines, arrival_line}
 use Rattle.exchange_check.specs.Kept.{Facts}
 use Rattle.exchange_check.specs.Judged.{line_of_by, sender_by, sync_by, follow_by, follows_by, completion_by, arrival_by, way_at}
 use Rattle.exchange_check.proofs.Told.{travel_of, fact_of, facts_at, travel_at-is}

@@ -12,11 +12,11 @@ use Rattle.network_model.specs.Kinds.{is_sync}
 use Rattle.network_model.specs.Truth.{master_at}
 use Rattle.exchange_check.specs.declared.facts.Fact.{Fact}
 use Rattle.exchange_check.specs.declared.facts.Travel.{Travel}
-use Rattle.exchange_check.specs.declared.line.TraceLine.{TraceLine}
-use Rattle.exchange_check.specs.Line.{Lines, counts}
-use Rattle.exchange_check.specs.Record.{Entry, entry, line_number, event_of, line_at, last_line, reading, sequence}
-use Rattle.exchange_check.specs.Journey.{Journey, residence, with_stay, copy_entered, left_from, journey_made, journey_of}
-use Rattle.exchange_check.specs.Octets.{drawing_port, sent, travelled, followed, answered, message_made, writes_right, is_written}
+use Rattle.trace_model.specs.declared.line.TraceLine.{TraceLine}
+use Rattle.trace_model.specs.Line.{Lines, counts}
+use Rattle.trace_model.specs.Record.{Entry, entry, line_number, event_of, line_at, last_line, reading, sequence}
+use Rattle.trace_model.specs.Journey.{Journey, residence, with_stay, copy_entered, left_from, journey_made, journey_of}
+use Rattle.trace_model.specs.Octets.{drawing_port, sent, travelled, followed, answered, message_made, writes_right, is_written}
 use Rattle.exchange_check.specs.Kept.{Facts, travel_at, travel_by, sent_by, travelled_by, followed_by, answered_by, message_by, fact_known, fact_made, written_travel, fact_by}
 use Rattle.exchange_check.proofs.Noted.{site_at}
 use Rattle.exchange_check.proofs.Told.{travel_of, fact_of, facts_at, known_of, number_drawn, travel_at-is, travel_is, known_is}

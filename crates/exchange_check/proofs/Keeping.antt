@@ -6,12 +6,12 @@ use Rattle.std.proofs.lemmas.Bool.Decides.{nat_tests}
 use Rattle.network_model.specs.Network.{Network}
 use Rattle.exchange_check.specs.declared.facts.Fact.{Fact}
 use Rattle.exchange_check.specs.declared.kept.Kept.{Kept}
-use Rattle.exchange_check.specs.declared.line.TraceLine.{TraceLine}
-use Rattle.exchange_check.specs.declared.line.TraceOut.{TraceOut}
-use Rattle.exchange_check.specs.declared.verdict.Verdict.{Verdict}
-use Rattle.exchange_check.specs.declared.verdict.Verdict.TheVariants.{Accepted, Refused}
-use Rattle.exchange_check.specs.declared.verdict.Why.{Why}
-use Rattle.exchange_check.specs.Verdict.{accepted_count, one_more, report_in}
+use Rattle.trace_model.specs.declared.line.TraceLine.{TraceLine}
+use Rattle.trace_model.specs.declared.line.TraceOut.{TraceOut}
+use Rattle.trace_model.specs.declared.verdict.Verdict.{Verdict}
+use Rattle.trace_model.specs.declared.verdict.Verdict.TheVariants.{Accepted, Refused}
+use Rattle.trace_model.specs.declared.verdict.Why.{Why}
+use Rattle.trace_model.specs.Verdict.{accepted_count, one_more, report_in}
 use Rattle.exchange_check.specs.Kept.{Facts, Sites, Leaves, Stamps, fact_in, site_in, fact_by}
 use Rattle.exchange_check.specs.Judged.{reason_by}
 use Rattle.exchange_check.specs.Machine.{Machine, IsKept, with_fact, sites_told, leaves_told, stamps_told, judged, after_line}

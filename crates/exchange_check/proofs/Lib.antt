@@ -1,4 +1,3 @@
-pub mod WorkedExchange
 pub mod Packets
 pub mod Once
 pub mod Keeping

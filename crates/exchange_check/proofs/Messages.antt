@@ -19,11 +19,11 @@ use Rattle.network_model.specs.declared.event.Event.TheVariants.{Sync, SyncOne, 
 use Rattle.network_model.specs.Network.{Network, NodeName, PortSetup}
 use Rattle.exchange_check.specs.declared.facts.Fact.{Fact}
 use Rattle.exchange_check.specs.declared.facts.Travel.{Travel}
-use Rattle.exchange_check.specs.declared.line.TraceLine.{TraceLine}
-use Rattle.exchange_check.specs.Line.{Lines, counts}
-use Rattle.exchange_check.specs.Record.{Entry, entry, line_number, event_of, line_at, reading, sequence}
-use Rattle.exchange_check.specs.Journey.{Journey, residence, begun, with_stay, copy_entered, left_from, journey_made, journey_of}
-use Rattle.exchange_check.specs.Octets.{drawing_port, message_sent, sent, with_residence_time, travelled}
+use Rattle.trace_model.specs.declared.line.TraceLine.{TraceLine}
+use Rattle.trace_model.specs.Line.{Lines, counts}
+use Rattle.trace_model.specs.Record.{Entry, entry, line_number, event_of, line_at, reading, sequence}
+use Rattle.trace_model.specs.Journey.{Journey, residence, begun, with_stay, copy_entered, left_from, journey_made, journey_of}
+use Rattle.trace_model.specs.Octets.{drawing_port, message_sent, sent, with_residence_time, travelled}
 use Rattle.exchange_check.specs.Kept.{longest, sent_by, travelled_by}
 use Rattle.exchange_check.proofs.Told.{fact_of, facts_at, number_drawn}
 

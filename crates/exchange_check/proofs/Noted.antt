@@ -12,9 +12,9 @@ use Rattle.network_model.specs.Kinds.{is_at, is_sync, draws_sync, is_request, is
 use Rattle.network_model.specs.Clock.{difference}
 use Rattle.exchange_check.specs.declared.facts.Fact.{Fact}
 use Rattle.exchange_check.specs.declared.facts.Site.{Site}
-use Rattle.exchange_check.specs.declared.line.TraceLine.{TraceLine}
-use Rattle.exchange_check.specs.Line.{Lines, counts}
-use Rattle.exchange_check.specs.Record.{Entry, entry, line_number, event_of, last_line, events, first_stamp}
+use Rattle.trace_model.specs.declared.line.TraceLine.{TraceLine}
+use Rattle.trace_model.specs.Line.{Lines, counts}
+use Rattle.trace_model.specs.Record.{Entry, entry, line_number, event_of, last_line, events, first_stamp}
 use Rattle.exchange_check.specs.Kept.{Sites, Leaves, Stamps, moved, sites_after, leaves_after, stamps_after}
 use Rattle.exchange_check.specs.Machine.{sites_told, leaves_told, stamps_told}
 

@@ -16,7 +16,7 @@ use Rattle.event_codec.specs.Packet.{Contents, Packet, IsIdentityAt, IsRequestin
 use Rattle.event_codec.specs.declared.refusal.EncodeRefusal.{EncodeRefusal}
 use Rattle.event_codec.specs.EncodeRefusal.{encode_refusal}
 use Rattle.event_codec.specs.Refusal.{message_length}
-use Rattle.exchange_check.specs.Octets.{is_identity_at, is_requesting, is_packet}
+use Rattle.trace_model.specs.Octets.{is_identity_at, is_requesting, is_packet}
 
 octet_at : (x : ℕ) (xs : List ℕ) → x < 256 → EachIndex xs (λ k. slice_index xs k < 256) → (k : ℕ) → k < length (x ∷ xs) → slice_index (x ∷ xs) k < 256
 octet_at x xs first others zero within = first

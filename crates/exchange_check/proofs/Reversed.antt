@@ -5,9 +5,9 @@ use Rattle.std.proofs.lemmas.Grind.{common_steps}
 use Rattle.std.proofs.lemmas.List.{take_more, length-reverse, length-take-le}
 use Rattle.network_model.specs.Network.{Network}
 use Rattle.exchange_check.specs.declared.kept.Kept.{Kept}
-use Rattle.exchange_check.specs.declared.line.TraceLine.{TraceLine}
+use Rattle.trace_model.specs.declared.line.TraceLine.{TraceLine}
 use Rattle.exchange_check.proofs.Standing.{machine-verdict}
-use Rattle.exchange_check.specs.Verdict.{verdict}
+use Rattle.trace_model.specs.Verdict.{verdict}
 use Rattle.exchange_check.specs.Machine.{Machine, IsKept, machine, after_line}
 
 -- what is kept of one more line

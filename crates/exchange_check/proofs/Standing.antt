@@ -12,25 +12,25 @@ use Rattle.network_model.specs.Network.{Network, NodeName, is_named}
 use Rattle.network_model.specs.Run.{site_of}
 use Rattle.network_model.specs.Kinds.{is_sync, draws_sync, is_request, is_set_master, named_master, heard_copy}
 use Rattle.network_model.specs.Truth.{master_at, slave_at}
-use Rattle.exchange_check.specs.declared.line.TraceLine.{TraceLine}
-use Rattle.exchange_check.specs.declared.verdict.Why.{Why}
-use Rattle.exchange_check.specs.declared.verdict.Why.TheVariants.{OtherNumber, OtherMaster, WrongReading, WrongValue, TooBig, Bytes}
-use Rattle.exchange_check.specs.Line.{Lines, counts}
-use Rattle.exchange_check.specs.Record.{Entry, entry, line_number, event_of, site, events, last_line, reading}
-use Rattle.exchange_check.specs.Octets.{writes_right}
-use Rattle.exchange_check.specs.Journey.{Journey, journey_of, residence, left_once}
-use Rattle.exchange_check.specs.Sound.{journey_writes_right, where_passes, below, Exchange, line_of, sync_line, follow_lines, arrival_line, is_of_line, is_stamped_between, unbroken, is_followed, are_paired, are_later, is_domain, is_of_master, are_readings, fraction_sent, fits, bracket, are_results, are_octets, journeys_reason, exchange_reason, reason}
+use Rattle.trace_model.specs.declared.line.TraceLine.{TraceLine}
+use Rattle.trace_model.specs.declared.verdict.Why.{Why}
+use Rattle.trace_model.specs.declared.verdict.Why.TheVariants.{OtherNumber, OtherMaster, WrongReading, WrongValue, TooBig, Bytes}
+use Rattle.trace_model.specs.Line.{Lines, counts}
+use Rattle.trace_model.specs.Record.{Entry, entry, line_number, event_of, site, events, last_line, reading}
+use Rattle.trace_model.specs.Octets.{writes_right}
+use Rattle.trace_model.specs.Journey.{Journey, journey_of, residence, left_once}
+use Rattle.trace_model.specs.Sound.{journey_writes_right, where_passes, below, Exchange, line_of, sync_line, follow_lines, arrival_line, is_of_line, is_stamped_between, unbroken, is_followed, are_paired, are_later, is_domain, is_of_master, are_readings, fraction_sent, fits, bracket, are_results, are_octets, journeys_reason, exchange_reason, reason}
 use Rattle.exchange_check.specs.Kept.{Facts, Leaves, longest}
 use Rattle.exchange_check.specs.Judged.{found_by, way_at, once_by, way_from, way_to, paired_by, is_told, of_master_by, fits_by, bracket_by, results_by, octets_by, both_ways, found_reason, reason_by}
 use Rattle.exchange_check.proofs.Noted.{site_at, leaves_at, stamps_at, told_master}
 use Rattle.exchange_check.proofs.Told.{fact_of, facts_at}
 use Rattle.exchange_check.proofs.Stays.{once_is, followed_is}
-use Rattle.exchange_check.specs.declared.verdict.Verdict.{Verdict}
-use Rattle.exchange_check.specs.declared.verdict.Verdict.TheVariants.{Accepted, Refused}
+use Rattle.trace_model.specs.declared.verdict.Verdict.{Verdict}
+use Rattle.trace_model.specs.declared.verdict.Verdict.TheVariants.{Accepted, Refused}
 use Rattle.exchange_check.specs.Judged.{is_followed_by}
 use Rattle.exchange_check.specs.Kept.{fact_by}
 use Rattle.exchange_check.specs.Machine.{Machine, machine, with_fact, sites_told, leaves_told, stamps_told, judged}
-use Rattle.exchange_check.specs.Verdict.{verdict, with_line, one_more, report_in}
+use Rattle.trace_model.specs.Verdict.{verdict, with_line, one_more, report_in}
 use Rattle.exchange_check.proofs.Noted.{sites-line, leaves-line, stamps-line}
 use Rattle.exchange_check.proofs.FactLines.{fact_by-is, facts-line}
 use Rattle.exchange_check.proofs.Exchanges.{found_of, way_of, line_of_is, sync_is, follows_is, arrival_is, chain, line_chain, chained, if_found, way_is}

@@ -11,10 +11,10 @@ use Rattle.network_model.specs.Network.{Network, NodeName, is_named}
 use Rattle.network_model.specs.Run.{Run}
 use Rattle.network_model.specs.Kinds.{entered_copy, spends, spent_transit}
 use Rattle.exchange_check.specs.declared.facts.Fact.{Fact}
-use Rattle.exchange_check.specs.declared.line.TraceLine.{TraceLine}
-use Rattle.exchange_check.specs.Line.{Lines, counts}
-use Rattle.exchange_check.specs.Record.{Entry, entry, line_number, event_of, site, line_at, events}
-use Rattle.exchange_check.specs.Journey.{Journey, begun, with_stay, copy_entered, left_from, journey_made, journey_of, left_once}
+use Rattle.trace_model.specs.declared.line.TraceLine.{TraceLine}
+use Rattle.trace_model.specs.Line.{Lines, counts}
+use Rattle.trace_model.specs.Record.{Entry, entry, line_number, event_of, site, line_at, events}
+use Rattle.trace_model.specs.Journey.{Journey, begun, with_stay, copy_entered, left_from, journey_made, journey_of, left_once}
 use Rattle.exchange_check.specs.Kept.{Facts, Leaves, leaves_after}
 use Rattle.exchange_check.specs.Judged.{once_by, stay_before, entered_by, is_once}
 use Rattle.exchange_check.proofs.Noted.{leaves_at, count_more, events_more}

@@ -15,12 +15,12 @@ use Rattle.network_model.specs.Truth.{master_at, slave_at}
 use Rattle.exchange_check.specs.declared.facts.Fact.{Fact}
 use Rattle.exchange_check.specs.declared.facts.Known.{Known}
 use Rattle.exchange_check.specs.declared.facts.Travel.{Travel}
-use Rattle.exchange_check.specs.declared.line.TraceLine.{TraceLine}
-use Rattle.exchange_check.specs.Line.{Lines, counts, is_made, completes}
-use Rattle.exchange_check.specs.Record.{Entry, entry, line_number, event_of, site, line_at, events, last_line, reading, reads_right, sequence}
-use Rattle.exchange_check.specs.Journey.{Journey, stay_length, residence, begun, with_stay, copy_entered, left_from, journey_made, journey_of}
-use Rattle.exchange_check.specs.Octets.{drawing_port, writes_right}
-use Rattle.exchange_check.specs.Sound.{stay_reads_right, journey_reads_right, journey_writes_right}
+use Rattle.trace_model.specs.declared.line.TraceLine.{TraceLine}
+use Rattle.trace_model.specs.Line.{Lines, counts, is_made, completes}
+use Rattle.trace_model.specs.Record.{Entry, entry, line_number, event_of, site, line_at, events, last_line, reading, reads_right, sequence}
+use Rattle.trace_model.specs.Journey.{Journey, stay_length, residence, begun, with_stay, copy_entered, left_from, journey_made, journey_of}
+use Rattle.trace_model.specs.Octets.{drawing_port, writes_right}
+use Rattle.trace_model.specs.Sound.{stay_reads_right, journey_reads_right, journey_writes_right}
 use Rattle.exchange_check.specs.Kept.{Facts, longest, number_by, known_by, travel_at, stayed, left_by, begun_by, travel_by, written_travel}
 use Rattle.exchange_check.proofs.Noted.{site_at}
 

@@ -15,10 +15,10 @@ use Rattle.exchange_check.specs.declared.facts.Fact.{Fact}
 use Rattle.exchange_check.specs.declared.facts.Found.{Found}
 use Rattle.exchange_check.specs.declared.facts.Site.{Site}
 use Rattle.exchange_check.specs.declared.facts.Way.{Way}
-use Rattle.exchange_check.specs.declared.verdict.Why.{Why}
-use Rattle.exchange_check.specs.declared.verdict.Why.TheVariants.{NoSuchLine, OtherNumber, OtherMaster, BrokenJourney, WrongReading, WrongValue, TooBig, Bytes}
-use Rattle.exchange_check.specs.Line.{is_arrival, is_hearing}
-use Rattle.exchange_check.specs.Sound.{where_passes, below, are_later, is_domain, is_of_line}
+use Rattle.trace_model.specs.declared.verdict.Why.{Why}
+use Rattle.trace_model.specs.declared.verdict.Why.TheVariants.{NoSuchLine, OtherNumber, OtherMaster, BrokenJourney, WrongReading, WrongValue, TooBig, Bytes}
+use Rattle.trace_model.specs.Line.{is_arrival, is_hearing}
+use Rattle.trace_model.specs.Sound.{where_passes, below, are_later, is_domain, is_of_line}
 use Rattle.exchange_check.specs.Kept.{Facts, Leaves, Stamps, Sites, travel_at, longest}
 
 -- an event of a wanted kind, where it is at this node

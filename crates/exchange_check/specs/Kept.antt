@@ -17,12 +17,12 @@ use Rattle.exchange_check.specs.declared.facts.Fact.{Fact}
 use Rattle.exchange_check.specs.declared.facts.Known.{Known}
 use Rattle.exchange_check.specs.declared.facts.Site.{Site}
 use Rattle.exchange_check.specs.declared.facts.Travel.{Travel}
-use Rattle.exchange_check.specs.declared.line.TraceLine.{TraceLine}
+use Rattle.trace_model.specs.declared.line.TraceLine.{TraceLine}
 use Rattle.exchange_check.specs.declared.octets.Port.{Port}
 use Rattle.exchange_check.specs.declared.octets.Written.{Written}
-use Rattle.exchange_check.specs.Line.{counts, is_made, completes}
-use Rattle.exchange_check.specs.Record.{is_reading}
-use Rattle.exchange_check.specs.Octets.{drawing_port, message_sent, with_residence_time, is_written}
+use Rattle.trace_model.specs.Line.{counts, is_made, completes}
+use Rattle.trace_model.specs.Record.{is_reading}
+use Rattle.trace_model.specs.Octets.{drawing_port, message_sent, with_residence_time, is_written}
 
 -- a port's configuration and first number, as a network has them
 abbrev pub port_setup : Port → PortSetup

@@ -1,11 +1,5 @@
 pub mod Refusal
-pub mod Line
-pub mod Record
-pub mod Journey
-pub mod Octets
-pub mod Sound
 pub mod Transcript
-pub mod Verdict
 pub mod Kept
 pub mod Judged
 pub mod Machine

@@ -5,12 +5,12 @@ use Rattle.std.specs.HashMap.{get}
 use Rattle.network_model.specs.Network.{Network}
 use Rattle.exchange_check.specs.declared.facts.Fact.{Fact}
 use Rattle.exchange_check.specs.declared.kept.Kept.{Kept}
-use Rattle.exchange_check.specs.declared.line.TraceLine.{TraceLine}
-use Rattle.exchange_check.specs.declared.line.TraceOut.{TraceOut}
-use Rattle.exchange_check.specs.declared.verdict.Verdict.{Verdict}
-use Rattle.exchange_check.specs.declared.verdict.Verdict.TheVariants.{Accepted, Refused}
-use Rattle.exchange_check.specs.Line.{Lines}
-use Rattle.exchange_check.specs.Verdict.{report_in, one_more, accepted_count}
+use Rattle.trace_model.specs.declared.line.TraceLine.{TraceLine}
+use Rattle.trace_model.specs.declared.line.TraceOut.{TraceOut}
+use Rattle.trace_model.specs.declared.verdict.Verdict.{Verdict}
+use Rattle.trace_model.specs.declared.verdict.Verdict.TheVariants.{Accepted, Refused}
+use Rattle.trace_model.specs.Line.{Lines}
+use Rattle.trace_model.specs.Verdict.{report_in, one_more, accepted_count}
 use Rattle.exchange_check.specs.Kept.{Facts, Sites, Leaves, Stamps, new_site, fact_in, site_in, fact_by, sites_after, leaves_after, stamps_after}
 use Rattle.exchange_check.specs.Judged.{reason_by}
 

@@ -2,15 +2,14 @@ ghost use Rattle.std.specs.Prelude.{◌≡◌, reverse, MatchResult, OnErr};
 ghost use Rattle.std.specs.Prelude.{◌++◌, ◌∷◌, []};
 ghost use Rattle.network_model.specs.Network.{Network};
 ghost use Rattle.exchange_check.specs.declared.refusal.CheckFault.TheVariants.{Memory};
-ghost use Rattle.exchange_check.specs.Verdict.{verdict};
+ghost use Rattle.trace_model.specs.Verdict.{verdict};
 
 use crate::kept::Kept;
-use crate::line::TraceLine;
 use crate::refusal::CheckFault;
-use crate::verdict::Verdict;
 use network_model::Nodes;
 use std::alloc::Global;
 use std::marker::Model;
+use trace_model::{TraceLine, Verdict};
 
 /// The verdict on a transcript of a network, its lines oldest first, whatever their origin: whether
 /// every report line is sound, or which is the first that isn't, and why. Refused with 709 where

@@ -3,7 +3,7 @@
 ghost use Rattle.std.specs.Prelude.{◌≡◌, Some, option_map};
 ghost use Rattle.network_model.specs.Run.{site_of, true_moment};
 ghost use Rattle.network_model.specs.Kinds.{is_sync, is_one_step_sync, draws_sync, is_follow, is_request, entered_copy, heard_copy};
-ghost use Rattle.exchange_check.specs.Line.{is_arrival, is_hearing};
+ghost use Rattle.trace_model.specs.Line.{is_arrival, is_hearing};
 
 use network_model::{Event, Name};
 use ptp_units::ScaledTime;

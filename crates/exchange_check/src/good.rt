@@ -2,56 +2,54 @@
 
 ghost use Rattle.std.specs.Prelude.{◌≡◌};
 ghost use Rattle.network_model.specs.Network.{Network, NodeName};
-ghost use Rattle.exchange_check.specs.Line.{is_done, is_made, is_entered, completes, is_heard, is_refused, is_ignored, is_master, is_slave, is_clock, may_arrive, may_happen, counts};
+ghost use Rattle.trace_model.specs.Line.{is_done, is_made, is_entered, completes, is_heard, is_refused, is_ignored, is_master, is_slave, is_clock, may_arrive, may_happen, counts};
 
-use crate::line::{TraceLine, TraceOut};
 use network_model::{Event, Name, NodeKind, Nodes};
+use trace_model::{TraceLine, TraceOut};
 
-impl TraceOut {
-    fn is_done(&self) -> bool
-        ensures { result ≡ is_done self.now }
-    {
-        matches!(self, TraceOut::Done)
-    }
+fn is_done(out: &TraceOut) -> bool
+    ensures { result ≡ is_done out.now }
+{
+    matches!(out, TraceOut::Done)
+}
 
-    pub(crate) fn is_made(&self) -> bool
-        ensures { result ≡ is_made self.now }
-    {
-        matches!(self, TraceOut::Made(_))
-    }
+pub(crate) fn is_made(out: &TraceOut) -> bool
+    ensures { result ≡ is_made out.now }
+{
+    matches!(out, TraceOut::Made(_))
+}
 
-    fn is_entered(&self) -> bool
-        ensures { result ≡ is_entered self.now }
-    {
-        matches!(self, TraceOut::Entered)
-    }
+fn is_entered(out: &TraceOut) -> bool
+    ensures { result ≡ is_entered out.now }
+{
+    matches!(out, TraceOut::Entered)
+}
 
-    pub(crate) fn completes(&self) -> bool
-        ensures { result ≡ completes self.now }
-    {
-        matches!(self, TraceOut::Completed | TraceOut::Report(_))
-    }
+pub(crate) fn completes(out: &TraceOut) -> bool
+    ensures { result ≡ completes out.now }
+{
+    matches!(out, TraceOut::Completed | TraceOut::Report(_))
+}
 
-    fn is_heard(&self) -> bool
-        ensures { result ≡ is_heard self.now }
-    {
-        matches!(
-            self,
-            TraceOut::Held | TraceOut::Completed | TraceOut::Report(_) | TraceOut::Ignored(_)
-        )
-    }
+fn is_heard(out: &TraceOut) -> bool
+    ensures { result ≡ is_heard out.now }
+{
+    matches!(
+        out,
+        TraceOut::Held | TraceOut::Completed | TraceOut::Report(_) | TraceOut::Ignored(_)
+    )
+}
 
-    fn is_refused(&self) -> bool
-        ensures { result ≡ is_refused self.now }
-    {
-        matches!(self, TraceOut::Refused(_))
-    }
+fn is_refused(out: &TraceOut) -> bool
+    ensures { result ≡ is_refused out.now }
+{
+    matches!(out, TraceOut::Refused(_))
+}
 
-    fn is_ignored(&self) -> bool
-        ensures { result ≡ is_ignored self.now }
-    {
-        matches!(self, TraceOut::Ignored(_))
-    }
+fn is_ignored(out: &TraceOut) -> bool
+    ensures { result ≡ is_ignored out.now }
+{
+    matches!(out, TraceOut::Ignored(_))
 }
 
 fn is_master(nodes: &Nodes, name: &Name) -> bool
@@ -84,8 +82,8 @@ fn is_clock(nodes: &Nodes, name: &Name) -> bool
 fn may_arrive(nodes: &Nodes, node: &Name, out: &TraceOut) -> bool
     ensures { result ≡ may_arrive nodes.now node.now out.now }
 {
-    is_master(nodes, node) && (out.is_made() || out.is_refused())
-        || is_slave(nodes, node) && out.is_heard()
+    is_master(nodes, node) && (is_made(out) || is_refused(out))
+        || is_slave(nodes, node) && is_heard(out)
 }
 
 /// Whether a line is good: its nodes are of the kinds that the event is for, and it may have come
@@ -94,20 +92,20 @@ fn may_happen(nodes: &Nodes, event: &Event, out: &TraceOut) -> bool
     ensures { result ≡ may_happen nodes.now event.now out.now }
 {
     match event {
-        Event::Sync { node, .. } => is_master(nodes, node) && out.is_made(),
-        Event::SyncOne { node, .. } => is_master(nodes, node) && out.is_made(),
-        Event::Follow { node } => is_master(nodes, node) && out.is_made(),
-        Event::Enter { node, .. } => is_clock(nodes, node) && out.is_entered(),
-        Event::Leave { node, .. } => is_clock(nodes, node) && (out.is_made() || out.is_refused()),
+        Event::Sync { node, .. } => is_master(nodes, node) && is_made(out),
+        Event::SyncOne { node, .. } => is_master(nodes, node) && is_made(out),
+        Event::Follow { node } => is_master(nodes, node) && is_made(out),
+        Event::Enter { node, .. } => is_clock(nodes, node) && is_entered(out),
+        Event::Leave { node, .. } => is_clock(nodes, node) && (is_made(out) || is_refused(out)),
         Event::Arrive { node, .. } => may_arrive(nodes, node, out),
-        Event::Hear { node, .. } => is_slave(nodes, node) && out.is_heard(),
-        Event::Request { node, .. } => is_slave(nodes, node) && out.is_made(),
-        Event::Stamped { node } => is_slave(nodes, node) && (out.is_done() || out.is_refused()),
-        Event::Tick { node } => is_slave(nodes, node) && out.is_done(),
+        Event::Hear { node, .. } => is_slave(nodes, node) && is_heard(out),
+        Event::Request { node, .. } => is_slave(nodes, node) && is_made(out),
+        Event::Stamped { node } => is_slave(nodes, node) && (is_done(out) || is_refused(out)),
+        Event::Tick { node } => is_slave(nodes, node) && is_done(out),
         Event::SetMaster { node, master } => {
-            is_slave(nodes, node) && is_master(nodes, master) && out.is_done()
+            is_slave(nodes, node) && is_master(nodes, master) && is_done(out)
         }
-        Event::StepClock { node, .. } => nodes.get(node).is_some() && out.is_done(),
+        Event::StepClock { node, .. } => nodes.get(node).is_some() && is_done(out),
     }
 }
 
@@ -115,5 +113,5 @@ fn may_happen(nodes: &Nodes, event: &Event, out: &TraceOut) -> bool
 pub(crate) fn counts(nodes: &Nodes, line: &TraceLine) -> bool
     ensures { result ≡ counts nodes.now line.now }
 {
-    may_happen(nodes, &line.event, &line.out) && !(line.out.is_refused() || line.out.is_ignored())
+    may_happen(nodes, &line.event, &line.out) && !(is_refused(&line.out) || is_ignored(&line.out))
 }

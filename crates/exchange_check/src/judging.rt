@@ -8,8 +8,8 @@ ghost use Rattle.std.specs.Ordering.{int_eq};
 ghost use Rattle.ptp_units.specs.Moment.{bound};
 ghost use Rattle.network_model.specs.Kinds.{draws_sync, is_request, spent_transit};
 ghost use Rattle.network_model.specs.Run.{site_of};
-ghost use Rattle.exchange_check.specs.Line.{is_arrival, is_hearing};
-ghost use Rattle.exchange_check.specs.Sound.{is_of_line, is_domain, are_later, below};
+ghost use Rattle.trace_model.specs.Line.{is_arrival, is_hearing};
+ghost use Rattle.trace_model.specs.Sound.{is_of_line, is_domain, are_later, below};
 ghost use Rattle.exchange_check.specs.Kept.{fact_in, site_in, port_setup};
 ghost use Rattle.exchange_check.specs.Judged.{line_of_by, sender_by, sync_by, follow_by, follows_by, arrival_by, completion_by, is_here, is_stamped_by, found_by, way_at, entered_by, stay_before, is_once, once_by, way_from, way_to, is_followed_by, paired_by, is_told, of_master_by, readings_by, fraction_by, fits_by, bracket_by, results_by, octets_by, ways_reason, both_ways, found_reason, fact_reason, reason_by};
 
@@ -20,7 +20,7 @@ use crate::events::{
 use crate::facts::{Fact, Found, Site, Way};
 use crate::kept::Kept;
 use crate::octets::{Port, master_at, slave_at};
-use crate::verdict::Why;
+use trace_model::Why;
 use network_model::{Event, Name, Nodes, Report};
 use ptp_units::{ScaledTime, offset2, path2};
 

@@ -4,25 +4,24 @@ ghost use Rattle.std.specs.Prelude.{◌≡◌, ◌≤ℤ◌, ◌+ℤ◌, ◌+◌
 ghost use Rattle.std.specs.Prelude.{ℕ, ◌==◌, nat_eq, is_some, if◌then◌else◌, Some, None, OnOk, OnErr};
 ghost use Rattle.std.specs.Prelude.{◌<◌, MatchResult};
 ghost use Rattle.std.specs.HashMap.{get};
-ghost use Rattle.exchange_check.specs.Verdict.{accepted_count};
+ghost use Rattle.trace_model.specs.Verdict.{accepted_count};
 ghost use Rattle.exchange_check.specs.Machine.{Machine, IsKept, start, judged, after_line, sites_told, leaves_told, stamps_told};
 ghost use Rattle.std.specs.Option.{option_map_or, option_or};
 ghost use Rattle.network_model.specs.Network.{NodeName};
 ghost use Rattle.exchange_check.specs.Kept.{moved, moved_at, left_again, stamped, sites_after, leaves_after, stamps_after};
 ghost use Rattle.ptp_units.specs.Sequence.{of_count};
 ghost use Rattle.exchange_check.specs.Kept.{fact_in, site_in, travel_at, copy_entered_by, stayed, begun_by, travel_by, travelled_by, followed_by, answered_by, message_by, known_by, number_by, fact_known, fact_by, travel_left, written_travel, port_setup, contents_of};
-ghost use Rattle.exchange_check.specs.Record.{is_reading};
+ghost use Rattle.trace_model.specs.Record.{is_reading};
 
 use crate::events::{entered_copy, site, true_moment};
 use crate::facts::{Fact, Known, Site, Travel};
-use crate::good::counts;
-use crate::line::{TraceLine, TraceOut};
+use crate::good::{completes, counts, is_made};
+use trace_model::{TraceLine, TraceOut, Verdict};
 use crate::octets::{
     Port, Written, delay_resp, follow_up, is_written, master_at, sent, slave_at,
     with_residence_time,
 };
 use crate::refusal::CheckFault;
-use crate::verdict::Verdict;
 use network_model::{Event, Name, Nodes};
 use ptp_units::{ScaledTime, Seq};
 use std::alloc::Global;
@@ -293,8 +292,8 @@ impl Kept {
             line: known.line,
             event: line.event,
             reading: known.reading,
-            made: line.out.is_made(),
-            completes: line.out.completes(),
+            made: is_made(&line.out),
+            completes: completes(&line.out),
             number: known.number,
             reads_right: known.reads,
             writes_right,

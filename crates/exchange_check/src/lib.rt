@@ -8,12 +8,9 @@ mod facts;
 mod good;
 mod judging;
 mod kept;
-mod line;
 mod octets;
 mod refusal;
-mod verdict;
 
 pub use checker::{Checker, check};
-pub use line::{TraceLine, TraceOut};
 pub use refusal::CheckFault;
-pub use verdict::{Verdict, Why};
+pub use trace_model::{TraceLine, TraceOut, Verdict, Why};

@@ -6,12 +6,12 @@ ghost use Rattle.master_port.specs.Written.{follow_up, delay_resp};
 ghost use Rattle.network_model.specs.Network.{PortSetup};
 ghost use Rattle.network_model.specs.Truth.{master_at, slave_at};
 ghost use Rattle.exchange_check.specs.Kept.{sent_by, port_setup, contents_of};
-ghost use Rattle.exchange_check.specs.Octets.{is_packet, is_written, drawing_port, message_sent, with_residence_time};
+ghost use Rattle.trace_model.specs.Octets.{is_packet, is_written, drawing_port, message_sent, with_residence_time};
 
-use crate::line::TraceOut;
 use event_codec::{Body, Header, Message, PortConfig, encode};
 use network_model::{Event, Name, NodeKind, Nodes};
 use ptp_units::{Interval, ScaledTime, Seq, Timestamp};
+use trace_model::TraceOut;
 
 /// flagField of a two-step Sync.
 const TWO_STEP: [u8; 2] = [0x02, 0x00];

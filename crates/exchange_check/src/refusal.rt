@@ -1,20 +1,22 @@
 ghost use Rattle.std.specs.Prelude.{◌≡◌};
 
 use std::alloc::{AllocError, AllocFailed};
+use thiserror::Error;
 
 /// Why there is no verdict.
-#[derive(Clone, Copy, Debug, PartialEq, Eq)]
+#[derive(Clone, Copy, Debug, PartialEq, Eq, Error)]
 pub enum CheckFault {
     /// Memory for a growth was refused.
+    #[error("memory was refused")]
     Memory,
 }
 
 impl CheckFault {
-    ghost use Rattle.exchange_check.specs.Refusal.{fault_code};
+    ghost use Rattle.exchange_check.specs.Refusal.{code_of};
 
     /// The number of the fault.
     pub fn code(&self) -> u16
-        ensures { result ≡ fault_code self.now }
+        ensures { result ≡ code_of self.now }
     {
         match self {
             CheckFault::Memory => 709,

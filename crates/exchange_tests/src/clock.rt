@@ -1,9 +1,7 @@
 //! What a clock does to messages, octet for octet, worked by hand from the layout of the messages.
 
-ghost use Rattle.std.specs.Prelude.{◌≤◌};
-
+use crate::values::{moment, with_correction};
 use event_codec::DecodeRefusal;
-use ptp_units::{ScaledTime, Timestamp, UnitRefusal};
 use std::test::Fail;
 use transparent_clock::{ClockRefusal, enter};
 
@@ -39,21 +37,6 @@ const DELAY_RESP: [u8; 54] = [
     0x03, 0x00, 0x00, 0x00, 0x00, 0x00, 0x00, 0x02, 0x00, 0x00, 0x11, 0x94, 0x00, 0xaa, 0xbb, 0xff,
     0xfe, 0xcc, 0xdd, 0xee, 0x00, 0x01,
 ];
-
-/// The moment of seconds, nanoseconds and units.
-fn moment(seconds: u64, nanos: u32, fraction: u16) -> Result<ScaledTime, UnitRefusal> {
-    Ok(ScaledTime::join(Timestamp::new(seconds, nanos)?, fraction))
-}
-
-/// The octets with another correctionField.
-fn with_correction<const N: usize>(octets: [u8; N], correction: i64) -> [u8; N]
-    requires { 16 ≤ N }
-{
-    let mut changed = octets;
-    let room = &mut changed[..];
-    room[8..16].copy_from_slice(&correction.to_be_bytes());
-    changed
-}
 
 /// The octets with another one at a place.
 fn with_octet<const N: usize>(octets: [u8; N], place: usize, octet: u8) -> [u8; N] {

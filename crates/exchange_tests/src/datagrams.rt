@@ -8,7 +8,7 @@ pub(crate) const FIELDS: [(&str, &str); 13] = [
         "0012002c00000200000000000000000000000000001122fffe33445500010000000000000000000000000000",
         "Sync sdo=000 version=2.1 domain=0 flags=0200 correction=0 specific=00000000 source=001122fffe334455/1 seq=0 control=0 log=0 stamp=0.000000000 suffix=0 used=44",
     ),
-    // Octets behind messageLength are padding.
+    // Octets after messageLength are padding.
     (
         "0012002c00000200000000000000000000000000001122fffe334455000100000000000000000000000000000000",
         "Sync sdo=000 version=2.1 domain=0 flags=0200 correction=0 specific=00000000 source=001122fffe334455/1 seq=0 control=0 log=0 stamp=0.000000000 suffix=0 used=44",

@@ -7,7 +7,7 @@
 pub(crate) struct Exchange {
     /// Its nodes.
     pub(crate) nodes: &'static str,
-    /// Its events, in parts, one behind the other.
+    /// Its events, in parts, one after the other.
     pub(crate) events: &'static [&'static str],
 }
 

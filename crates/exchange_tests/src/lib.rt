@@ -36,4 +36,6 @@ mod tables;
 #[cfg(test)]
 mod units;
 #[cfg(test)]
+mod values;
+#[cfg(test)]
 mod worlds;

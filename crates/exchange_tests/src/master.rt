@@ -1,10 +1,9 @@
 //! What a master writes, octet for octet, worked by hand from the layout of the messages.
 
-ghost use Rattle.std.specs.Prelude.{◌≤◌};
-
+use crate::values::{moment, with_correction};
 use event_codec::{DecodeRefusal, PortConfig, PortIdentity};
 use master_port::{MasterPort, MasterRefusal};
-use ptp_units::{ScaledTime, Seq, Timestamp, UnitRefusal};
+use ptp_units::Seq;
 use std::test::Fail;
 
 /// The messages of an exchange between the master 001122fffe334455/1 and the slave
@@ -50,11 +49,6 @@ const MASTER: PortConfig = PortConfig {
     log: 0,
 };
 
-/// The moment of seconds, nanoseconds and units.
-fn moment(seconds: u64, nanos: u32, fraction: u16) -> Result<ScaledTime, UnitRefusal> {
-    Ok(ScaledTime::join(Timestamp::new(seconds, nanos)?, fraction))
-}
-
 /// The octets with others at some places.
 fn changed<const N: usize>(octets: [u8; N], changes: &[(usize, u8)]) -> [u8; N] {
     let mut changed = octets;
@@ -66,7 +60,7 @@ fn changed<const N: usize>(octets: [u8; N], changes: &[(usize, u8)]) -> [u8; N] 
     changed
 }
 
-/// The Delay_Req with padding behind it.
+/// The Delay_Req with padding after it.
 fn padded_delay_req() -> [u8; 60] {
     let mut room = [0; 60];
     room[..44].copy_from_slice(&DELAY_REQ);
@@ -218,16 +212,6 @@ fn answers_what_a_delay_req_says(rt: HostRuntime) -> Result<(), Fail> {
         assert_eq!(rt; answer, Some(Ok(changed(DELAY_RESP, expected))));
     }
     Ok(())
-}
-
-/// The octets with another correctionField.
-fn with_correction<const N: usize>(octets: [u8; N], correction: i64) -> [u8; N]
-    requires { 16 ≤ N }
-{
-    let mut changed = octets;
-    let room = &mut changed[..];
-    room[8..16].copy_from_slice(&correction.to_be_bytes());
-    changed
 }
 
 #[test]

@@ -42,16 +42,16 @@ struct Ended {
 }
 
 fn run(alloc: Global, line: &str, input: &[u8]) -> Result<Ended, Fail> {
-    let mut words = Vec::new(alloc);
-    for word in line.split(' ') {
-        words.push(String::from_str(alloc, word)?)?;
+    let mut arguments = Vec::new(alloc);
+    for argument in line.split(' ') {
+        arguments.push(String::from_str(alloc, argument)?)?;
     }
     let mut reader = Counted::new(input);
     let mut writer = Counted::new(Vec::new(alloc));
     let mut errors = Vec::new(alloc);
     let status = command(
         alloc,
-        words.as_slice(),
+        arguments.as_slice(),
         &mut reader,
         &mut writer,
         &mut errors,
@@ -175,7 +175,7 @@ const WHOLE_HELP: &str = "Usage: ptpx <COMMAND>\n\nCommands:\n  show  Print the 
 
 const SHOW_HELP: &str = "one a line\n\nUsage: ptpx show\n";
 
-/// Words that ask for help, and what stands in the text.
+/// Arguments that ask for help, and what stands in the text.
 const HELPS: [(&str, &str); 9] = [
     ("ptpx --help", WHOLE_HELP),
     ("ptpx -h", WHOLE_HELP),
@@ -202,7 +202,7 @@ fn writes_help_with_status_0(rt: HostRuntime) -> Result<(), Fail> {
     Ok(())
 }
 
-/// Words that are no command, and what stands in the text.
+/// Arguments that are no command, and what stands in the text.
 const MISTAKES: [(&str, &str); 15] = [
     (
         "ptpx",
@@ -261,6 +261,6 @@ fn refuses_other_words_with_status_2(rt: HostRuntime) -> Result<(), Fail> {
         &mut Counted::new(Broken),
         &mut errors,
     );
-    assert_eq!(rt; status, 2, "no words at all");
+    assert_eq!(rt; status, 2, "no arguments at all");
     Ok(())
 }

@@ -2,10 +2,10 @@
 //!
 //! A node is `master M 001122fffe334455 0` or `slave S 00aabbfffeccddee 0`, with its clock identity
 //! and its first number, at port 1 of domain 0, or `clock T`. An event is its tag, its kind, its
-//! node, what else it has and, behind an arrow, what comes of it: `5 arrive S 4 [1,3000,0] -> held`,
+//! node, what else it has and, after an arrow, what comes of it: `5 arrive S 4 [1,3000,0] -> held`,
 //! where `[1,3000,0]` is 1 s, 3,000 ns and no unit of 2^-16 ns. Before the arrow `reads [1,4000,0]`
 //! may say what the node's clock shows. An event that a world refuses has `-` for a tag, and the
-//! number of the refusal behind the arrow.
+//! number of the refusal after the arrow.
 
 use event_codec::{PortConfig, PortIdentity};
 use network_model::{Event, Name, NodeKind, NodeSpec};

@@ -118,7 +118,7 @@ fn stops_at_the_first_fault(rt: HostRuntime) -> Result<(), Fail> {
 }
 
 #[test]
-fn leaves_the_lines_behind_a_fault(rt: HostRuntime) -> Result<(), Fail> {
+fn leaves_the_lines_after_a_fault(rt: HostRuntime) -> Result<(), Fail> {
     let (answer, _, unread) = shown(rt.alloc(), b"00\n0\n0001\n\n");
     assert_eq!(rt; answer, outcome_of(0, Some((2, FaultKind::Field))));
     assert_eq!(rt; unread, b"0001\n\n".as_slice());
@@ -130,7 +130,7 @@ fn leaves_the_lines_behind_a_fault(rt: HostRuntime) -> Result<(), Fail> {
     Ok(())
 }
 
-/// So many times an octet, and these behind it: what is answered, how many lines were, and how many
+/// So many times an octet, and these after it: what is answered, how many lines were, and how many
 /// octets are unread.
 const LENGTHS: [(u8, usize, &[u8], Result<u64, Fault>, usize); 9] = [
     (

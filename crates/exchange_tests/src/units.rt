@@ -1,15 +1,11 @@
 //! Worked values, computed by hand from the standard's formulas.
 
+use crate::values::moment;
 use ptp_units::{
     BOUND, Interval, ScaledTime, Seq, TOO_BIG, Timestamp, UnitRefusal, delay_bracket, offset2,
     path2, sync_bracket,
 };
 use std::test::Fail;
-
-/// The moment of seconds, nanoseconds and units.
-fn moment(seconds: u64, nanos: u32, fraction: u16) -> Result<ScaledTime, UnitRefusal> {
-    Ok(ScaledTime::join(Timestamp::new(seconds, nanos)?, fraction))
-}
 
 #[test]
 fn codes(rt: HostRuntime) {

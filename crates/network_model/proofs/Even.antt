@@ -1,5 +1,5 @@
--- In a level network the two ways of a report take one time: each crossing of a way is one of the run, crossings of one
--- cable take one time, and the way back has the cables of the way there.
+-- In a level network the two ways of a report take one time: each crossing of a way is one of the run, a cable
+-- takes one time both ways, and the way back has the cables of the way there.
 use Rattle.std.proofs.Common.{◌≡◌, ◌∙◌, ℕ, ℤ, ◌+ℤ◌, Bool, true, false, List, [], ◌∷◌, ◌++◌, length, Option, Some, None, Ok, IsOk, refl, sym, ap, subst, arith, reverse, if◌then◌else◌, option_map, option_and_then, inl, inr}
 use Rattle.std.specs.Prelude.{◌==◌, ◌⊎◌, IsTrue, ok_or, option_to_list}
 use Rattle.std.specs.List.{list_all, AllZip}
@@ -56,7 +56,7 @@ all_pass f (event ∷ earlier) c all is = at (crossing_to (place event earlier))
     at None e all false there rest = rest all there
     at (Some d) e all false there rest = rest (and_parts (f d) (list_all f (crossings_in earlier)) all).1 there
 
--- crossings of one cable take one time
+-- a cable takes one time
 same_time : (c d : Crossing) → is_even c d ≡ true → is_same_cable c d ≡ true → time_of c ≡ time_of d
 same_time c d even same = grind (arith, Decides-int_eq)
 

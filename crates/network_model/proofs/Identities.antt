@@ -14,12 +14,12 @@ use Rattle.network_model.proofs.Sites.{named-same}
 abbrev pub identity_at : Network → NodeName → Option PortIdentity
 identity_at network name = option_and_then (λ (n : NodeSpec). identity_of n.kind) (node_of network name)
 
--- where no two identities are one, the first differs from those behind it
+-- where no two identities are one, the first differs from those after it
 differs : {X : Type 0} (x : X) (xs : List X) (k : ℕ) (d : X) → AllDiffer (x ∷ xs) → k < length xs → get_or xs k d ≡ x → ⊥
 differs x xs k d apart within same = apart 0 (suc k) d (omega arith) (omega arith) (sym same)
 
-apart_behind : {X : Type 0} (x : X) (xs : List X) → AllDiffer (x ∷ xs) → AllDiffer xs
-apart_behind x xs apart i j d lower within = apart (suc i) (suc j) d (omega arith) (omega arith)
+apart_rest : {X : Type 0} (x : X) (xs : List X) → AllDiffer (x ∷ xs) → AllDiffer xs
+apart_rest x xs apart i j d lower within = apart (suc i) (suc j) d (omega arith) (omega arith)
 
 -- an identity that a node has is among the identities
 listed : (network : Network) (name : NodeName) (i : PortIdentity) → identity_at network name ≡ Some i
@@ -64,7 +64,7 @@ same_name (node ∷ others) apart a b i is is_too =
         let found = listed others a i is in
         absurd (differs own (identities others) found.0 own apart found.1 (found.2 own ∙ sym same))
     by false false ea eb None o is is_too apart rest = rest apart a b i is is_too
-    by false false ea eb (Some own) o is is_too apart rest = rest (apart_behind own (identities others) apart) a b i is is_too
+    by false false ea eb (Some own) o is is_too apart rest = rest (apart_rest own (identities others) apart) a b i is is_too
 
 -- the identities of a master and of a slave
 pub identity_of_master : (network : Network) (name : NodeName) (port : PortSetup) → master_at network name ≡ Some port → identity_at network name ≡ Some port.config.identity

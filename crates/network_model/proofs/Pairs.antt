@@ -1,5 +1,5 @@
--- No pair is missed: a usable message completes exactly where its partner, of the same Sync event or the same Request event,
--- is held. One way is that what completes is of one origin; the other, that one origin gives one sequenceId.
+-- No pair is missed: a usable message completes where its partner, of the same Sync event or the same Request event, is held,
+-- and nowhere else. One way is that what completes is of one origin; the other, that one origin gives one sequenceId.
 use Rattle.std.proofs.Common.{◌≡◌, ◌∙◌, ℕ, zero, suc, ◌+◌, ◌-◌, ◌<◌, ◌≤◌, Bool, true, false, List, [], ◌∷◌, length, get_or, take, Option, Some, None, Ok, refl, sym, ap, subst, arith, option_map, option_and_then, if◌then◌else◌}
 use Rattle.std.specs.Prelude.{count_by, nat_eq, find, IsSome, Any, is_some, ◌↔◌}
 use Rattle.std.specs.List.{All}

@@ -1,5 +1,5 @@
 -- Each report is of one Sync of the present master, and of one Delay_Req to it: those of its tags.
--- It is made of the last completion of each kind in the window, and each completion is of one origin.
+-- It joins the two completions that the window has, and each of these is of one origin.
 use Rattle.std.proofs.Common.{◌≡◌, ◌∙◌, false, ℕ, ◌<◌, ◌≤◌, List, [], ◌∷◌, ◌++◌, Some, refl, sym, ap, subst, arith}
 use Rattle.std.specs.Prelude.{slice_get, IfSome}
 use Rattle.std.specs.List.{All}

@@ -1,5 +1,5 @@
--- What a window of a slave holds came at events of the run: at each there was a call that brought it, and since then at
--- most one tick and no SetMaster came. By this each held message and each completion names its event.
+-- What a window of a slave holds came at events of the run: at each there was a call that brought it, and since then
+-- the slave ticked at most once and was told no master. By this each held message and each completion names its event.
 use Rattle.std.proofs.Common.{◌≡◌, ◌∙◌, ℕ, ◌+◌, ◌≤◌, Bool, true, false, List, [], ◌∷◌, ◌++◌, Option, Some, None, refl, sym, ap, subst, arith}
 use Rattle.std.specs.Prelude.{option_to_list, count_by, ◌&&◌}
 use Rattle.std.specs.List.{All}

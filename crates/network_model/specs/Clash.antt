@@ -25,10 +25,10 @@ clash earlier node =
     else identity_clash (identities earlier) (identity_of node.kind)
 
 -- the same for the first of more nodes that repeats something
-abbrev pub clash_behind : Network → Network → Option WorldRefusal
-clash_behind earlier [] = None
-clash_behind earlier (node ∷ later) = option_or (clash earlier node) (clash_behind (earlier ++ node ∷ []) later)
+abbrev pub clash_after : Network → Network → Option WorldRefusal
+clash_after earlier [] = None
+clash_after earlier (node ∷ later) = option_or (clash earlier node) (clash_after (earlier ++ node ∷ []) later)
 
 -- the first node that repeats something decides, member by member
 abbrev pub first_clash : Network → Option WorldRefusal
-first_clash nodes = clash_behind [] nodes
+first_clash nodes = clash_after [] nodes

@@ -55,7 +55,7 @@ journey_made (Tick node) earlier journeys = None
 journey_made (SetMaster node master) earlier journeys = None
 journey_made (StepClock node diff) earlier journeys = None
 
--- the journey of the copy of this tag, where that is a copy of a Sync or Delay_Req
+-- the journey of the copy of this tag, where that is an event message
 abbrev pub journey_of : Run → ℕ → Option Journey
 journey_of [] copy = None
 journey_of (event ∷ earlier) copy =

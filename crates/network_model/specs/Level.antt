@@ -12,7 +12,7 @@ use Rattle.network_model.specs.Journey.{Journey, Stay, journey_of}
 abbrev pub moment_at : Place → ℤ
 moment_at p = pos (unwrap_or (true_moment p.event) 0)
 
--- an event message goes from the event that made its copy to the next clock or to the port where it arrives
+-- one leg of an event message: from the port or clock that it leaves to the next clock or to the port where it arrives
 pub record Crossing : Type 0 where
   pub from : Place
   pub to : Place
@@ -30,11 +30,11 @@ abbrev pub is_same_way : (from to other_from other_to : Place) → Bool
 is_same_way from to other_from other_to =
     is_named (site_of from.event) (site_of other_from.event) && is_named (site_of to.event) (site_of other_to.event)
 
--- two crossings go over one cable, which is an unordered pair of nodes
+-- two crossings go over one cable: between the same two nodes, either way
 abbrev pub is_same_cable : Crossing → Crossing → Bool
 is_same_cable c d = is_same_way c.from c.to d.from d.to || is_same_way c.from c.to d.to d.from
 
--- the crossing by which a copy of a Sync or Delay_Req came to an event
+-- the crossing that ends at an event, where an event message comes to it
 abbrev pub crossing_to : Place → Option Crossing
 crossing_to p = option_and_then
     (λ copy. option_and_then
@@ -51,12 +51,12 @@ crossings_in (event ∷ earlier) = option_to_list (crossing_to (place event earl
 abbrev pub is_even : Crossing → Crossing → Bool
 is_even c d = not (is_same_cable c d) || int_eq (time_of c) (time_of d)
 
--- any two crossings of one cable take one time
+-- no two crossings of a cable differ in time
 abbrev pub are_even : List Crossing → Bool
 are_even [] = true
 are_even (c ∷ others) = list_all (is_even c) others && are_even others
 
--- all crossings of one cable take one time
+-- the same of the crossings of a run
 abbrev pub HasEvenCables : Run → Type 0
 HasEvenCables run = IsTrue (are_even (crossings_in run))
 
@@ -100,8 +100,8 @@ time_on way = fold (λ total c. total +ℤ time_of c) (pos 0) way
 abbrev pub GoesBackOver : (way back : List Crossing) → Type 0
 GoesBackOver way back = AllZip (λ c d. IsTrue (is_same_cable c d)) back (reverse way)
 
--- A level network, for a report: the clocks are steady, crossings of one cable take one time, and the report's Delay_Req
--- went back over the cables of its Sync.
+-- A level network, for a report: the clocks are steady, a cable takes one time whenever and whichever way it is crossed, and
+-- the report's Delay_Req went back over the cables of its Sync.
 pub record IsLevelFor (run : Run) (report : Report) : Type 0 where
   pub there : List Crossing
   pub back : List Crossing

@@ -13,7 +13,7 @@ pub record IsName (text : List ℕ) : Type 0 where
   pub fits : length text ≤ 16
   pub octets : AllPass is_name_octet text
 
--- the 16 octets in which a name is kept: its text, and zeros behind it; for the proofs alone
+-- the 16 octets in which a name is kept: its text, and zeros after it; for the proofs alone
 abbrev pub padded : List ℕ → List ℕ
 padded text = text ++ replicate (16 - length text) 0
 

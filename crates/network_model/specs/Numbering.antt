@@ -33,7 +33,7 @@ number_of port p = port.first + drawn_before p
 abbrev pub drawn_later : Place → Run → ℕ
 drawn_later origin run = drawn_before (place origin.event run) - (drawn_before origin + 1)
 
--- the two-step Sync of a master that waits for its Follow_Up: its last one, where no Follow came after it
+-- the two-step Sync of a master that waits for its Follow_Up: its last one, unless a Follow came since
 abbrev pub waiting_sync : NodeName → Run → Option Place
 waiting_sync node [] = None
 waiting_sync node (event ∷ earlier) =
@@ -41,7 +41,7 @@ waiting_sync node (event ∷ earlier) =
     else if is_at is_follow node event then None
     else waiting_sync node earlier
 
--- the request of a slave that waits for its departure time: its last one, where no Stamped came after it
+-- the request of a slave that waits for its departure time: its last one, unless a Stamped came since
 abbrev pub waiting_request : NodeName → Run → Option Place
 waiting_request node [] = None
 waiting_request node (event ∷ earlier) =

@@ -33,8 +33,8 @@ pub record IsInOrder (network : Network) (run : Run) (first second : Report) : T
   pub of_second : sync_number network run second ≡ Some later
   pub order : earlier ≤ later
 
--- From one report of a slave to a later one the true number of the reported Sync doesn't fall, provided that fewer than two
--- ticks and no SetMaster lie between the completion of the first one's Sync and the second report.
+-- The second of two reports of a slave is of no older Sync, by true numbers, than the first, as long as the slave was told no
+-- master and ticked at most once between the completion of the first one's Sync and the second report.
 abbrev pub ReportsKeepOrder : Premise → Type 0
 ReportsKeepOrder premise =
     (network : Network) (run : Run) (slave : NodeName) (first second : Report)
@@ -44,6 +44,6 @@ ReportsKeepOrder premise =
     → IsOneWindow reported_later.answered.earlier slave (completed_at first)
     → IsInOrder network run first second
 
--- Reports don't go back, over runs of any length that are fresh and ticked within half of the limits.
+-- Reports don't go back in runs, of whatever length, that are fresh and ticked within half of the limits.
 abbrev pub ReportsDontGoBack : Type 0
 ReportsDontGoBack = ReportsKeepOrder (IsFreshAndTicked ordered_limits)

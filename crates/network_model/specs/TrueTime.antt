@@ -46,7 +46,7 @@ abbrev pub KnowsMaster : Run → (slave master : NodeName) → Report → (momen
 KnowsMaster run slave master report moment =
     twice (clock_shows slave run moment) -ℤ report.offset2 ≡ twice (clock_shows master run moment)
 
--- In a level network two slaves with reports of one master agree at every true moment.
+-- In a level network two slaves make out the same time of their master from their reports, at every true moment.
 abbrev pub SlavesAgree : Premise → Type 0
 SlavesAgree premise =
     (network : Network) (run : Run) (one other master : NodeName) (first second : Report) (moment : ℕ)

@@ -31,7 +31,7 @@ pub enum Event {
     Enter {
         /// The transparent clock.
         node: Name,
-        /// The tag of the event that made the copy.
+        /// The copy, named by the tag under which it was made.
         copy: u64,
         /// When the copy enters.
         at: ScaledTime,
@@ -49,7 +49,7 @@ pub enum Event {
     Arrive {
         /// The master or the slave.
         node: Name,
-        /// The tag of the event that made the copy.
+        /// The copy, named by the tag under which it was made.
         copy: u64,
         /// When the copy arrives.
         at: ScaledTime,
@@ -58,7 +58,7 @@ pub enum Event {
     Hear {
         /// The slave.
         node: Name,
-        /// The tag of the event that made the copy.
+        /// The copy, named by the tag under which it was made.
         copy: u64,
     },
     /// A slave sends a Delay_Req.

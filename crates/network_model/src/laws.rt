@@ -7,8 +7,8 @@ ghost use Rattle.network_model.specs.Order.{ReportsDontGoBack};
 ghost use Rattle.network_model.specs.Pairs.{NoPairIsMissed};
 ghost use Rattle.network_model.specs.TrueTime.{TellsTrueTime};
 
-/// Over runs of any length that are fresh and ticked, each report of a slave is of one Sync and of one
-/// Delay_Req, those that its tags name, and exactly twice the standard's two results over them.
+/// What a slave reports in a fresh and ticked run, of whatever length, is of one Sync and of one
+/// Delay_Req, which its tags name, and is twice the standard's two results for them, without any error.
 pub fn each_report_is_exact()
     ensures { Headline }
 {}
@@ -19,25 +19,24 @@ pub fn each_report_is_exact_within_one_turn()
     ensures { HeadlineWithinOneTurn }
 {}
 
-/// Over runs of any length that are fresh and ticked no pair is missed: a usable two-step Sync
-/// completes exactly where a Follow_Up of the same Sync event is held, a usable Follow_Up exactly where
-/// a Sync of the same Sync event is, and a usable Delay_Resp exactly where its own request is held with
-/// its departure.
+/// In fresh and ticked runs, of whatever length, a slave pairs what belongs together and nothing else.
+/// A usable two-step Sync or Follow_Up completes just where the other message of its Sync event is held,
+/// a usable Delay_Resp just where the request that it answers is held and known to have left.
 pub fn no_pair_is_missed()
     ensures { NoPairIsMissed }
 {}
 
-/// Over runs of any length that are fresh and ticked, what reports say of true time. Where clocks are
-/// steady, twice the offset is twice the true difference of the two clocks and the asymmetry of the two
-/// ways, and twice the path delay is both ways together. In a level network both ways take one time, and
-/// two slaves of one master agree at every true moment.
+/// What reports say of true time in fresh and ticked runs, of whatever length. Where clocks are steady,
+/// twice the offset is twice the true difference of the two clocks and the asymmetry of the two ways, and
+/// twice the path delay is both ways together. In a level network both ways take one time, and two slaves
+/// of one master agree at every true moment.
 pub fn reports_tell_true_time()
     ensures { TellsTrueTime }
 {}
 
-/// Over runs of any length that are fresh and ticked within half of the limits, the true number of the
-/// reported Sync doesn't fall from one report of a slave to a later one, where fewer than two ticks and
-/// no SetMaster came since the first one's Sync completed.
+/// In runs, of whatever length, that are fresh and ticked within half of the limits, a slave's later
+/// report is of no older Sync than the one before it, as long as the slave was told no master and ticked
+/// at most once since the Sync of the one before completed.
 pub fn reports_dont_go_back()
     ensures { ReportsDontGoBack }
 {}

@@ -1,5 +1,5 @@
-//! A network of named nodes in which events of the Precision Time Protocol happen one after the
-//! other, each as the nodes' own ports and clocks answer it.
+//! Networks of named nodes: which events of the Precision Time Protocol can follow each other in one,
+//! and how its ports and clocks answer each.
 #![tactic(auto)]
 
 mod event;

@@ -55,7 +55,7 @@ impl Name {
         })
     }
 
-    /// The text that `new` was given.
+    /// The name's text.
     #[tactic(auto, using(crate::proofs::Names::IsUtf8_name))]
     pub fn text(&self) -> &str
         ensures value { result.now ≡ self.now }

@@ -51,7 +51,7 @@ impl Nodes {
         Ok(network)
     }
 
-    // Adds a node behind the others, whose ports have taken these identities.
+    // Adds a node after the others, whose ports have taken these identities.
     fn admit(
         &mut self,
         taken: &mut IndexSet<PortIdentity>,

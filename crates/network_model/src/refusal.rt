@@ -1,32 +1,43 @@
 ghost use Rattle.std.specs.Prelude.{◌≡◌};
 
 use std::alloc::AllocFailed;
+use thiserror::Error;
 
 /// Why there is no such network, or why an event can't happen in it.
-#[derive(Clone, Copy, Debug, PartialEq, Eq)]
+#[derive(Clone, Copy, Debug, PartialEq, Eq, Error)]
 pub enum WorldRefusal {
     /// Two nodes have one name.
+    #[error("two nodes have one name")]
     SameName,
     /// Two ports have one identity.
+    #[error("two ports have one identity")]
     SameIdentity,
     /// No node has this name.
+    #[error("no node has this name")]
     NoNode,
     /// The event doesn't happen at nodes of this kind.
+    #[error("the event doesn't happen at nodes of this kind")]
     WrongKind,
     /// No event with this tag made a copy.
+    #[error("no event of this tag made a copy")]
     NoCopy,
     /// No message that entered by the event with this tag is still in this node.
+    #[error("no message that entered by the event of this tag is still in this clock")]
     NoTransit,
     /// The node's clock would read no moment.
+    #[error("the clock of the node would read no moment")]
     ReadingOutOfRange,
     /// No message waits for its departure time.
+    #[error("no message waits for its departure time")]
     NothingWaiting,
     /// Memory for a growth was refused.
+    #[error("memory was refused")]
     Memory,
 }
 
 /// Where a run of events ended early.
-#[derive(Clone, Copy, Debug, PartialEq, Eq)]
+#[derive(Clone, Copy, Debug, PartialEq, Eq, Error)]
+#[error("the run ended after {done} events: {why}")]
 pub struct RunStop {
     /// How many events happened before.
     pub done: u64,

@@ -19,7 +19,7 @@ pub enum Outcome {
 /// What became of an event that happened.
 #[derive(Clone, Copy, Debug, PartialEq, Eq)]
 pub struct Stepped {
-    /// The event's tag: its place among the events that happened, from 0.
+    /// The event's tag: how many events happened before it.
     pub tag: u64,
     /// What the node's clock read, where the event has a moment, in units of 2^-16 ns.
     pub reading: Option<ScaledTime>,

@@ -69,7 +69,7 @@ module _ (capacity oldest : ℕ) (begins : oldest < capacity) where
 
     LeadsBack-push : (link : Option ℕ) (place bucket : ℕ) → place ≤ count → LeadsBack capacity oldest numbers link place bucket
         → LeadsBack capacity oldest (set numbers next number) link place bucket
-    LeadsBack-push link place bucket behind leads slot within near same =
+    LeadsBack-push link place bucket below leads slot within near same =
         let was = leads slot within near (sym (ap (λ n. n % capacity) (kept slot (apart_by_place slot (omega (arith, near))))) ∙ same) in
         (was.0, was.1, at link was.1 was.2)
       where
@@ -109,7 +109,7 @@ module _ (capacity oldest : ℕ) (begins : oldest < capacity) where
         → get_or (set newest (number % capacity) link) bucket None ≡ get_or newest bucket None
     newest_else link bucket other = get_or-set_other newest _ bucket link None other
 
-    -- with one more, in the slot behind the newest
+    -- with one more, in the slot after the newest
     pub IsLinked-push : IsLinked capacity oldest count numbers older newest
         → IsLinked capacity oldest (count + 1) (set numbers (slot_at capacity oldest count) number)
         (set older (slot_at capacity oldest count) (get_or newest (number % capacity) None)) (set newest (number % capacity) (Some (slot_at capacity oldest count)))

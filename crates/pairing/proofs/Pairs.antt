@@ -63,23 +63,23 @@ module _ {V : Type 0} where
       at false same = grind (arith, nat_tests, same)
 
   -- the last pair of the number gets the value
-  pub last_replaced : (number : ℕ) (value : V) (pairs : List (Seq × V)) (behind i : ℕ) (d : Seq × V)
-      → position (λ p. nat_eq p.0.0 number) (reverse pairs) ≡ Some behind → i ≡ length pairs - 1 - behind
+  pub last_replaced : (number : ℕ) (value : V) (pairs : List (Seq × V)) (after i : ℕ) (d : Seq × V)
+      → position (λ p. nat_eq p.0.0 number) (reverse pairs) ≡ Some after → i ≡ length pairs - 1 - after
       → entries_of (set pairs i ((get_or pairs i d).0, value)) ≡ reverse (replace_first number value (reverse (entries_of pairs)))
-  last_replaced number value pairs behind i d found at =
+  last_replaced number value pairs after i d found at =
       let back : List (Seq × V) = reverse pairs in
-      let place = position-Some (is_of number) back behind d found in
+      let place = position-Some (is_of number) back after d found in
       let even : length back ≡ length pairs = length-reverse pairs in
       let within : i < length pairs = omega (arith, even, place.0) in
-      let same : get_or back behind d ≡ get_or pairs i d =
-      get_or-reverse pairs behind d (omega (arith, even, place.0)) ∙ ap (λ k. get_or pairs k d) (sym at) in
-      let from_end : reverse (set pairs i ((get_or pairs i d).0, value)) ≡ set back behind ((get_or back behind d).0, value) =
+      let same : get_or back after d ≡ get_or pairs i d =
+      get_or-reverse pairs after d (omega (arith, even, place.0)) ∙ ap (λ k. get_or pairs k d) (sym at) in
+      let from_end : reverse (set pairs i ((get_or pairs i d).0, value)) ≡ set back after ((get_or back after d).0, value) =
       reverse-set pairs i ((get_or pairs i d).0, value) within
-      ∙ ap (λ k. set back k ((get_or pairs i d).0, value)) (let e : length pairs - 1 - i ≡ behind = omega (arith, even, place.0) in e)
-      ∙ ap (λ q. set back behind (q.0, value)) (sym same) in
+      ∙ ap (λ k. set back k ((get_or pairs i d).0, value)) (let e : length pairs - 1 - i ≡ after = omega (arith, even, place.0) in e)
+      ∙ ap (λ q. set back after (q.0, value)) (sym same) in
       sym (reverse-reverse (entries_of (set pairs i ((get_or pairs i d).0, value))))
       ∙ ap reverse (sym (map-reverse (λ p. entry p.0.0 p.1) (set pairs i ((get_or pairs i d).0, value))) ∙ ap entries_of from_end
-      ∙ first_replaced number value back behind d place.0 place.1 place.2
+      ∙ first_replaced number value back after d place.0 place.1 place.2
       ∙ ap (replace_first number value) (map-reverse (λ p. entry p.0.0 p.1) pairs))
 
   first_at : (number : ℕ) (pairs : List (Seq × V)) (i : ℕ) (d : Seq × V) → i < length pairs
@@ -92,19 +92,19 @@ module _ {V : Type 0} where
       rw first (first_at number pairs i d (omega arith) here (λ k below. before (suc k) (omega arith)))
 
   -- the newest entry of the number has the value of the last pair
-  pub last_at : (number : ℕ) (pairs : List (Seq × V)) (behind i : ℕ) (d : Seq × V)
-      → position (λ p. nat_eq p.0.0 number) (reverse pairs) ≡ Some behind → i ≡ length pairs - 1 - behind
+  pub last_at : (number : ℕ) (pairs : List (Seq × V)) (after i : ℕ) (d : Seq × V)
+      → position (λ p. nat_eq p.0.0 number) (reverse pairs) ≡ Some after → i ≡ length pairs - 1 - after
       → first_value number (reverse (entries_of pairs)) ≡ Some (get_or pairs i d).1
-  last_at number pairs behind i d found at =
-      let place = position-Some (is_of number) (reverse pairs) behind d found in
+  last_at number pairs after i d found at =
+      let place = position-Some (is_of number) (reverse pairs) after d found in
       ap (first_value number) (sym (map-reverse (λ p. entry p.0.0 p.1) pairs))
-      ∙ first_at number (reverse pairs) behind d place.0 place.1 place.2
-      ∙ ap (λ p. Some p.1) (get_or-reverse pairs behind d (omega (arith, length-reverse pairs, place.0)) ∙ ap (λ k. get_or pairs k d) (sym at))
+      ∙ first_at number (reverse pairs) after d place.0 place.1 place.2
+      ∙ ap (λ p. Some p.1) (get_or-reverse pairs after d (omega (arith, length-reverse pairs, place.0)) ∙ ap (λ k. get_or pairs k d) (sym at))
 
   -- there is a newest entry of the number just where there is a last pair of it
-  pub last_held : (number : ℕ) (pairs : List (Seq × V)) (behind : Option ℕ) → behind ≡ position (λ p. nat_eq p.0.0 number) (reverse pairs)
-      → is_some behind ≡ is_some (first_value number (reverse (entries_of pairs)))
-  last_held number pairs behind found =
+  pub last_held : (number : ℕ) (pairs : List (Seq × V)) (after : Option ℕ) → after ≡ position (λ p. nat_eq p.0.0 number) (reverse pairs)
+      → is_some after ≡ is_some (first_value number (reverse (entries_of pairs)))
+  last_held number pairs after found =
       ap is_some found ∙ sym (at (nat_lt (position_or_len (is_of number) (reverse pairs)) (length (reverse pairs))))
       ∙ sym (ap (λ es. is_some (first_value number es)) (sym (map-reverse (λ p. entry p.0.0 p.1) pairs)) ∙ first_within number (reverse pairs))
     where

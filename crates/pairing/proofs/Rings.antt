@@ -88,7 +88,7 @@ module _ {X : Type 0} (capacity oldest count : ℕ) (slots : List X) (filled : l
       ])
 
 module _ {X : Type 0} (capacity oldest count : ℕ) (slots : List X) (filled : length slots ≡ capacity) (begins : oldest < capacity) (room : count < capacity) where
-  -- with one more, in the slot behind the newest
+  -- with one more, in the slot after the newest
   pub members-push : (x : X) → members oldest (count + 1) (set slots (slot_at capacity oldest count) x) ≡ members oldest count slots ++ x ∷ []
   members-push x =
       let next : ℕ = slot_at capacity oldest count in

@@ -16,9 +16,9 @@ Passed capacity oldest count numbers number newer = (slot : ℕ) → slot < capa
 
 module _ (capacity oldest count : ℕ) (numbers : List ℕ) (number : ℕ) (begins : oldest < capacity) where
   -- none is between two linked places
-  pub passed-behind : (slot newer : ℕ) → LeadsBack capacity oldest numbers (Some slot) newer (number % capacity)
+  pub passed-between : (slot newer : ℕ) → LeadsBack capacity oldest numbers (Some slot) newer (number % capacity)
       → Passed capacity oldest count numbers number newer → Passed capacity oldest count numbers number (place_of capacity oldest slot + 1)
-  passed-behind slot newer leads passed other within far member same = elim (cases_lt (place_of capacity oldest other) newer) [
+  passed-between slot newer leads passed other within far member same = elim (cases_lt (place_of capacity oldest other) newer) [
     | inl near ↦ absurd (omega (arith, (leads other within near (ap (λ n. n % capacity) same)).0, far))
     | inr past ↦ passed other within past member same
   ]

@@ -2,12 +2,12 @@
 use Rattle.std.specs.Prelude.{◌≡◌, ℕ, ◌+◌, ◌-◌, ◌%◌, ◌<◌, ◌≤◌, List, ◌++◌, take, drop, map, Option, Some, None, unwrap_or, nat_lt, if◌then◌else◌, slice_index, slice_index_or}
 use Rattle.ptp_units.specs.declared.sequence.Seq.{Seq}
 
--- the slot that is so many places behind the oldest, around the end
+-- the slot that is so many places after the oldest, around the end
 abbrev pub slot_at : (capacity oldest place : ℕ) → ℕ
 slot_at capacity oldest place =
     if nat_lt place (capacity - oldest) then oldest + place else place - (capacity - oldest)
 
--- how many places behind the oldest a slot is
+-- how many places after the oldest a slot is
 abbrev pub place_of : (capacity oldest slot : ℕ) → ℕ
 place_of capacity oldest slot =
     if nat_lt slot oldest then slot + (capacity - oldest) else slot - oldest
@@ -24,7 +24,7 @@ numbers_of slots = map (λ p. p.0.0) slots
 abbrev pub slot_of : Option ℕ → ℕ
 slot_of link = unwrap_or link 0
 
--- the place of a link's slot, behind all where there is none
+-- the place of a link's slot, after all of them where there is none
 abbrev pub place_at : (capacity oldest : ℕ) → Option ℕ → ℕ
 place_at capacity oldest None = capacity
 place_at capacity oldest (Some slot) = place_of capacity oldest slot

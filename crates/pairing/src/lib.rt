@@ -1,7 +1,7 @@
 //! Bounded tables of numbered values, in which messages wait for the one that they pair with.
 //!
-//! A table is a list of sequence numbers and values, oldest first, and a count of marked ones at its
-//! front (`specs/Marked.antt`), however it is kept.
+//! What a table holds is a list of values under their sequence numbers, the oldest in front, and how
+//! many of these are marked, from the front on (`specs/Marked.antt`), however it is kept.
 #![tactic(auto)]
 
 mod list_table;

@@ -84,8 +84,8 @@ fn last_value<V: Copy>(pairs: &[(Seq, V)], number: Seq) -> Option<&V>
         .map(|pair| &pair.1)
 }
 
-/// How many pairs stand behind the last one of this number.
-fn behind_last<V: Copy>(pairs: &[(Seq, V)], number: Seq) -> Option<usize>
+/// How many pairs come after the last one of this number.
+fn pairs_after<V: Copy>(pairs: &[(Seq, V)], number: Seq) -> Option<usize>
     ensures { result ≡ position (λ p. nat_eq p.0.0 number.0) (reverse pairs.now) }
 {
     pairs.iter().rev().position(|pair| pair.0 == number)
@@ -97,10 +97,10 @@ fn replace_last<V: Copy>(pairs: &mut [(Seq, V)], number: Seq, value: V) -> bool
     ensures replaced { entries_of pairs.new
         ≡ reverse (replace_first number.0 value (reverse (entries_of pairs.old))) }
 {
-    let Some(behind) = behind_last(pairs, number) else {
+    let Some(after) = pairs_after(pairs, number) else {
         return false;
     };
-    let index = pairs.len() - 1 - behind;
+    let index = pairs.len() - 1 - after;
     pairs[index].1 = value;
     true
 }

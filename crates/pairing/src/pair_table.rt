@@ -6,7 +6,7 @@ use ptp_units::Seq;
 /// A table of at most [`CAPACITY`](PairTable::CAPACITY) values, each under a sequenceId
 /// (IEEE 1588-2019, 7.3.7), in the order in which they came. Some of the oldest may be marked.
 ///
-/// The default value only fills places that hold no value of the table. No call allocates.
+/// Places in which nothing is held have the default value. No call allocates.
 pub trait PairTable<V: Copy + Default> {
     /// How many values fit, 1 to 256.
     const CAPACITY: usize;
@@ -38,8 +38,8 @@ pub trait PairTable<V: Copy + Default> {
         ensures held { result ≡ is_some (find number.0 (marked self.old)) }
         ensures replaced { marked self.new ≡ set number.0 value (marked self.old) };
 
-    /// Drops the marked values, and marks all that are left. So a value goes at the second tick
-    /// after it came.
+    /// Drops the marked values, and marks the others. So a value outlives one tick, and goes at the
+    /// next.
     fn tick(&mut self)
         ensures { marked self.new ≡ tick (marked self.old) };
 

@@ -5,9 +5,9 @@ use crate::pair_table::PairTable;
 use arrayvec::ArrayVec;
 use ptp_units::Seq;
 
-/// A table that keeps its values in a ring of `N` slots, oldest first. A number falls into the
-/// bucket of its remainder modulo `N`: `find` and `set` walk the values of one bucket, from the
-/// newest back. `push`, `tick` and `clear` take the same time, however large the table is.
+/// A table that keeps its values in a ring of `N` slots. Numbers with one remainder modulo `N` share
+/// a bucket, and `find` and `set` walk the values of one bucket, from the newest back. `push`, `tick`
+/// and `clear` take the same time, however large the table is.
 ///
 /// A link to a slot counts only while it leads to an older value of the same bucket. So a value
 /// that is dropped leaves its bucket with no link changed.
@@ -110,7 +110,7 @@ impl<V: Copy + Default, const N: usize> RingTable<V, N> {
         }
     }
 
-    /// How many places a slot stands behind the oldest.
+    /// How many places after the oldest a slot comes.
     fn place_of(&self, slot: usize) -> usize
         requires { slot < N }
         ensures { result ≡ place_of N self.now.oldest slot }
@@ -156,7 +156,7 @@ impl<V: Copy + Default, const N: usize> RingTable<V, N> {
         None
     }
 
-    /// Puts a value behind the newest.
+    /// Puts a value after the newest.
     fn add(&mut self, number: Seq, value: V)
         requires { self.old.count < N }
         ensures members { members self.new.oldest self.new.count self.new.slots.items

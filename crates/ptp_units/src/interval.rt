@@ -31,7 +31,7 @@ impl Interval {
     }
 
     /// The difference with a fraction of a nanosecond in units; too big stays. Refused with 104
-    /// where the difference is below -2^63.
+    /// where the difference falls below -2^63.
     pub fn minus_fraction(self, fraction: u16) -> Result<Interval, UnitRefusal>
         ensures { MatchResult result
             (λ c. (c.0 ≡ less_fraction self.0 fraction) × (least ≤ℤ less_fraction self.0 fraction))

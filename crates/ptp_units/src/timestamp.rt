@@ -5,6 +5,12 @@ ghost use Rattle.ptp_units.specs.Refusal.{timestamp_refusal};
 use crate::refusal::UnitRefusal;
 use std::marker::Model;
 
+/// A second, in nanoseconds.
+const SECOND: u64 = 1_000_000_000;
+
+/// The base in which nanoseconds are divided, 2^32: two digits of it hold them.
+const BASE: u64 = 4_294_967_296;
+
 /// A time of the protocol's timescale, in seconds below 2^48 and nanoseconds below 10^9
 /// (IEEE 1588-2019, 5.3.3).
 #[derive(Clone, Copy, Debug, PartialEq, Eq, PartialOrd, Ord, Hash)]
@@ -45,9 +51,12 @@ impl Timestamp {
         requires { nanoseconds < 2 ^ 48 * 10 ^ 9 }
         ensures { result ≡ stamp (nanoseconds / 1000000000) (nanoseconds % 1000000000) }
     {
+        let high = (nanoseconds / u128::from(BASE)) as u64;
+        let low = (nanoseconds % u128::from(BASE)) as u64;
+        let rest = high % SECOND * BASE + low;
         Timestamp {
-            seconds: (nanoseconds / 1_000_000_000) as u64,
-            nanos: (nanoseconds % 1_000_000_000) as u32,
+            seconds: high / SECOND * BASE + rest / SECOND,
+            nanos: (rest % SECOND) as u32,
         }
     }
 

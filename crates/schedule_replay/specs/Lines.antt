@@ -11,7 +11,7 @@ abbrev pub begin_line : ℕ → List (List ℕ) → List (List ℕ)
 begin_line x [] = (x ∷ []) ∷ []
 begin_line x (line ∷ lines) = (x ∷ line) ∷ lines
 
--- the lines without their LFs; nothing after a last LF is a line
+-- the lines without their LFs; an input that ends in an LF has no line after it
 abbrev pub lines_of : List ℕ → List (List ℕ)
 lines_of [] = []
 lines_of (x ∷ rest) = if x == 10 then [] ∷ lines_of rest else begin_line x (lines_of rest)

@@ -1,4 +1,4 @@
--- What the program answers: its exit status, by what the words ask for.
+-- What the program answers: its exit status, by what the arguments ask for.
 use Rattle.std.specs.Prelude.{◌≡◌, ◌⊎◌, ℕ, List, Option, Result, Ok, Err}
 use Rattle.std.specs.Io.KnownBytes.{Appends}
 use Rattle.schedule_replay.specs.declared.counted.Counted.{Counted}
@@ -8,15 +8,15 @@ use Rattle.schedule_replay.specs.declared.fault.Fault.{Fault}
 use Rattle.schedule_replay.specs.declared.words.Subcommand.TheVariants.{Show, Replay}
 use Rattle.schedule_replay.specs.Words.{Names, NamesNothing, HasHelpFlag, BeginsWithHelp}
 
--- the words ask for `show`
+-- the arguments ask for `show`
 abbrev pub AsksShow : List (List ℕ) → Type 0
 AsksShow words = Names words Show
 
--- the words ask for `replay`
+-- the arguments ask for `replay`
 abbrev pub AsksReplay : List (List ℕ) → Type 0
 AsksReplay words = Names words Replay
 
--- the words ask for no subcommand and no help
+-- the arguments ask for no subcommand and no help
 abbrev pub AsksNothing : List (List ℕ) → Type 0
 AsksNothing words = NamesNothing words × (HasHelpFlag words → ⊥) × (BeginsWithHelp words → ⊥)
 
@@ -31,7 +31,7 @@ EndsRun Means status input input' output output' =
     ((status ≡ 3) × (input' ≡ input) × (output' ≡ output))
     ⊎ ((answer : Result ℕ Fault) × (status ≡ status_of answer) × FailedWith answer input input' output output' × Means answer)
 
--- What comes of words that name no subcommand. Status 0: a text went out whole. Status 2: nothing went
+-- What comes of arguments that name no subcommand. Status 0: a text went out whole. Status 2: nothing went
 -- out. Status 3: nothing went out, for want of memory, or a write failed.
 abbrev pub EndsUnread : {W : Type 0} → (W → Option (List ℕ)) → ℕ → Counted W → Counted W → Type 0
 EndsUnread contents status old new =

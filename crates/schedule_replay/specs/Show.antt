@@ -1,4 +1,4 @@
--- What `show` writes, as a function of the lines that it reads.
+-- What `show` writes, by the lines that it reads.
 use Rattle.std.specs.Prelude.{◌≡◌, ℕ, ◌+◌, ◌≤◌, List, [], ◌∷◌, ◌++◌, length, take, slice_get, is_ok, Option, Some, None, Ok, MatchResult, Result, ⊤, if◌then◌else◌}
 use Rattle.std.specs.Option.{ForSome, option_or}
 use Rattle.hex.specs.Hex.{decode_of}

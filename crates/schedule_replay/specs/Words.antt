@@ -1,4 +1,4 @@
--- What the words of the command line of `ptpx` ask for.
+-- What the arguments of `ptpx` ask for.
 use Rattle.std.specs.Prelude.{◌≡◌, ◌≢◌, ◌⊎◌, ◌++◌, ℕ, true, List, [], ◌∷◌, Some, codes, drop, fold, slice_get}
 use Rattle.std.specs.Str.{chars}
 use Rattle.clap.specs.Simple.{App, new_app, new_shape, on_top, with_subcommand}
@@ -9,7 +9,7 @@ use Rattle.schedule_replay.specs.declared.words.Invocation.TheVariants.{Run, Hel
 use Rattle.schedule_replay.specs.declared.words.Subcommand.{Subcommand}
 use Rattle.schedule_replay.specs.declared.words.Subcommand.TheVariants.{Show, Replay}
 
--- the word that names a subcommand
+-- the argument that names a subcommand
 abbrev pub name_of : Subcommand → List ℕ
 name_of Show = codes "show"
 name_of Replay = codes "replay"
@@ -27,11 +27,11 @@ program = fold (λ app s. with_subcommand app (new_shape (name_of s)))
 abbrev pub Names : List (List ℕ) → Subcommand → Type 0
 Names words s = (drop 1 words ≡ name_of s ∷ []) ⊎ (drop 1 words ≡ name_of s ∷ codes "--" ∷ [])
 
--- the words name no subcommand
+-- the arguments name no subcommand
 abbrev pub NamesNothing : List (List ℕ) → Type 0
 NamesNothing words = (s : Subcommand) → Names words s → ⊥
 
--- the word is `--help`, or `-h` with anything after it
+-- the argument is `--help`, or `-h` with anything after it
 abbrev pub AsksHelp : List ℕ → Type 0
 AsksHelp word = (word ≡ codes "--help")
     ⊎ ((flags : List ℕ) × (word ≡ codes "-" ++ flags) × (slice_get (chars flags) 0 ≡ Some 104))
@@ -42,11 +42,11 @@ HasHelpFlag words = (word : List ℕ) × AsksHelp word
     × ((slice_get words 1 ≡ Some word)
     ⊎ ((s : Subcommand) × (slice_get words 1 ≡ Some (name_of s)) × (slice_get words 2 ≡ Some word)))
 
--- the first word after the program's name is `help`
+-- the first argument after the program's name is `help`
 abbrev pub BeginsWithHelp : List (List ℕ) → Type 0
 BeginsWithHelp words = slice_get words 1 ≡ Some (codes "help")
 
--- the invocation is what the words ask for; where they begin with `help`, it may be either kind of text
+-- the invocation is what the arguments ask for; where they begin with `help`, it may be either kind of text
 abbrev pub Asks : List (List ℕ) → Invocation → Type 0
 Asks words (Run s) = Names words s
 Asks words (Help text) = HasHelpFlag words ⊎ BeginsWithHelp words

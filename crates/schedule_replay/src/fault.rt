@@ -5,8 +5,9 @@ use network_model::WorldRefusal;
 use std::alloc::{AllocError, AllocFailed};
 use thiserror::Error;
 
-/// A fault that ended the reading of lines, and where.
-#[derive(Clone, Copy, Debug, PartialEq, Eq)]
+/// A fault that ended the reading of lines, and where. The display text says both in words.
+#[derive(Clone, Copy, Debug, PartialEq, Eq, Error)]
+#[error("fault {what} at line {line}: {}", .what.in_words())]
 pub struct Fault {
     /// The line that was being read or answered, counted from 1. After the last line this is the
     /// number that the next one would have.
@@ -60,6 +61,20 @@ impl FaultKind {
             FaultKind::Field => 806,
             FaultKind::Refused => 807,
             FaultKind::Memory => 808,
+        }
+    }
+
+    /// What went wrong.
+    fn in_words(&self) -> &'static str {
+        match self {
+            FaultKind::Read => "the input can't be read",
+            FaultKind::Write => "the output can't be written",
+            FaultKind::LineTooLong => "the line has more than 4096 octets",
+            FaultKind::TooManyLines => "an octet comes after the last of 1048576 lines",
+            FaultKind::Json => "the line isn't JSON",
+            FaultKind::Field => "the line isn't what is asked for",
+            FaultKind::Refused => "the nodes or the event are refused",
+            FaultKind::Memory => "memory was refused",
         }
     }
 }

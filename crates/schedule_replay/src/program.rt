@@ -15,12 +15,12 @@ use crate::words::{Invocation, Subcommand, parse};
 use std::alloc::Global;
 use std::io::{Read, Write};
 
-/// The whole program over its words, of which the first is its own name: runs the subcommand that
+/// The whole program over its arguments, of which the first is its own name: runs the subcommand that
 /// they name, and answers the exit status. Status 0: done, or help was asked for, which goes to
-/// `output`. Status 2: the words are no command, and the reason goes to `errors`. Status 3: a
+/// `output`. Status 2: the arguments are no command, and the reason goes to `errors`. Status 3: a
 /// fault, whose number and line go to `errors`; at line 0 stand want of memory before the
-/// subcommand ran, and a help text that can't be written. A failed write to `errors` is passed
-/// over.
+/// subcommand ran, and a help text that can't be written. What can't be written to `errors` is
+/// lost.
 pub fn command<R: Read, W: Write, E: Write>(
     alloc: Global,
     words: &[String],
@@ -32,19 +32,19 @@ pub fn command<R: Read, W: Write, E: Write>(
     ensures show { AsksShow (map string_bytes words.now) →
         EndsRun (λ answer. ShowsAnswer R.remaining W.contents answer input.old input.new output.old output.new)
         result input.old input.new output.old output.new }
-    // They are those of `replay`, where the words ask for that.
+    // They are those of `replay`, where the arguments ask for that.
     ensures replay { AsksReplay (map string_bytes words.now) →
         EndsRun (λ answer. ReplaysAnswer R.remaining W.contents answer input.old input.new output.old output.new)
         result input.old input.new output.old output.new }
-    // Whatever the words are, only so much is read of a reader that tells its octets.
+    // Whatever the arguments are, only so much is read of a reader that tells its octets.
     ensures bounded { ForSome (R.remaining (device_of input.old)) (λ octets.
         ReadsWithin input_limit octets (R.remaining (device_of input.new))) }
-    // Other words read nothing. Which text help is, and what comes of words that begin with `help`, is clap's.
+    // Other arguments read nothing. Which text help is, and what comes of arguments that begin with `help`, is clap's.
     ensures unread { NamesNothing (map string_bytes words.now) →
         (input.new ≡ input.old) × EndsUnread W.contents result output.old output.new }
     // A flag for help is no mistake.
     ensures help { HasHelpFlag (map string_bytes words.now) → (input.new ≡ input.old) × (result ≢ 2) }
-    // Words that ask for nothing are no command.
+    // Arguments that ask for nothing are no command.
     ensures mistake { AsksNothing (map string_bytes words.now) →
         ((result ≡ 2) ⊎ (result ≡ 3)) × (input.new ≡ input.old) × (output.new ≡ output.old) }
 {

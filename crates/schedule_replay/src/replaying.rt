@@ -107,10 +107,14 @@ fn read_entry(alloc: Global, line: &[u8]) -> Result<Line, FaultKind>
         (λ entry. entry_in line.now ≡ Ok entry)
         (λ kind. (kind ≡ FaultKind.Memory) ⊎ IsOwnFault kind line.now) }
 {
-    match Value::from_slice(alloc, line) {
-        Ok(value) => Line::of(&value).ok_or(FaultKind::Field),
-        Err(error) if error.is_memory() => Err(FaultKind::Memory),
-        Err(_) => Err(FaultKind::Json),
+    let value = match Value::from_slice(alloc, line) {
+        Ok(value) => value,
+        Err(error) if error.is_memory() => return Err(FaultKind::Memory),
+        Err(_) => return Err(FaultKind::Json),
+    };
+    match Line::of(&value) {
+        Some(entry) => Ok(entry),
+        None => Err(FaultKind::Field),
     }
 }
 

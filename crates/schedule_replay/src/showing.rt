@@ -62,7 +62,7 @@ fn show_line<W: Write>(
 /// line with the fields of the message that it begins with, or with the number of the refusal.
 /// Answers how many lines there were. A line is answered before the next one is read.
 ///
-/// An empty line is the empty datagram. The faults are 801 to 804, 806 for what isn't hexadecimal,
+/// An empty line stands for a datagram of no octets. The faults are 801 to 804, 806 for what isn't hexadecimal,
 /// and 808; the lines before a fault were answered then.
 pub fn show<R: Read, W: Write>(
     alloc: Global,

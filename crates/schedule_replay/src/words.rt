@@ -1,4 +1,4 @@
-//! What the words of the command line ask for, as `clap` reads them.
+//! What the arguments of `ptpx` ask for, as `clap` reads them.
 ghost use Rattle.std.specs.Prelude.{◌≡◌, IfOk, Some, map, string_bytes};
 ghost use Rattle.clap.specs.Matches.{subcommand_name_of};
 ghost use Rattle.clap.specs.Simple.{app_of};
@@ -18,14 +18,14 @@ pub(crate) enum Subcommand {
     Replay,
 }
 
-/// What the words of the command line ask for.
+/// What the arguments ask for.
 #[derive(Debug, Drop)]
 pub(crate) enum Invocation {
     /// Run the subcommand.
     Run(Subcommand),
     /// Write this help to standard output, with exit status 0.
     Help(String),
-    /// The words are no command: write this text to standard error, with exit status 2.
+    /// The arguments are no command: write this text to standard error, with exit status 2.
     Mistake(String),
 }
 
@@ -47,7 +47,7 @@ fn program<'a>(alloc: Global) -> Result<Command<'a>, AllocError>
         .subcommand(replay)
 }
 
-/// Reads the words, of which the first is the program's own name. Memory fails by `AllocError`.
+/// Reads the arguments, of which the first is the program's own name. Memory fails by `AllocError`.
 pub(crate) fn parse(alloc: Global, words: &[String]) -> Result<Invocation, AllocError>
     ensures asked { IfOk result (Asks (map string_bytes words.now)) }
 {

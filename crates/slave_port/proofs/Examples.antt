@@ -80,7 +80,7 @@ one_step_reports : answers (response (clock 2) (pos 229376000) 0 11 ∷ [])
     ≡ Report (record { offset2 = pos 131055616; path2 = pos 131055616; sync_tag = 5; follow_tag = None; request_tag = 6; response_tag = 11 }) ∷ []
 one_step_reports = refl
 
--- a one-step Sync completes by itself, whatever is held, and pushes no two-step one out
+-- a one-step Sync completes by itself, whatever is held, and takes no place in the table
 one_step_alone : answers (follow 1 0 1 ∷ two_step (pos 0) 1 0 2 ∷ two_step (pos 0) 2 0 3 ∷ two_step (pos 0) 3 0 4
     ∷ one_step (pos 0) 0 0 5 ∷ follow 1 0 6 ∷ follow 1 1 7 ∷ []) with_master
     ≡ Held ∷ Held ∷ Held ∷ Held ∷ Completed ∷ Held ∷ Completed ∷ []

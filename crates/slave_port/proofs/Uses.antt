@@ -436,7 +436,7 @@ delay_completion_of setup earlier call c is =
       used = answer-used setup earlier call chosen.0 chosen.1 (completes_answerable setup earlier call c is);
     }
 
--- a report is made of the last completion of each kind in the window
+-- a report joins the two completions that the window has
 pub report_parts : (setup : Setup) (earlier : List Call) (call : Call) (report : Report) → answer setup earlier call ≡ answers.Report report
     → (sync : SyncCompletion) × (delay : DelayCompletion) × (last_sync_completion setup (call ∷ earlier) ≡ Some sync)
     × (last_delay_completion setup (call ∷ earlier) ≡ Some delay) × (report ≡ report_of sync delay)

@@ -29,7 +29,7 @@ unanswerable setup earlier call = option_and_then
 abbrev pub ignored : Setup → List Call → Call → Option Reason
 ignored setup earlier call = option_or (unusable setup earlier call) (unanswerable setup earlier call)
 
--- a report of the last completion of each kind
+-- the report of a completion of each kind
 abbrev pub report_of : SyncCompletion → DelayCompletion → Report
 report_of sync delay = record {
   offset2 = offset2 sync.bracket delay.bracket;

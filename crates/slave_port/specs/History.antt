@@ -33,7 +33,7 @@ pub data Call : Type 0 where
   Event : (heard : Reading) (t2 : ℕ) (tag : ℕ) → Call
   General : (heard : Reading) (tag : ℕ) → Call
 
--- the present master: the argument of the last set_master
+-- the master that was set last, if one was
 abbrev pub present_master : List Call → Option PortIdentity
 present_master [] = None
 present_master (SetMaster master ∷ earlier) = Some master

@@ -89,7 +89,7 @@ held_follows setup history = held setup.capacities.follows (kept setup history).
 abbrev pub sync_completion : Setup → List Call → Call → Option SyncCompletion
 sync_completion setup earlier call = completion_in setup.capacities (kept setup earlier) (usable setup earlier call)
 
--- the completion of a request that a call brings: a Delay_Resp completes the newest held request of its number
+-- the completion of a request that a call brings: a Delay_Resp and the newest request held under its number
 abbrev pub delay_completion : Setup → List Call → Call → Option DelayCompletion
 delay_completion setup earlier call = option_and_then
     (λ response. option_and_then (answered response.value) (newest response.number (held_requests setup earlier)))

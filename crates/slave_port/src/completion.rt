@@ -145,7 +145,7 @@ pub(crate) fn answered(response: Response, request: HeldRequest) -> Option<Delay
     })
 }
 
-/// The report of the last completion of each kind.
+/// The report of these two completions.
 pub(crate) fn report_of(sync: SyncCompletion, delay: DelayCompletion) -> Report
     ensures { result ≡ report_of sync delay }
 {

@@ -1,36 +1,48 @@
 ghost use Rattle.std.specs.Prelude.{◌≡◌};
 
 use event_codec::DecodeRefusal;
+use thiserror::Error;
 
 /// Why a message is ignored, in the order in which the reasons are tested.
-#[derive(Clone, Copy, Debug, PartialEq, Eq)]
+#[derive(Clone, Copy, Debug, PartialEq, Eq, Error)]
 pub enum Reason {
     /// The octets are no message.
+    #[error("the octets are no message: {0}")]
     Decode(DecodeRefusal),
     /// Not a Sync where a Sync is heard, or neither a Follow_Up nor a Delay_Resp where these are.
+    #[error("the message is of another type than the ones that are heard here")]
     WrongType,
     /// domainNumber isn't the port's.
+    #[error("domainNumber isn't that of the slave")]
     OtherDomain,
     /// The port has no master.
+    #[error("the slave has no master")]
     NoMaster,
     /// sourcePortIdentity isn't the present master's.
+    #[error("sourcePortIdentity isn't that of the present master")]
     OtherMaster,
     /// correctionField says 'too big to be represented'.
+    #[error("the correction is too big to be represented")]
     TooBig,
     /// A Sync or a Follow_Up whose number is neither that of the last Sync that was completed nor newer.
+    #[error("sequenceId is neither that of the last Sync that was completed nor newer")]
     NotNewer,
     /// A Delay_Resp whose requestingPortIdentity isn't the port's own.
+    #[error("requestingPortIdentity isn't that of the slave")]
     OtherRequester,
     /// A Delay_Resp whose number no held request has.
+    #[error("no held Delay_Req has this sequenceId")]
     UnknownRequest,
     /// A Delay_Resp to a request of which it isn't known when it left.
+    #[error("it isn't known when the Delay_Req of this sequenceId left")]
     EgressUnknown,
 }
 
 /// Why the departure of a request isn't kept.
-#[derive(Clone, Copy, Debug, PartialEq, Eq)]
+#[derive(Clone, Copy, Debug, PartialEq, Eq, Error)]
 pub enum SlaveRefusal {
     /// No held request has the number.
+    #[error("no held Delay_Req has this number")]
     NotHeld,
 }
 

@@ -99,8 +99,8 @@ where
         }
     }
 
-    /// The present master is this one from now on. All that is held is dropped, also where the
-    /// master is the same.
+    /// From now on the present master is this one. Nothing that was held is kept, even where it was
+    /// the master already.
     pub fn set_master(&mut self, master: PortIdentity)
         ensures { StandsAfter (SetMaster master) self.old self.new }
     {
@@ -172,7 +172,7 @@ where
     }
 
     /// A message arrived on the general port. A Follow_Up of the present master is held, and completes
-    /// the newest held Sync of its number. A Delay_Resp completes the newest held request of its number.
+    /// the newest held Sync of its number. A Delay_Resp completes the newest request held under its number.
     pub fn general(&mut self, octets: &[u8], tag: u64) -> Heard
         ensures answer { (said : Reading) → IsReading octets.now said → IsAnswer (General said tag) self.old result }
         ensures stands { (said : Reading) → IsReading octets.now said → StandsAfter (General said tag) self.old self.new }

@@ -20,7 +20,7 @@ pub(crate) struct Criteria {
     pub(crate) config: PortConfig,
     /// The present master.
     pub(crate) master: Option<PortIdentity>,
-    /// The sequenceId of the last Sync that was completed.
+    /// The sequenceId of the Sync that completed last.
     pub(crate) last: Option<Seq>,
 }
 

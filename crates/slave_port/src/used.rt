@@ -11,7 +11,7 @@ pub(crate) enum Used {
     OneStepSync(OneStepSync),
     /// It is held, and completes the newest held two-step Sync of its number.
     FollowUp(HeldFollow),
-    /// It completes the newest held request of its number.
+    /// It answers the newest request that is held under its number.
     DelayResp(Response),
 }
 

@@ -1,15 +1,19 @@
 ghost use Rattle.std.specs.Prelude.{◌≡◌};
 
 use event_codec::DecodeRefusal;
+use thiserror::Error;
 
 /// Why a clock doesn't send a message on, in the order in which the conditions are tested.
-#[derive(Clone, Copy, Debug, PartialEq, Eq)]
+#[derive(Clone, Copy, Debug, PartialEq, Eq, Error)]
 pub enum ClockRefusal {
     /// The octets are no message.
+    #[error("the octets are no message: {0}")]
     Decode(DecodeRefusal),
     /// The message is neither Sync nor Delay_Req.
+    #[error("the message is neither Sync nor Delay_Req")]
     NotEvent,
     /// The clock reads less than when the message entered.
+    #[error("the clock reads less than when the message entered")]
     NegativeResidence,
 }
 

@@ -6,7 +6,7 @@ use Rattle.network_model.specs.declared.node.NodeKind.{NodeKind}
 use Rattle.network_model.specs.declared.node.NodeSpec.{NodeSpec}
 use Rattle.network_model.specs.declared.refusal.WorldRefusal.{WorldRefusal}
 use Rattle.network_model.specs.declared.refusal.WorldRefusal.TheVariants.{Memory}
-use Rattle.network_model.specs.Network.{Network, NodeName, IsNetwork, node_of}
+use Rattle.network_model.specs.Network.{Network, NodeName, node_of}
 use Rattle.network_model.specs.Run.{Run, site_of}
 use Rattle.network_model.specs.Outcome.{IsStepped}
 use Rattle.world_model.specs.declared.entry.Entry.{Entry}
@@ -47,7 +47,7 @@ set_same (y ∷ ys) (suc i) x same = ap (λ rest. y ∷ rest) (set_same ys i x s
 pub refilled : {X : Type 0} (ws xs : List X) (n : ℕ) → n ≡ length xs → length ws ≡ length xs → take n (ws ++ drop (length ws) xs) ≡ ws
 refilled ws xs n whole same = take_at ws (drop (length ws) xs) n (same ∙ sym whole)
 
-module _ (network : Network) (event : Event) (stations : List Station) (entries : List Entry) (world : IsWorld network stations entries) (apart : IsNetwork network)
+module _ (network : Network) (event : Event) (stations : List Station) (entries : List Entry) (world : IsWorld network stations entries)
     (name : NodeName) (is_site : name ≡ site_of event) (index : ℕ) (here : Found network name index)
     (less : index < length stations) (old new : Station) (is_old : old ≡ slice_index_or stations index old) (room : Room) where
   kind : NodeKind
@@ -70,8 +70,9 @@ module _ (network : Network) (event : Event) (stations : List Station) (entries 
   pub done-world : (happened : Happened) → Brings network (run_of entries) event (Stands network (event ∷ run_of entries) (site_of event) here.node.kind new) happened
       → IsWorld network (slice_set stations index new) (entries_after event entries ++ (record { event = event; left = happened.left }) ∷ [])
   done-world happened brings = record {
+    apart = world.apart;
     nodes = subst (λ (run : Run). AllStand network run (slice_set stations index new)) (sym (run_of-after event entries happened.left))
-        (AllStand-after network apart (run_of entries) event stations world.nodes index here.node here.at named_here new brings.stands);
+        (AllStand-after network world.apart (run_of entries) event stations world.nodes index here.node here.at named_here new brings.stands);
     events = subst (λ (run : Run). Keeps network run (entries_after event entries ++ (record { event = event; left = happened.left }) ∷ [])) (sym (run_of-after event entries happened.left))
         (Keeps-after network (run_of entries) event entries _ happened world.events brings);
   }

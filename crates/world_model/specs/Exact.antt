@@ -5,14 +5,21 @@ use Rattle.slave_port.specs.declared.heard.Report.{Report}
 use Rattle.network_model.specs.declared.event.Event.{Event}
 use Rattle.network_model.specs.declared.stepped.Outcome.TheVariants as outcomes
 use Rattle.network_model.specs.declared.stepped.Stepped.{Stepped}
-use Rattle.network_model.specs.Run.{site_of}
-use Rattle.network_model.specs.Premises.{Premise}
+use Rattle.network_model.specs.Network.{Network}
+use Rattle.network_model.specs.Run.{Run, site_of}
+use Rattle.network_model.specs.Premises.{Premise, Limits, IsFresh, IsTicked}
 use Rattle.network_model.specs.Exact.{IsMeasurement}
+use Rattle.network_model.specs.Headline.{Headline, HeadlineWithinOneTurn}
 use Rattle.network_model.specs.Pairs.{NoPairIsMissed}
 use Rattle.network_model.specs.TrueTime.{TellsTrueTime}
 use Rattle.network_model.specs.Order.{ReportsDontGoBack}
 use Rattle.network_model.specs.Evidence.{ShowsEvidence}
 use Rattle.world_model.specs.State.{State, after}
+
+-- no message of a run is too old where it is used, and slaves tick often enough
+pub record IsTimely (limits : Limits) (network : Network) (run : Run) : Type 0 where
+  pub fresh : IsFresh limits.late network run
+  pub ticked : IsTicked limits.between_ticks run
 
 -- A report that this event answers is exact: of one Sync and one Delay_Req, and twice the standard's two results over them
 -- (IEEE 1588-2019, 11.2, 11.3). That is so where the run with the event meets the premise.
@@ -30,8 +37,10 @@ AreExactAnswers premise world (event ∷ later) (stepped ∷ others) =
 AreExactAnswers premise world [] (stepped ∷ others) = ⊥
 AreExactAnswers premise world (event ∷ later) [] = ⊥
 
--- the other laws over the runs that a world accepts
+-- all laws over the runs that a world accepts
 pub record RunsKeepLaws : Type 0 where
+  pub exact : Headline
+  pub exact_within_one_turn : HeadlineWithinOneTurn
   pub pairs : NoPairIsMissed
   pub true_time : TellsTrueTime
   pub order : ReportsDontGoBack

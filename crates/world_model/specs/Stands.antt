@@ -9,7 +9,7 @@ use Rattle.network_model.specs.declared.event.Event.TheVariants.{Sync}
 use Rattle.network_model.specs.declared.node.NodeKind.{NodeKind}
 use Rattle.network_model.specs.declared.node.NodeKind.TheVariants as kinds
 use Rattle.network_model.specs.declared.node.NodeSpec.{NodeSpec}
-use Rattle.network_model.specs.Network.{Network, NodeName, PortSetup}
+use Rattle.network_model.specs.Network.{Network, NodeName, IsNetwork, PortSetup}
 use Rattle.network_model.specs.Run.{Run, Place, place, place_at}
 use Rattle.network_model.specs.Clock.{difference, reading}
 use Rattle.network_model.specs.Numbering.{number_of, waiting_sync, waiting_request}
@@ -140,5 +140,6 @@ pub record AllStand (network : Network) (run : Run) (stations : List Station) : 
 
 -- what a world keeps of its run
 pub record IsWorld (network : Network) (stations : List Station) (entries : List Entry) : Type 0 where
+  pub apart : IsNetwork network
   pub nodes : AllStand network (run_of entries) stations
   pub events : Keeps network (run_of entries) entries

@@ -1,4 +1,4 @@
-//! A world: a network of real ports and clocks, in which events happen one after the other.
+//! A world: a network of real ports and clocks, and the events that it accepted in turn.
 #![tactic(auto)]
 
 mod arrival;

@@ -1,6 +1,6 @@
 ghost use Rattle.std.specs.Prelude.{◌≡◌, List, [], pos, ◌+ℤ◌, ok_or, IfOk, IfErr};
 ghost use Rattle.ptp_units.specs.Moment.{moment_of};
-ghost use Rattle.network_model.specs.Network.{Network, NodeName};
+ghost use Rattle.network_model.specs.Network.{Network, NodeName, IsNetwork};
 ghost use Rattle.world_model.specs.declared.entry.Entry.{Entry};
 ghost use Rattle.world_model.specs.Stands.{Stands, AllStand};
 ghost use Rattle.world_model.specs.Acts.{Acts};
@@ -113,6 +113,7 @@ impl Station {
 pub(crate) fn stations_of(alloc: Global, nodes: &Nodes) -> Result<Vec<Station>, WorldRefusal>
     ensures stand { IfOk result (λ stations. AllStand nodes.now [] stations.items) }
     ensures refused { IfErr result (λ why. why ≡ WorldRefusal.Memory) }
+    ensures network { IsNetwork nodes.now }
 {
     let mut stations = Vec::new(alloc);
     for index in 0..nodes.len() {

@@ -1,7 +1,9 @@
 ghost use Rattle.std.specs.Prelude.{◌≡◌, ◌+◌, ◌≤◌, ◌<◌, ◌∷◌, ◌++◌, [], vec_len, vec_capacity, IfOk, IfErr, OnOk};
-ghost use Rattle.network_model.specs.Premises.{IsFreshAndTicked, IsWithinTurn, exact_limits};
+ghost use Rattle.network_model.specs.Network.{IsNetwork};
+ghost use Rattle.network_model.specs.Outcome.{IsRun};
+ghost use Rattle.network_model.specs.Premises.{IsWithinOneTurn, exact_limits};
 ghost use Rattle.world_model.specs.State.{after_all};
-ghost use Rattle.world_model.specs.Exact.{AreExactAnswers, RunsKeepLaws};
+ghost use Rattle.world_model.specs.Exact.{IsTimely, AreExactAnswers, RunsKeepLaws};
 ghost use Rattle.world_model.specs.Turns.{AnswersInTurn, IsStopped};
 
 use crate::room::put;
@@ -37,11 +39,14 @@ pub fn run(alloc: Global, world: &mut World, events: &[Event]) -> Result<Vec<Ste
     ensures answers { IfOk result (λ answers. AnswersInTurn world.old events.now answers.items) }
     ensures after { OnOk result (world.new ≡ after_all events.now world.old) }
     ensures stopped { IfErr result (λ stop. IsStopped world.old events.now stop world.new) }
+    ensures network { IsNetwork world.new.network }
+    ensures run { IsRun world.new.network world.new.run }
     // Each report is exact, as that of `step` is.
-    ensures exact { IfOk result (λ answers. AreExactAnswers (IsFreshAndTicked exact_limits) world.old events.now answers.items) }
-    ensures exact_within_one_turn { IfOk result (λ answers. AreExactAnswers IsWithinTurn world.old events.now answers.items) }
+    ensures exact { IfOk result (λ answers. AreExactAnswers (IsTimely exact_limits) world.old events.now answers.items) }
+    ensures exact_within_one_turn { IfOk result (λ answers. AreExactAnswers (λ network run. IsWithinOneTurn run) world.old events.now answers.items) }
     ensures laws { RunsKeepLaws }
 {
+    world.is_sound();
     let Ok(mut answers) = Vec::with_capacity(alloc, events.len()) else {
         let why = WorldRefusal::Memory;
         return Err(RunStop { done: 0, why });

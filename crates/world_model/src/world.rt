@@ -1,10 +1,11 @@
-ghost use Rattle.std.specs.Prelude.{◌≡◌, length, option_map, IfOk, IfErr, OnOk, OnErr, IsTrue, ◌↔◌, []};
+ghost use Rattle.std.specs.Prelude.{◌≡◌, ◌≤◌, length, option_map, IfSome, IfOk, IfErr, OnOk, OnErr, IsTrue, ◌↔◌, []};
 ghost use Rattle.network_model.specs.declared.refusal.WorldRefusal.TheVariants.{Memory};
+ghost use Rattle.network_model.specs.Network.{IsNetwork};
 ghost use Rattle.network_model.specs.Truth.{TellsTruth, copy_of};
 ghost use Rattle.network_model.specs.Outcome.{IsRun, IsStepped};
-ghost use Rattle.network_model.specs.Premises.{IsFreshAndTicked, IsWithinTurn, exact_limits};
+ghost use Rattle.network_model.specs.Premises.{IsWithinOneTurn, exact_limits};
 ghost use Rattle.world_model.specs.State.{new_state, after, IsRefused};
-ghost use Rattle.world_model.specs.Exact.{IsExactAnswer, RunsKeepLaws};
+ghost use Rattle.world_model.specs.Exact.{IsTimely, IsExactAnswer, RunsKeepLaws};
 
 use crate::entry::{Entry, octets_of};
 use crate::happen::step;
@@ -40,6 +41,7 @@ impl World {
     pub fn new(alloc: Global, nodes: Nodes) -> Result<World, WorldRefusal>
         ensures world { IfOk result (λ world. world ≡ new_state nodes) }
         ensures refused { IfErr result (λ why. why ≡ Memory) }
+        ensures network { IsNetwork nodes }
     {
         let stations = stations_of(alloc, &nodes)?;
         Ok(World {
@@ -57,11 +59,12 @@ impl World {
         ensures after { OnOk result (self.new ≡ after event.now self.old) }
         ensures refused { IfErr result (IsRefused self.old event.now) }
         ensures unchanged { OnErr result (self.new ≡ self.old) }
-        // Every event of the run was accepted.
+        // No two nodes have one name and no two ports one identity, and every event of the run was accepted.
+        ensures network { IsNetwork self.new.network }
         ensures run { IsRun self.new.network self.new.run }
         // A report is exact where no message that is used is too old and slaves tick often enough, or where no number came round.
-        ensures exact { IfOk result (IsExactAnswer (IsFreshAndTicked exact_limits) self.old event.now) }
-        ensures exact_within_one_turn { IfOk result (IsExactAnswer IsWithinTurn self.old event.now) }
+        ensures exact { IfOk result (IsExactAnswer (IsTimely exact_limits) self.old event.now) }
+        ensures exact_within_one_turn { IfOk result (IsExactAnswer (λ network run. IsWithinOneTurn run) self.old event.now) }
         ensures laws { RunsKeepLaws }
     {
         step(&self.nodes, &mut self.stations, &mut self.entries, event)
@@ -70,6 +73,9 @@ impl World {
     /// The octets of the copy that the event of this tag made, or None where it made none.
     pub fn octets(&self, copy: u64) -> Option<&[u8]>
         ensures truth { TellsTruth (copy_of self.now.network self.now.run copy) (option_map (λ octets. octets.now) result) }
+        // A Delay_Resp is the longest message of a world.
+        ensures fits { IfSome result (λ octets. length octets.now ≤ 54) }
+        ensures network { IsNetwork self.now.network }
         ensures run { IsRun self.now.network self.now.run }
     {
         octets_of(self.entries.as_slice(), copy)
@@ -78,6 +84,7 @@ impl World {
     /// How many events happened.
     pub fn len(&self) -> u64
         ensures value { result ≡ length self.now.run }
+        ensures network { IsNetwork self.now.network }
         ensures run { IsRun self.now.network self.now.run }
     {
         self.entries.len() as u64
@@ -88,5 +95,14 @@ impl World {
         ensures { IsTrue result ↔ (self.now.run ≡ []) }
     {
         self.len() == 0
+    }
+
+    /// Does nothing: says of any world that its nodes are a network and that its events were
+    /// accepted.
+    pub(crate) fn is_sound(&self)
+        ensures network { IsNetwork self.now.network }
+        ensures run { IsRun self.now.network self.now.run }
+    {
+        let _ = &self.nodes;
     }
 }

@@ -28,11 +28,11 @@ returns-in-DelayResp-clause-requesting c =
     let here = c.put-in-DelayResp.ensures.here ∙ sym (take_all 10 octets (search rules)) in
     rw c.in-DelayResp.is (IsIdentityAt-agrees 10 44 0 c.put-in-DelayResp.new.buffer octets here _ 0 (omega arith) c.identity_octets.ensures)
 
-pub returns-in-DelayResp-clause-behind : goal.returns-in-DelayResp-clause-behind
-returns-in-DelayResp-clause-behind c =
-    rw c.in-DelayResp.is (c.put-in-DelayResp.ensures.behind
-    ∙ drop_further 44 54 c.put-2.new.buffer c.put.new.buffer (omega arith) c.put-2.ensures.behind
-    ∙ drop_further 34 54 c.put.new.buffer c.args.buffer.now (omega arith) c.put.ensures.behind)
+pub returns-in-DelayResp-clause-after : goal.returns-in-DelayResp-clause-after
+returns-in-DelayResp-clause-after c =
+    rw c.in-DelayResp.is (c.put-in-DelayResp.ensures.after
+    ∙ drop_further 44 54 c.put-2.new.buffer c.put.new.buffer (omega arith) c.put-2.ensures.after
+    ∙ drop_further 34 54 c.put.new.buffer c.args.buffer.now (omega arith) c.put.ensures.after)
 
 pub returns-in_default-clause-header : goal.returns-in_default-clause-header
 returns-in_default-clause-header c =
@@ -55,6 +55,6 @@ no_requesting (DelayResp t p) b other = absurd (other t p refl)
 pub returns-in_default-clause-requesting : goal.returns-in_default-clause-requesting
 returns-in_default-clause-requesting c = (no_requesting c.args.message.now.body _ c.in_default.not-DelayResp).0
 
-pub returns-in_default-clause-behind : goal.returns-in_default-clause-behind
-returns-in_default-clause-behind c =
-    rw (no_requesting c.args.message.now.body [] c.in_default.not-DelayResp).1 (c.put-2.ensures.behind ∙ drop_further 34 44 c.put.new.buffer c.args.buffer.now (omega arith) c.put.ensures.behind)
+pub returns-in_default-clause-after : goal.returns-in_default-clause-after
+returns-in_default-clause-after c =
+    rw (no_requesting c.args.message.now.body [] c.in_default.not-DelayResp).1 (c.put-2.ensures.after ∙ drop_further 34 44 c.put.new.buffer c.args.buffer.now (omega arith) c.put.ensures.after)

@@ -7,7 +7,7 @@ use Rattle.event_codec.proofs.Fields.{fields_length_above}
 use Rattle.event_codec.proofs.Agreement.{after, take_agrees, drop_further, IsHeader-agrees, IsTimestampAt-agrees, IsRequesting-agrees}
 use Rattle.event_codec.proofs.encoding.put_message.Goals as goal
 
--- the fields, and behind them the suffix
+-- the fields, and after them the suffix
 Packet-from_fields : (m : Contents) (n : ℕ) (fields final : List ℕ) → n ≡ fields_length (type_of m.body) + length m.suffix → n ≤ length fields
     → take n final ≡ take (fields_length (type_of m.body)) fields ++ m.suffix → ((k : ℕ) → get_or final k 0 < 256)
     → IsHeader m.header (number_of (type_of m.body)) n fields → IsTimestampAt (stamp_in m.body) fields 34 → IsRequesting m.body fields → Packet m (take n final)
@@ -39,7 +39,7 @@ returns-clause-written c =
     Packet-from_fields m c.args.message_length c.put_fields.new.buffer _ c.requires.whole (search rules) parts (λ k. search (rules, c.type_inv.buffer k))
     c.put_fields.ensures.header c.put_fields.ensures.timestamp c.put_fields.ensures.requesting
 
-pub returns-clause-behind : goal.returns-clause-behind
-returns-clause-behind c =
+pub returns-clause-after : goal.returns-clause-after
+returns-clause-after c =
     drop-put_mid c.fields_length-fields_length.result _ c.put_fields.new.buffer c.copy_from_slice.new.self c.args.message_length (search rules) (search rules) (search rules)
-    ∙ drop_further (fields_length (type_of c.args.message.now.body)) c.args.message_length c.put_fields.new.buffer c.args.buffer.now (omega arith) c.put_fields.ensures.behind
+    ∙ drop_further (fields_length (type_of c.args.message.now.body)) c.args.message_length c.put_fields.new.buffer c.args.buffer.now (omega arith) c.put_fields.ensures.after

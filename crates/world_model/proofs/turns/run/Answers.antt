@@ -21,6 +21,8 @@ loop-done-preserved c =
     record {
       room = omega (arith, before.room, c.answer.ensures.capacity);
       count = c.answer.ensures.len ∙ ap (λ n. n + 1) before.count;
+      network = c.in-Ok-step.ensures.network;
+      run = c.in-Ok-step.ensures.run;
       answered = rw (more, c.answer.ensures.items)
           (AnswersInTurn-more (take c.loop-done.done c.args.events.now) event c.loop-done.answers.items c.in-Ok-step.stepped c.args.world.now before.answered stepped);
       happened = c.in-Ok-step.ensures.after ∙ ap (after event) before.happened
@@ -43,11 +45,11 @@ answered_all : (events : List Event) (done : ℕ) (answers : List Stepped) (worl
 answered_all events done answers world ended answered = subst (λ (es : List Event). AnswersInTurn world es answers) (take_all done events ended) answered
 
 pub returns-clause-exact : goal.returns-clause-exact
-returns-clause-exact c = answers_exact c.args.world.now c.args.events.now c.loop-done.answers.items
+returns-clause-exact c = answers_exact c.args.world.now c.args.events.now c.loop-done.answers.items (record { apart = c.is_sound.ensures.network; accepted = c.is_sound.ensures.run })
     (answered_all c.args.events.now c.loop-done.done c.loop-done.answers.items c.args.world.now (omega (arith, c.loop-done-test.false)) c.loop-done.invariant.answered)
 
 pub returns-clause-exact_within_one_turn : goal.returns-clause-exact_within_one_turn
-returns-clause-exact_within_one_turn c = answers_exact-one_turn c.args.world.now c.args.events.now c.loop-done.answers.items
+returns-clause-exact_within_one_turn c = answers_exact-one_turn c.args.world.now c.args.events.now c.loop-done.answers.items (record { apart = c.is_sound.ensures.network; accepted = c.is_sound.ensures.run })
     (answered_all c.args.events.now c.loop-done.done c.loop-done.answers.items c.args.world.now (omega (arith, c.loop-done-test.false)) c.loop-done.invariant.answered)
 
 pub returns-clause-laws : goal.returns-clause-laws

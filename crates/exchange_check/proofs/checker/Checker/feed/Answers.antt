@@ -1,6 +1,6 @@
 use Rattle.std.proofs.Common.{◌≡◌, ◌∷◌, [], ◌++◌, List, length, subst, sym, rules}
 use Rattle.std.specs.Prelude.{reverse}
-use Rattle.exchange_check.specs.declared.line.TraceLine.{TraceLine}
+use Rattle.trace_model.specs.declared.line.TraceLine.{TraceLine}
 use Rattle.exchange_check.specs.Machine.{IsKept, machine}
 use Rattle.exchange_check.proofs.Reversed.{IsKept-push}
 use Rattle.exchange_check.proofs.checker.Checker.feed.Goals as goal

@@ -1,7 +1,7 @@
 use Rattle.std.proofs.Common.{◌∙◌, ap, length}
 use Rattle.std.specs.Prelude.{reverse}
 use Rattle.exchange_check.specs.Transcript.{Transcript}
-use Rattle.exchange_check.specs.Verdict.{verdict}
+use Rattle.trace_model.specs.Verdict.{verdict}
 use Rattle.exchange_check.proofs.Reversed.{verdict-kept}
 use Rattle.exchange_check.proofs.checker.Checker.verdict.Goals as goal
 

@@ -2,7 +2,7 @@ use Rattle.std.proofs.Common.{◌≡◌, ◌∙◌, ap}
 use Rattle.network_model.specs.Run.{site_of}
 use Rattle.exchange_check.specs.declared.facts.Site.{Site}
 use Rattle.exchange_check.specs.Kept.{site_in, shown_by}
-use Rattle.exchange_check.specs.Record.{is_reading}
+use Rattle.trace_model.specs.Record.{is_reading}
 use Rattle.exchange_check.proofs.kept.Kept.known.Goals as goal
 
 pub returns : goal.returns

@@ -1,7 +1,7 @@
 use Rattle.std.proofs.Common.{◌∙◌, ◌≡◌, ◌≢◌, ◌<◌, ◌%◌, List, Option, Some, None, ℕ, sym, ap, subst, get_or, arith}
 use Rattle.std.proofs.lemmas.Bool.{eqb-true, eqb-false}
 use Rattle.pairing.specs.Ringed.{numbers_of, slot_of, place_of, LeadsBack}
-use Rattle.pairing.proofs.Walks.{passed-behind, passed-here, passed-all, position-found, position-none}
+use Rattle.pairing.proofs.Walks.{passed-between, passed-here, passed-all, position-found, position-none}
 use Rattle.pairing.proofs.ring_table.RingTable.newest_of.Goals as goal
 use Rattle.pairing.proofs.ring_table.RingTable.newest_of.Goals.{then-place-newer-via-then-place-newer, then-place-newer-via-else-place-newer+then-from-bucket}
 
@@ -35,7 +35,7 @@ loop-link-preserved g c =
       leads = rw bucket at (s.linked.older_leads slot inside member);
       passed =
           passed-here g.row.N s.oldest s.count numbers c.args.number.0 s.begins slot inside differs
-          (passed-behind g.row.N s.oldest s.count numbers c.args.number.0 s.begins slot c.loop-link.newer leads c.loop-link.invariant.passed);
+          (passed-between g.row.N s.oldest s.count numbers c.args.number.0 s.begins slot c.loop-link.newer leads c.loop-link.invariant.passed);
     })
 
 pub returns-then-place-newer-clause-newest : goal.returns-then-place-newer-clause-newest
@@ -65,7 +65,7 @@ returns-then-eq-clause-newest g c =
     let member : place_of g.row.N s.oldest slot < s.count = omega (arith, c.place_of-place.ensures, c.if-place-newer.false, c.loop-link.invariant.within) in
     position-found g.row.N s.oldest s.count s.begins s.fits c.args.number.0 s.slots.items s.filled slot inside member
     (sym c.number_at-held.ensures ∙ eqb-true _ _ (sym c.eq.ensures ∙ c.if-eq.true))
-    (passed-behind g.row.N s.oldest s.count numbers c.args.number.0 s.begins slot c.loop-link.newer leads c.loop-link.invariant.passed)
+    (passed-between g.row.N s.oldest s.count numbers c.args.number.0 s.begins slot c.loop-link.newer leads c.loop-link.invariant.passed)
 
 pub returns-clause-newest : goal.returns-clause-newest
 returns-clause-newest g c =

@@ -1,9 +1,9 @@
 -- Whatever a step answers is what the laws over runs say.
 use Rattle.std.proofs.Common.{subst}
 use Rattle.std.specs.Prelude.{IfOk}
-use Rattle.network_model.specs.Premises.{IsFreshAndTicked, IsWithinTurn, exact_limits}
+use Rattle.network_model.specs.Premises.{IsAcceptedRun, IsWithinOneTurn, exact_limits}
 use Rattle.world_model.specs.State.{State}
-use Rattle.world_model.specs.Exact.{IsExactAnswer}
+use Rattle.world_model.specs.Exact.{IsTimely, IsExactAnswer}
 use Rattle.world_model.specs.Stands.{run_of}
 use Rattle.world_model.proofs.Laws.{step_exact, step_exact-one_turn, runs_keep_laws}
 use Rattle.world_model.proofs.world.World.step.Goals as goal
@@ -11,14 +11,16 @@ use Rattle.world_model.proofs.world.World.step.Goals as goal
 pub returns-clause-exact : goal.returns-clause-exact
 returns-clause-exact c =
     let world : State = record { network = c.self.inside.nodes; run = run_of c.self.inside.entries.items } in
-    subst (λ (w : State). IfOk c.step.result (IsExactAnswer (IsFreshAndTicked exact_limits) w c.args.event.now)) c.self.view_is
-    (step_exact world c.args.event.now c.step.result (run_of c.step.new.entries.items) c.step.ensures.steps)
+    let sound : IsAcceptedRun world.network world.run = record { apart = c.self.invariant.apart; accepted = c.self.invariant.events.accepted } in
+    subst (λ (w : State). IfOk c.step.result (IsExactAnswer (IsTimely exact_limits) w c.args.event.now)) c.self.view_is
+    (step_exact world c.args.event.now c.step.result (run_of c.step.new.entries.items) sound c.step.ensures.steps)
 
 pub returns-clause-exact_within_one_turn : goal.returns-clause-exact_within_one_turn
 returns-clause-exact_within_one_turn c =
     let world : State = record { network = c.self.inside.nodes; run = run_of c.self.inside.entries.items } in
-    subst (λ (w : State). IfOk c.step.result (IsExactAnswer IsWithinTurn w c.args.event.now)) c.self.view_is
-    (step_exact-one_turn world c.args.event.now c.step.result (run_of c.step.new.entries.items) c.step.ensures.steps)
+    let sound : IsAcceptedRun world.network world.run = record { apart = c.self.invariant.apart; accepted = c.self.invariant.events.accepted } in
+    subst (λ (w : State). IfOk c.step.result (IsExactAnswer (λ network run. IsWithinOneTurn run) w c.args.event.now)) c.self.view_is
+    (step_exact-one_turn world c.args.event.now c.step.result (run_of c.step.new.entries.items) sound c.step.ensures.steps)
 
 pub returns-clause-laws : goal.returns-clause-laws
 returns-clause-laws c = runs_keep_laws

@@ -9,8 +9,8 @@ use Rattle.network_model.specs.Run.{Run, Place, place, site_of}
 use Rattle.network_model.specs.Kinds.{is_at, is_request, is_stamped}
 use Rattle.network_model.specs.Clock.{shown_at}
 use Rattle.network_model.specs.Numbering.{number_of}
-use Rattle.exchange_check.specs.declared.line.TraceLine.{TraceLine}
-use Rattle.exchange_check.specs.Line.{Lines, counts}
+use Rattle.trace_model.specs.declared.line.TraceLine.{TraceLine}
+use Rattle.trace_model.specs.Line.{Lines, counts}
 
 -- a line with all lines before it
 pub record Entry : Type 0 where

@@ -1,34 +1,44 @@
 ghost use Rattle.std.specs.Prelude.{◌≡◌};
 
+use thiserror::Error;
+
 /// Why a report isn't sound. A line is called by the number of lines before it.
-#[derive(Clone, Copy, Debug, PartialEq, Eq)]
+#[derive(Clone, Copy, Debug, PartialEq, Eq, Error)]
 pub enum Why {
     /// A tag of the report isn't the number of a line as the report needs it, or no line tells when
     /// the Delay_Req departed.
+    #[error("a tag of the report isn't the line that the report needs, or no line tells when the Delay_Req left")]
     NoSuchLine,
     /// The Sync isn't the one that the Follow_Up follows, or the Delay_Req isn't the slave's request.
+    #[error("the Sync isn't the one of the Follow_Up, or the Delay_Req isn't the one of the report")]
     OtherNumber,
     /// The messages aren't of the slave's present master, or came before it was told this master.
+    #[error("a message isn't of the present master of the slave, or came before the slave was told this master")]
     OtherMaster,
     /// The way of the Sync or of the Delay_Req can't be followed back to where it was sent.
+    #[error("the way of the Sync or of the Delay_Req can't be followed back to where it was sent")]
     BrokenJourney,
     /// A reading isn't the one of the node's clock, or isn't there, or a clock read less at the end
     /// of a stay than at its beginning.
+    #[error("a reading isn't that of the clock of its node, or falls while a message is in a clock")]
     WrongReading,
     /// The two results aren't those of the readings.
+    #[error("the two results aren't those of the readings")]
     WrongValue,
     /// The Sync or the Delay_Req was too long in clocks for its correctionField.
+    #[error("the Sync or the Delay_Req was in clocks for longer than a correction can say")]
     TooBig,
     /// The octets of a message aren't those that a port or a clock writes.
+    #[error("the octets of a message aren't those that a port or a clock writes")]
     Bytes,
 }
 
 impl Why {
-    ghost use Rattle.exchange_check.specs.Refusal.{why_code};
+    ghost use Rattle.trace_model.specs.Refusal.{code_of};
 
     /// The number of the reason.
     pub fn code(&self) -> u16
-        ensures { result ≡ why_code self.now }
+        ensures { result ≡ code_of self.now }
     {
         match self {
             Why::NoSuchLine => 701,

@@ -8,11 +8,11 @@ use Rattle.network_model.specs.declared.event.Event.{Event}
 use Rattle.network_model.specs.declared.event.Event.TheVariants.{Sync, Follow, Enter, Leave, Arrive, Hear, Request, Stamped, SetMaster, StepClock}
 use Rattle.network_model.specs.declared.node.NodeKind.TheVariants.{Master, Slave, Clock}
 use Rattle.network_model.specs.Network.{Network, NodeName}
-use Rattle.exchange_check.specs.declared.line.TraceLine.{TraceLine}
-use Rattle.exchange_check.specs.declared.line.TraceOut.{TraceOut}
-use Rattle.exchange_check.specs.declared.line.TraceOut.TheVariants as outs
-use Rattle.exchange_check.specs.declared.verdict.Verdict.TheVariants.{Accepted}
-use Rattle.exchange_check.specs.Verdict.{verdict}
+use Rattle.trace_model.specs.declared.line.TraceLine.{TraceLine}
+use Rattle.trace_model.specs.declared.line.TraceOut.{TraceOut}
+use Rattle.trace_model.specs.declared.line.TraceOut.TheVariants as outs
+use Rattle.trace_model.specs.declared.verdict.Verdict.TheVariants.{Accepted}
+use Rattle.trace_model.specs.Verdict.{verdict}
 
 abbrev m : NodeName
 m = 77 ∷ []

@@ -19,10 +19,10 @@ use Rattle.network_model.specs.declared.event.Event.TheVariants.{Sync, SyncOne, 
 use Rattle.network_model.specs.Network.{Network, PortSetup}
 use Rattle.network_model.specs.Kinds.{is_sync}
 use Rattle.network_model.specs.Truth.{master_at, slave_at}
-use Rattle.exchange_check.specs.declared.line.TraceOut.{TraceOut}
-use Rattle.exchange_check.specs.declared.line.TraceOut.TheVariants as outs
-use Rattle.exchange_check.specs.Record.{Entry, event_of, last_line, reading, sequence}
-use Rattle.exchange_check.specs.Journey.{Journey, journey_of, journey_made, residence}
+use Rattle.trace_model.specs.declared.line.TraceOut.{TraceOut}
+use Rattle.trace_model.specs.declared.line.TraceOut.TheVariants as outs
+use Rattle.trace_model.specs.Record.{Entry, event_of, last_line, reading, sequence}
+use Rattle.trace_model.specs.Journey.{Journey, journey_of, journey_made, residence}
 
 -- whether the ten octets of b from octet i on are this port's identity
 abbrev pub is_identity_at : PortIdentity → List ℕ → ℕ → Bool

@@ -2,14 +2,14 @@
 use Rattle.std.specs.Prelude.{ℕ, ◌+◌, [], ◌∷◌, Option, Some, None, option_map}
 use Rattle.slave_port.specs.declared.heard.Report.{Report}
 use Rattle.network_model.specs.Network.{Network}
-use Rattle.exchange_check.specs.declared.line.TraceOut.{TraceOut}
-use Rattle.exchange_check.specs.declared.line.TraceOut.TheVariants as outs
-use Rattle.exchange_check.specs.declared.verdict.Verdict.{Verdict}
-use Rattle.exchange_check.specs.declared.verdict.Verdict.TheVariants.{Accepted, Refused}
-use Rattle.exchange_check.specs.declared.verdict.Why.{Why}
-use Rattle.exchange_check.specs.Line.{Lines}
-use Rattle.exchange_check.specs.Record.{Entry, entry, line_number}
-use Rattle.exchange_check.specs.Sound.{reason}
+use Rattle.trace_model.specs.declared.line.TraceOut.{TraceOut}
+use Rattle.trace_model.specs.declared.line.TraceOut.TheVariants as outs
+use Rattle.trace_model.specs.declared.verdict.Verdict.{Verdict}
+use Rattle.trace_model.specs.declared.verdict.Verdict.TheVariants.{Accepted, Refused}
+use Rattle.trace_model.specs.declared.verdict.Why.{Why}
+use Rattle.trace_model.specs.Line.{Lines}
+use Rattle.trace_model.specs.Record.{Entry, entry, line_number}
+use Rattle.trace_model.specs.Sound.{reason}
 
 -- the report of a line that has one, good or not
 abbrev pub report_in : TraceOut → Option Report

@@ -11,12 +11,12 @@ use Rattle.network_model.specs.declared.event.Event.{Event}
 use Rattle.network_model.specs.Network.{Network, NodeName, PortSetup, is_named}
 use Rattle.network_model.specs.Kinds.{is_at, is_sync, is_one_step_sync, draws_sync, is_follow, is_request, is_set_master, named_master, heard_copy}
 use Rattle.network_model.specs.Truth.{master_at, slave_at}
-use Rattle.exchange_check.specs.declared.verdict.Why.{Why}
-use Rattle.exchange_check.specs.declared.verdict.Why.TheVariants.{NoSuchLine, OtherNumber, OtherMaster, BrokenJourney, WrongReading, WrongValue, TooBig, Bytes}
-use Rattle.exchange_check.specs.Line.{Lines, counts, is_made, completes, is_arrival, is_hearing}
-use Rattle.exchange_check.specs.Record.{Entry, line_number, event_of, site, line_at, events, last_line, first_stamp, reading, reads_right}
-use Rattle.exchange_check.specs.Journey.{Stay, Journey, journey_of, residence, left_once}
-use Rattle.exchange_check.specs.Octets.{writes_right}
+use Rattle.trace_model.specs.declared.verdict.Why.{Why}
+use Rattle.trace_model.specs.declared.verdict.Why.TheVariants.{NoSuchLine, OtherNumber, OtherMaster, BrokenJourney, WrongReading, WrongValue, TooBig, Bytes}
+use Rattle.trace_model.specs.Line.{Lines, counts, is_made, completes, is_arrival, is_hearing}
+use Rattle.trace_model.specs.Record.{Entry, line_number, event_of, site, line_at, events, last_line, first_stamp, reading, reads_right}
+use Rattle.trace_model.specs.Journey.{Stay, Journey, journey_of, residence, left_once}
+use Rattle.trace_model.specs.Octets.{writes_right}
 
 -- a value, where there is one and it passes a test
 abbrev pub where_passes : {X : Type 0} → (X → Bool) → Option X → Option X

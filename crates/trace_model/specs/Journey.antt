@@ -6,8 +6,8 @@ use Rattle.network_model.specs.declared.event.Event.TheVariants.{Sync, SyncOne, 
 use Rattle.network_model.specs.Network.{Network, NodeName, is_named}
 use Rattle.network_model.specs.Run.{Run}
 use Rattle.network_model.specs.Kinds.{entered_copy, spends}
-use Rattle.exchange_check.specs.Line.{Lines, counts}
-use Rattle.exchange_check.specs.Record.{Entry, entry, line_number, event_of, site, line_at, reading}
+use Rattle.trace_model.specs.Line.{Lines, counts}
+use Rattle.trace_model.specs.Record.{Entry, entry, line_number, event_of, site, line_at, reading}
 
 -- a stay in a clock: the Enter line and the Leave line
 pub record Stay : Type 0 where

@@ -1,0 +1,9 @@
+//! The lines of a transcript: what was recorded of each event of an exchange, by whomever. Its
+//! definitions say which report lines are sound, and which lines tell what happened in a world.
+#![tactic(auto)]
+
+mod line;
+mod verdict;
+
+pub use line::{TraceLine, TraceOut};
+pub use verdict::{Verdict, Why};

@@ -1,0 +1,201 @@
+"""Makes inputs out of what examples/ holds: octets and lines flipped, cut, repeated and swapped, fields of datagrams and keys of
+lines at the edges of their ranges."""
+import json
+import random
+
+# What stands in place of an octet, where it isn't one of all 256.
+MARKS = b'\n\r\0\xff\xc3"\\{}[],:-+.0eE9fgx \t'
+
+# Ends of lines, the usual one first.
+ENDS = [b'\n', b'\r\n', b'\r\r\n', b'\n\n', b'\r', b'']
+
+# Datagrams: the places and the widths of their fields, and values at the edges of what these say.
+FIELDS = [(0, 1), (1, 1), (2, 2), (4, 1), (6, 1), (8, 8), (20, 8), (28, 2), (30, 2), (33, 1), (34, 6), (40, 4), (44, 8), (52, 2)]
+EDGES = [0, 1, 2, 8, 9, 11, 15, 43, 44, 45, 53, 54, 55, 10**9 - 1, 10**9]
+
+# Values of keys, as JSON has them: each range's ends and what is just past them, numbers that are no integers, texts, and what is neither.
+NUMBERS = [str(n) for n in (0, 1, 13, 255, 256, -1, -128, -129, 127, 128, 65535, 65536, 10**9 - 1, 10**9, 2**48 - 1, 2**48,
+                            2**63 - 1, 2**63, 2**64 - 1, 2**64, -2**63, -2**63 - 1, 10**40)]
+NUMBERS += ['-0', '1.0', '1e0', '1e999', '0.5', '01', '+1', '1e', '-']
+TEXTS = ['"%s"' % text for text in (
+    '', '0', '-0', '+1', '01', '-1', '9' * 32, '9' * 33, '-' + '9' * 31, '-' + '9' * 32, str(2**48 * 10**9 * 2**16), 'M', 'S', 'T',
+    'x' * 16, 'x' * 17, 'no name', 'clock', 'master', 'slave', 'made', 'report', 'sync', '001122FFFE334455', '00112', '00112g', '00' * 54,
+    '00' * 55, '\\u004d', '\\ud800', 'é', '\x01')]
+OTHERS = ['null', 'true', 'false', '{}', '[]', '[0]', '[1,0]', '[1,0,0]', '[1,0,0,0]', '[5,7,8,13]', '[5,null,8,13]', '{"ev":"tick"}',
+          '[' * 127 + ']' * 127, '[' * 200 + ']' * 200, '{"a":' * 200 + '1' + '}' * 200, 'nul', '', '[1,', 'NaN']
+VALUES = NUMBERS + TEXTS + OTHERS
+KEYS = ['node', 'kind', 'id', 'port', 'domain', 'first', 'log', 'ev', 'at', 'copy', 'transit', 'master', 'diff', 'n', 'reading', 'out',
+        'hex', 'code', 'offset2', 'path2', 'tags', 'other', '']
+EVENTS = ['sync', 'syncone', 'follow', 'enter', 'leave', 'arrive', 'hear', 'request', 'stamped', 'tick', 'setmaster', 'stepclock']
+
+
+def cut(rng, whole):
+    """A piece of what is whole, as its ends."""
+    first, last = sorted((rng.randint(0, len(whole)), rng.randint(0, len(whole))))
+    return first, last
+
+
+def flip(rng, octets):
+    place = rng.randrange(len(octets))
+    octets[place] ^= 1 << rng.randrange(8)
+
+
+def mark(rng, octets):
+    octets[rng.randrange(len(octets))] = rng.choice([rng.choice(MARKS), rng.randrange(256)])
+
+
+def insert(rng, octets):
+    place = rng.randint(0, len(octets))
+    octets[place:place] = bytes([rng.choice(MARKS)]) * rng.choice([1, 1, 2, 100])
+
+
+def remove(rng, octets):
+    first, last = cut(rng, octets)
+    del octets[first:min(last, first + rng.choice([1, 2, 40, 4000]))]
+
+
+def end(rng, octets):
+    del octets[rng.randint(0, len(octets)):]
+
+
+def repeat(rng, octets):
+    first, last = cut(rng, octets)
+    octets[first:first] = octets[first:last] * rng.choice([1, 1, 2, 5])
+
+
+def swap(rng, octets):
+    one, other = rng.randrange(len(octets)), rng.randrange(len(octets))
+    octets[one], octets[other] = octets[other], octets[one]
+
+
+def change_octets(rng, octets):
+    """The octets after a few changes, wherever they fall."""
+    octets = bytearray(octets)
+    for _ in range(rng.choice([1, 1, 1, 2, 5, 30])):
+        if octets:
+            rng.choice([flip, mark, insert, remove, end, repeat, swap])(rng, octets)
+    return bytes(octets)
+
+
+def change_lines(rng, lines):
+    """The lines after a few were taken away, repeated, swapped and moved."""
+    lines = list(lines)
+    for _ in range(rng.choice([0, 1, 1, 2, 5])):
+        first, last = cut(rng, lines)
+        what = rng.randrange(5)
+        if what == 0:
+            del lines[first:min(last, first + 3)]
+        elif what == 1:
+            lines[last:last] = lines[first:last] * rng.choice([1, 1, 2, 20])
+        elif what == 2 and lines:
+            lines.insert(rng.randint(0, len(lines)), lines.pop(rng.randrange(len(lines))))
+        elif what == 3 and lines:
+            one, other = rng.randrange(len(lines)), rng.randrange(len(lines))
+            lines[one], lines[other] = lines[other], lines[one]
+        else:
+            lines.insert(first, b'')
+    return lines
+
+
+def join(rng, lines):
+    """The text of the lines, most of them ended as usual."""
+    text = bytearray()
+    odd = rng.random() < 0.3
+    for line in lines:
+        text += line + (rng.choice(ENDS) if odd and rng.random() < 0.2 else b'\n')
+    if rng.random() < 0.2:
+        text = text[:-1]
+    return bytes(text)
+
+
+def change_datagram(rng, digits):
+    """The datagram with fields at their edges, cut or followed by more, in digits of either case."""
+    octets = bytearray.fromhex(digits.decode())
+    for _ in range(rng.choice([0, 1, 1, 2, 4])):
+        place, width = rng.choice(FIELDS)
+        top = 256**width - 1
+        value = rng.choice([rng.randint(0, top), 0, 1, top, top // 2, top // 2 + 1, top // 2 - 1, *EDGES])
+        octets[place:place + width] = min(value, top).to_bytes(width, 'big')
+    what = rng.randrange(8)
+    if what == 0:
+        del octets[rng.randint(0, len(octets)):]
+    elif what == 1:
+        octets += rng.randbytes(rng.choice([1, 2, 16, 1000, 2048 - len(octets)]))
+    elif what == 2:
+        octets = bytearray(change_octets(rng, octets))[:2048]
+    elif what == 3:
+        # The length field says what there is, and perhaps one octet more or less.
+        octets += rng.randbytes(rng.randint(0, 8))
+        octets[2:4] = (len(octets) + rng.choice([-1, 0, 0, 1])).to_bytes(2, 'big')
+    digits = octets.hex()
+    return rng.choice([digits, digits, digits.upper()]).encode()
+
+
+def datagrams(rng, files):
+    """Up to 40 datagrams, of which few inputs have any that isn't hexadecimal."""
+    lines = [line for file in files for line in file.splitlines()]
+    made = [change_datagram(rng, rng.choice(lines)) for _ in range(rng.choice([1, 5, 40]))]
+    if rng.random() < 0.1:
+        made.insert(rng.randint(0, len(made)), rng.choice(b'0f') .to_bytes(1, 'big') * rng.choice([0, 1, 4094, 4095, 4096, 4097, 5000]))
+    text = join(rng, made)
+    return change_octets(rng, text) if rng.random() < 0.3 else text
+
+
+def change_value(rng, text):
+    """Another value in place of this one, or of one member of it."""
+    if text.startswith('[') and rng.random() < 0.6:
+        members = text[1:-1].split(',')
+        members[rng.randrange(len(members))] = rng.choice(NUMBERS + ['null', '"1"'])
+        return '[' + ','.join(members) + ']'
+    if text.isdigit() and rng.random() < 0.5:
+        return str(rng.randint(0, 20))
+    return rng.choice(VALUES)
+
+
+def change_object(rng, line):
+    """The line with a key that is taken away, further, renamed, twice there or given another value."""
+    try:
+        members = [[json.dumps(key), json.dumps(value, separators=(',', ':'))] for key, value in json.loads(line).items()]
+    except (ValueError, AttributeError):
+        return line
+    place = rng.randrange(len(members)) if members else 0
+    what = rng.randrange(8)
+    if not members or what == 0:
+        members.append([json.dumps(rng.choice(KEYS)), rng.choice(VALUES)])
+    elif what == 1:
+        del members[place]
+    elif what == 2:
+        members[place][0] = json.dumps(rng.choice(KEYS))
+    elif what == 3:
+        members.insert(place, list(rng.choice(members)))
+    elif what == 4:
+        rng.shuffle(members)
+    elif what == 5:
+        for member in members:
+            if member[0] == '"ev"':
+                member[1] = json.dumps(rng.choice(EVENTS))
+    else:
+        members[place][1] = change_value(rng, members[place][1])
+    space = rng.choice(['', '', ' '])
+    return ('{' + (space + ',').join(f'{key}:{space}{value}' for key, value in members) + '}').encode()
+
+
+def objects(rng, files):
+    """The lines of one file, in another order, some with other keys and values, and perhaps other octets."""
+    lines = change_lines(rng, rng.choice(files).splitlines())
+    for _ in range(rng.choice([0, 0, 1, 1, 3])):
+        if lines:
+            place = rng.randrange(len(lines))
+            lines[place] = change_object(rng, lines[place])
+    if rng.random() < 0.05:
+        lines.insert(rng.randint(0, len(lines)), b' ' * rng.choice([4095, 4096, 4097]))
+    text = join(rng, lines)
+    return change_octets(rng, text) if rng.random() < 0.3 else text
+
+
+def inputs(seed, maker, files, count):
+    """So many inputs, the files as they are first."""
+    rng = random.Random(seed)
+    yield from files[:count]
+    for _ in range(count - len(files)):
+        yield maker(rng, files)
