@@ -23,16 +23,16 @@ pub record HasShown (octets held : List ℕ) (count : ℕ) (ended : Bool) (left 
 
 -- ---- lists at a place
 
-within_list : {A : Type 0} (k : ℕ) (xs : List A) → drop k xs ≡ [] → k ≤ length xs → k ≡ length xs
+pub within_list : {A : Type 0} (k : ℕ) (xs : List A) → drop k xs ≡ [] → k ≤ length xs → k ≡ length xs
 within_list k xs e within = let left = ap length e in omega (arith, simp length-drop at left)
 
-record IsAt {A : Type 0} (k : ℕ) (xs : List A) (y : A) (ys : List A) : Type 0 where
-  at : slice_get xs k ≡ Some y
-  within : k < length xs
-  upto : take (k + 1) xs ≡ take k xs ++ y ∷ []
-  behind : drop (k + 1) xs ≡ ys
+pub record IsAt {A : Type 0} (k : ℕ) (xs : List A) (y : A) (ys : List A) : Type 0 where
+  pub at : slice_get xs k ≡ Some y
+  pub within : k < length xs
+  pub upto : take (k + 1) xs ≡ take k xs ++ y ∷ []
+  pub behind : drop (k + 1) xs ≡ ys
 
-is_at : {A : Type 0} (k : ℕ) (xs : List A) (y : A) (ys : List A) → drop k xs ≡ y ∷ ys → IsAt k xs y ys
+pub is_at : {A : Type 0} (k : ℕ) (xs : List A) (y : A) (ys : List A) → drop k xs ≡ y ∷ ys → IsAt k xs y ys
 is_at zero [] y ys e = absurd cc
 is_at zero (x ∷ xs) y ys e = record { at = cc; within = omega arith; upto = cc; behind = cc }
 is_at (suc k) [] y ys e = absurd cc
@@ -49,7 +49,7 @@ after_lines-suc : (count : ℕ) (octets : List ℕ) → after_lines (suc count) 
 after_lines-suc zero octets = refl
 after_lines-suc (suc count) octets = after_lines-suc count (drop_through 10 octets)
 
-after_lines-more : (count : ℕ) (octets : List ℕ) → after_lines (count + 1) octets ≡ after_lines 1 (after_lines count octets)
+pub after_lines-more : (count : ℕ) (octets : List ℕ) → after_lines (count + 1) octets ≡ after_lines 1 (after_lines count octets)
 after_lines-more count octets = rw add-one (after_lines-suc count octets)
 
 -- one line more is shown after the others

@@ -89,6 +89,12 @@ ShowsFault kind stage before after = (written : List ℕ) × WritesAtFault kind 
 abbrev pub IsOwnFault : FaultKind → List ℕ → Type 0
 IsOwnFault kind line = ((kind ≡ Json) ⊎ (kind ≡ Field)) × (entry_in line ≡ Err kind)
 
+-- a line wasn't made, or the writer failed
+abbrev pub LeavesUnwritten : FaultKind → Option (List ℕ) → Option (List ℕ) → Type 0
+LeavesUnwritten Memory before after = Keeps before after
+LeavesUnwritten Write before after = ⊤
+LeavesUnwritten kind before after = ⊥
+
 -- where this fault comes nothing was written, but where the writer failed
 abbrev pub WritesNone : FaultKind → Option (List ℕ) → Option (List ℕ) → Type 0
 WritesNone Memory before after = Keeps before after

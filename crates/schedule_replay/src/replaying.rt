@@ -13,7 +13,7 @@ ghost use Rattle.schedule_replay.specs.Lines.{input_limit, ReadsWithin};
 ghost use Rattle.schedule_replay.specs.Schedule.{entry_in, FaultsIn, FaultsAtEnd};
 ghost use Rattle.schedule_replay.specs.Replay.{nodes_text, NodesWentOut, IsEventLine, ReplaysAnswer};
 ghost use Rattle.schedule_replay.specs.Show.{WentOutAs};
-ghost use Rattle.schedule_replay.specs.Stage.{nodes_of, run_of, begun_of, owed_by, IsStage, IsBegun, IsWorldOf, HasNodes, TakesLine, ShowsFault, IsOwnFault, WritesNone, StopsEvent, IsFromReplaying};
+ghost use Rattle.schedule_replay.specs.Stage.{nodes_of, run_of, begun_of, owed_by, IsStage, IsBegun, IsWorldOf, HasNodes, TakesLine, ShowsFault, IsOwnFault, LeavesUnwritten, WritesNone, StopsEvent, IsFromReplaying};
 
 use crate::counted::Counted;
 use crate::fault::{Fault, FaultKind};
@@ -129,7 +129,7 @@ fn write_line<W: Write>(
         let after = W.contents (device_of output.new) in
         MatchResult result
         (λ _. Appends before after (line_text (view value.now)))
-        (λ kind. WritesNone kind before after) }
+        (λ kind. LeavesUnwritten kind before after) }
     ensures failures { MatchResult result
         (λ _. HasNotFailed output.old output.new)
         (λ kind. IsFromReplaying kind output.old output.new) }
