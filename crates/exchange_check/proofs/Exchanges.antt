@@ -10,7 +10,7 @@ use Rattle.exchange_check.specs.declared.facts.Found.{Found}
 use Rattle.exchange_check.specs.declared.facts.Travel.{Travel}
 use Rattle.exchange_check.specs.declared.facts.Way.{Way}
 use Rattle.trace_model.specs.Line.{Lines, completes, is_arrival, is_hearing}
-use Rattle.trace_model.specs.Record.{Entry, line_number, event_of, line_at}
+use Rattle.trace_model.specs.Record.{LinePlace, line_number, event_of, line_at}
 use Rattle.trace_model.specs.Journey.{Journey, journey_of}
 use Rattle.trace_model.specs.Sound.{where_passes, below, Exchange, line_of, sender, sync_line, follow_line, follow_lines, arrival_line}
 use Rattle.exchange_check.specs.Kept.{Facts}
@@ -26,11 +26,11 @@ module _ (network : Network) where
   way_of j = record { travel = travel_of network j; origin = fact_of network j.origin }
 
   -- a test of what is kept that is the same test of the line
-  if_passes : (b : Bool) (e : Entry) → cond b (Some (fact_of network e)) None ≡ option_map (fact_of network) (cond b (Some e) None)
+  if_passes : (b : Bool) (e : LinePlace) → cond b (Some (fact_of network e)) None ≡ option_map (fact_of network) (cond b (Some e) None)
   if_passes true e = refl
   if_passes false e = refl
 
-  passes : (p : Fact → Bool) (o : Option Entry) → where_passes p (option_map (fact_of network) o) ≡ option_map (fact_of network) (where_passes (λ e. p (fact_of network e)) o)
+  passes : (p : Fact → Bool) (o : Option LinePlace) → where_passes p (option_map (fact_of network) o) ≡ option_map (fact_of network) (where_passes (λ e. p (fact_of network e)) o)
   passes p None = refl
   passes p (Some e) = if_passes (p (fact_of network e)) e
 
@@ -49,7 +49,7 @@ module _ (network : Network) where
     sent_below limit None = refl
     sent_below limit (Some n) = below_is (nat_lt n limit) n
 
-    senders : (o : Option Entry) → option_and_then (sender_by facts) (option_map (fact_of network) o) ≡ option_map (fact_of network) (option_and_then (sender network lines) o)
+    senders : (o : Option LinePlace) → option_and_then (sender_by facts) (option_map (fact_of network) o) ≡ option_map (fact_of network) (option_and_then (sender network lines) o)
     senders None = refl
     senders (Some e) = sent_below (line_number e) (heard_copy (event_of e))
 
@@ -64,7 +64,7 @@ module _ (network : Network) where
         ∙ ap (where_passes (λ fact. is_follow fact.event)) (senders (line_of network lines is_hearing slave n))
         ∙ passes (λ fact. is_follow fact.event) (option_and_then (sender network lines) (line_of network lines is_hearing slave n))
 
-    some_follow : (o : Option Entry) → option_map Some (option_map (fact_of network) o) ≡ option_map (option_map (fact_of network)) (option_map Some o)
+    some_follow : (o : Option LinePlace) → option_map Some (option_map (fact_of network) o) ≡ option_map (option_map (fact_of network)) (option_map Some o)
     some_follow None = refl
     some_follow (Some e) = refl
 
@@ -84,10 +84,10 @@ module _ (network : Network) where
     abbrev pub chain : Option Fact → Option (Option Fact) → Option Fact → Option Fact → Option Found
     chain s f u r = option_and_then (λ sync. option_and_then (λ follow. option_and_then (λ request. option_map (λ arrival. record { sync = sync; follow = follow; request = request; arrival = arrival }) r) u) f) s
 
-    abbrev pub line_chain : Option Entry → Option (Option Entry) → Option Entry → Option Entry → Option Exchange
+    abbrev pub line_chain : Option LinePlace → Option (Option LinePlace) → Option LinePlace → Option LinePlace → Option Exchange
     line_chain s f u r = option_and_then (λ sync. option_and_then (λ follow. option_and_then (λ request. option_map (λ arrival. record { sync = sync; follow = follow; request = request; arrival = arrival }) r) u) f) s
 
-    pub chained : (s : Option Entry) (f : Option (Option Entry)) (u r : Option Entry)
+    pub chained : (s : Option LinePlace) (f : Option (Option LinePlace)) (u r : Option LinePlace)
         → chain (option_map (fact_of network) s) (option_map (option_map (fact_of network)) f) (option_map (fact_of network) u) (option_map (fact_of network) r) ≡ option_map found_of (line_chain s f u r)
     chained None f u r = refl
     chained (Some s) None u r = refl
@@ -102,7 +102,7 @@ module _ (network : Network) where
     way_of_origin : (o : Option Journey) → ((j : Journey) → o ≡ Some j → line_at network lines (line_number j.origin) ≡ Some j.origin)
         → option_and_then (λ travel. option_map (λ origin. record { travel = travel; origin = origin }) (facts travel.origin)) (option_map (travel_of network) o) ≡ option_map way_of o
     way_of_origin None known = refl
-    way_of_origin (Some j) known = ap (λ (o : Option Entry). option_map (λ (origin : Fact). let w : Way = record { travel = travel_of network j; origin = origin } in w) (option_map (fact_of network) o)) (known j refl)
+    way_of_origin (Some j) known = ap (λ (o : Option LinePlace). option_map (λ (origin : Fact). let w : Way = record { travel = travel_of network j; origin = origin } in w) (option_map (fact_of network) o)) (known j refl)
 
     pub way_is : (n : ℕ) → way_at facts n ≡ option_map way_of (journey_of network lines n)
     way_is n =

@@ -14,7 +14,7 @@ use Rattle.exchange_check.specs.declared.facts.Fact.{Fact}
 use Rattle.exchange_check.specs.declared.facts.Travel.{Travel}
 use Rattle.trace_model.specs.declared.line.TraceLine.{TraceLine}
 use Rattle.trace_model.specs.Line.{Lines, counts}
-use Rattle.trace_model.specs.Record.{Entry, entry, line_number, event_of, line_at, last_line, reading, sequence}
+use Rattle.trace_model.specs.Record.{LinePlace, line_place, line_number, event_of, line_at, last_line, reading, sequence}
 use Rattle.trace_model.specs.Journey.{Journey, residence, with_stay, copy_entered, left_from, journey_made, journey_of}
 use Rattle.trace_model.specs.Octets.{drawing_port, sent, travelled, followed, answered, message_made, writes_right, is_written}
 use Rattle.exchange_check.specs.Kept.{Facts, travel_at, travel_by, sent_by, travelled_by, followed_by, answered_by, message_by, fact_known, fact_made, written_travel, fact_by}
@@ -27,18 +27,18 @@ use Rattle.exchange_check.specs.Machine.{with_fact}
 use Rattle.exchange_check.proofs.Messages.{line_at-later, line_at-here, origin_in, sent_is, travelled_is, min_min}
 
 -- the last line of a kind is among the lines, and is of that kind
-either_last : (network : Network) (kind : Event → Bool) (name : NodeName) (line : TraceLine) (earlier : Lines) (k : Entry) (counted here : Bool)
+either_last : (network : Network) (kind : Event → Bool) (name : NodeName) (line : TraceLine) (earlier : Lines) (k : LinePlace) (counted here : Bool)
     → counts network line ≡ counted → is_at kind name line.event ≡ here
     → (last_line network kind name earlier ≡ Some k → (line_at network earlier (line_number k) ≡ Some k) × (is_at kind name (event_of k) ≡ true))
-    → cond (counted && here) (Some (entry line earlier)) (last_line network kind name earlier) ≡ Some k
+    → cond (counted && here) (Some (line_place line earlier)) (last_line network kind name earlier) ≡ Some k
     → (line_at network (line ∷ earlier) (line_number k) ≡ Some k) × (is_at kind name (event_of k) ≡ true)
 either_last network kind name line earlier k true true c p before h =
-    let P : Entry → Type 0 = λ x. (line_at network (line ∷ earlier) (line_number x) ≡ Some x) × (is_at kind name (event_of x) ≡ true) in
+    let P : LinePlace → Type 0 = λ x. (line_at network (line ∷ earlier) (line_number x) ≡ Some x) × (is_at kind name (event_of x) ≡ true) in
     subst P (same_Some _ _ h) (line_at-here network line earlier c, p)
 either_last network kind name line earlier k true false c p before h = let b = before h in (line_at-later network line earlier (line_number k) k b.0, b.1)
 either_last network kind name line earlier k false here c p before h = let b = before h in (line_at-later network line earlier (line_number k) k b.0, b.1)
 
-pub last_is : (network : Network) (kind : Event → Bool) (name : NodeName) (lines : Lines) (k : Entry) → last_line network kind name lines ≡ Some k
+pub last_is : (network : Network) (kind : Event → Bool) (name : NodeName) (lines : Lines) (k : LinePlace) → last_line network kind name lines ≡ Some k
     → (line_at network lines (line_number k) ≡ Some k) × (is_at kind name (event_of k) ≡ true)
 last_is network kind name [] k h = grind arith
 last_is network kind name (line ∷ earlier) k h =
@@ -59,17 +59,17 @@ sync_port network (Tick at_node) node port h there = grind arith
 sync_port network (SetMaster at_node master) node port h there = grind arith
 sync_port network (StepClock at_node diff) node port h there = grind arith
 
-module _ (network : Network) (e : Entry) where
+module _ (network : Network) (e : LinePlace) where
   abbrev facts : Facts
   facts = facts_at network e.earlier
 
-  follow_of : (node : NodeName) (port : PortSetup) → master_at network node ≡ Some port → (o : Option Entry) → last_line network is_sync node e.earlier ≡ o
+  follow_of : (node : NodeName) (port : PortSetup) → master_at network node ≡ Some port → (o : Option LinePlace) → last_line network is_sync node e.earlier ≡ o
       → followed_by facts port (option_map line_number o) ≡ option_map (followed network port) o
   follow_of node port there None h = refl
   follow_of node port there (Some k) h =
       let found = last_is network is_sync node e.earlier k h in
       let number : number_drawn network k ≡ sequence network port k = ap (λ (o : Option PortSetup). option_map_or (λ (p : PortSetup). sequence network p k) o 0) (sync_port network (event_of k) node port found.1 there) in
-      ap (λ (o : Option Entry). option_map (λ (sync : Fact). follow_up port.config sync.number.0 sync.reading) (option_map (fact_of network) o)) found.0
+      ap (λ (o : Option LinePlace). option_map (λ (sync : Fact). follow_up port.config sync.number.0 sync.reading) (option_map (fact_of network) o)) found.0
       ∙ (λ i. Some (follow_up port.config (number i) (reading k)))
 
   follow_at : (node : NodeName) (o : Option PortSetup) → master_at network node ≡ o
@@ -99,18 +99,18 @@ module _ (network : Network) (e : Entry) where
   unwritten writes None = refl
   unwritten writes (Some t) = refl
 
-  stay_there : (entered : Entry) (o : Option Journey) (j : Journey) → ((k : Journey) → o ≡ Some k → line_at network e.earlier (line_number k.origin) ≡ Some k.origin)
+  stay_there : (entered : LinePlace) (o : Option Journey) (j : Journey) → ((k : Journey) → o ≡ Some k → line_at network e.earlier (line_number k.origin) ≡ Some k.origin)
       → option_map (with_stay e entered) o ≡ Some j → line_at network e.earlier (line_number j.origin) ≡ Some j.origin
   stay_there entered None j known h = grind arith
   stay_there entered (Some k) j known h =
       let P : Journey → Type 0 = λ x. line_at network e.earlier (line_number x.origin) ≡ Some x.origin in
       subst P (same_Some _ _ h) (known k refl)
 
-  copy_there : (entered : Entry) (c : Option ℕ) (j : Journey) → option_and_then (λ copy. option_map (with_stay e entered) (journey_of network e.earlier copy)) c ≡ Some j → line_at network e.earlier (line_number j.origin) ≡ Some j.origin
+  copy_there : (entered : LinePlace) (c : Option ℕ) (j : Journey) → option_and_then (λ copy. option_map (with_stay e entered) (journey_of network e.earlier copy)) c ≡ Some j → line_at network e.earlier (line_number j.origin) ≡ Some j.origin
   copy_there entered None j h = grind arith
   copy_there entered (Some copy) j h = stay_there entered (journey_of network e.earlier copy) j (origin_in network e.earlier copy) h
 
-  left_there : (node : NodeName) (o : Option Entry) (j : Journey) → option_and_then (left_from node e (journey_of network e.earlier)) o ≡ Some j → line_at network e.earlier (line_number j.origin) ≡ Some j.origin
+  left_there : (node : NodeName) (o : Option LinePlace) (j : Journey) → option_and_then (left_from node e (journey_of network e.earlier)) o ≡ Some j → line_at network e.earlier (line_number j.origin) ≡ Some j.origin
   left_there node None j h = grind arith
   left_there node (Some entered) j h = copy_there entered (copy_entered node entered) j h
 
@@ -163,19 +163,19 @@ module _ (network : Network) (e : Entry) where
 
 -- what is kept of a line, where it tells of something done
 pub fact_by-is : (network : Network) (line : TraceLine) (earlier : Lines) → fact_by network (facts_at network earlier) (site_at network earlier) line (length earlier)
-    ≡ cond (counts network line) (Some (fact_of network (entry line earlier))) None
+    ≡ cond (counts network line) (Some (fact_of network (line_place line earlier))) None
 fact_by-is network line earlier =
     (λ i. cond (counts network line) (Some (fact_known network (facts_at network earlier) line (known_is network line earlier i) (travel_by (facts_at network earlier) (known_is network line earlier i) line.event))) None)
-    ∙ (λ i. cond (counts network line) (Some (fact_is network (entry line earlier) i)) None)
+    ∙ (λ i. cond (counts network line) (Some (fact_is network (line_place line earlier) i)) None)
 
 either_fact : (network : Network) (line : TraceLine) (earlier : Lines) (n : ℕ) (here counted : Bool)
-    → cond here (cond counted (Some (fact_of network (entry line earlier))) None) (facts_at network earlier n)
-    ≡ option_map (fact_of network) (cond here (cond counted (Some (entry line earlier)) None) (line_at network earlier n))
+    → cond here (cond counted (Some (fact_of network (line_place line earlier))) None) (facts_at network earlier n)
+    ≡ option_map (fact_of network) (cond here (cond counted (Some (line_place line earlier)) None) (line_at network earlier n))
 either_fact network line earlier n true true = refl
 either_fact network line earlier n true false = refl
 either_fact network line earlier n false counted = refl
 
 -- what is kept of all lines after one more line
 pub facts-line : (network : Network) (line : TraceLine) (earlier : Lines)
-    → with_fact (facts_at network earlier) (length earlier) (cond (counts network line) (Some (fact_of network (entry line earlier))) None) ≡ facts_at network (line ∷ earlier)
+    → with_fact (facts_at network earlier) (length earlier) (cond (counts network line) (Some (fact_of network (line_place line earlier))) None) ≡ facts_at network (line ∷ earlier)
 facts-line network line earlier = λ i n. either_fact network line earlier n (eqb (length earlier) n) (counts network line) i

@@ -14,7 +14,7 @@ use Rattle.exchange_check.specs.declared.facts.Fact.{Fact}
 use Rattle.exchange_check.specs.declared.facts.Site.{Site}
 use Rattle.trace_model.specs.declared.line.TraceLine.{TraceLine}
 use Rattle.trace_model.specs.Line.{Lines, counts}
-use Rattle.trace_model.specs.Record.{Entry, entry, line_number, event_of, last_line, events, first_stamp}
+use Rattle.trace_model.specs.Record.{LinePlace, line_place, line_number, event_of, last_line, events, first_stamp}
 use Rattle.exchange_check.specs.Kept.{Sites, Leaves, Stamps, moved, sites_after, leaves_after, stamps_after}
 use Rattle.exchange_check.specs.Machine.{sites_told, leaves_told, stamps_told}
 
@@ -94,11 +94,11 @@ sites_after_is (Tick node) n sites name = sym (cond_same (is_named node name) (s
 sites_after_is (SetMaster node master) n sites name = refl
 sites_after_is (StepClock node diff) n sites name = refl
 
-number_if : (b : Bool) (e : Entry) (o : Option Entry) → option_map line_number (cond b (Some e) o) ≡ cond b (Some (line_number e)) (option_map line_number o)
+number_if : (b : Bool) (e : LinePlace) (o : Option LinePlace) → option_map line_number (cond b (Some e) o) ≡ cond b (Some (line_number e)) (option_map line_number o)
 number_if true e o = refl
 number_if false e o = refl
 
-master_if : (b : Bool) (e : Entry) (o : Option Entry) → option_and_then (λ x. told_master (event_of x) (line_number x)) (cond b (Some e) o) ≡ cond b (told_master (event_of e) (line_number e)) (option_and_then (λ x. told_master (event_of x) (line_number x)) o)
+master_if : (b : Bool) (e : LinePlace) (o : Option LinePlace) → option_and_then (λ x. told_master (event_of x) (line_number x)) (cond b (Some e) o) ≡ cond b (told_master (event_of e) (line_number e)) (option_and_then (λ x. told_master (event_of x) (line_number x)) o)
 master_if true e o = refl
 master_if false e o = refl
 
@@ -114,8 +114,8 @@ events_more network line earlier b h = (λ i. map (λ (l : TraceLine). l.event) 
     parts false = refl
 
 last_more : (network : Network) (kind : Event → Bool) (name : NodeName) (line : TraceLine) (earlier : Lines) (b : Bool) → counts network line ≡ b
-    → last_line network kind name (line ∷ earlier) ≡ cond (b && is_at kind name line.event) (Some (entry line earlier)) (last_line network kind name earlier)
-last_more network kind name line earlier b h = λ i. cond (h i && is_at kind name line.event) (Some (entry line earlier)) (last_line network kind name earlier)
+    → last_line network kind name (line ∷ earlier) ≡ cond (b && is_at kind name line.event) (Some (line_place line earlier)) (last_line network kind name earlier)
+last_more network kind name line earlier b h = λ i. cond (h i && is_at kind name line.event) (Some (line_place line earlier)) (last_line network kind name earlier)
 
 -- what the lines say of a node with one more line
 site_more : (network : Network) (line : TraceLine) (earlier : Lines) (name : NodeName) (b : Bool) → counts network line ≡ b
@@ -128,10 +128,10 @@ site_more : (network : Network) (line : TraceLine) (earlier : Lines) (name : Nod
     (cond (b && is_at is_set_master name line.event) (told_master line.event (length earlier)) (option_and_then (λ e. told_master (event_of e) (line_number e)) (last_line network is_set_master name earlier)))
 site_more network line earlier name b h =
     let run = events_more network line earlier b h in
-    let sync = ap (λ (o : Option Entry). option_map line_number o) (last_more network is_sync name line earlier b h) ∙ number_if (b && is_at is_sync name line.event) (entry line earlier) (last_line network is_sync name earlier) in
-    let request = ap (λ (o : Option Entry). option_map line_number o) (last_more network is_request name line earlier b h) ∙ number_if (b && is_at is_request name line.event) (entry line earlier) (last_line network is_request name earlier) in
-    let master = ap (λ (o : Option Entry). option_and_then (λ e. told_master (event_of e) (line_number e)) o) (last_more network is_set_master name line earlier b h)
-    ∙ master_if (b && is_at is_set_master name line.event) (entry line earlier) (last_line network is_set_master name earlier) in
+    let sync = ap (λ (o : Option LinePlace). option_map line_number o) (last_more network is_sync name line earlier b h) ∙ number_if (b && is_at is_sync name line.event) (line_place line earlier) (last_line network is_sync name earlier) in
+    let request = ap (λ (o : Option LinePlace). option_map line_number o) (last_more network is_request name line earlier b h) ∙ number_if (b && is_at is_request name line.event) (line_place line earlier) (last_line network is_request name earlier) in
+    let master = ap (λ (o : Option LinePlace). option_and_then (λ e. told_master (event_of e) (line_number e)) o) (last_more network is_set_master name line earlier b h)
+    ∙ master_if (b && is_at is_set_master name line.event) (line_place line earlier) (last_line network is_set_master name earlier) in
     λ i. site_made (difference name (run i)) (count_by (is_at draws_sync name) (run i)) (count_by (is_at is_request name) (run i)) (sync i) (request i) (master i)
 
 if_number : (b : Bool) (n : ℕ) → cond b 1 0 + n ≡ cond b (suc n) n
@@ -147,7 +147,7 @@ site_line : (network : Network) (line : TraceLine) (earlier : Lines) (run : Run)
 site_line network line earlier run event name run_is same h =
     let ls = option_map line_number (last_line network is_sync name earlier) in
     let lr = option_map line_number (last_line network is_request name earlier) in
-    let lm = option_and_then (λ (e : Entry). told_master (event_of e) (line_number e)) (last_line network is_set_master name earlier) in
+    let lm = option_and_then (λ (e : LinePlace). told_master (event_of e) (line_number e)) (last_line network is_set_master name earlier) in
     let r = events network earlier in
     let counted : site_at network (line ∷ earlier) name ≡ site_made
     (difference name (line.event ∷ r))
@@ -191,7 +191,7 @@ or_nothing : (o : Option ℕ) → option_or o None ≡ o
 or_nothing None = refl
 or_nothing (Some n) = refl
 
-asked : (o : Option Entry) (request : ℕ) → option_map_or (λ last. eqb last request) (option_map line_number o) false ≡ option_map_or (λ last. eqb (line_number last) request) o false
+asked : (o : Option LinePlace) (request : ℕ) → option_map_or (λ last. eqb last request) (option_map line_number o) false ≡ option_map_or (λ last. eqb (line_number last) request) o false
 asked None request = refl
 asked (Some e) request = refl
 

@@ -7,7 +7,11 @@ use Rattle.network_model.specs.Network.{Network}
 use Rattle.exchange_check.specs.declared.kept.Kept.{Kept}
 use Rattle.trace_model.specs.declared.line.TraceLine.{TraceLine}
 use Rattle.exchange_check.proofs.Standing.{machine-verdict}
+use Rattle.trace_model.specs.declared.verdict.Verdict.{Verdict}
+use Rattle.trace_model.specs.Line.{Lines}
 use Rattle.trace_model.specs.Verdict.{verdict}
+use Rattle.trace_model.specs.Soundness.{TellsSoundness}
+use Rattle.trace_model.proofs.Soundness.{tells_soundness}
 use Rattle.exchange_check.specs.Machine.{Machine, IsKept, machine, after_line}
 
 -- what is kept of one more line
@@ -24,7 +28,7 @@ next_kept network lines next line kept count after same front total h =
 reverse_push : (lines : List TraceLine) (line : TraceLine) → reverse (lines ++ line ∷ []) ≡ line ∷ reverse lines
 reverse_push lines line = grind (arith, common_steps)
 
--- with a line behind the others
+-- with a line after the others
 pub IsKept-push : (network : Network) (lines : List TraceLine) (line : TraceLine) (kept : Kept)
     → IsKept kept (length lines + 1) (after_line network line (length lines) (machine network (reverse lines)))
     → IsKept kept (length (lines ++ line ∷ [])) (machine network (reverse (lines ++ line ∷ [])))
@@ -52,3 +56,7 @@ take_whole lines i h = grind (arith, common_steps)
 pub verdict-kept-all : (network : Network) (lines : List TraceLine) (kept : Kept) (count i : ℕ) → length lines ≤ i → IsKept kept count (machine network (reverse (take i lines))) → kept.verdict ≡ verdict network (reverse lines)
 verdict-kept-all network lines kept count i past h =
     verdict-kept network (take i lines) kept count h ∙ ap (λ (xs : List TraceLine). verdict network (reverse xs)) (take_whole lines i past)
+
+-- the verdict on lines tells which of them are sound
+pub TellsSoundness-of : (network : Network) (lines : Lines) (answer : Verdict) → answer ≡ verdict network lines → TellsSoundness network lines answer
+TellsSoundness-of network lines answer h = subst (TellsSoundness network lines) (sym h) (tells_soundness network lines)

@@ -16,7 +16,7 @@ use Rattle.trace_model.specs.declared.line.TraceLine.{TraceLine}
 use Rattle.trace_model.specs.declared.verdict.Why.{Why}
 use Rattle.trace_model.specs.declared.verdict.Why.TheVariants.{OtherNumber, OtherMaster, WrongReading, WrongValue, TooBig, Bytes}
 use Rattle.trace_model.specs.Line.{Lines, counts}
-use Rattle.trace_model.specs.Record.{Entry, entry, line_number, event_of, site, events, last_line, reading}
+use Rattle.trace_model.specs.Record.{LinePlace, line_place, line_number, event_of, site, events, last_line, reading}
 use Rattle.trace_model.specs.Octets.{writes_right}
 use Rattle.trace_model.specs.Journey.{Journey, journey_of, residence, left_once}
 use Rattle.trace_model.specs.Sound.{journey_writes_right, where_passes, below, Exchange, line_of, sync_line, follow_lines, arrival_line, is_of_line, is_stamped_between, unbroken, is_followed, are_paired, are_later, is_domain, is_of_master, are_readings, fraction_sent, fits, bracket, are_results, are_octets, journeys_reason, exchange_reason, reason}
@@ -35,11 +35,11 @@ use Rattle.exchange_check.proofs.Noted.{sites-line, leaves-line, stamps-line}
 use Rattle.exchange_check.proofs.FactLines.{fact_by-is, facts-line}
 use Rattle.exchange_check.proofs.Exchanges.{found_of, way_of, line_of_is, sync_is, follows_is, arrival_is, chain, line_chain, chained, if_found, way_is}
 
-last_number : (o : Option Entry) (n : ℕ) → option_map_or (λ last. eqb last n) (option_map line_number o) false ≡ option_map_or (λ last. eqb (line_number last) n) o false
+last_number : (o : Option LinePlace) (n : ℕ) → option_map_or (λ last. eqb last n) (option_map line_number o) false ≡ option_map_or (λ last. eqb (line_number last) n) o false
 last_number None n = refl
 last_number (Some e) n = refl
 
-followed_line : (network : Network) (follow : Option Entry) (origin : Entry) → is_followed_by (option_map (fact_of network) follow) (fact_of network origin) ≡ is_followed network follow origin
+followed_line : (network : Network) (follow : Option LinePlace) (origin : LinePlace) → is_followed_by (option_map (fact_of network) follow) (fact_of network origin) ≡ is_followed network follow origin
 followed_line network None origin = refl
 followed_line network (Some follow) origin = last_number (last_line network is_sync (site follow) follow.earlier) (line_number origin)
 
@@ -48,7 +48,7 @@ told_named : (m : Option NodeName) (n : ℕ) (master : NodeName) (report : Repor
 told_named None n master report = refl
 told_named (Some name) n master report = refl
 
-told_is : (o : Option Entry) (master : NodeName) (report : Report) → is_told (option_and_then (λ x. told_master (event_of x) (line_number x)) o) master report
+told_is : (o : Option LinePlace) (master : NodeName) (report : Report) → is_told (option_and_then (λ x. told_master (event_of x) (line_number x)) o) master report
     ≡ option_map_or (λ set. option_map_or (λ named. is_named named master) (named_master (event_of set)) false && are_later (line_number set) report) o false
 told_is None master report = refl
 told_is (Some x) master report = told_named (named_master (event_of x)) (line_number x) master report
@@ -67,13 +67,13 @@ same_first : (a p b q c d : Bool) (e : Bool) (v w o t : Bool) → a ≡ p → b 
 same_first a p b q c d true v w o t x y z k u = λ i. first_of (x i) (y i) c (z i) (k refl i) (u i)
 same_first a p b q c d false v w o t x y z k u = λ i. first_of (x i) (y i) c (z i) v o
 
-follow_octets : (network : Network) (o : Option Entry) → option_map_or (λ fact. fact.writes_right) (option_map (fact_of network) o) true ≡ option_map_or (writes_right network) o true
+follow_octets : (network : Network) (o : Option LinePlace) → option_map_or (λ fact. fact.writes_right) (option_map (fact_of network) o) true ≡ option_map_or (writes_right network) o true
 follow_octets network None = refl
 follow_octets network (Some follow) = refl
 
 module _ (network : Network) (line : TraceLine) (earlier : Lines) where
-  abbrev e : Entry
-  e = entry line earlier
+  abbrev e : LinePlace
+  e = line_place line earlier
 
   abbrev facts : Facts
   facts = facts_at network (line ∷ earlier)
@@ -98,7 +98,7 @@ module _ (network : Network) (line : TraceLine) (earlier : Lines) where
       ≡ option_map (way_of network) (where_passes (left_once (events network earlier)) (where_passes (λ journey. kind (event_of journey.origin)) o))
   way_found kind limit copy None within h = refl
   way_found kind limit copy (Some j) within h =
-      let followed = followed_is network facts leaves (events network earlier) (once_is network earlier) (line ∷ earlier) copy j (λ n x there. ap (λ (o : Option Entry). option_map (fact_of network) o) there) h limit within in
+      let followed = followed_is network facts leaves (events network earlier) (once_is network earlier) (line ∷ earlier) copy j (λ n x there. ap (λ (o : Option LinePlace). option_map (fact_of network) o) there) h limit within in
       (λ i. cond (kind (event_of j.origin) && followed i) (Some (way_of network j)) None)
       ∙ two_tests (kind (event_of j.origin)) j
 
@@ -115,10 +115,10 @@ module _ (network : Network) (line : TraceLine) (earlier : Lines) where
   way_heard kind limit None = refl
   way_heard kind limit (Some copy) = way_below kind limit copy (nat_lt copy limit) refl
 
-  way_to_is : (kind : Event → Bool) (x : Entry) → way_to facts leaves kind (fact_of network x) ≡ option_map (way_of network) (unbroken network e kind x)
+  way_to_is : (kind : Event → Bool) (x : LinePlace) → way_to facts leaves kind (fact_of network x) ≡ option_map (way_of network) (unbroken network e kind x)
   way_to_is kind x = way_heard kind (line_number x) (heard_copy (event_of x))
 
-  bracket_is : (x : Entry) (j : Journey) → fits j ≡ true → bracket_by (fact_of network x) (way_of network j) ≡ bracket x j
+  bracket_is : (x : LinePlace) (j : Journey) → fits j ≡ true → bracket_by (fact_of network x) (way_of network j) ≡ bracket x j
   bracket_is x j h = λ i. (pos (reading x) -ℤ pos (reading j.origin)) -ℤ pos (whole_residence (fraction_sent j.origin) (residence j) h i)
 
   module _ (report : Report) where
@@ -196,7 +196,7 @@ stands network (line ∷ earlier) =
     let h = stands network earlier in
     let m = machine network earlier in
     let n = length earlier in
-    let e : Entry = entry line earlier in
+    let e : LinePlace = line_place line earlier in
     let fact : fact_by network m.facts m.sites line n ≡ cond (counts network line) (Some (fact_of network e)) None =
     (λ i. fact_by network (h.facts i) (h.sites i) line n) ∙ fact_by-is network line earlier in
     let facts : with_fact m.facts n (fact_by network m.facts m.sites line n) ≡ facts_at network (line ∷ earlier) =

@@ -13,7 +13,7 @@ use Rattle.network_model.specs.Kinds.{entered_copy, spends, spent_transit}
 use Rattle.exchange_check.specs.declared.facts.Fact.{Fact}
 use Rattle.trace_model.specs.declared.line.TraceLine.{TraceLine}
 use Rattle.trace_model.specs.Line.{Lines, counts}
-use Rattle.trace_model.specs.Record.{Entry, entry, line_number, event_of, site, line_at, events}
+use Rattle.trace_model.specs.Record.{LinePlace, line_place, line_number, event_of, site, line_at, events}
 use Rattle.trace_model.specs.Journey.{Journey, begun, with_stay, copy_entered, left_from, journey_made, journey_of, left_once}
 use Rattle.exchange_check.specs.Kept.{Facts, Leaves, leaves_after}
 use Rattle.exchange_check.specs.Judged.{once_by, stay_before, entered_by, is_once}
@@ -68,14 +68,14 @@ ended_once (suc (suc n)) = grind (arith, nat_tests)
 pub once_is : (network : Network) (lines : Lines) (stay : ℕ) → is_once (leaves_at network lines stay) ≡ eqb (count_by (spends stay) (events network lines)) 1
 once_is network lines stay = ap is_once (leaves_are network lines stay) ∙ ended_once (count_by (spends stay) (events network lines))
 
-either_number : (network : Network) (line : TraceLine) (earlier : Lines) (n : ℕ) (e : Entry) (here counted : Bool) → eqb (length earlier) n ≡ here
+either_number : (network : Network) (line : TraceLine) (earlier : Lines) (n : ℕ) (e : LinePlace) (here counted : Bool) → eqb (length earlier) n ≡ here
     → (line_at network earlier n ≡ Some e → line_number e ≡ n)
-    → cond here (cond counted (Some (entry line earlier)) None) (line_at network earlier n) ≡ Some e → line_number e ≡ n
+    → cond here (cond counted (Some (line_place line earlier)) None) (line_at network earlier n) ≡ Some e → line_number e ≡ n
 either_number network line earlier n e true true p before h = ap line_number (sym (same_Some _ _ h)) ∙ eqb-true (length earlier) n p
 either_number network line earlier n e true false p before h = absurd (none-some e h)
 either_number network line earlier n e false counted p before h = before h
 
-line_at-number : (network : Network) (lines : Lines) (n : ℕ) (e : Entry) → line_at network lines n ≡ Some e → line_number e ≡ n
+line_at-number : (network : Network) (lines : Lines) (n : ℕ) (e : LinePlace) → line_at network lines n ≡ Some e → line_number e ≡ n
 line_at-number network [] n e h = absurd (none-some e h)
 line_at-number network (line ∷ earlier) n e h = either_number network line earlier n e (eqb (length earlier) n) (counts network line) refl (line_at-number network earlier n e) h
 
@@ -83,7 +83,7 @@ copy_is : (named : Bool) (made limit c : ℕ) → cond (named && nat_lt made lim
 copy_is true made limit c h = grind (arith, nat_tests)
 copy_is false made limit c h = grind arith
 
-entered_is : (node : NodeName) (entered : Entry) (o : Option ℕ) (c : ℕ) → entered_copy (event_of entered) ≡ o
+entered_is : (node : NodeName) (entered : LinePlace) (o : Option ℕ) (c : ℕ) → entered_copy (event_of entered) ≡ o
     → option_and_then (λ copy. cond (is_named (site entered) node && nat_lt copy (line_number entered)) (Some copy) None) o ≡ Some c
     → (entered_copy (event_of entered) ≡ Some c) × (c < line_number entered)
 entered_is node entered None c same h = grind arith
@@ -92,7 +92,7 @@ entered_is node entered (Some made) c same h =
 
 module _ (network : Network) (facts : Facts) (leaves : Leaves) (run : Run) (ends : (stay : ℕ) → is_once (leaves stay) ≡ eqb (count_by (spends stay) run) 1) where
   abbrev Keeps : Lines → Type 0
-  Keeps lines = (n : ℕ) (e : Entry) → line_at network lines n ≡ Some e → facts n ≡ Some (fact_of network e)
+  Keeps lines = (n : ℕ) (e : LinePlace) → line_at network lines n ≡ Some e → facts n ≡ Some (fact_of network e)
 
   abbrev IsFollowed : ℕ → Journey → Type 0
   IsFollowed copy j = (count : ℕ) → copy < count → once_by facts leaves count copy ≡ left_once run j
@@ -123,41 +123,41 @@ module _ (network : Network) (facts : Facts) (leaves : Leaves) (run : Run) (ends
 
   module _ (line : TraceLine) (earlier : Lines) (counted : counts network line ≡ true) (keeps : Keeps (line ∷ earlier))
       (before : (n : ℕ) (j : Journey) → journey_of network earlier n ≡ Some j → IsFollowed n j) where
-    at_line : facts (length earlier) ≡ Some (fact_of network (entry line earlier))
-    at_line = keeps (length earlier) (entry line earlier) (line_at-here network line earlier counted)
+    at_line : facts (length earlier) ≡ Some (fact_of network (line_place line earlier))
+    at_line = keeps (length earlier) (line_place line earlier) (line_at-here network line earlier counted)
 
-    begun_followed : (j : Journey) → spent_transit line.event ≡ None → Some (begun (entry line earlier)) ≡ Some j → IsFollowed (length earlier) j
+    begun_followed : (j : Journey) → spent_transit line.event ≡ None → Some (begun (line_place line earlier)) ≡ Some j → IsFollowed (length earlier) j
     begun_followed j none h =
         let P : Journey → Type 0 = λ x. IsFollowed (length earlier) x in
-        subst P (same_Some _ _ h) (follow_none (length earlier) (no_stay (length earlier) (fact_of network (entry line earlier)) at_line none))
+        subst P (same_Some _ _ h) (follow_none (length earlier) (no_stay (length earlier) (fact_of network (line_place line earlier)) at_line none))
 
-    stay_followed : (transit : ℕ) (entered : Entry) (c : ℕ) (o : Option Journey) (j : Journey) → spent_transit line.event ≡ Some transit → line_at network earlier transit ≡ Some entered
-        → (entered_copy (event_of entered) ≡ Some c) × (c < line_number entered) → journey_of network earlier c ≡ o → option_map (with_stay (entry line earlier) entered) o ≡ Some j → IsFollowed (length earlier) j
+    stay_followed : (transit : ℕ) (entered : LinePlace) (c : ℕ) (o : Option Journey) (j : Journey) → spent_transit line.event ≡ Some transit → line_at network earlier transit ≡ Some entered
+        → (entered_copy (event_of entered) ≡ Some c) × (c < line_number entered) → journey_of network earlier c ≡ o → option_map (with_stay (line_place line earlier) entered) o ≡ Some j → IsFollowed (length earlier) j
     stay_followed transit entered c None j spent there copied journey h = grind arith
     stay_followed transit entered c (Some k) j spent there copied journey h =
         let number : line_number entered ≡ transit = line_at-number network earlier transit entered there in
         let inside : transit < length earlier = line_at-bound network earlier transit entered there in
         let below : c < length earlier = omega (arith, copied.1) in
-        let found = stay_found (length earlier) transit c (fact_of network (entry line earlier)) (fact_of network entered) at_line spent (keeps transit entered (line_at-later network line earlier transit entered there)) copied.0 in
+        let found = stay_found (length earlier) transit c (fact_of network (line_place line earlier)) (fact_of network entered) at_line spent (keeps transit entered (line_at-later network line earlier transit entered there)) copied.0 in
         let P : Journey → Type 0 = λ x. IsFollowed (length earlier) x in
         subst P (same_Some _ _ h) (λ count within. follow_one (length earlier) transit c (left_once run k) found below (before c k journey) count within
         ∙ (λ i. eqb (count_by (spends (sym number i)) run) 1 && left_once run k))
 
-    copy_followed : (node : NodeName) (transit : ℕ) (entered : Entry) (o : Option ℕ) (j : Journey) → spent_transit line.event ≡ Some transit → line_at network earlier transit ≡ Some entered
-        → copy_entered node entered ≡ o → option_and_then (λ copy. option_map (with_stay (entry line earlier) entered) (journey_of network earlier copy)) o ≡ Some j → IsFollowed (length earlier) j
+    copy_followed : (node : NodeName) (transit : ℕ) (entered : LinePlace) (o : Option ℕ) (j : Journey) → spent_transit line.event ≡ Some transit → line_at network earlier transit ≡ Some entered
+        → copy_entered node entered ≡ o → option_and_then (λ copy. option_map (with_stay (line_place line earlier) entered) (journey_of network earlier copy)) o ≡ Some j → IsFollowed (length earlier) j
     copy_followed node transit entered None j spent there copied h = grind arith
     copy_followed node transit entered (Some c) j spent there copied h =
         stay_followed transit entered c (journey_of network earlier c) j spent there (entered_is node entered (entered_copy (event_of entered)) c refl copied) refl h
 
-    left_followed : (node : NodeName) (transit : ℕ) (o : Option Entry) (j : Journey) → spent_transit line.event ≡ Some transit → line_at network earlier transit ≡ o
-        → option_and_then (left_from node (entry line earlier) (journey_of network earlier)) o ≡ Some j → IsFollowed (length earlier) j
+    left_followed : (node : NodeName) (transit : ℕ) (o : Option LinePlace) (j : Journey) → spent_transit line.event ≡ Some transit → line_at network earlier transit ≡ o
+        → option_and_then (left_from node (line_place line earlier) (journey_of network earlier)) o ≡ Some j → IsFollowed (length earlier) j
     left_followed node transit None j spent there h = grind arith
     left_followed node transit (Some entered) j spent there h = copy_followed node transit entered (copy_entered node entered) j spent there refl h
 
     nothing_followed : (j : Journey) → None ≡ Some j → IsFollowed (length earlier) j
     nothing_followed j h = absurd (none-some j h)
 
-    made_followed : (event : Event) (j : Journey) → event ≡ line.event → journey_made network event (entry line earlier) (journey_of network earlier) ≡ Some j → IsFollowed (length earlier) j
+    made_followed : (event : Event) (j : Journey) → event ≡ line.event → journey_made network event (line_place line earlier) (journey_of network earlier) ≡ Some j → IsFollowed (length earlier) j
     made_followed (Sync node at) j same h = begun_followed j (sym (ap spent_transit same)) h
     made_followed (SyncOne node at) j same h = begun_followed j (sym (ap spent_transit same)) h
     made_followed (Follow node) j same h = nothing_followed j h
@@ -173,7 +173,7 @@ module _ (network : Network) (facts : Facts) (leaves : Leaves) (run : Run) (ends
 
   either_followed : (line : TraceLine) (earlier : Lines) (n : ℕ) (j : Journey) (here counted : Bool) → eqb (length earlier) n ≡ here → counts network line ≡ counted → Keeps (line ∷ earlier)
       → ((m : ℕ) (k : Journey) → journey_of network earlier m ≡ Some k → IsFollowed m k)
-      → cond here (cond counted (journey_made network line.event (entry line earlier) (journey_of network earlier)) None) (journey_of network earlier n) ≡ Some j → IsFollowed n j
+      → cond here (cond counted (journey_made network line.event (line_place line earlier) (journey_of network earlier)) None) (journey_of network earlier n) ≡ Some j → IsFollowed n j
   either_followed line earlier n j true true p c keeps before h =
       let P : ℕ → Type 0 = λ m. IsFollowed m j in
       subst P (eqb-true (length earlier) n p) (made_followed line earlier c keeps before line.event j refl h)

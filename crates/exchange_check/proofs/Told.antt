@@ -17,7 +17,7 @@ use Rattle.exchange_check.specs.declared.facts.Known.{Known}
 use Rattle.exchange_check.specs.declared.facts.Travel.{Travel}
 use Rattle.trace_model.specs.declared.line.TraceLine.{TraceLine}
 use Rattle.trace_model.specs.Line.{Lines, counts, is_made, completes}
-use Rattle.trace_model.specs.Record.{Entry, entry, line_number, event_of, site, line_at, events, last_line, reading, reads_right, sequence}
+use Rattle.trace_model.specs.Record.{LinePlace, line_place, line_number, event_of, site, line_at, events, last_line, reading, reads_right, sequence}
 use Rattle.trace_model.specs.Journey.{Journey, stay_length, residence, begun, with_stay, copy_entered, left_from, journey_made, journey_of}
 use Rattle.trace_model.specs.Octets.{drawing_port, writes_right}
 use Rattle.trace_model.specs.Sound.{stay_reads_right, journey_reads_right, journey_writes_right}
@@ -34,15 +34,15 @@ travel_of network journey = record {
 }
 
 -- the sequenceId that a line draws, 0 where it draws none
-abbrev pub number_drawn : Network → Entry → ℕ
+abbrev pub number_drawn : Network → LinePlace → ℕ
 number_drawn network e = option_map_or (λ port. sequence network port e) (drawing_port network (event_of e)) 0
 
 -- the journey of the copy that a line made
-abbrev pub journey_from : Network → Entry → Option Journey
+abbrev pub journey_from : Network → LinePlace → Option Journey
 journey_from network e = journey_made network (event_of e) e (journey_of network e.earlier)
 
 -- what is kept of a line
-abbrev pub fact_of : Network → Entry → Fact
+abbrev pub fact_of : Network → LinePlace → Fact
 fact_of network e = record {
   line = line_number e;
   event = event_of e;
@@ -61,7 +61,7 @@ abbrev pub facts_at : Network → Lines → Facts
 facts_at network lines n = option_map (fact_of network) (line_at network lines n)
 
 -- what is known of a line from the line itself and from its node
-abbrev pub known_of : Network → Entry → Known
+abbrev pub known_of : Network → LinePlace → Known
 known_of network e = record {
   line = line_number e;
   reading = reading e;
@@ -88,18 +88,18 @@ number_is network earlier (Tick node) = refl
 number_is network earlier (SetMaster node master) = refl
 number_is network earlier (StepClock node diff) = refl
 
-pub known_is : (network : Network) (line : TraceLine) (earlier : Lines) → known_by network (site_at network earlier) line (length earlier) ≡ known_of network (entry line earlier)
+pub known_is : (network : Network) (line : TraceLine) (earlier : Lines) → known_by network (site_at network earlier) line (length earlier) ≡ known_of network (line_place line earlier)
 known_is network line earlier = λ i. record {
   line = length earlier;
   reading = unwrap_or line.reading 0;
   number = record { 0 = number_is network earlier line.event i };
-  reads = reads_right network (entry line earlier);
+  reads = reads_right network (line_place line earlier);
   last_sync = option_map line_number (last_line network is_sync (site_of line.event) earlier);
 }
 
 either_way : (network : Network) (line : TraceLine) (earlier : Lines) (n : ℕ) (here counted : Bool) → journey_of network earlier n ≡ option_and_then (journey_from network) (line_at network earlier n)
-    → cond here (cond counted (journey_made network line.event (entry line earlier) (journey_of network earlier)) None) (journey_of network earlier n)
-    ≡ option_and_then (journey_from network) (cond here (cond counted (Some (entry line earlier)) None) (line_at network earlier n))
+    → cond here (cond counted (journey_made network line.event (line_place line earlier) (journey_of network earlier)) None) (journey_of network earlier n)
+    ≡ option_and_then (journey_from network) (cond here (cond counted (Some (line_place line earlier)) None) (line_at network earlier n))
 either_way network line earlier n true true h = refl
 either_way network line earlier n true false h = refl
 either_way network line earlier n false counted h = h
@@ -109,7 +109,7 @@ pub journey_of-line_at : (network : Network) (lines : Lines) (n : ℕ) → journ
 journey_of-line_at network [] n = refl
 journey_of-line_at network (line ∷ earlier) n = either_way network line earlier n (eqb (length earlier) n) (counts network line) (journey_of-line_at network earlier n)
 
-travel_from : (network : Network) (o : Option Entry) → option_and_then (λ (fact : Fact). fact.travel) (option_map (fact_of network) o) ≡ option_map (travel_of network) (option_and_then (journey_from network) o)
+travel_from : (network : Network) (o : Option LinePlace) → option_and_then (λ (fact : Fact). fact.travel) (option_map (fact_of network) o) ≡ option_map (travel_of network) (option_and_then (journey_from network) o)
 travel_from network None = refl
 travel_from network (Some e) = refl
 
@@ -128,7 +128,7 @@ and_turned true false true = refl
 and_turned true false false = refl
 and_turned false l s = refl
 
-begun_is : (network : Network) (e : Entry) → written_travel (writes_right network e) (begun_by (known_of network e)) ≡ travel_of network (begun e)
+begun_is : (network : Network) (e : LinePlace) → written_travel (writes_right network e) (begun_by (known_of network e)) ≡ travel_of network (begun e)
 begun_is network e = λ i. record {
   origin = line_number e;
   residence = 0;
@@ -139,12 +139,12 @@ begun_is network e = λ i. record {
 min_more : (r s : ℕ) → min (min r longest + s) longest ≡ min (s + r) longest
 min_more r s = omega arith
 
-residence_more : (e entered : Entry) (j : Journey) → min (min (residence j) longest + (reading e - reading entered)) longest ≡ min (residence (with_stay e entered j)) longest
+residence_more : (e entered : LinePlace) (j : Journey) → min (min (residence j) longest + (reading e - reading entered)) longest ≡ min (residence (with_stay e entered j)) longest
 residence_more e entered j =
     min_more (residence j) (reading e - reading entered)
     ∙ ap (λ (n : ℕ). min n longest) (sym (sum_by-cons stay_length (record { entered = entered; left = e }) j.stays))
 
-stayed_is : (network : Network) (e entered : Entry) (j : Journey) → written_travel (writes_right network e) (stayed (known_of network e) (fact_of network entered) (travel_of network j)) ≡ travel_of network (with_stay e entered j)
+stayed_is : (network : Network) (e entered : LinePlace) (j : Journey) → written_travel (writes_right network e) (stayed (known_of network e) (fact_of network entered) (travel_of network j)) ≡ travel_of network (with_stay e entered j)
 stayed_is network e entered j = λ i. record {
   origin = line_number j.origin;
   residence = residence_more e entered j i;
@@ -152,13 +152,13 @@ stayed_is network e entered j = λ i. record {
   writes_right = and_turned (writes_right network j.origin) (list_all (λ stay. writes_right network stay.left) j.stays) (writes_right network e) i;
 }
 
-module _ (network : Network) (e : Entry) where
-  after_stay : (entered : Entry) (o : Option Journey) → option_map (written_travel (writes_right network e)) (option_map (stayed (known_of network e) (fact_of network entered)) (option_map (travel_of network) o))
+module _ (network : Network) (e : LinePlace) where
+  after_stay : (entered : LinePlace) (o : Option Journey) → option_map (written_travel (writes_right network e)) (option_map (stayed (known_of network e) (fact_of network entered)) (option_map (travel_of network) o))
       ≡ option_map (travel_of network) (option_map (with_stay e entered) o)
   after_stay entered None = refl
   after_stay entered (Some j) = ap Some (stayed_is network e entered j)
 
-  after_copy : (entered : Entry) (c : Option ℕ)
+  after_copy : (entered : LinePlace) (c : Option ℕ)
       → option_map (written_travel (writes_right network e)) (option_and_then (λ copy. option_map (stayed (known_of network e) (fact_of network entered)) (travel_at (facts_at network e.earlier) copy)) c)
       ≡ option_map (travel_of network) (option_and_then (λ copy. option_map (with_stay e entered) (journey_of network e.earlier copy)) c)
   after_copy entered None = refl
@@ -166,7 +166,7 @@ module _ (network : Network) (e : Entry) where
       ap (λ (o : Option Travel). option_map (written_travel (writes_right network e)) (option_map (stayed (known_of network e) (fact_of network entered)) o)) (travel_at-is network e.earlier copy)
       ∙ after_stay entered (journey_of network e.earlier copy)
 
-  after_entered : (node : NodeName) (o : Option Entry)
+  after_entered : (node : NodeName) (o : Option LinePlace)
       → option_map (written_travel (writes_right network e)) (option_and_then (left_by (facts_at network e.earlier) node (known_of network e)) (option_map (fact_of network) o))
       ≡ option_map (travel_of network) (option_and_then (left_from node e (journey_of network e.earlier)) o)
   after_entered node None = refl

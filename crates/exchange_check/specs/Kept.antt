@@ -7,6 +7,7 @@ use Rattle.std.specs.Option.{option_or, option_map_or}
 use Rattle.ptp_units.specs.Sequence.{of_count, next}
 use Rattle.event_codec.specs.Packet.{Contents}
 use Rattle.master_port.specs.Written.{follow_up, delay_resp}
+use Rattle.transparent_clock.specs.Forwarding.{resided}
 use Rattle.network_model.specs.declared.event.Event.{Event}
 use Rattle.network_model.specs.declared.event.Event.TheVariants.{Sync, SyncOne, Follow, Enter, Leave, Arrive, Hear, Request, Stamped, Tick, SetMaster, StepClock}
 use Rattle.network_model.specs.Network.{Network, NodeName, PortSetup, is_named}
@@ -22,7 +23,7 @@ use Rattle.exchange_check.specs.declared.octets.Port.{Port}
 use Rattle.exchange_check.specs.declared.octets.Written.{Written}
 use Rattle.trace_model.specs.Line.{counts, is_made, completes}
 use Rattle.trace_model.specs.Record.{is_reading}
-use Rattle.trace_model.specs.Octets.{drawing_port, message_sent, with_residence_time, is_written}
+use Rattle.trace_model.specs.Octets.{drawing_port, message_sent, is_written}
 
 -- a port's configuration and first number, as a network has them
 abbrev pub port_setup : Port → PortSetup
@@ -130,7 +131,7 @@ sent_by network event number now =
 -- the message at the end of a journey
 abbrev pub travelled_by : Network → Facts → Travel → Option Contents
 travelled_by network facts travel = option_and_then
-    (λ origin. option_map (with_residence_time travel.residence) (sent_by network origin.event origin.number.0 origin.reading))
+    (λ origin. option_map (λ m. resided m travel.residence) (sent_by network origin.event origin.number.0 origin.reading))
     (facts travel.origin)
 
 abbrev pub followed_by : Facts → PortSetup → Option ℕ → Option Contents

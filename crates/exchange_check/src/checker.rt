@@ -1,8 +1,9 @@
-ghost use Rattle.std.specs.Prelude.{◌≡◌, reverse, MatchResult, OnErr};
+ghost use Rattle.std.specs.Prelude.{◌≡◌, reverse, MatchResult, IfOk};
 ghost use Rattle.std.specs.Prelude.{◌++◌, ◌∷◌, []};
 ghost use Rattle.network_model.specs.Network.{Network};
 ghost use Rattle.exchange_check.specs.declared.refusal.CheckFault.TheVariants.{Memory};
 ghost use Rattle.trace_model.specs.Verdict.{verdict};
+ghost use Rattle.trace_model.specs.Soundness.{TellsSoundness};
 
 use crate::kept::Kept;
 use crate::refusal::CheckFault;
@@ -11,13 +12,15 @@ use std::alloc::Global;
 use std::marker::Model;
 use trace_model::{TraceLine, Verdict};
 
-/// The verdict on a transcript of a network, its lines oldest first, whatever their origin: whether
-/// every report line is sound, or which is the first that isn't, and why. Refused with 709 where
-/// memory was refused.
+/// The verdict on a transcript of a network, its lines oldest first, whatever their origin: accepted
+/// exactly where every report line is sound, with their number, and refused exactly where one isn't,
+/// with the number of the first such line and the first condition that it fails. Refused with 709
+/// where memory was refused.
 pub fn check(alloc: Global, nodes: &Nodes, lines: &[TraceLine]) -> Result<Verdict, CheckFault>
-    ensures { MatchResult result
+    ensures verdict { MatchResult result
         (λ answer. answer ≡ verdict nodes.now (reverse lines.now))
         (λ fault. fault ≡ Memory) }
+    ensures sound { IfOk result (λ answer. TellsSoundness nodes.now (reverse lines.now) answer) }
 {
     let mut kept = Kept::new(alloc);
     for line in lines {
@@ -79,7 +82,8 @@ impl Checker {
 
     /// The verdict on the lines fed so far, as [`check`] answers it.
     pub fn verdict(&self) -> Verdict
-        ensures { result ≡ verdict self.now.network (reverse self.now.lines) }
+        ensures verdict { result ≡ verdict self.now.network (reverse self.now.lines) }
+        ensures sound { TellsSoundness self.now.network (reverse self.now.lines) result }
     {
         self.kept.verdict
     }

@@ -3,10 +3,11 @@
 ghost use Rattle.std.specs.Prelude.{◌≡◌, ◌≤◌, ◌≤ℤ◌, pos, [], length, option_map, IfSome};
 ghost use Rattle.event_codec.specs.Packet.{Contents, contents};
 ghost use Rattle.master_port.specs.Written.{follow_up, delay_resp};
+ghost use Rattle.transparent_clock.specs.Forwarding.{resided};
 ghost use Rattle.network_model.specs.Network.{PortSetup};
 ghost use Rattle.network_model.specs.Truth.{master_at, slave_at};
 ghost use Rattle.exchange_check.specs.Kept.{sent_by, port_setup, contents_of};
-ghost use Rattle.trace_model.specs.Octets.{is_packet, is_written, drawing_port, message_sent, with_residence_time};
+ghost use Rattle.trace_model.specs.Octets.{is_packet, is_written, drawing_port, message_sent};
 
 use event_codec::{Body, Header, Message, PortConfig, encode};
 use network_model::{Event, Name, NodeKind, Nodes};
@@ -108,9 +109,9 @@ pub(crate) fn sent(nodes: &Nodes, event: &Event, number: Seq, now: ScaledTime) -
 }
 
 /// A message with a residence added to its correction.
-pub(crate) fn with_residence_time(message: &Written, time: u64) -> Written
+pub(crate) fn resided(message: &Written, time: u64) -> Written
     requires { pos 0 ≤ℤ message.now.header.correction.0 }
-    ensures value { contents_of result ≡ with_residence_time time (contents_of message.now) }
+    ensures value { contents_of result ≡ resided (contents_of message.now) time }
     ensures sign { pos 0 ≤ℤ result.header.correction.0 }
 {
     let mut header = message.header;

@@ -96,8 +96,8 @@ fn config(identity: PortIdentity) -> PortConfig {
 }
 
 /// The master M, the slave S and the clock T.
-fn nodes(alloc: Global) -> Result<Nodes, Fail> {
-    let nodes = [
+fn specs() -> Result<[NodeSpec; 3], Fail> {
+    Ok([
         NodeSpec {
             name: name("M")?,
             kind: NodeKind::Master {
@@ -116,8 +116,11 @@ fn nodes(alloc: Global) -> Result<Nodes, Fail> {
             name: name("T")?,
             kind: NodeKind::Clock,
         },
-    ];
-    Ok(Nodes::new(alloc, &nodes)?)
+    ])
+}
+
+fn nodes(alloc: Global) -> Result<Nodes, Fail> {
+    Ok(Nodes::new(alloc, &specs()?)?)
 }
 
 fn line(event: Event, reading: Option<ScaledTime>, out: TraceOut) -> TraceLine {
@@ -361,6 +364,49 @@ fn one_line_changed(rt: HostRuntime) -> Result<(), Fail> {
             "{number}"
         );
     }
+    Ok(())
+}
+
+/// The verdict is that of ample memory, or memory was refused, and the same lines get it then.
+#[test]
+fn checks_whatever_memory_there_is(rt: HostRuntime) -> Result<(), Fail> {
+    let Ok(nodes) = Nodes::new(rt.alloc(), &specs()?) else {
+        return Ok(());
+    };
+    let lines = exchange()?;
+    let verdict = match check(rt.alloc(), &nodes, &lines) {
+        Ok(verdict) => verdict,
+        Err(fault) => {
+            assert_eq!(rt; fault, CheckFault::Memory);
+            check(rt.alloc(), &nodes, &lines)?
+        }
+    };
+    assert_eq!(rt; verdict, Verdict::Accepted(1));
+    Ok(())
+}
+
+/// A line that is refused for want of memory changes nothing, and can be fed again.
+#[test]
+fn is_fed_whatever_memory_there_is(rt: HostRuntime) -> Result<(), Fail> {
+    let Ok(nodes) = Nodes::new(rt.alloc(), &specs()?) else {
+        return Ok(());
+    };
+    let mut checker = match Checker::new(rt.alloc(), nodes) {
+        Ok(checker) => checker,
+        Err(fault) => {
+            assert_eq!(rt; fault, CheckFault::Memory);
+            return Ok(());
+        }
+    };
+    for (line, again) in exchange()?.into_iter().zip(exchange()?) {
+        let before = checker.verdict();
+        if let Err(fault) = checker.feed(line) {
+            assert_eq!(rt; fault, CheckFault::Memory);
+            assert_eq!(rt; checker.verdict(), before);
+            checker.feed(again)?;
+        }
+    }
+    assert_eq!(rt; checker.verdict(), Verdict::Accepted(1));
     Ok(())
 }
 

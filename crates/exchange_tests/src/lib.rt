@@ -26,6 +26,8 @@ mod nodes;
 #[cfg(test)]
 mod program;
 #[cfg(test)]
+mod refusals;
+#[cfg(test)]
 mod script;
 #[cfg(test)]
 mod show;

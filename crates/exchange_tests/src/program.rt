@@ -202,6 +202,40 @@ fn writes_help_with_status_0(rt: HostRuntime) -> Result<(), Fail> {
     Ok(())
 }
 
+/// What the help of `show` says of its answers, its faults and its statuses.
+const SHOW_RULES: [&str; 18] = [
+    "\n  0012002c00000200000000000000000000000000001122fffe33445500010000000000000000000000000000\n",
+    "\n  Sync sdo=000 version=2.1 domain=0 flags=0200 correction=0 specific=00000000\n",
+    "\n  refused 201 ",
+    "\n  refused 202 ",
+    "\n  refused 203 type 11 ",
+    "\n  refused 204 ",
+    "\n  refused 205 ",
+    "\n  refused 206 ",
+    "\n  801  the input can't be read\n",
+    "\n  802  the output can't be written\n",
+    "\n  803  a line has more than 4096 octets\n",
+    "\n  804  an octet comes after the last of 1048576 lines\n",
+    "\n  806  a line isn't hexadecimal, or has an odd number of digits\n",
+    "\n  808  memory was refused\n",
+    "\n  0  each line was answered",
+    "\n  2  the arguments aren't a command\n",
+    "\n  3  a fault\n",
+    "\nLimits: a line has 4096 octets before its LF at the most, so a datagram has 2048, and an input has\n1048576 lines.",
+];
+
+#[test]
+fn says_in_help_what_is_read_and_written(rt: HostRuntime) -> Result<(), Fail> {
+    for line in ["ptpx show --help", "ptpx show -h", "ptpx help show"] {
+        let ended = run(rt.alloc(), line, SYNC)?;
+        let said = str::from_utf8(ended.output.as_slice())?;
+        for rule in SHOW_RULES {
+            assert!(rt; said.contains(rule), "{line}: {rule}");
+        }
+    }
+    Ok(())
+}
+
 /// Arguments that are no command, and what stands in the text.
 const MISTAKES: [(&str, &str); 15] = [
     (

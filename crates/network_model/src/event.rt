@@ -1,3 +1,6 @@
+ghost use Rattle.std.specs.Prelude.{◌≡◌};
+ghost use Rattle.network_model.specs.Run.{site_of, true_moment};
+
 use crate::name::Name;
 use ptp_units::ScaledTime;
 
@@ -92,4 +95,46 @@ pub enum Event {
         /// Its readings less the true moments from now on, in units of 2^-16 ns.
         diff: i128,
     },
+}
+
+impl Event {
+    /// The node at which it happens.
+    pub fn node(&self) -> Name
+        ensures { result ≡ site_of self.now }
+    {
+        match self {
+            Event::Sync { node, .. }
+            | Event::SyncOne { node, .. }
+            | Event::Follow { node }
+            | Event::Enter { node, .. }
+            | Event::Leave { node, .. }
+            | Event::Arrive { node, .. }
+            | Event::Hear { node, .. }
+            | Event::Request { node, .. }
+            | Event::Stamped { node }
+            | Event::Tick { node }
+            | Event::SetMaster { node, .. }
+            | Event::StepClock { node, .. } => *node,
+        }
+    }
+
+    /// Its true moment, in units of 2^-16 ns, or None for an event that has none.
+    pub fn true_moment(&self) -> Option<ScaledTime>
+        ensures { result ≡ true_moment self.now }
+    {
+        match self {
+            Event::Sync { at, .. }
+            | Event::SyncOne { at, .. }
+            | Event::Enter { at, .. }
+            | Event::Leave { at, .. }
+            | Event::Arrive { at, .. }
+            | Event::Request { at, .. } => Some(*at),
+            Event::Follow { .. }
+            | Event::Hear { .. }
+            | Event::Stamped { .. }
+            | Event::Tick { .. }
+            | Event::SetMaster { .. }
+            | Event::StepClock { .. } => None,
+        }
+    }
 }

@@ -1,3 +1,4 @@
 pub mod Json
 pub mod Line
+pub mod Traced
 pub mod Transcript

@@ -3,6 +3,7 @@
 
 mod counted;
 mod fault;
+mod help;
 pub mod laws;
 mod lines;
 mod octet_reader;

@@ -1,10 +1,12 @@
 //! What the arguments of `ptpx` ask for, as `clap` reads them.
-ghost use Rattle.std.specs.Prelude.{◌≡◌, IfOk, Some, map, string_bytes};
+ghost use Rattle.std.specs.Prelude.{◌≡◌, false, IfOk, Some, map, string_bytes};
 ghost use Rattle.clap.specs.Matches.{subcommand_name_of};
-ghost use Rattle.clap.specs.Simple.{app_of};
+ghost use Rattle.clap.specs.declared.builder.command.Command.TheViews.{out-Command as fields_of};
+ghost use Rattle.clap.specs.Simple.{app_of, new_shape, shape_of};
 ghost use Rattle.clap.specs.Values.{kind_of};
 ghost use Rattle.schedule_replay.specs.Words.{Asks, ShowsKind, name_of, program};
 
+use crate::help;
 use clap::error::ErrorKind;
 use clap::{ArgMatches, Command, Error};
 use std::alloc::{AllocError, Global};
@@ -29,12 +31,28 @@ pub(crate) enum Invocation {
     Mistake(String),
 }
 
+/// A subcommand as `clap` has it, with a line that says what it does, and its help.
+fn with_help<'a>(
+    alloc: Global,
+    name: &'static str,
+    about: &'static str,
+    help: &'static str,
+) -> Command<'a>
+    ensures shape { shape_of result ≡ new_shape name.now }
+    ensures local { (fields_of result).has_globals ≡ false }
+{
+    Command::new(alloc, name).about(about).after_help(help)
+}
+
 /// `ptpx` as `clap` has it.
 fn program<'a>(alloc: Global) -> Result<Command<'a>, AllocError>
     ensures app { IfOk result (λ c. app_of c ≡ program) }
 {
-    let show = Command::new(alloc, "show").about(
+    let show = with_help(
+        alloc,
+        "show",
         "Print the datagrams that standard input gives in hexadecimal, one a line",
+        help::SHOW,
     );
     let replay = Command::new(alloc, "replay").about(
         "Print what comes of the nodes and events that standard input gives, one a line",
@@ -42,6 +60,7 @@ fn program<'a>(alloc: Global) -> Result<Command<'a>, AllocError>
     Command::new(alloc, "ptpx")
         .bin_name("ptpx")?
         .about("The delay request-response exchange of the Precision Time Protocol (IEEE 1588)")
+        .after_help(help::PROGRAM)
         .subcommand_required(true)
         .subcommand(show)?
         .subcommand(replay)

@@ -461,7 +461,7 @@ report_parts setup earlier call report is = by (ignored setup earlier call) is
     by (Some reason) is = cc
     by None is = of_used (is_none (sync_completion setup earlier call) && is_none (delay_completion setup earlier call)) is
 
--- what completes isn't behind the last completion
+-- what completes isn't older than the last completion
 pub sync_completion-newer : (setup : Setup) (earlier : List Call) (call : Call) (c : SyncCompletion) → sync_completion setup earlier call ≡ Some c
     → is_not_newer (criteria setup earlier).last c.number ≡ false
 sync_completion-newer setup earlier call c is = by (sync_completion_of setup earlier call c is).0

@@ -1,1 +1,15 @@
 pub mod WorkedExchange
+pub mod Good
+pub mod Certain
+pub mod Found
+pub mod Recorded
+pub mod Last
+pub mod Left
+pub mod Travelled
+pub mod Stays
+pub mod Soundness
+pub mod Packets
+pub mod Written
+pub mod Octets
+pub mod Exchanges
+pub mod Measured

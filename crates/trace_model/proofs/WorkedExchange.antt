@@ -1,4 +1,4 @@
--- One exchange through a clock, as a transcript: the slave is 1,000 ns ahead, two cables take 500 ns each way, the Sync is in
+-- One exchange through a clock, as a transcript: the slave's clock leads by 1,000 ns, both cables take 500 ns each way, the Sync is in
 -- the clock for 2,000 ns and the Delay_Req for 3,500.25 ns. What the definitions say of it is computed.
 use Rattle.std.proofs.Common.{◌≡◌, ℕ, ℤ, pos, refl, List, [], ◌∷◌, reverse, Option, Some, None}
 use Rattle.ptp_units.specs.Moment.{stamp, moment}

@@ -6,3 +6,5 @@ pub mod Octets
 pub mod Sound
 pub mod Verdict
 pub mod Told
+pub mod Faithful
+pub mod Soundness

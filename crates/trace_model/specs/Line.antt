@@ -96,8 +96,8 @@ may_happen network (Tick node) out = is_slave network node && is_done out
 may_happen network (SetMaster node master) out = is_slave network node && is_master network master && is_done out
 may_happen network (StepClock node diff) out = is_some (kind_of network node) && is_done out
 
--- A line that tells of something done: it is good, and its event was neither refused nor ignored. To the lines behind it
--- every other line is as good as absent.
+-- A line that tells of something done: it is good, and its event was neither refused nor ignored. To the lines after it
+-- every other line is as if it weren't there.
 abbrev pub counts : Network → TraceLine → Bool
 counts network line = may_happen network line.event line.out && not (is_refused line.out || is_ignored line.out)
 

@@ -4,16 +4,15 @@ use Rattle.std.specs.Int.{w8, w64, cast_signed}
 use Rattle.std.specs.List.{list_all}
 use Rattle.std.specs.Ordering.{int_eq}
 use Rattle.std.specs.Str.{bytes_eq}
-use Rattle.ptp_units.specs.Interval.{with_residence}
 use Rattle.event_codec.specs.declared.message.Body.{Body}
 use Rattle.event_codec.specs.declared.message.Body.TheVariants as bodies
 use Rattle.event_codec.specs.declared.port.PortConfig.{PortConfig}
 use Rattle.event_codec.specs.declared.port.PortIdentity.{PortIdentity}
-use Rattle.event_codec.specs.Correction.{with_correction}
 use Rattle.event_codec.specs.Layout.{number, number_of, type_of, fields_length, stamp_in}
 use Rattle.event_codec.specs.Packet.{Contents}
 use Rattle.master_port.specs.Written.{sync, one_step_sync, follow_up, delay_resp}
 use Rattle.slave_port.specs.Written.{delay_req}
+use Rattle.transparent_clock.specs.Forwarding.{resided}
 use Rattle.network_model.specs.declared.event.Event.{Event}
 use Rattle.network_model.specs.declared.event.Event.TheVariants.{Sync, SyncOne, Follow, Enter, Leave, Arrive, Hear, Request, Stamped, Tick, SetMaster, StepClock}
 use Rattle.network_model.specs.Network.{Network, PortSetup}
@@ -21,7 +20,7 @@ use Rattle.network_model.specs.Kinds.{is_sync}
 use Rattle.network_model.specs.Truth.{master_at, slave_at}
 use Rattle.trace_model.specs.declared.line.TraceOut.{TraceOut}
 use Rattle.trace_model.specs.declared.line.TraceOut.TheVariants as outs
-use Rattle.trace_model.specs.Record.{Entry, event_of, last_line, reading, sequence}
+use Rattle.trace_model.specs.Record.{LinePlace, event_of, last_line, reading, sequence}
 use Rattle.trace_model.specs.Journey.{Journey, journey_of, journey_made, residence}
 
 -- whether the ten octets of b from octet i on are this port's identity
@@ -89,30 +88,26 @@ message_sent config (SetMaster node master) number now = None
 message_sent config (StepClock node diff) number now = None
 
 -- the message that a Sync, SyncOne or Request line sent, with the drawn number
-abbrev pub sent : Network → Entry → Option Contents
+abbrev pub sent : Network → LinePlace → Option Contents
 sent network e = option_and_then
     (λ port. message_sent port.config (event_of e) (sequence network port e) (reading e))
     (drawing_port network (event_of e))
 
--- a message with a residence added to its correction
-abbrev pub with_residence_time : ℕ → Contents → Contents
-with_residence_time time m = with_correction m (record { 0 = with_residence m.header.correction.0 time })
-
 -- the message at the end of a journey: as it was sent, with the residence of the journey added to its correction
 abbrev pub travelled : Network → Journey → Option Contents
-travelled network journey = option_map (with_residence_time (residence journey)) (sent network journey.origin)
+travelled network journey = option_map (λ m. resided m (residence journey)) (sent network journey.origin)
 
 -- the Follow_Up that a master sends: of its last Sync line below, whose reading is t1
-abbrev pub followed : Network → PortSetup → (last : Entry) → Contents
+abbrev pub followed : Network → PortSetup → (last : LinePlace) → Contents
 followed network port last = follow_up port.config (sequence network port last) (reading last)
 
 -- the Delay_Resp that a master sends to a Delay_Req that arrived after this journey, t4 being the reading of the arrival
-abbrev pub answered : Network → PortSetup → (arrival : Entry) → Journey → Option Contents
+abbrev pub answered : Network → PortSetup → (arrival : LinePlace) → Journey → Option Contents
 answered network port arrival journey =
     option_map (λ request. delay_resp port.config request.header (reading arrival)) (travelled network journey)
 
 -- the message that a line made
-abbrev pub message_made : Network → Event → Entry → Option Contents
+abbrev pub message_made : Network → Event → LinePlace → Option Contents
 message_made network (Sync node at) e = sent network e
 message_made network (SyncOne node at) e = sent network e
 message_made network (Follow node) e = option_and_then
@@ -138,5 +133,5 @@ is_written (Some m) (outs.Made octets) = is_packet m octets.items
 is_written _ _ = false
 
 -- the octets of the message that a line made are those that its port or its clock writes
-abbrev pub writes_right : Network → Entry → Bool
+abbrev pub writes_right : Network → LinePlace → Bool
 writes_right network e = is_written (message_made network (event_of e) e) e.line.out

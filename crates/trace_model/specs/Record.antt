@@ -13,31 +13,31 @@ use Rattle.trace_model.specs.declared.line.TraceLine.{TraceLine}
 use Rattle.trace_model.specs.Line.{Lines, counts}
 
 -- a line with all lines before it
-pub record Entry : Type 0 where
+pub record LinePlace : Type 0 where
   pub line : TraceLine
   pub earlier : Lines
 
-abbrev pub entry : TraceLine → Lines → Entry
-entry line earlier = record { line = line; earlier = earlier }
+abbrev pub line_place : TraceLine → Lines → LinePlace
+line_place line earlier = record { line = line; earlier = earlier }
 
 -- a line's number
-abbrev pub line_number : Entry → ℕ
+abbrev pub line_number : LinePlace → ℕ
 line_number e = length e.earlier
 
 -- the event of a line
-abbrev pub event_of : Entry → Event
+abbrev pub event_of : LinePlace → Event
 event_of e = e.line.event
 
 -- the node at which it happened
-abbrev pub site : Entry → NodeName
+abbrev pub site : LinePlace → NodeName
 site e = site_of e.line.event
 
 -- the line of this number, where it tells of something done
-abbrev pub line_at : Network → Lines → ℕ → Option Entry
+abbrev pub line_at : Network → Lines → ℕ → Option LinePlace
 line_at network [] n = None
 line_at network (line ∷ earlier) n =
     if length earlier == n
-    then (if counts network line then Some (entry line earlier) else None)
+    then (if counts network line then Some (line_place line earlier) else None)
     else line_at network earlier n
 
 -- the events of these lines that were done, newest first
@@ -45,14 +45,14 @@ abbrev pub events : Network → Lines → Run
 events network lines = map (λ line. line.event) (filter (counts network) lines)
 
 -- the event of a line, after those of the lines before it
-abbrev pub place_of : Network → Entry → Place
+abbrev pub place_of : Network → LinePlace → Place
 place_of network e = place e.line.event (events network e.earlier)
 
 -- the last line of this kind at a node
-abbrev pub last_line : Network → (Event → Bool) → NodeName → Lines → Option Entry
+abbrev pub last_line : Network → (Event → Bool) → NodeName → Lines → Option LinePlace
 last_line network kind node [] = None
 last_line network kind node (line ∷ earlier) =
-    if counts network line && is_at kind node line.event then Some (entry line earlier)
+    if counts network line && is_at kind node line.event then Some (line_place line earlier)
     else last_line network kind node earlier
 
 -- a line by which the slave learns when its request of this number departed: no other request stands between them
@@ -69,7 +69,7 @@ first_stamp network request (line ∷ earlier) = option_or
     (if stamps network request line earlier then Some (length earlier) else None)
 
 -- what a line says that the clock read, 0 where it says nothing
-abbrev pub reading : Entry → ℕ
+abbrev pub reading : LinePlace → ℕ
 reading e = unwrap_or e.line.reading 0
 
 -- whether a line says this reading
@@ -79,9 +79,9 @@ is_reading (Some read) None = false
 is_reading None shown = false
 
 -- the reading is there, and it is what the clock showed: the true moment, and the difference that the node's last StepClock set
-abbrev pub reads_right : Network → Entry → Bool
+abbrev pub reads_right : Network → LinePlace → Bool
 reads_right network e = is_reading e.line.reading (shown_at (place_of network e))
 
 -- the sequenceId that an event of a port draws
-abbrev pub sequence : Network → PortSetup → Entry → ℕ
+abbrev pub sequence : Network → PortSetup → LinePlace → ℕ
 sequence network port e = of_count (number_of port (place_of network e))

@@ -14,7 +14,7 @@ use Rattle.network_model.specs.Truth.{master_at, slave_at}
 use Rattle.trace_model.specs.declared.verdict.Why.{Why}
 use Rattle.trace_model.specs.declared.verdict.Why.TheVariants.{NoSuchLine, OtherNumber, OtherMaster, BrokenJourney, WrongReading, WrongValue, TooBig, Bytes}
 use Rattle.trace_model.specs.Line.{Lines, counts, is_made, completes, is_arrival, is_hearing}
-use Rattle.trace_model.specs.Record.{Entry, line_number, event_of, site, line_at, events, last_line, first_stamp, reading, reads_right}
+use Rattle.trace_model.specs.Record.{LinePlace, line_number, event_of, site, line_at, events, last_line, first_stamp, reading, reads_right}
 use Rattle.trace_model.specs.Journey.{Stay, Journey, journey_of, residence, left_once}
 use Rattle.trace_model.specs.Octets.{writes_right}
 
@@ -28,7 +28,7 @@ abbrev pub below : {X : Type 0} → (ℕ → Option X) → (limit number : ℕ) 
 below found limit number = if nat_lt number limit then found number else None
 
 -- all lines up to a line
-abbrev pub lines_to : Entry → Lines
+abbrev pub lines_to : LinePlace → Lines
 lines_to e = e.line ∷ e.earlier
 
 -- 701: the lines that a report is of are there
@@ -36,39 +36,39 @@ lines_to e = e.line ∷ e.earlier
 -- the lines of an exchange
 pub record Exchange : Type 0 where
   -- the Sync's arrival at the slave
-  pub sync : Entry
+  pub sync : LinePlace
   -- the line that sent the Follow_Up, of a two-step Sync
-  pub follow : Option Entry
+  pub follow : Option LinePlace
   -- the line that sent the Delay_Req
-  pub request : Entry
+  pub request : LinePlace
   -- the Delay_Req's arrival at a master, which sent the Delay_Resp
-  pub arrival : Entry
+  pub arrival : LinePlace
 
 -- the line of this number, where it is of this kind and at this node
-abbrev pub line_of : Network → Lines → (Event → Bool) → NodeName → ℕ → Option Entry
+abbrev pub line_of : Network → Lines → (Event → Bool) → NodeName → ℕ → Option LinePlace
 line_of network lines kind node number = where_passes (λ e. is_at kind node (event_of e)) (line_at network lines number)
 
 -- the line that made the copy which is heard at a line, and stands below it
-abbrev pub sender : Network → Lines → Entry → Option Entry
+abbrev pub sender : Network → Lines → LinePlace → Option LinePlace
 sender network lines e = option_and_then (below (line_at network lines) (line_number e)) (heard_copy (event_of e))
 
 -- the Sync's arrival: it is used by the slave, and where there is no Follow_Up it completes by itself
-abbrev pub sync_line : Network → Lines → NodeName → Report → Option Entry
+abbrev pub sync_line : Network → Lines → NodeName → Report → Option LinePlace
 sync_line network lines slave report =
     where_passes (λ e. is_some report.follow_tag || completes e.line.out) (line_of network lines is_arrival slave report.sync_tag)
 
 -- the line that sent the Follow_Up which the slave heard and used at the line of this number
-abbrev pub follow_line : Network → Lines → NodeName → ℕ → Option Entry
+abbrev pub follow_line : Network → Lines → NodeName → ℕ → Option LinePlace
 follow_line network lines slave hearing =
     where_passes (λ e. is_follow (event_of e)) (option_and_then (sender network lines) (line_of network lines is_hearing slave hearing))
 
 -- the same where the report has a Follow_Up; nothing is asked where it has none
-abbrev pub follow_lines : Network → Lines → NodeName → Option ℕ → Option (Option Entry)
+abbrev pub follow_lines : Network → Lines → NodeName → Option ℕ → Option (Option LinePlace)
 follow_lines network lines slave None = Some None
 follow_lines network lines slave (Some hearing) = option_map Some (follow_line network lines slave hearing)
 
 -- the arrival at a master that sent the Delay_Resp which completed at the slave at the line of this number
-abbrev pub arrival_line : Network → Lines → NodeName → ℕ → Option Entry
+abbrev pub arrival_line : Network → Lines → NodeName → ℕ → Option LinePlace
 arrival_line network lines slave hearing =
     where_passes (λ e. is_arrival (event_of e) && is_made e.line.out)
     (option_and_then (sender network lines) (where_passes (λ e. completes e.line.out) (line_of network lines is_hearing slave hearing)))
@@ -84,13 +84,13 @@ is_stamped_between network lines request hearing =
     nat_lt request hearing && option_map_or (λ stamp. nat_lt stamp hearing) (first_stamp network request lines) false
 
 -- what a report line asks beside the lines of its exchange: it is good, and the two facts above
-abbrev pub is_report_in_place : Network → Entry → Report → Bool
+abbrev pub is_report_in_place : Network → LinePlace → Report → Bool
 is_report_in_place network e report =
     counts network e.line && is_of_line (line_number e) report
     && is_stamped_between network e.earlier report.request_tag report.response_tag
 
 -- the lines of a report, where they are all there
-abbrev pub exchange_of : Network → NodeName → Entry → Report → Option Exchange
+abbrev pub exchange_of : Network → NodeName → LinePlace → Report → Option Exchange
 exchange_of network slave e report =
     if is_report_in_place network e report
     then option_and_then (λ sync.
@@ -106,20 +106,20 @@ exchange_of network slave e report =
 -- 704: the journeys can be followed
 
 -- the journey of the copy that arrives at a line, where it begins at a line of this kind
-abbrev pub journey_to : Network → Lines → (Event → Bool) → Entry → Option Journey
+abbrev pub journey_to : Network → Lines → (Event → Bool) → LinePlace → Option Journey
 journey_to network lines kind e =
     where_passes (λ journey. kind (event_of journey.origin))
     (option_and_then (below (journey_of network lines) (line_number e)) (heard_copy (event_of e)))
 
 -- the same, where no stay was ended twice by the events of these lines
-abbrev pub unbroken : Network → Entry → (Event → Bool) → Entry → Option Journey
+abbrev pub unbroken : Network → LinePlace → (Event → Bool) → LinePlace → Option Journey
 unbroken network e kind arrival =
     where_passes (left_once (events network e.earlier)) (journey_to network (lines_to e) kind arrival)
 
 -- 702: one Sync, and the slave's own request
 
 -- the Follow_Up follows this Sync: it is its master's last two-step Sync before it. Without a Follow_Up the Sync is one-step.
-abbrev pub is_followed : Network → Option Entry → (origin : Entry) → Bool
+abbrev pub is_followed : Network → Option LinePlace → (origin : LinePlace) → Bool
 is_followed network None origin = is_one_step_sync (event_of origin)
 is_followed network (Some follow) origin =
     option_map_or (λ last. line_number last == line_number origin) (last_line network is_sync (site follow) follow.earlier) false
@@ -137,7 +137,7 @@ are_later number report =
     && nat_lt number report.request_tag && nat_lt number report.response_tag
 
 -- the slave was told this master last, before all four lines
-abbrev pub is_present_master : Network → NodeName → NodeName → Entry → Report → Bool
+abbrev pub is_present_master : Network → NodeName → NodeName → LinePlace → Report → Bool
 is_present_master network slave master e report = option_map_or
     (λ set. option_map_or (λ named. is_named named master) (named_master (event_of set)) false && are_later (line_number set) report)
     (last_line network is_set_master slave e.earlier) false
@@ -148,7 +148,7 @@ is_domain (Some one) (Some other) = one.config.domain == other.config.domain
 is_domain (Some one) None = false
 is_domain None other = false
 
-abbrev pub is_of_master : Network → NodeName → Entry → Report → Exchange → (sync : Journey) → Bool
+abbrev pub is_of_master : Network → NodeName → LinePlace → Report → Exchange → (sync : Journey) → Bool
 is_of_master network slave e report x sync =
     is_present_master network slave (site sync.origin) e report
     && is_named (site x.arrival) (site sync.origin)
@@ -173,7 +173,7 @@ are_readings network x sync request =
 -- 707: the residence fits the correctionField
 
 -- the fraction of a nanosecond that a message is sent with in its correctionField: only a one-step Sync is
-abbrev pub fraction_sent : Entry → ℕ
+abbrev pub fraction_sent : LinePlace → ℕ
 fraction_sent e = if is_one_step_sync (event_of e) then fraction_of (reading e) else 0
 
 abbrev pub fits : Journey → Bool
@@ -182,7 +182,7 @@ fits journey = nat_lt (fraction_sent journey.origin + residence journey) (2 ^ 63
 -- 706: the two results
 
 -- what a clock read at the arrival, less what another read at the departure, less the residence
-abbrev pub bracket : (arrival : Entry) → Journey → ℤ
+abbrev pub bracket : (arrival : LinePlace) → Journey → ℤ
 bracket arrival journey = (pos (reading arrival) -ℤ pos (reading journey.origin)) -ℤ pos (residence journey)
 
 -- twice offsetFromMaster and twice meanPathDelay (IEEE 1588-2019, 11.2 and 11.3)
@@ -204,7 +204,7 @@ are_octets network x sync request =
     && journey_writes_right network request && writes_right network x.arrival
 
 -- A report line is sound where all eight conditions hold.
-pub record Sound (network : Network) (e : Entry) (report : Report) : Type 0 where
+pub record Sound (network : Network) (e : LinePlace) (report : Report) : Type 0 where
   pub x : Exchange
   pub sync : Journey
   pub request : Journey
@@ -220,7 +220,7 @@ pub record Sound (network : Network) (e : Entry) (report : Report) : Type 0 wher
   pub octets : IsTrue (are_octets network x sync request)
 
 -- the first of the last six conditions that fails
-abbrev pub journeys_reason : Network → Entry → Report → Exchange → Option Journey → Option Journey → Option Why
+abbrev pub journeys_reason : Network → LinePlace → Report → Exchange → Option Journey → Option Journey → Option Why
 journeys_reason network e report x (Some sync) (Some request) =
     if not (are_paired network x sync request) then Some OtherNumber
     else if not (is_of_master network (site e) e report x sync) then Some OtherMaster
@@ -233,11 +233,11 @@ journeys_reason network e report x (Some sync) None = Some BrokenJourney
 journeys_reason network e report x None request = Some BrokenJourney
 
 -- the first condition that fails
-abbrev pub exchange_reason : Network → Entry → Report → Option Exchange → Option Why
+abbrev pub exchange_reason : Network → LinePlace → Report → Option Exchange → Option Why
 exchange_reason network e report None = Some NoSuchLine
 exchange_reason network e report (Some x) =
     journeys_reason network e report x (unbroken network e draws_sync x.sync) (unbroken network e is_request x.arrival)
 
 -- why a report line isn't sound, or nothing where it is
-abbrev pub reason : Network → Entry → Report → Option Why
+abbrev pub reason : Network → LinePlace → Report → Option Why
 reason network e report = exchange_reason network e report (exchange_of network (site e) e report)

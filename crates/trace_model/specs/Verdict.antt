@@ -1,4 +1,4 @@
--- The verdict on lines: the first report line that isn't sound, or how many there are.
+-- The verdict on lines: how many reports there are, or the first that isn't sound.
 use Rattle.std.specs.Prelude.{ℕ, ◌+◌, [], ◌∷◌, Option, Some, None, option_map}
 use Rattle.slave_port.specs.declared.heard.Report.{Report}
 use Rattle.network_model.specs.Network.{Network}
@@ -8,7 +8,7 @@ use Rattle.trace_model.specs.declared.verdict.Verdict.{Verdict}
 use Rattle.trace_model.specs.declared.verdict.Verdict.TheVariants.{Accepted, Refused}
 use Rattle.trace_model.specs.declared.verdict.Why.{Why}
 use Rattle.trace_model.specs.Line.{Lines}
-use Rattle.trace_model.specs.Record.{Entry, entry, line_number}
+use Rattle.trace_model.specs.Record.{LinePlace, line_place, line_number}
 use Rattle.trace_model.specs.Sound.{reason}
 
 -- the report of a line that has one, good or not
@@ -23,14 +23,14 @@ one_more count number (Some None) = Accepted (count + 1)
 one_more count number (Some (Some why)) = Refused number why
 
 -- the verdict after one more line
-abbrev pub with_line : Network → Entry → Verdict → Verdict
+abbrev pub with_line : Network → LinePlace → Verdict → Verdict
 with_line network e (Accepted count) = one_more count (line_number e) (option_map (reason network e) (report_in e.line.out))
 with_line network e (Refused number why) = Refused number why
 
 -- the verdict on all lines
 abbrev pub verdict : Network → Lines → Verdict
 verdict network [] = Accepted 0
-verdict network (line ∷ earlier) = with_line network (entry line earlier) (verdict network earlier)
+verdict network (line ∷ earlier) = with_line network (line_place line earlier) (verdict network earlier)
 
 -- how many report lines are accepted
 abbrev pub accepted_count : Verdict → ℕ

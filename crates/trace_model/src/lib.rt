@@ -2,6 +2,7 @@
 //! definitions say which report lines are sound, and which lines tell what happened in a world.
 #![tactic(auto)]
 
+pub mod laws;
 mod line;
 mod verdict;
 

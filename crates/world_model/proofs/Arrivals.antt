@@ -83,7 +83,7 @@ no_master network node setup is = at (kind_of network node) is
     at (Some (kinds.Slave config first)) there = refl
     at (Some kinds.Clock) there = refl
 
--- an outcome behind three steps that go on
+-- an outcome after three steps that go on
 arrived : (network : Network) (run : Run) (node : NodeName) (copy at now : ℕ) (m : Contents) (outcome : ℕ → Contents → Outcome)
     → ArrivesAt network node run outcome → copy_of network run copy ≡ Some m → Ok now ≡ reads (Arrive node copy at) run
     → (node_as port_of network node >>= (λ kind. ok_or (copy_of network run copy) NoCopy >>= (λ x. reads (Arrive node copy at) run >>= (λ t. Ok (arrived_outcome network kind node run t x)))))

@@ -42,7 +42,7 @@ one_less m n = by_test (m == n) refl
     by_test true test = is_same (suc m) (suc n) (ap suc (same_number m n test))
     by_test false test = not_same (suc m) (suc n) (λ same. let e : (m == n) ≡ true = is_same m n (omega arith) in cc)
 
--- what is at a place after one more was put behind
+-- what is at a place after one more was put last
 pub get-push : {X : Type 0} (xs : List X) (x : X) (i : ℕ) → slice_get (xs ++ x ∷ []) i ≡ (if length xs == i then Some x else slice_get xs i)
 get-push [] x zero = refl
 get-push [] x (suc i) = sym (ap (λ b. if b then Some x else None) (not_same 0 (suc i) (omega arith)))
@@ -114,7 +114,7 @@ after-stay_at : (event : Event) (entries : List Entry) (tag : ℕ)
 after-stay_at (Leave node transit at) entries tag = spent-stay_at transit entries tag
 after-stay_at _ entries tag = refl
 
--- an event comes in front of the run where its entry comes behind the entries
+-- an event comes in front of the run where its entry comes last
 pub run_of-after : (event : Event) (entries : List Entry) (left : Left)
     → run_of (entries_after event entries ++ (record { event = event; left = left }) ∷ []) ≡ event ∷ run_of entries
 run_of-after event entries left =

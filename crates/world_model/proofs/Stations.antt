@@ -111,7 +111,7 @@ module _ (network : Network) (apart : IsNetwork network) (run : Run) (event : Ev
   pub AllStand-after : AllStand network (event ∷ run) (slice_set stations index new)
   AllStand-after = record { count = length-set stations index new ∙ all.count; each = each }
 
--- one more station behind those before it
+-- one more station after those before it
 pub EachStands-push : (network : Network) (run : Run) (stations : List Station) (node : NodeSpec) (station : Station)
     → EachStands network run stations → slice_get network (length stations) ≡ Some node → Stands network run node.name node.kind station
     → EachStands network run (stations ++ station ∷ [])

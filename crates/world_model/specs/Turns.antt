@@ -15,7 +15,7 @@ AnswersInTurn world (event ∷ later) (stepped ∷ others) =
 AnswersInTurn world [] (stepped ∷ others) = ⊥
 AnswersInTurn world (event ∷ later) [] = ⊥
 
--- the event behind those that happened was refused
+-- the event after those that happened was refused
 pub record IsNextRefused (events : List Event) (stop : RunStop) (new : State) : Type 0 where
   pub event : Event
   pub next : slice_get events stop.done ≡ Some event

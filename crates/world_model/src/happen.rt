@@ -4,8 +4,7 @@ ghost use Rattle.world_model.specs.Acts.{ActsIn, entries_after};
 ghost use Rattle.world_model.specs.Stands.{IsWorld, run_of};
 ghost use Rattle.world_model.specs.Steps.{Steps};
 
-use crate::entry::{Entry, Happened};
-use crate::room::put;
+use crate::entry::{Entry, Happened, Left};
 use crate::station::{Room, Station};
 use network_model::{Event, Name, Nodes, Stepped, WorldRefusal};
 
@@ -57,23 +56,18 @@ fn happen(
     }
 }
 
-/// Puts the entry of an event behind the others, for which there is room.
-fn append(entries: &mut Vec<Entry>, event: &Event, happened: Happened) -> Stepped
+/// Puts the entry of an event after the others, for which there is room, and answers its tag.
+fn append(entries: &mut Vec<Entry>, event: &Event, left: Left) -> u64
     requires { vec_len entries.old < vec_capacity entries.old }
-    ensures entries { entries.new.items ≡ entries.old.items ++ record { event = event.now; left = happened.left } ∷ [] }
-    ensures stepped { result ≡ record { tag = length entries.old.items; reading = happened.reading; outcome = happened.outcome } }
+    ensures entries { entries.new.items ≡ entries.old.items ++ record { event = event.now; left = left } ∷ [] }
+    ensures tag { result ≡ length entries.old.items }
 {
-    let stepped = Stepped {
-        tag: entries.len() as u64,
-        reading: happened.reading,
-        outcome: happened.outcome,
-    };
-    let entry = Entry {
+    let tag = entries.len() as u64;
+    entries.push_reserved(Entry {
         event: *event,
-        left: happened.left,
-    };
-    put(entries, entry);
-    stepped
+        left,
+    });
+    tag
 }
 
 /// Takes the room for one more entry.
@@ -110,7 +104,11 @@ pub(crate) fn step(
         event,
         room,
     ) {
-        Ok(happened) => Ok(append(entries, event, happened)),
+        Ok(happened) => Ok(Stepped {
+            tag: append(entries, event, happened.left),
+            reading: happened.reading,
+            outcome: happened.outcome,
+        }),
         Err(why) => Err(why),
     }
 }

@@ -6,7 +6,6 @@ mod clock;
 mod entry;
 mod happen;
 mod master;
-mod room;
 mod slave;
 mod station;
 mod turns;

@@ -6,31 +6,28 @@ ghost use Rattle.world_model.specs.State.{after_all};
 ghost use Rattle.world_model.specs.Exact.{IsTimely, AreExactAnswers, RunsKeepLaws};
 ghost use Rattle.world_model.specs.Turns.{AnswersInTurn, IsStopped};
 
-use crate::room::put;
 use crate::world::World;
 use network_model::{Event, RunStop, Stepped, WorldRefusal};
 use std::alloc::Global;
 
-/// Puts an answer behind the others, for which there is room.
+/// Puts an answer after the others, for which there is room.
 fn answer(answers: &mut Vec<Stepped>, stepped: Stepped)
     requires { vec_len answers.old < vec_capacity answers.old }
     ensures items { answers.new.items ≡ answers.old.items ++ stepped ∷ [] }
     ensures len { vec_len answers.new ≡ vec_len answers.old + 1 }
     ensures capacity { vec_capacity answers.old ≤ vec_capacity answers.new }
 {
+    // The borrow check moves it in parts alone.
     let Stepped {
         tag,
         reading,
         outcome,
     } = stepped;
-    put(
-        answers,
-        Stepped {
-            tag,
-            reading,
-            outcome,
-        },
-    );
+    answers.push_reserved(Stepped {
+        tag,
+        reading,
+        outcome,
+    });
 }
 
 /// Events one after the other, each answered as by [`World::step`]. Where one is refused the world

@@ -1,4 +1,5 @@
-use Rattle.exchange_check.proofs.Reversed.{IsKept-more, verdict-kept-all}
+use Rattle.std.proofs.Common.{reverse}
+use Rattle.exchange_check.proofs.Reversed.{IsKept-more, verdict-kept-all, TellsSoundness-of}
 use Rattle.exchange_check.proofs.checker.check.Goals as goal
 
 pub loop-line-init : goal.loop-line-init
@@ -10,4 +11,6 @@ loop-line-preserved c =
     (c.in_ok-step.ensures.kept c.loop-line.line-index _ c.loop-line.invariant)
 
 pub returns : goal.returns
-returns c = verdict-kept-all c.args.nodes.now c.args.lines.now c.loop-line.kept _ c.loop-line.line-index c.loop-line-test.false c.loop-line.invariant
+returns c =
+    let kept = verdict-kept-all c.args.nodes.now c.args.lines.now c.loop-line.kept _ c.loop-line.line-index c.loop-line-test.false c.loop-line.invariant in
+    record { verdict = kept; sound = TellsSoundness-of c.args.nodes.now (reverse c.args.lines.now) _ kept }

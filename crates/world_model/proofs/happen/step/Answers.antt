@@ -61,7 +61,9 @@ returns-in-Ok-clause-steps c =
     let stepped : Stepped = record { tag = length c.args.entries.now.items; reading = c.in-Ok.happened.reading; outcome = c.in-Ok.happened.outcome } in
     let tag : length (take c.room_for_one-room.new.entries.len (c.happen.new.entries ++ drop (length c.happen.new.entries) c.room_for_one-room.new.entries.items))
     ≡ length c.args.entries.now.items = ap (length {A = Entry}) whole ∙ same in
-    let is : c.append.result ≡ stepped = c.append.ensures.stepped ∙ (λ i. record { tag = tag i; reading = c.in-Ok.happened.reading; outcome = c.in-Ok.happened.outcome }) in (
+    let counted : c.append.result ≡ length c.args.entries.now.items = c.append.ensures.tag ∙ tag in
+    let answer : Stepped = record { tag = c.append.result; reading = c.in-Ok.happened.reading; outcome = c.in-Ok.happened.outcome } in
+    let is : answer ≡ stepped = (λ i. record { tag = counted i; reading = c.in-Ok.happened.reading; outcome = c.in-Ok.happened.outcome }) in (
       subst (IsStepped c.args.nodes.now (run_of c.args.entries.now.items) c.args.event.now) (sym is)
           (done-stepped c.args.nodes.now c.args.event.now c.args.stations.now.items c.args.entries.now.items c.requires c.site.result c.site.ensures
           c.in-Some.index here less old c.happen.new.station c.index_mut.ensures.value c.room_for_one-room.result c.in-Ok.happened ans.1),

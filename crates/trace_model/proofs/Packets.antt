@@ -1,4 +1,4 @@
--- The test of a message's octets is the relation between a message and its octets.
+-- The test of a message's octets decides `Packet`.
 use Rattle.std.proofs.Common.{◌≡◌, ℕ, ◌+◌, ◌*◌, ◌^◌, ◌<◌, ◌≤◌, Bool, true, false, ◌&&◌, not, List, [], ◌∷◌, length, drop, Decides, refl, sym, ap, subst, ◌∙◌, arith, zero, suc, ◌==◌, Some, length-drop}
 use Rattle.std.specs.Prelude.{nat_lt, slice_index, slice_range, EachIndex}
 use Rattle.std.specs.Int.{w8, w64, cast_signed}

@@ -1,0 +1,312 @@
+//! What each refusal says in words.
+
+use event_codec::{DecodeRefusal, EncodeRefusal};
+use exchange_check::CheckFault;
+use master_port::MasterRefusal;
+use network_model::{RunStop, WorldRefusal};
+use ptp_units::UnitRefusal;
+use schedule_replay::{Fault, FaultKind};
+use slave_port::{Reason, SlaveRefusal};
+use std::error::Error;
+use std::process::Abort;
+use std::test::Fail;
+use trace_model::Why;
+use transparent_clock::ClockRefusal;
+
+/// Each of these errors says its text.
+fn assert_said<E: Error>(
+    rt: &(impl Abort + AllocGlobal),
+    errors: impl IntoIterator<Item = (E, &'static str)>,
+) -> Result<(), Fail> {
+    for (error, text) in errors {
+        let said = format!(in rt.alloc(); "{error}")?;
+        assert_eq!(rt; said.as_str(), text);
+    }
+    Ok(())
+}
+
+#[test]
+fn of_units(rt: HostRuntime) -> Result<(), Fail> {
+    assert_said(
+        &rt,
+        [
+            (
+                UnitRefusal::OutOfRange,
+                "no moment: it is below 0, or 2^48 s or more",
+            ),
+            (
+                UnitRefusal::Seconds,
+                "no timestamp: the seconds are 2^48 or more",
+            ),
+            (
+                UnitRefusal::Nanoseconds,
+                "no timestamp: the nanoseconds are 10^9 or more",
+            ),
+            (
+                UnitRefusal::TooLow,
+                "no correction: it is below -2^63 units of 2^-16 ns",
+            ),
+        ],
+    )
+}
+
+#[test]
+fn of_reading(rt: HostRuntime) -> Result<(), Fail> {
+    assert_said(
+        &rt,
+        [
+            (
+                DecodeRefusal::Short,
+                "there are fewer than the 34 octets of a header",
+            ),
+            (DecodeRefusal::Version, "versionPTP isn't 2"),
+            (
+                DecodeRefusal::OtherType(11),
+                "messageType 11 isn't Sync (0), Delay_Req (1), Follow_Up (8) or Delay_Resp (9)",
+            ),
+            (
+                DecodeRefusal::LengthField,
+                "messageLength is below 44, or 54 for a Delay_Resp",
+            ),
+            (
+                DecodeRefusal::Truncated,
+                "there are fewer octets than messageLength",
+            ),
+            (
+                DecodeRefusal::Nanoseconds,
+                "the nanoseconds of the timestamp are 10^9 or more",
+            ),
+        ],
+    )
+}
+
+#[test]
+fn of_writing(rt: HostRuntime) -> Result<(), Fail> {
+    assert_said(
+        &rt,
+        [
+            (
+                EncodeRefusal::NoRoom,
+                "the buffer is shorter than the message",
+            ),
+            (
+                EncodeRefusal::SuffixTooLong,
+                "the suffix is too long: messageLength would pass 65535",
+            ),
+        ],
+    )
+}
+
+#[test]
+fn of_masters(rt: HostRuntime) -> Result<(), Fail> {
+    assert_said(
+        &rt,
+        [
+            (
+                MasterRefusal::NotWaiting,
+                "no Sync of this number waits for its departure time",
+            ),
+            (
+                MasterRefusal::Decode(DecodeRefusal::OtherType(15)),
+                "the octets are no message: messageType 15 isn't Sync (0), Delay_Req (1), Follow_Up (8) or Delay_Resp (9)",
+            ),
+            (MasterRefusal::NotRequest, "the message is no Delay_Req"),
+            (
+                MasterRefusal::OtherDomain,
+                "domainNumber isn't that of the master",
+            ),
+            (
+                MasterRefusal::CorrectionTooLow,
+                "the correction of the Delay_Resp would be below -2^63 units of 2^-16 ns",
+            ),
+        ],
+    )
+}
+
+#[test]
+fn of_clocks(rt: HostRuntime) -> Result<(), Fail> {
+    assert_said(
+        &rt,
+        [
+            (
+                ClockRefusal::Decode(DecodeRefusal::Version),
+                "the octets are no message: versionPTP isn't 2",
+            ),
+            (
+                ClockRefusal::NotEvent,
+                "the message is neither Sync nor Delay_Req",
+            ),
+            (
+                ClockRefusal::NegativeResidence,
+                "the clock reads less than when the message entered",
+            ),
+        ],
+    )
+}
+
+#[test]
+fn of_slaves(rt: HostRuntime) -> Result<(), Fail> {
+    assert_said(
+        &rt,
+        [
+            (
+                Reason::Decode(DecodeRefusal::Short),
+                "the octets are no message: there are fewer than the 34 octets of a header",
+            ),
+            (
+                Reason::WrongType,
+                "the message is of another type than the ones that are heard here",
+            ),
+            (Reason::OtherDomain, "domainNumber isn't that of the slave"),
+            (Reason::NoMaster, "the slave has no master"),
+            (
+                Reason::OtherMaster,
+                "sourcePortIdentity isn't that of the present master",
+            ),
+            (
+                Reason::TooBig,
+                "the correction is too big to be represented",
+            ),
+            (
+                Reason::OtherRequester,
+                "requestingPortIdentity isn't that of the slave",
+            ),
+            (
+                Reason::UnknownRequest,
+                "no held Delay_Req has this sequenceId",
+            ),
+            (
+                Reason::EgressUnknown,
+                "it isn't known when the Delay_Req of this sequenceId left",
+            ),
+            (
+                Reason::NotNewer,
+                "sequenceId is neither that of the last Sync that was completed nor newer",
+            ),
+        ],
+    )?;
+    assert_said(
+        &rt,
+        [(SlaveRefusal::NotHeld, "no held Delay_Req has this number")],
+    )
+}
+
+#[test]
+fn of_networks(rt: HostRuntime) -> Result<(), Fail> {
+    assert_said(
+        &rt,
+        [
+            (WorldRefusal::SameName, "two nodes have one name"),
+            (WorldRefusal::SameIdentity, "two ports have one identity"),
+            (WorldRefusal::NoNode, "no node has this name"),
+            (
+                WorldRefusal::WrongKind,
+                "the event doesn't happen at nodes of this kind",
+            ),
+            (WorldRefusal::NoCopy, "no event of this tag made a copy"),
+            (
+                WorldRefusal::NoTransit,
+                "no message that entered by the event of this tag is still in this clock",
+            ),
+            (
+                WorldRefusal::ReadingOutOfRange,
+                "the clock of the node would read no moment",
+            ),
+            (
+                WorldRefusal::NothingWaiting,
+                "no message waits for its departure time",
+            ),
+            (WorldRefusal::Memory, "memory was refused"),
+        ],
+    )?;
+    assert_said(
+        &rt,
+        [(
+            RunStop {
+                done: 14,
+                why: WorldRefusal::NoCopy,
+            },
+            "the run ended after 14 events: no event of this tag made a copy",
+        )],
+    )
+}
+
+#[test]
+fn of_the_checker(rt: HostRuntime) -> Result<(), Fail> {
+    assert_said(
+        &rt,
+        [
+            (
+                Why::NoSuchLine,
+                "a tag of the report isn't the line that the report needs, or no line tells when the Delay_Req left",
+            ),
+            (
+                Why::OtherNumber,
+                "the Sync isn't the one of the Follow_Up, or the Delay_Req isn't the one of the report",
+            ),
+            (
+                Why::OtherMaster,
+                "a message isn't of the present master of the slave, or came before the slave was told this master",
+            ),
+            (
+                Why::BrokenJourney,
+                "the way of the Sync or of the Delay_Req can't be followed back to where it was sent",
+            ),
+            (
+                Why::WrongReading,
+                "a reading isn't that of the clock of its node, or falls while a message is in a clock",
+            ),
+            (
+                Why::WrongValue,
+                "the two results aren't those of the readings",
+            ),
+            (
+                Why::TooBig,
+                "the Sync or the Delay_Req was in clocks for longer than a correction can say",
+            ),
+            (
+                Why::Bytes,
+                "the octets of a message aren't those that a port or a clock writes",
+            ),
+        ],
+    )?;
+    assert_said(&rt, [(CheckFault::Memory, "memory was refused")])
+}
+
+/// A fault on line 3.
+fn fault(what: FaultKind) -> Fault {
+    Fault { line: 3, what }
+}
+
+#[test]
+fn of_lines(rt: HostRuntime) -> Result<(), Fail> {
+    assert_said(
+        &rt,
+        [
+            (
+                fault(FaultKind::Read),
+                "fault 801 at line 3: the input can't be read",
+            ),
+            (
+                fault(FaultKind::Write),
+                "fault 802 at line 3: the output can't be written",
+            ),
+            (
+                fault(FaultKind::LineTooLong),
+                "fault 803 at line 3: the line has more than 4096 octets",
+            ),
+            (
+                fault(FaultKind::TooManyLines),
+                "fault 804 at line 3: an octet comes after the last of 1048576 lines",
+            ),
+            (
+                fault(FaultKind::Field),
+                "fault 806 at line 3: the line isn't what is asked for",
+            ),
+            (
+                fault(FaultKind::Memory),
+                "fault 808 at line 3: memory was refused",
+            ),
+        ],
+    )
+}

@@ -1,0 +1,38 @@
+//! Laws of lines, each the contract of a function that does nothing: a caller that needs the law in its
+//! proof calls it.
+
+ghost use Rattle.trace_model.specs.Faithful.{EachEventHasItsLine, EachEventIsRecorded, EachJourneyIsTold, EachLineIsGood};
+ghost use Rattle.trace_model.specs.Soundness.{ReasonsMissNothing, VerdictsTellSoundness};
+
+/// Whatever wrote the lines, there is no reason against a report line exactly where all eight
+/// conditions of a sound line hold.
+pub fn reasons_miss_nothing()
+    ensures { ReasonsMissNothing }
+{}
+
+/// Whatever wrote the lines, the verdict on them is accepted exactly where each report line is sound,
+/// with their number, and refused exactly where one isn't, with the first such line and the first
+/// condition that it fails.
+pub fn verdicts_tell_soundness()
+    ensures { VerdictsTellSoundness }
+{}
+
+/// Each line that tells an event of a world is good, and counts exactly where the event took effect:
+/// where no port and no clock refused it, and no slave ignored it. An event that took effect is told
+/// by the line that has its tag for a number.
+pub fn each_line_is_good()
+    ensures good { EachLineIsGood }
+    ensures found { EachEventHasItsLine }
+{}
+
+/// Each line that tells an event with a true moment has its reading, and the lines before it ask for
+/// no other: they tell of each step of the clock.
+pub fn each_reading_is_recorded()
+    ensures { EachEventIsRecorded }
+{}
+
+/// The journey of each copy of a Sync or a Delay_Req is the one that lines tell: it begins at the line
+/// of the same event, and each of its stays is the stay of the same two events.
+pub fn each_journey_is_told()
+    ensures { EachJourneyIsTold }
+{}
