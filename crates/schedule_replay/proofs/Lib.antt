@@ -8,6 +8,8 @@ pub mod Joining
 pub mod ShownLines
 pub mod Entries
 pub mod NodeLines
+pub mod EventLines
+pub mod StageLines
 pub mod ReplayedLines
 pub mod ErrorKinds
 pub mod FlagWords
