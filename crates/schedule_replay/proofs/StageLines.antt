@@ -1,20 +1,21 @@
 -- What one more line does to a schedule that is replayed, and what is known at a fault in it.
-use Rattle.std.proofs.Common.{◌≡◌, ◌≢◌, ◌∙◌, ◌⊎◌, inl, inr, refl, sym, ap, subst, ℕ, List, [], ◌∷◌, ◌++◌, length, take, take_all, le_refl, Option, Some, None, Ok, Err}
+use Rattle.std.proofs.Common.{◌≡◌, ◌≢◌, ◌∙◌, ◌⊎◌, inl, inr, refl, sym, ap, subst, ℕ, List, [], ◌∷◌, ◌++◌, length, take, take_all, le_refl, Option, Some, None, Result, Ok, Err}
+use Rattle.std.specs.Prelude.{MatchResult}
 use Rattle.std.specs.Io.KnownBytes.{Appends, Keeps}
-use Rattle.std.proofs.KnownBytes.{Appends-nil}
+use Rattle.std.proofs.KnownBytes.{Appends-nil, Appends-trans}
 use Rattle.network_model.specs.declared.event.Event.{Event}
 use Rattle.network_model.specs.declared.node.NodeSpec.{NodeSpec}
 use Rattle.network_model.specs.declared.refusal.WorldRefusal.{WorldRefusal}
 use Rattle.network_model.specs.Clash.{first_clash}
-use Rattle.world_model.specs.State.{State}
+use Rattle.world_model.specs.State.{State, after}
 use Rattle.schedule_lines.specs.declared.schedule.Line.TheVariants as entries
 use Rattle.schedule_replay.specs.declared.fault.FaultKind.{FaultKind}
 use Rattle.schedule_replay.specs.declared.fault.FaultKind.TheVariants.{Read, Write, LineTooLong, TooManyLines, Json, Field, World, Memory}
 use Rattle.schedule_replay.specs.declared.replaying.Stage.{Stage}
 use Rattle.schedule_replay.specs.declared.replaying.Stage.TheVariants.{Nodes, Events}
 use Rattle.schedule_replay.specs.Schedule.{entry_in, FaultsIn, FaultsAtEnd}
-use Rattle.schedule_replay.specs.Replay.{nodes_text}
-use Rattle.schedule_replay.specs.Stage.{nodes_of, run_of, owed_by, IsStage, IsBegun, IsWorldOf, IsOwnFault, WritesAtFault, ShowsFault, WritesNone, StopsEvent}
+use Rattle.schedule_replay.specs.Replay.{nodes_text, IsEventLine}
+use Rattle.schedule_replay.specs.Stage.{nodes_of, run_of, begun_of, owed_by, IsStage, IsBegun, HasNodes, IsWorldOf, TakesLine, IsOwnFault, WritesAtFault, ShowsFault, WritesNone, StopsEvent}
 use Rattle.schedule_replay.proofs.NodeLines.{Appends-kept}
 
 -- what is said of a line with a fault
@@ -95,3 +96,34 @@ stopped_event kind stage world line event before now after is (world_is, network
     go TooManyLines stops none = absurd none
     go Json stops none = absurd none
     go Field stops none = absurd none
+
+-- what comes of a node
+pub node_taken : (r : Result Stage FaultKind) (stage : Stage) (line : List ℕ) (node : NodeSpec) (at : Option (List ℕ)) → IsStage stage
+    → entry_in line ≡ Ok (entries.Node node)
+    → MatchResult r (λ next. (run_of stage ≡ []) × (begun_of stage ≡ []) × HasNodes (nodes_of stage ++ node ∷ []) next)
+    (λ kind. (kind ≡ Memory) ⊎ ((kind ≡ Field) × IsBegun stage))
+    → MatchResult r (λ next. (written : List ℕ) × TakesLine line stage next written × Appends at at written) (λ kind. Stops kind stage line at at)
+node_taken (Ok next) stage line node at stands is (first, unbegun, nodes) =
+    ([], (entries.Node node, is, (first, unbegun, nodes, refl)), Appends-nil at)
+node_taken (Err kind) stage line node at stands is why = untaken_node kind stage line node at stands is why
+
+-- an event that happened
+pub event_taken : (stage : Stage) (world later : State) (line : List ℕ) (event : Event) (before now written_out : Option (List ℕ))
+    → entry_in line ≡ Ok (entries.Event event) → IsWorldOf stage world → Appends before now (owed_by stage)
+    → (later ≡ after event world) × ((text : List ℕ) × IsEventLine world.network world.run event text × Appends now written_out text)
+    → (written : List ℕ) × TakesLine line stage (Events later) written × Appends before written_out written
+event_taken stage world later line event before now written_out is (world_is, network) owed (later_is, (text, is_line, appended)) = (
+  owed_by stage ++ text,
+  (
+    entries.Event event,
+    is,
+    (
+      later_is ∙ ap (after event) world_is,
+      network,
+      text,
+      subst (λ (w : State). IsEventLine w.network w.run event text) world_is is_line,
+      refl,
+    ),
+  ),
+  Appends-trans before now written_out (owed_by stage) text owed appended,
+)
