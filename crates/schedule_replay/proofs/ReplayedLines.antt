@@ -239,6 +239,18 @@ stopped_reading octets held count stage left left' now what input input' is so_f
     go (World why) stops allowed = absurd allowed
     go Memory stops allowed = absurd allowed
 
+-- a fault of a line that was read
+faults_at : (what : FaultKind) (number : ℕ) (nodes : Network) (run : Run) (line : List ℕ) (there : Option (List ℕ)) → there ≡ Some line
+    → reading_fault number line ≡ None → FaultsIn what nodes run (without_cr line) → FaultsAt what number nodes run there
+faults_at Read number nodes run line there is fine fault = absurd fault
+faults_at LineTooLong number nodes run line there is fine fault = absurd fault
+faults_at TooManyLines number nodes run line there is fine fault = absurd fault
+faults_at Write number nodes run line there is fine fault = rw is (fine, fault)
+faults_at Json number nodes run line there is fine fault = rw is (fine, fault)
+faults_at Field number nodes run line there is fine fault = rw is (fine, fault)
+faults_at (World why) number nodes run line there is fine fault = rw is (fine, fault)
+faults_at Memory number nodes run line there is fine fault = rw is (fine, fault)
+
 -- a line that was read faults
 pub stopped_taking : (octets held : List ℕ) (count : ℕ) (ended : Bool) (stage : Stage) (left left' now now' : Option (List ℕ)) (line : List ℕ)
     (what : FaultKind) → IsStage stage → HasReplayed octets held count false stage left now
@@ -246,35 +258,21 @@ pub stopped_taking : (octets held : List ℕ) (count : ℕ) (ended : Bool) (stag
     → FaultsIn what (nodes_of stage) (run_of stage) (without_cr line) → ShowsFault what stage now now'
     → ReplaysUntil octets held left' now' (record { line = count + 1; what = what })
 stopped_taking octets held count ended stage left left' now now' line what is so_far (cut, fine, behind, lf) fault out =
-    until octets held count false stage left left' now now' what is so_far out (inl (before, at what fault, unread what fault))
+    let place = is_at count (lines_of octets) line _ (so_far.rest ∙ cut) in
+    let before : count ≤ lfs_in octets = omega (arith, so_far.lfs refl) in
+    until octets held count false stage left left' now now' what is so_far out
+    (inl (before, faults_at what (count + 1) (nodes_of stage) (run_of stage) line _ place.at fine fault, leaves what behind fault))
   where
-    before : count ≤ lfs_in octets
-    before = omega (arith, so_far.lfs refl)
-
-    place : IsAt count (lines_of octets) line _
-    place = is_at count (lines_of octets) line _ (so_far.rest ∙ cut)
-
-    at : (what : FaultKind) → FaultsIn what (nodes_of stage) (run_of stage) (without_cr line)
-        → FaultsAt what (count + 1) (nodes_of stage) (run_of stage) (slice_get (lines_of octets) count)
-    at Read fault = absurd fault
-    at LineTooLong fault = absurd fault
-    at TooManyLines fault = absurd fault
-    at Write fault = rw place.at (fine, fault)
-    at Json fault = rw place.at (fine, fault)
-    at Field fault = rw place.at (fine, fault)
-    at (World why) fault = rw place.at (fine, fault)
-    at Memory fault = rw place.at (fine, fault)
-
-    unread : (what : FaultKind) → FaultsIn what (nodes_of stage) (run_of stage) (without_cr line)
+    leaves : (what : FaultKind) → left' ≡ Some (after_lines 1 (after_lines count octets)) → FaultsIn what (nodes_of stage) (run_of stage) (without_cr line)
         → LeavesUnread what (count + 1) (after_lines count octets) left'
-    unread Read fault = absurd fault
-    unread LineTooLong fault = absurd fault
-    unread TooManyLines fault = absurd fault
-    unread Write fault = behind
-    unread Json fault = behind
-    unread Field fault = behind
-    unread (World why) fault = behind
-    unread Memory fault = behind
+    leaves Read behind fault = absurd fault
+    leaves LineTooLong behind fault = absurd fault
+    leaves TooManyLines behind fault = absurd fault
+    leaves Write behind fault = behind
+    leaves Json behind fault = behind
+    leaves Field behind fault = behind
+    leaves (World why) behind fault = behind
+    leaves Memory behind fault = behind
 
 -- the nodes fault at the end
 pub stopped_at_end : (octets held : List ℕ) (count : ℕ) (ended : Bool) (stage : Stage) (left left' now now' : Option (List ℕ)) (what : FaultKind)
