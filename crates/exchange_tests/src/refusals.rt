@@ -16,11 +16,11 @@ use transparent_clock::ClockRefusal;
 /// Each of these errors says its text.
 fn assert_said<E: Error>(
     rt: &(impl Abort + AllocGlobal),
-    errors: impl IntoIterator<Item = (E, &'static str)>,
+    errors: &[(E, &str)],
 ) -> Result<(), Fail> {
     for (error, text) in errors {
         let said = format!(in rt.alloc(); "{error}")?;
-        assert_eq!(rt; said.as_str(), text);
+        assert_eq!(rt; said.as_str(), *text);
     }
     Ok(())
 }
@@ -29,7 +29,7 @@ fn assert_said<E: Error>(
 fn of_units(rt: HostRuntime) -> Result<(), Fail> {
     assert_said(
         &rt,
-        [
+        &[
             (
                 UnitRefusal::OutOfRange,
                 "no moment: it is below 0, or 2^48 s or more",
@@ -54,7 +54,7 @@ fn of_units(rt: HostRuntime) -> Result<(), Fail> {
 fn of_reading(rt: HostRuntime) -> Result<(), Fail> {
     assert_said(
         &rt,
-        [
+        &[
             (
                 DecodeRefusal::Short,
                 "there are fewer than the 34 octets of a header",
@@ -84,7 +84,7 @@ fn of_reading(rt: HostRuntime) -> Result<(), Fail> {
 fn of_writing(rt: HostRuntime) -> Result<(), Fail> {
     assert_said(
         &rt,
-        [
+        &[
             (
                 EncodeRefusal::NoRoom,
                 "the buffer is shorter than the message",
@@ -101,7 +101,7 @@ fn of_writing(rt: HostRuntime) -> Result<(), Fail> {
 fn of_masters(rt: HostRuntime) -> Result<(), Fail> {
     assert_said(
         &rt,
-        [
+        &[
             (
                 MasterRefusal::NotWaiting,
                 "no Sync of this number waits for its departure time",
@@ -127,7 +127,7 @@ fn of_masters(rt: HostRuntime) -> Result<(), Fail> {
 fn of_clocks(rt: HostRuntime) -> Result<(), Fail> {
     assert_said(
         &rt,
-        [
+        &[
             (
                 ClockRefusal::Decode(DecodeRefusal::Version),
                 "the octets are no message: versionPTP isn't 2",
@@ -148,7 +148,7 @@ fn of_clocks(rt: HostRuntime) -> Result<(), Fail> {
 fn of_slaves(rt: HostRuntime) -> Result<(), Fail> {
     assert_said(
         &rt,
-        [
+        &[
             (
                 Reason::Decode(DecodeRefusal::Short),
                 "the octets are no message: there are fewer than the 34 octets of a header",
@@ -187,7 +187,7 @@ fn of_slaves(rt: HostRuntime) -> Result<(), Fail> {
     )?;
     assert_said(
         &rt,
-        [(SlaveRefusal::NotHeld, "no held Delay_Req has this number")],
+        &[(SlaveRefusal::NotHeld, "no held Delay_Req has this number")],
     )
 }
 
@@ -195,7 +195,7 @@ fn of_slaves(rt: HostRuntime) -> Result<(), Fail> {
 fn of_networks(rt: HostRuntime) -> Result<(), Fail> {
     assert_said(
         &rt,
-        [
+        &[
             (WorldRefusal::SameName, "two nodes have one name"),
             (WorldRefusal::SameIdentity, "two ports have one identity"),
             (WorldRefusal::NoNode, "no node has this name"),
@@ -221,7 +221,7 @@ fn of_networks(rt: HostRuntime) -> Result<(), Fail> {
     )?;
     assert_said(
         &rt,
-        [(
+        &[(
             RunStop {
                 done: 14,
                 why: WorldRefusal::NoCopy,
@@ -235,7 +235,7 @@ fn of_networks(rt: HostRuntime) -> Result<(), Fail> {
 fn of_the_checker(rt: HostRuntime) -> Result<(), Fail> {
     assert_said(
         &rt,
-        [
+        &[
             (
                 Why::NoSuchLine,
                 "a tag of the report isn't the line that the report needs, or no line tells when the Delay_Req left",
@@ -270,7 +270,7 @@ fn of_the_checker(rt: HostRuntime) -> Result<(), Fail> {
             ),
         ],
     )?;
-    assert_said(&rt, [(CheckFault::Memory, "memory was refused")])
+    assert_said(&rt, &[(CheckFault::Memory, "memory was refused")])
 }
 
 /// A fault on line 3.
@@ -282,7 +282,7 @@ fn fault(what: FaultKind) -> Fault {
 fn of_lines(rt: HostRuntime) -> Result<(), Fail> {
     assert_said(
         &rt,
-        [
+        &[
             (
                 fault(FaultKind::Read),
                 "fault 801 at line 3: the input can't be read",
@@ -298,6 +298,14 @@ fn of_lines(rt: HostRuntime) -> Result<(), Fail> {
             (
                 fault(FaultKind::TooManyLines),
                 "fault 804 at line 3: an octet comes after the last of 1048576 lines",
+            ),
+            (
+                fault(FaultKind::Json),
+                "fault 805 at line 3: the line isn't JSON",
+            ),
+            (
+                fault(FaultKind::World(WorldRefusal::NoNode)),
+                "fault 807 at line 3: the nodes are no network, or the event can't happen in it",
             ),
             (
                 fault(FaultKind::Field),

@@ -57,17 +57,44 @@ float-tags report = or_from _ false (float-follow report.follow_tag) refl
 pub float-event_data : (n : ℕ) (line : TraceLine) → has_float (event_data n line) ≡ false
 float-event_data n line = float-members_of (line_fields n line) (
   none-map moment_data (true_moment line.event) (λ _. refl),
-  (none-map whole (named_copy line.event) (λ _. refl),
-  (none-map difference_data (step_of line.event) (λ _. refl),
-  (refl,
-  (none-map string (named_master line.event) (λ _. refl),
-  (refl,
-  (none-map whole (spent_transit line.event) (λ _. refl),
-  (none-map whole (out_code line.out) (λ _. refl),
-  (none-map octets_data (made_octets line.out) (λ _. refl),
-  (refl,
-  (refl,
-  (none-map moment_data line.reading (λ _. refl),
-  (none-map (λ r. difference_data r.offset2) (out_report line.out) (λ _. refl),
-  (none-map (λ r. difference_data r.path2) (out_report line.out) (λ _. refl),
-  (none-map tags_data (out_report line.out) float-tags, tt)))))))))))))))
+  (
+    none-map whole (named_copy line.event) (λ _. refl),
+    (
+      none-map difference_data (step_of line.event) (λ _. refl),
+      (
+        refl,
+        (
+          none-map string (named_master line.event) (λ _. refl),
+          (
+            refl,
+            (
+              none-map whole (spent_transit line.event) (λ _. refl),
+              (
+                none-map whole (out_code line.out) (λ _. refl),
+                (
+                  none-map octets_data (made_octets line.out) (λ _. refl),
+                  (
+                    refl,
+                    (
+                      refl,
+                      (
+                        none-map moment_data line.reading (λ _. refl),
+                        (
+                          none-map (λ r. difference_data r.offset2) (out_report line.out) (λ _. refl),
+                          (
+                            none-map (λ r. difference_data r.path2) (out_report line.out) (λ _. refl),
+                            (none-map tags_data (out_report line.out) float-tags, tt),
+                          ),
+                        ),
+                      ),
+                    ),
+                  ),
+                ),
+              ),
+            ),
+          ),
+        ),
+      ),
+    ),
+  ),
+)

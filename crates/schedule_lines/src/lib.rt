@@ -4,6 +4,7 @@
 
 mod fields;
 mod kind;
+pub mod laws;
 mod members;
 mod schedule;
 mod traced;

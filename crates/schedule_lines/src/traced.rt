@@ -3,9 +3,7 @@ ghost use Rattle.std.specs.Prelude.{◌≡◌};
 ghost use Rattle.serde_json.specs.View.{view};
 ghost use Rattle.schedule_lines.specs.Traced.{transcript_line_of, traced_in, recorded_in, line_keys, reading_in, out_of, out_keys, made_in, code_in, report_in, report_of, follow_in};
 
-use crate::fields::{
-    difference_in, has_items, has_keys, moment_in, octets_in, whole_below,
-};
+use crate::fields::{difference_in, has_items, has_keys, moment_in, octets_in, whole_below};
 use crate::schedule::{event_in, event_keys, node_spec_in};
 use network_model::{NodeSpec, Report};
 use ptp_units::ScaledTime;

@@ -1,44 +1,21 @@
 -- Events that always take effect once they are accepted: all but those that a port or a clock may refuse, or a slave ignore.
-use Rattle.std.proofs.Common.{◌≡◌, ◌∙◌, ℕ, Bool, true, false, ◌∷◌, length, Option, Some, None, Ok, Err, Result, refl, sym, ap, subst, inl, inr, option_and_then, if◌then◌else◌}
-use Rattle.std.specs.Prelude.{◌&&◌, ◌||◌, not, is_some, ok_or, unsigned_abs, nat_lt, ◌⊎◌}
-use Rattle.std.proofs.lemmas.Bool.{and_from, or_left, or_right}
+use Rattle.std.proofs.Common.{◌≡◌, Bool, true, false, Ok, Err, Result, refl, subst, if◌then◌else◌}
+use Rattle.std.specs.Prelude.{ok_or, unsigned_abs, nat_lt}
 use Rattle.ptp_units.specs.Moment.{bound}
-use Rattle.event_codec.specs.Packet.{Contents}
-use Rattle.master_port.specs.declared.refusal.MasterRefusal.{MasterRefusal}
-use Rattle.transparent_clock.specs.declared.refusal.ClockRefusal.{ClockRefusal}
-use Rattle.transparent_clock.specs.Forwarding.{forwarded}
-use Rattle.slave_port.specs.declared.heard.Heard.{Heard}
-use Rattle.slave_port.specs.declared.heard.Heard.TheVariants as answers
-use Rattle.slave_port.specs.declared.reason.SlaveRefusal.TheVariants.{NotHeld}
-use Rattle.slave_port.specs.Refusal.{code_of as slave_code}
-use Rattle.slave_port.specs.History as calls
-use Rattle.slave_port.specs.Answer as slaves
-use Rattle.slave_port.specs.Requests.{is_held}
-use Rattle.master_port.specs.Written.{answer}
 use Rattle.network_model.specs.declared.event.Event.{Event}
 use Rattle.network_model.specs.declared.event.Event.TheVariants.{Sync, SyncOne, Follow, Enter, Leave, Arrive, Hear, Request, Stamped, Tick, SetMaster, StepClock}
-use Rattle.network_model.specs.declared.node.NodeKind.{NodeKind}
-use Rattle.network_model.specs.declared.node.NodeKind.TheVariants as kinds
 use Rattle.network_model.specs.declared.refusal.WorldRefusal.{WorldRefusal}
-use Rattle.network_model.specs.declared.refusal.WorldRefusal.TheVariants.{NoNode, WrongKind, NoCopy, NoTransit, ReadingOutOfRange, NothingWaiting}
+use Rattle.network_model.specs.declared.refusal.WorldRefusal.TheVariants.{NoNode, WrongKind, NoCopy, ReadingOutOfRange, NothingWaiting}
 use Rattle.network_model.specs.declared.stepped.Outcome.{Outcome}
 use Rattle.network_model.specs.declared.stepped.Outcome.TheVariants as outcomes
-use Rattle.network_model.specs.Network.{Network, NodeName, PortSetup, kind_of, master_port, slave_port}
-use Rattle.network_model.specs.Run.{Run, Place, place, place_at}
-use Rattle.network_model.specs.Clock.{reading}
-use Rattle.network_model.specs.Numbering.{waiting_sync, waiting_request}
-use Rattle.network_model.specs.Truth.{copy_of, master_at, slave_at}
-use Rattle.network_model.specs.SlaveHistory.{slave_setup, history_of, request_sequence}
-use Rattle.network_model.specs.Outcome.{◌>>=◌, node_as, clock_of, port_of, reads, open_transit, copy_in, left_outcome, answered_outcome, heard, arrived_outcome, stamped_outcome, outcome_of}
-use Rattle.network_model.specs.Premises.{is_of_use}
-use Rattle.network_model.proofs.Options.{ok_step, ok_some}
-use Rattle.trace_model.specs.declared.line.TraceLine.{TraceLine}
-use Rattle.trace_model.specs.declared.line.TraceOut.{TraceOut}
-use Rattle.trace_model.specs.declared.line.TraceOut.TheVariants as outs
-use Rattle.trace_model.specs.Line.{is_done, is_made, is_entered, is_heard, is_refused, is_ignored, is_master, is_slave, is_clock, is_kind, clock_kind, may_arrive, may_happen, counts}
-use Rattle.trace_model.specs.Told.{TellsMade, TellsOutcome, TellsEvent, heard_out}
+use Rattle.network_model.specs.Network.{Network, kind_of, master_port, slave_port}
+use Rattle.network_model.specs.Run.{Run}
+use Rattle.network_model.specs.Numbering.{waiting_sync}
+use Rattle.network_model.specs.Truth.{copy_of}
+use Rattle.network_model.specs.Outcome.{◌>>=◌, node_as, clock_of, reads, outcome_of}
+use Rattle.network_model.proofs.Options.{ok_step}
 use Rattle.network_model.specs.Kinds.{is_sync, is_one_step_sync, draws_sync, is_follow, is_request, is_set_master, is_step}
-use Rattle.trace_model.specs.Faithful.{is_effective, took_effect}
+use Rattle.trace_model.specs.Faithful.{is_effective}
 
 -- no port and no clock refuses such an event, and no slave ignores it
 abbrev pub is_certain : Event → Bool

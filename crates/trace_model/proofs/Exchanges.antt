@@ -1,48 +1,44 @@
 -- The lines of an exchange are there: the lines that tell the events of a report's four tags, and that they were used.
-use Rattle.std.proofs.Common.{◌≡◌, ◌∙◌, ℕ, ◌+◌, ◌<◌, ◌≤◌, Bool, true, false, [], ◌∷◌, length, Option, Some, None, Ok, Err, Result, IsOk, refl, sym, ap, subst, inl, inr, arith, option_map, option_and_then, if◌then◌else◌}
-use Rattle.std.specs.Prelude.{◌==◌, ◌&&◌, ◌||◌, ◌⊎◌, is_some, nat_lt, ok_or, count_by, IfSome, IsTrue}
+use Rattle.std.proofs.Common.{◌≡◌, ◌∙◌, ℕ, ◌<◌, ◌≤◌, Bool, true, false, [], ◌∷◌, length, Option, Some, None, Ok, Err, Result, IsOk, refl, sym, ap, subst, arith, option_map, option_and_then, if◌then◌else◌}
+use Rattle.std.specs.Prelude.{◌==◌, ◌&&◌, ◌||◌, is_some, ok_or, count_by, IfSome}
 use Rattle.std.specs.Option.{option_or, option_map_or}
-use Rattle.std.proofs.lemmas.Bool.{and_from, or_left, or_right, eq-eqb, eqb-true, lt-ltb}
+use Rattle.std.proofs.lemmas.Bool.{and_from, eq-eqb, eqb-true, lt-ltb}
 use Rattle.event_codec.specs.Packet.{Contents}
 use Rattle.slave_port.specs.declared.heard.Heard.{Heard}
 use Rattle.slave_port.specs.declared.heard.Heard.TheVariants as answers
 use Rattle.slave_port.specs.declared.heard.Report.{Report}
 use Rattle.slave_port.specs.History as calls
-use Rattle.slave_port.proofs.Uses.{some_step}
 use Rattle.network_model.specs.declared.event.Event.{Event}
-use Rattle.network_model.specs.declared.event.Event.TheVariants.{Sync, SyncOne, Follow, Enter, Leave, Arrive, Hear, Request, Stamped, Tick, SetMaster, StepClock}
+use Rattle.network_model.specs.declared.event.Event.TheVariants.{Arrive, Hear, Stamped}
 use Rattle.network_model.specs.declared.refusal.WorldRefusal.{WorldRefusal}
 use Rattle.network_model.specs.declared.refusal.WorldRefusal.TheVariants.{NoCopy}
 use Rattle.network_model.specs.declared.stepped.Outcome.{Outcome}
 use Rattle.network_model.specs.declared.stepped.Outcome.TheVariants as outcomes
 use Rattle.network_model.specs.Network.{Network, NodeName, slave_port}
-use Rattle.network_model.specs.Run.{Run, Place, place, place_at, tag_of, until, site_of, IsIn, events_after}
+use Rattle.network_model.specs.Run.{Run, Place, place, place_at, tag_of, site_of, IsIn, events_after}
 use Rattle.network_model.specs.Kinds.{is_at, is_sync, is_one_step_sync, is_follow, is_request, is_stamped, heard_copy}
-use Rattle.network_model.specs.Numbering.{waiting_sync}
 use Rattle.network_model.specs.Truth.{copy_made, copy_of}
 use Rattle.network_model.specs.Outcome.{◌>>=◌, node_as, heard, outcome_of, IsRun}
 use Rattle.network_model.specs.Premises.{is_used}
-use Rattle.network_model.specs.Exact.{HearsOf, HearsFollowUp, LearnsDeparture}
+use Rattle.network_model.specs.Exact.{HearsOf, LearnsDeparture}
 use Rattle.network_model.specs.Evidence.{is_complete, is_completing, HasOutcome, SyncWasUsed}
 use Rattle.network_model.proofs.Options.{ok_step, ok_some, ok_value}
 use Rattle.network_model.proofs.Places.{IsIn-before, tag_of-place_at, place_at-bound, place_at-within, IsIn-place_at, accepted-place_at}
-use Rattle.network_model.proofs.Sites.{named-self, at_kind, at_site}
+use Rattle.network_model.proofs.Sites.{named-self, at_kind}
 use Rattle.network_model.proofs.Made.{copy_of-place_at}
 use Rattle.trace_model.specs.declared.line.TraceLine.{TraceLine}
 use Rattle.trace_model.specs.declared.line.TraceOut.{TraceOut}
-use Rattle.trace_model.specs.declared.line.TraceOut.TheVariants as outs
-use Rattle.trace_model.specs.Line.{Lines, counts, is_made, completes, is_arrival, is_hearing}
+use Rattle.trace_model.specs.Line.{Lines, is_made, completes, is_arrival, is_hearing}
 use Rattle.trace_model.specs.Record.{LinePlace, line_place, event_of, site, line_number, line_at, last_line, stamps, first_stamp}
-use Rattle.trace_model.specs.Octets.{writes_right}
-use Rattle.trace_model.specs.Sound.{where_passes, below, line_of, sender, sync_line, follow_line, follow_lines, arrival_line, is_followed}
-use Rattle.trace_model.specs.Told.{TellsMade, TellsOutcome, TellsEvent, TellsRun, heard_out}
-use Rattle.trace_model.specs.Faithful.{is_effective, took_effect, TellsPlace, HasLine}
-use Rattle.trace_model.proofs.Certain.{is_certain, sync_certain, follow_certain, request_certain}
+use Rattle.trace_model.specs.Sound.{where_passes, below, line_of, sender, sync_line, follow_lines, arrival_line, is_followed}
+use Rattle.trace_model.specs.Told.{TellsOutcome, TellsEvent, TellsRun, heard_out}
+use Rattle.trace_model.specs.Faithful.{is_effective, took_effect, TellsPlace}
+use Rattle.trace_model.proofs.Certain.{is_certain, sync_certain, request_certain}
 use Rattle.trace_model.proofs.Good.{made_told, the_value}
-use Rattle.trace_model.proofs.Found.{same_event, same_number, same_length, event_told, line_counts, each_event_has_its_line}
+use Rattle.trace_model.proofs.Found.{same_event, same_number, same_length, line_counts, each_event_has_its_line}
 use Rattle.trace_model.proofs.Last.{last_at-waiting, last_at-alone, last_told}
 use Rattle.trace_model.proofs.Travelled.{accepted_told, certain_took}
-use Rattle.trace_model.proofs.Octets.{IsAnswer, arrival_parts, follow_written}
+use Rattle.trace_model.proofs.Octets.{arrival_parts}
 
 -- what is found, and that it tells an event
 pub record Finds (network : Network) (found : Option LinePlace) (p : Place) : Type 0 where
@@ -151,18 +147,11 @@ stamped_first network request (event ∷ earlier) (line ∷ lines) tag p told th
         by (Some n) e h number = let bound = stamp_bound network request lines n e in (n, ap (λ (o : Option ℕ). option_or o here) e, omega arith)
     at false is there before = let found = before there in (found.0, ap (λ (o : Option ℕ). option_or o here) found.1, found.2)
 
--- the Follow_Up of a report, where it has one: its line follows the Sync, and its octets are right
+-- the Follow_Up of a report, where it has one: its line follows the Sync
 pub record HasFollow (network : Network) (lines : Lines) (slave : NodeName) (follow : Option ℕ) (origin : Place) : Type 0 where
   pub found : Option LinePlace
   pub there : follow_lines network lines slave follow ≡ Some found
   pub followed : (e : LinePlace) → TellsPlace network origin e → is_followed network found e ≡ true
-  pub octets : option_map_or (writes_right network) found true ≡ true
-
--- an arrival that sent a Delay_Resp, and what it made
-pub record HasAnswer (network : Network) (lines : Lines) (slave : NodeName) (tag : ℕ) (arrival : Place) : Type 0 where
-  pub found : Finds network (arrival_line network lines slave tag) arrival
-  pub response : Contents
-  pub copy : copy_made network arrival.event arrival.earlier (copy_of network arrival.earlier) ≡ Some response
 
 module _ (network : Network) (run : Run) (lines : Lines) (told : TellsRun network run lines) where
   accepted : IsRun network run
@@ -219,7 +208,7 @@ module _ (network : Network) (run : Run) (lines : Lines) (told : TellsRun networ
       by None used =
           let outcome = outcome_at is_completing report.sync_tag arrival there used in
           let found = kind_found is_arrival slave report.sync_tag arrival here
-              (line_found report.sync_tag arrival there (completing_took (outcome_of network arrival.earlier arrival.event) outcome)) in
+          (line_found report.sync_tag arrival there (completing_took (outcome_of network arrival.earlier arrival.event) outcome)) in
           record {
             e = found.e;
             there = ap (where_passes (λ (e : LinePlace). completes e.line.out)) found.there
@@ -229,7 +218,7 @@ module _ (network : Network) (run : Run) (lines : Lines) (told : TellsRun networ
       by (Some tag) used =
           let outcome = outcome_at is_used report.sync_tag arrival there used in
           let found = kind_found is_arrival slave report.sync_tag arrival here
-              (line_found report.sync_tag arrival there (used_took (outcome_of network arrival.earlier arrival.event) outcome)) in
+          (line_found report.sync_tag arrival there (used_took (outcome_of network arrival.earlier arrival.event) outcome)) in
           record { e = found.e; there = ap (where_passes (λ (e : LinePlace). true)) found.there; tells = found.tells }
 
   -- the Follow_Up
@@ -239,17 +228,16 @@ module _ (network : Network) (run : Run) (lines : Lines) (told : TellsRun networ
     found = None;
     there = refl;
     followed = λ e tells. ap is_one_step_sync (same_event network origin e tells) ∙ at_kind is_one_step_sync master origin.event learns;
-    octets = refl;
   }
   follow_found slave master (Some tag) origin learns used =
       let hears = learns.hears in
       let heard_at : is_at is_hearing slave hears.hearing.event ≡ true = ap (is_at is_hearing slave) hears.event ∙ named-self slave in
       let hearing = kind_found is_hearing slave tag hears.hearing heard_at
-          (line_found tag hears.hearing hears.there (used_took (outcome_of network hears.hearing.earlier hears.hearing.event) (outcome_at is_used tag hears.hearing hears.there used))) in
+      (line_found tag hears.hearing hears.there (used_took (outcome_of network hears.hearing.earlier hears.hearing.event) (outcome_at is_used tag hears.hearing hears.there used))) in
       let there = place_at-within run hears.hearing hears.copy learns.follow (IsIn-place_at run tag hears.hearing hears.there) hears.made_by in
       let made = certain_found hears.copy learns.follow there (ap is_certain learns.follows) in
       let sent = sender_found hears.hearing hearing.e hears.copy learns.follow hearing.tells (ap heard_copy hears.event)
-          (place_at-bound hears.hearing.earlier hears.copy learns.follow hears.made_by) made in
+      (place_at-bound hears.hearing.earlier hears.copy learns.follow hears.made_by) made in
       let follows : is_follow (event_of sent.e) ≡ true = ap is_follow (same_event network learns.follow sent.e sent.tells ∙ learns.follows) in
       let site_is : site sent.e ≡ master = ap site_of (same_event network learns.follow sent.e sent.tells ∙ learns.follows) in
       let last = last_told network is_sync sync_certain master learns.follow.earlier sent.e.earlier origin sent.tells.before (last_at-waiting master learns.follow.earlier origin learns.followed) in
@@ -262,7 +250,6 @@ module _ (network : Network) (run : Run) (lines : Lines) (told : TellsRun networ
             ap (λ (node : NodeName). option_map_or (λ (last : LinePlace). line_number last == line_number e) (last_line network is_sync node sent.e.earlier) false) site_is
             ∙ ap (λ (o : Option LinePlace). option_map_or (λ (last : LinePlace). line_number last == line_number e) o false) last.there
             ∙ eq-eqb (line_number last.e) (line_number e) (same_number network origin last.e last.tells ∙ sym (same_number network origin e tells));
-        octets = follow_written network master learns.follow sent.e origin learns.follows sent.tells learns.followed;
       }
 
   -- the line that sent the Delay_Req
@@ -273,43 +260,39 @@ module _ (network : Network) (run : Run) (lines : Lines) (told : TellsRun networ
 
   -- the arrival of the Delay_Req
   pub answer_found : (slave master : NodeName) (tag : ℕ) (arrival : Place) (copy moment : ℕ) → HearsOf run tag slave arrival → arrival.event ≡ Arrive master copy moment
-      → HasOutcome network run is_completing tag → HasAnswer network lines slave tag arrival
+      → HasOutcome network run is_completing tag → Finds network (arrival_line network lines slave tag) arrival
   answer_found slave master tag arrival copy moment hears event completes_at =
       let outcome = outcome_at is_completing tag hears.hearing hears.there completes_at in
       let heard_at : is_at is_hearing slave hears.hearing.event ≡ true = ap (is_at is_hearing slave) hears.event ∙ named-self slave in
       let hearing = kind_found is_hearing slave tag hears.hearing heard_at
-          (line_found tag hears.hearing hears.there (completing_took (outcome_of network hears.hearing.earlier hears.hearing.event) outcome)) in
+      (line_found tag hears.hearing hears.there (completing_took (outcome_of network hears.hearing.earlier hears.hearing.event) outcome)) in
       let hearing_in = IsIn-place_at run tag hears.hearing hears.there in
       let there = place_at-within run hears.hearing hears.copy arrival hearing_in hears.made_by in
       let message = heard_parts network slave hears.copy hears.hearing.earlier
-          (subst (λ (v : Event). IsOk (outcome_of network hears.hearing.earlier v)) hears.event (accepted-place_at network run tag hears.hearing accepted hears.there)) in
+      (subst (λ (v : Event). IsOk (outcome_of network hears.hearing.earlier v)) hears.event (accepted-place_at network run tag hears.hearing accepted hears.there)) in
       let made : copy_made network arrival.event arrival.earlier (copy_of network arrival.earlier) ≡ Some message.0 =
       ap (option_and_then (λ (p : Place). copy_made network p.event p.earlier (copy_of network p.earlier))) (sym hears.made_by)
       ∙ sym (copy_of-place_at network hears.hearing.earlier hears.copy) ∙ message.1 in
       let arrived = ok_value (outcome_of network arrival.earlier arrival.event) (accepted-place_at network run hears.copy arrival accepted there) in
       let parts = arrival_parts network master copy moment arrival.earlier arrived.0 message.0
-          (subst (λ (v : Event). outcome_of network arrival.earlier v ≡ Ok arrived.0) event arrived.1)
-          (subst (λ (v : Event). copy_made network v arrival.earlier (copy_of network arrival.earlier) ≡ Some message.0) event made) in
+      (subst (λ (v : Event). outcome_of network arrival.earlier v ≡ Ok arrived.0) event arrived.1)
+      (subst (λ (v : Event). copy_made network v arrival.earlier (copy_of network arrival.earlier) ≡ Some message.0) event made) in
       let sent = sender_found hears.hearing hearing.e hears.copy arrival hearing.tells (ap heard_copy hears.event)
-          (place_at-bound hears.hearing.earlier hears.copy arrival hears.made_by)
-          (line_found hears.copy arrival there (ap took_effect arrived.1 ∙ ap is_effective parts.is_made)) in
+      (place_at-bound hears.hearing.earlier hears.copy arrival hears.made_by)
+      (line_found hears.copy arrival there (ap took_effect arrived.1 ∙ ap is_effective parts.is_made)) in
       let arrives : is_arrival (event_of sent.e) ≡ true = ap is_arrival (same_event network arrival sent.e sent.tells ∙ event) in
       let made_here : sent.tells.told.stepped.outcome ≡ outcomes.Made =
       the_value sent.tells.told.stepped.outcome outcomes.Made (sym sent.tells.told.answered.outcome ∙ arrived.1 ∙ ap Ok parts.is_made) in
       let is_made_here = is_made_told network arrival.event arrival.earlier sent.e.line sent.tells.told made_here in
       record {
-        found = record {
-          e = sent.e;
-          there = ap (λ (o : Option LinePlace). where_passes (λ (e : LinePlace). is_arrival (event_of e) && is_made e.line.out)
-              (option_and_then (sender network lines) (where_passes (λ (e : LinePlace). completes e.line.out) o))) hearing.there
-              ∙ ap (λ (o : Option LinePlace). where_passes (λ (e : LinePlace). is_arrival (event_of e) && is_made e.line.out) (option_and_then (sender network lines) o))
-              (passes (λ (e : LinePlace). completes e.line.out) hearing.e (completes_told network hears.hearing.event hears.hearing.earlier hearing.e.line hearing.tells.told outcome))
-              ∙ ap (where_passes (λ (e : LinePlace). is_arrival (event_of e) && is_made e.line.out)) sent.there
-              ∙ passes (λ (e : LinePlace). is_arrival (event_of e) && is_made e.line.out) sent.e (and_from (is_arrival (event_of sent.e)) (is_made sent.e.line.out) arrives is_made_here);
-          tells = sent.tells;
-        };
-        response = message.0;
-        copy = made;
+        e = sent.e;
+        there = ap (λ (o : Option LinePlace). where_passes (λ (e : LinePlace). is_arrival (event_of e) && is_made e.line.out)
+            (option_and_then (sender network lines) (where_passes (λ (e : LinePlace). completes e.line.out) o))) hearing.there
+            ∙ ap (λ (o : Option LinePlace). where_passes (λ (e : LinePlace). is_arrival (event_of e) && is_made e.line.out) (option_and_then (sender network lines) o))
+            (passes (λ (e : LinePlace). completes e.line.out) hearing.e (completes_told network hears.hearing.event hears.hearing.earlier hearing.e.line hearing.tells.told outcome))
+            ∙ ap (where_passes (λ (e : LinePlace). is_arrival (event_of e) && is_made e.line.out)) sent.there
+            ∙ passes (λ (e : LinePlace). is_arrival (event_of e) && is_made e.line.out) sent.e (and_from (is_arrival (event_of sent.e)) (is_made sent.e.line.out) arrives is_made_here);
+        tells = sent.tells;
       }
 
   -- a Stamped between the request and the hearing of its answer
@@ -321,7 +304,7 @@ module _ (network : Network) (run : Run) (lines : Lines) (told : TellsRun networ
       stamped_first network request run lines (tag_of p) p told there
       (λ e tells.
       let last = last_told network is_request request_certain slave p.earlier e.earlier origin tells.before
-          (last_at-alone is_request slave p.earlier request origin (before p request origin there requested after) drawn alone) in
+      (last_at-alone is_request slave p.earlier request origin (before p request origin there requested after) drawn alone) in
       let here : site_of (event_of e) ≡ slave = ap site_of (same_event network p e tells ∙ event) in
       let counted = line_counts network p.event p.earlier e.line tells.told (ap took_effect done) in
       let is : is_stamped (event_of e) ≡ true = ap is_stamped (same_event network p e tells ∙ event) in

@@ -1,5 +1,5 @@
 -- The line that tells an event of a run, by the event's tag.
-use Rattle.std.proofs.Common.{◌≡◌, ◌∙◌, ℕ, Bool, true, false, [], ◌∷◌, length, Option, Some, None, refl, sym, ap, subst, suc, if◌then◌else◌}
+use Rattle.std.proofs.Common.{◌≡◌, ◌∙◌, ℕ, Bool, true, false, [], ◌∷◌, length, Some, None, refl, sym, ap, subst, suc, if◌then◌else◌}
 use Rattle.std.specs.Prelude.{◌==◌}
 use Rattle.network_model.specs.declared.event.Event.{Event}
 use Rattle.network_model.specs.Network.{Network}
@@ -9,7 +9,7 @@ use Rattle.trace_model.specs.declared.line.TraceLine.{TraceLine}
 use Rattle.trace_model.specs.Line.{Lines, counts}
 use Rattle.trace_model.specs.Record.{LinePlace, line_place, event_of, line_number, line_at}
 use Rattle.trace_model.specs.Told.{TellsEvent, TellsRun}
-use Rattle.trace_model.specs.Faithful.{took_effect, IsGood, TellsPlace, HasLine, EachEventHasItsLine}
+use Rattle.trace_model.specs.Faithful.{took_effect, TellsPlace, HasLine, EachEventHasItsLine}
 use Rattle.trace_model.proofs.Good.{each_line_is_good}
 
 -- a line an event

@@ -24,20 +24,19 @@ use Rattle.network_model.specs.declared.refusal.WorldRefusal.TheVariants.{NoNode
 use Rattle.network_model.specs.declared.stepped.Outcome.{Outcome}
 use Rattle.network_model.specs.declared.stepped.Outcome.TheVariants as outcomes
 use Rattle.network_model.specs.Network.{Network, NodeName, PortSetup, kind_of, master_port, slave_port}
-use Rattle.network_model.specs.Run.{Run, Place, place, place_at}
+use Rattle.network_model.specs.Run.{Run, place_at}
 use Rattle.network_model.specs.Clock.{reading}
 use Rattle.network_model.specs.Numbering.{waiting_sync, waiting_request}
-use Rattle.network_model.specs.Truth.{copy_of, master_at, slave_at}
+use Rattle.network_model.specs.Truth.{copy_of}
 use Rattle.network_model.specs.SlaveHistory.{slave_setup, history_of, request_sequence}
 use Rattle.network_model.specs.Outcome.{◌>>=◌, node_as, clock_of, port_of, reads, open_transit, copy_in, left_outcome, answered_outcome, heard, arrived_outcome, stamped_outcome, outcome_of}
 use Rattle.network_model.specs.Premises.{is_of_use}
 use Rattle.network_model.proofs.Options.{ok_step, ok_some}
-use Rattle.trace_model.specs.declared.line.TraceLine.{TraceLine}
 use Rattle.trace_model.specs.declared.line.TraceOut.{TraceOut}
 use Rattle.trace_model.specs.declared.line.TraceOut.TheVariants as outs
-use Rattle.trace_model.specs.Line.{is_done, is_made, is_entered, is_heard, is_refused, is_ignored, is_master, is_slave, is_clock, is_kind, clock_kind, may_arrive, may_happen, counts}
-use Rattle.trace_model.specs.Told.{TellsMade, TellsOutcome, TellsEvent, heard_out}
-use Rattle.trace_model.specs.Faithful.{is_effective, took_effect, IsGood, EachLineIsGood}
+use Rattle.trace_model.specs.Line.{is_done, is_made, is_entered, is_heard, is_refused, is_ignored, is_master, is_slave, is_clock, is_kind, clock_kind, may_arrive, may_happen}
+use Rattle.trace_model.specs.Told.{TellsMade, TellsOutcome, heard_out}
+use Rattle.trace_model.specs.Faithful.{is_effective, took_effect, EachLineIsGood}
 
 -- what a node is that was asked to be something
 pub node_is : {X : Type 0} (wanted : NodeKind → Option X) (network : Network) (node : NodeName) {x : X} → node_as wanted network node ≡ Ok x

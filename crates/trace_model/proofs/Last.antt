@@ -1,5 +1,5 @@
 -- The last line of a kind at a node tells the run's last event of this kind there.
-use Rattle.std.proofs.Common.{◌≡◌, ◌∙◌, ℕ, ◌+◌, ◌≤◌, ◌<◌, Bool, true, false, [], ◌∷◌, length, Option, Some, None, Ok, Err, refl, sym, ap, subst, arith, if◌then◌else◌}
+use Rattle.std.proofs.Common.{◌≡◌, ◌∙◌, ℕ, Bool, true, false, [], ◌∷◌, length, Option, Some, None, refl, sym, ap, subst, arith, if◌then◌else◌}
 use Rattle.std.specs.Prelude.{◌==◌, ◌&&◌, count_by}
 use Rattle.network_model.specs.declared.event.Event.{Event}
 use Rattle.network_model.specs.Network.{Network, NodeName}
@@ -7,15 +7,13 @@ use Rattle.network_model.specs.Run.{Run, Place, place, place_at, tag_of, IsIn, e
 use Rattle.network_model.specs.Kinds.{is_at, is_sync, is_follow, is_set_master}
 use Rattle.network_model.specs.Numbering.{waiting_sync}
 use Rattle.network_model.specs.Present.{last_set_master}
-use Rattle.network_model.specs.Outcome.{outcome_of}
 use Rattle.network_model.proofs.Places.{place_at-later}
 use Rattle.network_model.proofs.Sites.{at_kind}
 use Rattle.network_model.proofs.Journeys.{IsIn-last}
 use Rattle.network_model.proofs.Sequences.{count-yes, count-no}
-use Rattle.trace_model.specs.declared.line.TraceLine.{TraceLine}
 use Rattle.trace_model.specs.Line.{Lines, counts}
 use Rattle.trace_model.specs.Record.{LinePlace, line_place, last_line}
-use Rattle.trace_model.specs.Told.{TellsEvent, TellsRun}
+use Rattle.trace_model.specs.Told.{TellsRun}
 use Rattle.trace_model.specs.Faithful.{TellsPlace}
 use Rattle.trace_model.proofs.Certain.{is_certain}
 use Rattle.trace_model.proofs.Found.{event_told}

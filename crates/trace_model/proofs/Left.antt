@@ -1,6 +1,6 @@
 -- What a Leave event that was accepted ends: the stay that an Enter event at its own clock began. Where its copy goes on with
 -- a journey, it made a message.
-use Rattle.std.proofs.Common.{◌≡◌, ◌∙◌, ℕ, ◌<◌, ◌≤◌, Bool, true, false, [], ◌∷◌, length, Option, Some, None, Ok, Err, Result, IsOk, refl, sym, ap, subst, inl, inr, arith, option_map, option_and_then, if◌then◌else◌}
+use Rattle.std.proofs.Common.{◌≡◌, ◌∙◌, ℕ, ◌<◌, ◌≤◌, Bool, true, false, length, Option, Some, None, Ok, Err, Result, refl, sym, ap, inl, inr, option_map, option_and_then, if◌then◌else◌}
 use Rattle.std.specs.Prelude.{◌&&◌, not, is_some, ok_or, unwrap_or, ◌⊎◌}
 use Rattle.std.specs.List.{list_any}
 use Rattle.std.specs.Result.{result_ok}
@@ -9,7 +9,6 @@ use Rattle.event_codec.specs.Packet.{Contents}
 use Rattle.transparent_clock.specs.declared.refusal.ClockRefusal.{ClockRefusal}
 use Rattle.transparent_clock.specs.Forwarding.{resided, forwarded}
 use Rattle.slave_port.proofs.Uses.{some_step, some_image}
-use Rattle.network_model.specs.declared.event.Event.{Event}
 use Rattle.network_model.specs.declared.event.Event.TheVariants.{Leave}
 use Rattle.network_model.specs.declared.refusal.WorldRefusal.{WorldRefusal}
 use Rattle.network_model.specs.declared.refusal.WorldRefusal.TheVariants.{NoTransit, ReadingOutOfRange}
@@ -19,7 +18,7 @@ use Rattle.network_model.specs.Network.{Network, NodeName, is_named}
 use Rattle.network_model.specs.Run.{Run, Place, place, place_at, site_of}
 use Rattle.network_model.specs.Kinds.{entered_copy, spends}
 use Rattle.network_model.specs.Clock.{reading, reading_of}
-use Rattle.network_model.specs.Journey.{Journey, residence, goes_on, journey_made, journey_of}
+use Rattle.network_model.specs.Journey.{Journey, residence, journey_made, journey_of}
 use Rattle.network_model.specs.Truth.{drawn, travelled, copy_made, copy_of}
 use Rattle.network_model.specs.Outcome.{◌>>=◌, node_as, clock_of, reads, open_transit, copy_in, left_outcome, outcome_of}
 use Rattle.network_model.proofs.Options.{ok_step, ok_some}
@@ -104,7 +103,7 @@ pub message_of : (network : Network) (run : Run) (copy : ℕ) (m : Contents) (jo
     → (d : Contents) × (drawn network journey.origin.event journey.origin.earlier ≡ Some d)
 message_of network run copy m journey is made =
     let drawn_is = some_image (λ (c : Contents). resided c (residence journey)) (drawn network journey.origin.event journey.origin.earlier)
-        (sym (copy_of-travelled network run copy journey made) ∙ is) in
+    (sym (copy_of-travelled network run copy journey made) ∙ is) in
     (drawn_is.0, drawn_is.1)
 
 -- where the copy goes on, the clock made a message

@@ -13,3 +13,6 @@ pub mod Written
 pub mod Octets
 pub mod Exchanges
 pub mod Measured
+pub mod Complete
+pub mod Messages
+pub mod OctetsOfExchanges

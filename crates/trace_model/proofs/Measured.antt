@@ -1,7 +1,7 @@
--- The journeys of a report's messages, by lines: each can be followed, its readings and its octets are right, its residence
+-- The journeys of a report's messages, by lines: each can be followed, its readings are right, its residence
 -- fits, and the bracket over it is the one of the run.
-use Rattle.std.proofs.Common.{◌≡◌, ◌∙◌, ℕ, ℤ, pos, ◌+◌, ◌-◌, ◌^◌, ◌<◌, ◌≤◌, ◌-ℤ◌, Bool, true, false, List, [], ◌∷◌, length, Option, Some, None, Ok, Err, Result, IsOk, int_lt, refl, sym, ap, subst, arith, option_map, option_and_then, if◌then◌else◌}
-use Rattle.std.specs.Prelude.{◌==◌, ◌&&◌, ◌||◌, is_some, nat_lt}
+use Rattle.std.proofs.Common.{◌≡◌, ◌∙◌, ℕ, ℤ, pos, ◌+◌, ◌-◌, ◌^◌, ◌<◌, ◌-ℤ◌, Bool, true, Option, Some, int_lt, sym, ap, subst, arith, option_and_then, if◌then◌else◌}
+use Rattle.std.specs.Prelude.{◌&&◌, is_some, nat_lt}
 use Rattle.std.specs.List.{list_all}
 use Rattle.std.proofs.lemmas.Bool.Decides.{nat_tests}
 use Rattle.std.proofs.lemmas.Int.{ints}
@@ -15,33 +15,29 @@ use Rattle.slave_port.proofs.Uses.{some_step, some_image}
 use Rattle.transparent_clock.specs.Forwarding.{resided}
 use Rattle.network_model.specs.declared.event.Event.{Event}
 use Rattle.network_model.specs.declared.event.Event.TheVariants.{Sync, SyncOne, Follow, Enter, Leave, Arrive, Hear, Request, Stamped, Tick, SetMaster, StepClock}
-use Rattle.network_model.specs.Network.{Network, NodeName, PortSetup}
+use Rattle.network_model.specs.Network.{Network, PortSetup}
 use Rattle.network_model.specs.Run.{Run, Place, place, place_at, tag_of, until, IsIn, true_moment}
-use Rattle.network_model.specs.Kinds.{is_one_step_sync, draws_sync, is_request, heard_copy}
+use Rattle.network_model.specs.Kinds.{is_one_step_sync, heard_copy}
 use Rattle.network_model.specs.Clock as clocks
 use Rattle.network_model.specs.Numbering.{number_of}
 use Rattle.network_model.specs.Journey as made
-use Rattle.network_model.specs.Truth.{drawn, travelled, master_at, slave_at}
+use Rattle.network_model.specs.Truth.{drawn, master_at, slave_at}
 use Rattle.network_model.specs.Outcome.{IsRun}
 use Rattle.network_model.specs.Exact.{IsBracketOf}
 use Rattle.network_model.specs.Evidence.{IsRepresented}
-use Rattle.network_model.proofs.Places.{IsIn-before, IsIn-within, IsIn-place_at, IsRun-place_at, place_at-bound, place_at-within}
+use Rattle.network_model.proofs.Places.{IsIn-before, IsIn-within, IsRun-place_at, place_at-bound, place_at-within}
 use Rattle.network_model.proofs.Made.{journey_of-place_at}
 use Rattle.network_model.proofs.Journeys.{IsIn-last, IsIn-origin}
 use Rattle.network_model.proofs.Readings.{shown_reading}
 use Rattle.network_model.proofs.Ways.{stays_are}
-use Rattle.trace_model.specs.Line.{Lines}
 use Rattle.trace_model.specs.Record.{LinePlace, event_of, line_number, events, reading, reads_right}
 use Rattle.trace_model.specs.Journey as lined
-use Rattle.trace_model.specs.Octets.{writes_right}
-use Rattle.trace_model.specs.Sound.{where_passes, below, lines_to, journey_to, unbroken, stay_reads_right, journey_reads_right, fraction_sent, fits, bracket, journey_writes_right}
+use Rattle.trace_model.specs.Sound.{where_passes, below, lines_to, unbroken, stay_reads_right, journey_reads_right, fraction_sent, fits, bracket}
 use Rattle.trace_model.specs.Told.{TellsRun}
-use Rattle.trace_model.specs.Faithful.{TellsPlace, TellsJourney, HasJourney}
+use Rattle.trace_model.specs.Faithful.{TellsPlace, TellsJourney}
 use Rattle.trace_model.proofs.Found.{same_event, same_number}
 use Rattle.trace_model.proofs.Travelled.{accepted_told, each_journey_is_told}
-use Rattle.trace_model.proofs.Stays.{until_accepted, reading_told, stays_told, stays_spent, stays_once}
-use Rattle.trace_model.proofs.Written.{drawn_written}
-use Rattle.trace_model.proofs.Octets.{stays_written}
+use Rattle.trace_model.proofs.Stays.{reading_told, stays_told, stays_spent, stays_once}
 use Rattle.trace_model.proofs.Exchanges.{passes, found_below}
 
 -- what came before an event that isn't later than another one came before that one
@@ -78,13 +74,12 @@ pub record IsFollowed (network : Network) (e : LinePlace) (kind : Event → Bool
   pub origin_read : reading by_lines.origin ≡ clocks.reading journey.origin
   pub journey_right : journey_reads_right network by_lines ≡ true
   pub residence : lined.residence by_lines ≡ made.residence journey
-  pub octets : journey_writes_right network by_lines ≡ true
 
 pub followed : (network : Network) (answered : Place) (e : LinePlace) → TellsPlace network answered e → (kind : Event → Bool) (arrival : Place) (arrived : LinePlace) (journey : made.Journey) (copy : ℕ)
     → TellsPlace network arrival arrived → IsIn (until answered) arrival → heard_copy arrival.event ≡ Some copy → is_some (true_moment arrival.event) ≡ true
-    → made.journey_of arrival.earlier copy ≡ Some journey → kind journey.origin.event ≡ true → (draws_sync journey.origin.event || is_request journey.origin.event) ≡ true
+    → made.journey_of arrival.earlier copy ≡ Some journey → kind journey.origin.event ≡ true
     → is_some (true_moment journey.origin.event) ≡ true → IsFollowed network e kind arrival arrived journey
-followed network answered e tells kind arrival arrived journey copy tells_arrival there hears timed is kind_is draws origin_timed =
+followed network answered e tells kind arrival arrived journey copy tells_arrival there hears timed is kind_is origin_timed =
     let run : Run = until answered in
     let told : TellsRun network run (lines_to e) = (tells.told, tells.before) in
     let accepted : IsRun network run = accepted_told network run (lines_to e) told in
@@ -95,14 +90,12 @@ followed network answered e tells kind arrival arrived journey copy tells_arriva
     let are = stays_are network arrival.earlier copy journey before is in
     let spent = stays_spent network arrival.earlier copy journey before is in
     let once = stays_once network answered.earlier e.earlier arrival.earlier journey.stays lines.by_lines.stays tells.before accepted.1
-        (inside answered arrival there) are spent lines.tells.stays in
+    (inside answered arrival there) are spent lines.tells.stays in
     let begins : kind (event_of lines.by_lines.origin) ≡ true = ap kind (same_event network journey.origin lines.by_lines.origin lines.tells.origin) ∙ kind_is in
     let origin_in = IsIn-origin arrival.earlier copy journey is in
     let read = reading_told network run arrival arrived accepted there tells_arrival timed in
     let origin = reading_told network arrival.earlier journey.origin lines.by_lines.origin before origin_in lines.tells.origin origin_timed in
     let stays = stays_told network arrival.earlier journey.stays lines.by_lines.stays before are lines.tells.stays in
-    let sent = drawn_written network journey.origin lines.by_lines.origin (until_accepted network arrival.earlier journey.origin before origin_in) lines.tells.origin draws in
-    let left = stays_written network journey.stays lines.by_lines.stays spent lines.tells.stays in
     let right : reads_right network lines.by_lines.origin ≡ true = origin.1 in
     let stays_right : list_all (stay_reads_right network) lines.by_lines.stays ≡ true = stays.1 in
     record {
@@ -119,7 +112,6 @@ followed network answered e tells kind arrival arrived journey copy tells_arriva
       origin_read = origin.0;
       journey_right = λ i. right i && stays_right i;
       residence = stays.0;
-      octets = λ i. sent i && left i;
     }
 
 -- the bracket
@@ -149,7 +141,7 @@ drawn_correction network (Sync node at) earlier d is =
     ap (λ (m : Contents). m.header.correction.0) (sym port.2)
 drawn_correction network (SyncOne node at) earlier d is =
     let port = some_image (λ (port : PortSetup). one_step_sync port.config (of_count (number_of port (place (SyncOne node at) earlier))) (clocks.reading (place (SyncOne node at) earlier)))
-        (master_at network node) is in
+    (master_at network node) is in
     ap (λ (m : Contents). m.header.correction.0) (sym port.2)
 drawn_correction network (Request node at) earlier d is =
     let port = some_image (λ (port : PortSetup). delay_req port.config (of_count (number_of port (place (Request node at) earlier)))) (slave_at network node) is in

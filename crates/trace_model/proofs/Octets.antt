@@ -1,58 +1,43 @@
 -- The octets of Follow_Ups, of Delay_Resps and of what leaves a clock, by lines: the message that the lines before a line ask
 -- for is the copy that its event made.
-use Rattle.std.proofs.Common.{◌≡◌, ◌∙◌, ℕ, Bool, true, false, List, [], ◌∷◌, length, Option, Some, None, Ok, Err, Result, IsOk, refl, sym, ap, subst, option_map, option_and_then, if◌then◌else◌}
-use Rattle.std.specs.Prelude.{◌==◌, ◌&&◌, ◌||◌, is_some, ok_or, unwrap_or, int_lt, sum_by}
-use Rattle.std.specs.List.{list_all}
+use Rattle.std.proofs.Common.{◌≡◌, ◌∙◌, ℕ, Bool, true, ◌∷◌, length, Option, Some, Ok, Err, Result, IsOk, refl, sym, ap, subst, option_map, option_and_then, if◌then◌else◌}
+use Rattle.std.specs.Prelude.{◌||◌, ok_or, unwrap_or}
 use Rattle.std.specs.Result.{result_ok}
-use Rattle.std.proofs.lemmas.Bool.{and_from, eq-eqb}
-use Rattle.ptp_units.specs.Interval.{least, less_fraction}
-use Rattle.ptp_units.specs.Moment.{fraction_of}
+use Rattle.std.proofs.lemmas.Bool.{eq-eqb}
 use Rattle.ptp_units.specs.Sequence.{of_count}
-use Rattle.event_codec.specs.declared.message.Header.{Header}
-use Rattle.event_codec.specs.declared.message.Body.{Body}
-use Rattle.event_codec.specs.declared.message.Body.TheVariants as bodies
-use Rattle.event_codec.specs.declared.port.PortConfig.{PortConfig}
-use Rattle.event_codec.specs.Packet.{Contents, Packet}
+use Rattle.event_codec.specs.Packet.{Contents}
 use Rattle.master_port.specs.declared.refusal.MasterRefusal.{MasterRefusal}
-use Rattle.master_port.specs.declared.refusal.MasterRefusal.TheVariants.{CorrectionTooLow, OtherDomain}
-use Rattle.master_port.specs.Written.{sync, one_step_sync, follow_up, delay_resp, answer, answer_to}
-use Rattle.slave_port.specs.Written.{delay_req}
-use Rattle.slave_port.proofs.Uses.{some_step, some_image}
+use Rattle.master_port.specs.Written.{follow_up, delay_resp, answer}
+use Rattle.slave_port.proofs.Uses.{some_step}
 use Rattle.transparent_clock.specs.declared.refusal.ClockRefusal.{ClockRefusal}
-use Rattle.transparent_clock.specs.Forwarding.{resided, forwarded}
+use Rattle.transparent_clock.specs.Forwarding.{forwarded}
 use Rattle.network_model.specs.declared.event.Event.{Event}
-use Rattle.network_model.specs.declared.event.Event.TheVariants.{Sync, SyncOne, Follow, Enter, Leave, Arrive, Hear, Request, Stamped, Tick, SetMaster, StepClock}
+use Rattle.network_model.specs.declared.event.Event.TheVariants.{Follow, Leave, Arrive}
 use Rattle.network_model.specs.declared.node.NodeKind.{NodeKind}
 use Rattle.network_model.specs.declared.node.NodeKind.TheVariants as kinds
-use Rattle.network_model.specs.declared.refusal.WorldRefusal.{WorldRefusal}
 use Rattle.network_model.specs.declared.refusal.WorldRefusal.TheVariants.{NoCopy, NothingWaiting, ReadingOutOfRange}
 use Rattle.network_model.specs.declared.stepped.Outcome.{Outcome}
 use Rattle.network_model.specs.declared.stepped.Outcome.TheVariants as outcomes
-use Rattle.network_model.specs.Network.{Network, NodeName, PortSetup, kind_of, master_port, slave_port}
-use Rattle.network_model.specs.Run.{Run, Place, place, place_at, tag_of, until, IsIn, true_moment}
-use Rattle.network_model.specs.Kinds.{is_sync, is_one_step_sync, draws_sync, is_request, spends}
+use Rattle.network_model.specs.Network.{Network, NodeName, PortSetup, master_port}
+use Rattle.network_model.specs.Run.{Run, Place, place}
+use Rattle.network_model.specs.Kinds.{is_sync, is_one_step_sync, draws_sync}
 use Rattle.network_model.specs.Clock as clocks
 use Rattle.network_model.specs.Numbering.{number_of, waiting_sync}
 use Rattle.network_model.specs.Journey as made
 use Rattle.network_model.specs.Truth as truth
 use Rattle.network_model.specs.Truth.{drawn, copy_made, copy_of, master_at, slave_at}
 use Rattle.network_model.specs.Outcome.{◌>>=◌, node_as, port_of, reads, answered_outcome, left_outcome, arrived_outcome, outcome_of, IsRun}
-use Rattle.network_model.proofs.Options.{ok_step, ok_some, ok_value}
+use Rattle.network_model.proofs.Options.{ok_step, ok_some}
 use Rattle.network_model.proofs.Sites.{at_kind}
-use Rattle.network_model.proofs.Journeys.{IsIn-last, IsIn-origin}
+use Rattle.network_model.proofs.Journeys.{IsIn-last}
 use Rattle.network_model.proofs.Readings.{sync_timed}
 use Rattle.network_model.proofs.Travelled.{copy_of-travelled}
+use Rattle.network_model.proofs.Copies.{answered as answers_request}
 use Rattle.network_model.proofs.Leaving.{copy_made-forwarded, copy_of-since}
-use Rattle.network_model.proofs.Ways.{AreStays, stays_are}
-use Rattle.trace_model.specs.declared.line.TraceLine.{TraceLine}
-use Rattle.trace_model.specs.declared.line.TraceOut.{TraceOut}
-use Rattle.trace_model.specs.declared.line.TraceOut.TheVariants as outs
-use Rattle.trace_model.specs.Line.{Lines}
-use Rattle.trace_model.specs.Record.{LinePlace, event_of, last_line, reading, sequence}
+use Rattle.trace_model.specs.Record.{LinePlace, last_line, reading}
 use Rattle.trace_model.specs.Journey as lined
-use Rattle.trace_model.specs.Octets.{drawing_port, message_sent, sent, travelled, followed, answered, message_made, is_packet, is_written, writes_right}
-use Rattle.trace_model.specs.Told.{TellsMade, TellsOutcome, TellsEvent, TellsRun}
-use Rattle.trace_model.specs.Faithful.{TellsPlace, TellsStays, TellsJourney}
+use Rattle.trace_model.specs.Octets.{travelled, followed, answered, message_made, writes_right}
+use Rattle.trace_model.specs.Faithful.{TellsPlace}
 use Rattle.trace_model.proofs.Good.{node_is, port_is, the_value}
 use Rattle.trace_model.proofs.Found.{same_event}
 use Rattle.trace_model.proofs.Recorded.{sequence_told}
@@ -60,7 +45,7 @@ use Rattle.trace_model.proofs.Last.{last_at-waiting, last_at-is, last_told}
 use Rattle.trace_model.proofs.Certain.{sync_certain}
 use Rattle.trace_model.proofs.Left.{left_parts}
 use Rattle.trace_model.proofs.Travelled.{accepted_told, made_told, each_journey_is_told}
-use Rattle.trace_model.proofs.Stays.{until_accepted, IsSpent, AreSpent, reading_told, stays_told}
+use Rattle.trace_model.proofs.Stays.{reading_told}
 use Rattle.trace_model.proofs.Written.{written, travelled_told}
 
 -- a message that left a clock
@@ -69,7 +54,7 @@ forwarded_of : (sent : Result Contents ClockRefusal) → left_outcome sent ≡ o
 forwarded_of (Ok m) is = (m, refl)
 forwarded_of (Err refusal) is = cc
 
-left_written : (network : Network) (node : NodeName) (transit at : ℕ) (earlier : Run) (e : LinePlace) → TellsPlace network (place (Leave node transit at) earlier) e
+pub left_written : (network : Network) (node : NodeName) (transit at : ℕ) (earlier : Run) (e : LinePlace) → TellsPlace network (place (Leave node transit at) earlier) e
     → outcome_of network earlier (Leave node transit at) ≡ Ok outcomes.Made → writes_right network e ≡ true
 left_written network node transit at earlier e tells is =
     let left = left_parts network earlier node transit at outcomes.Made is in
@@ -80,7 +65,7 @@ left_written network node transit at earlier e tells is =
     copy_made-forwarded network earlier node left.copy transit at left.entered left.m message left.there left.takes ∙ m.1 in
     let journey = some_step (truth.travelled network) (made.journey_made (Leave node transit at) earlier (made.journey_of earlier)) copy in
     let lines = made_told network earlier e.line e.earlier tells.before (λ tag j known. each_journey_is_told network earlier e.earlier tag j tells.before known)
-        (Leave node transit at) journey.0 tells.told journey.1 in
+    (Leave node transit at) journey.0 tells.told journey.1 in
     let run : Run = Leave node transit at ∷ earlier in
     let accepted : IsRun network run = (subst IsOk (sym is) refl, accepted_told network earlier e.earlier tells.before) in
     let there : made.journey_of run (length earlier) ≡ Some journey.0 =
@@ -91,32 +76,6 @@ left_written network node transit at earlier e tells is =
     (ap (λ (v : Event). message_made network v e) (same_event network (place (Leave node transit at) earlier) e tells)
     ∙ ap (option_and_then (travelled network)) by_lines
     ∙ travelled_told network run (length earlier) journey.0 lines.by_lines accepted there lines.tells ∙ journey.2)
-
--- an event that spends a stay is a Leave
-leaves : (network : Network) (event : Event) (stay : ℕ) (earlier : Run) (e : LinePlace) → spends stay event ≡ true → TellsPlace network (place event earlier) e
-    → outcome_of network earlier event ≡ Ok outcomes.Made → writes_right network e ≡ true
-leaves network (Leave node transit at) stay earlier e spent tells is = left_written network node transit at earlier e tells is
-leaves network (Sync node at) stay earlier e spent tells is = cc
-leaves network (SyncOne node at) stay earlier e spent tells is = cc
-leaves network (Request node at) stay earlier e spent tells is = cc
-leaves network (Follow node) stay earlier e spent tells is = cc
-leaves network (Enter node copy at) stay earlier e spent tells is = cc
-leaves network (Arrive node copy at) stay earlier e spent tells is = cc
-leaves network (Hear node copy) stay earlier e spent tells is = cc
-leaves network (Stamped node) stay earlier e spent tells is = cc
-leaves network (Tick node) stay earlier e spent tells is = cc
-leaves network (SetMaster node master) stay earlier e spent tells is = cc
-leaves network (StepClock node diff) stay earlier e spent tells is = cc
-
-pub stays_written : (network : Network) (stays : List made.Stay) (lines : List lined.Stay) → AreSpent network stays → TellsStays network stays lines
-    → list_all (λ stay. writes_right network stay.left) lines ≡ true
-stays_written network [] [] spent tells = refl
-stays_written network [] (l ∷ lines) spent tells = absurd tells
-stays_written network (stay ∷ stays) [] spent tells = absurd tells
-stays_written network (stay ∷ stays) (l ∷ lines) spent tells =
-    and_from (writes_right network l.left) (list_all (λ (s : lined.Stay). writes_right network s.left) lines)
-    (leaves network stay.left.event (tag_of stay.entered) stay.left.earlier l.left spent.0.spent tells.0.left spent.0.is_made)
-    (stays_written network stays lines spent.1 tells.1)
 
 -- a Follow_Up
 
@@ -157,19 +116,6 @@ follow_written network node p e origin event tells waits =
     follow_written_at network node p.earlier e origin (subst (λ (v : Event). TellsPlace network (place v p.earlier) e) event tells) waits
 
 -- a Delay_Resp
-
-answered_is : (config : PortConfig) (body : Body) (header : Header) (t4 : ℕ) (m : Contents) → result_ok (answer_to config body header t4) ≡ Some m → m ≡ delay_resp config header t4
-answered_is config (bodies.Sync origin) header t4 m e = cc
-answered_is config (bodies.FollowUp precise) header t4 m e = cc
-answered_is config (bodies.DelayResp receive requesting) header t4 m e = cc
-answered_is config (bodies.DelayReq origin) header t4 m e = given (header.domain == config.domain) (int_lt (less_fraction header.correction.0 (fraction_of t4)) least) e
-  where
-    given : (domain low : Bool)
-        → result_ok {T = Contents} {E = MasterRefusal} (if domain then (if low then Err CorrectionTooLow else Ok (delay_resp config header t4)) else Err OtherDomain) ≡ Some m
-        → m ≡ delay_resp config header t4
-    given false low e = cc
-    given true true e = cc
-    given true false e = cc
 
 -- what came of an arrival at a master that made a message
 pub record IsAnswer (network : Network) (node : NodeName) (copy at : ℕ) (earlier : Run) (outcome : Outcome) (response : Contents) : Type 0 where
@@ -218,7 +164,7 @@ arrival_parts network node copy at earlier outcome response is made =
           ∙ master_of kind.0 port.0 own network node earlier now.0 message.0
           ∙ ap (λ (t : ℕ). answered_outcome (answer port.0.config (Ok message.0) t)) (sym read_is)
           ∙ made_answer (answer port.0.config (Ok message.0) (clocks.reading (place (Arrive node copy at) earlier))) response respond;
-      is = answered_is port.0.config message.0.body message.0.header (clocks.reading (place (Arrive node copy at) earlier)) response respond;
+      is = (answers_request port.0.config message.0.body message.0.header (clocks.reading (place (Arrive node copy at) earlier)) response respond).1;
     }
 
 arrival_written_at : (network : Network) (node : NodeName) (copy at : ℕ) (earlier : Run) (e : LinePlace) (response : Contents) (journey : made.Journey)

@@ -1,33 +1,29 @@
 -- What clocks showed and which numbers were drawn by lines that tell a run: what they were in the run. The events of lines
 -- that count leave out only events that step no clock and draw no number.
-use Rattle.std.proofs.Common.{◌≡◌, ◌∙◌, ℕ, ℤ, pos, ◌+◌, ◌≤◌, ◌+ℤ◌, Bool, true, false, [], ◌∷◌, length, Option, Some, None, Ok, Err, Result, refl, sym, ap, subst, arith, if◌then◌else◌, option_map, option_and_then}
-use Rattle.std.specs.Prelude.{◌==◌, ◌&&◌, is_some, unwrap_or, count_by, filter, map, nat_lt}
-use Rattle.std.specs.Ordering.{int_eq}
+use Rattle.std.proofs.Common.{◌≡◌, ◌∙◌, ℕ, ℤ, pos, ◌+◌, ◌≤◌, ◌+ℤ◌, Bool, true, false, [], ◌∷◌, Option, Some, None, refl, sym, ap, arith, if◌then◌else◌, option_map, option_and_then}
+use Rattle.std.specs.Prelude.{is_some, unwrap_or, count_by, filter, map, nat_lt}
 use Rattle.std.proofs.lemmas.Bool.Decides.{Decides-int_eq}
 use Rattle.ptp_units.specs.Moment.{bound, moment_of}
 use Rattle.ptp_units.specs.Sequence.{of_count}
 use Rattle.network_model.specs.declared.event.Event.{Event}
-use Rattle.network_model.specs.declared.event.Event.TheVariants.{Sync, SyncOne, Follow, Enter, Leave, Arrive, Hear, Request, Stamped, Tick, SetMaster, StepClock}
-use Rattle.network_model.specs.declared.refusal.WorldRefusal.{WorldRefusal}
-use Rattle.network_model.specs.declared.stepped.Outcome.{Outcome}
+use Rattle.network_model.specs.declared.event.Event.TheVariants.{Sync, SyncOne, Request}
 use Rattle.network_model.specs.Network.{Network, NodeName, PortSetup, is_named}
 use Rattle.network_model.specs.Run.{Run, Place, place, until, site_of, true_moment}
-use Rattle.network_model.specs.Kinds.{is_at, draws_sync, is_request, is_step, step_of}
+use Rattle.network_model.specs.Kinds.{draws_sync, is_request, is_step, step_of}
 use Rattle.network_model.specs.Clock.{difference, shown_at, reading_of, reading}
 use Rattle.network_model.specs.Numbering.{draws_with, number_of}
-use Rattle.network_model.specs.Outcome.{outcome_of, IsRun}
+use Rattle.network_model.specs.Outcome.{IsRun}
 use Rattle.network_model.proofs.Sites.{at_kind}
 use Rattle.network_model.proofs.Sequences.{count-yes, count-no, count-more}
 use Rattle.network_model.proofs.Journeys.{IsIn-last}
 use Rattle.network_model.proofs.Readings.{shown_reading}
+use Rattle.network_model.proofs.Steady.{unstepped}
 use Rattle.trace_model.specs.declared.line.TraceLine.{TraceLine}
 use Rattle.trace_model.specs.Line.{Lines, counts}
 use Rattle.trace_model.specs.Record.{LinePlace, events, place_of, is_reading, reads_right, sequence}
-use Rattle.trace_model.specs.Record as lined
 use Rattle.trace_model.specs.Told.{TellsEvent, TellsRun}
-use Rattle.trace_model.specs.Faithful.{is_effective, took_effect, TellsPlace, IsRecorded, EachEventIsRecorded}
+use Rattle.trace_model.specs.Faithful.{took_effect, TellsPlace, EachEventIsRecorded}
 use Rattle.trace_model.proofs.Certain.{is_certain, certain_takes, draws_certain, request_certain, step_certain}
-use Rattle.trace_model.proofs.Good.{each_line_is_good}
 use Rattle.trace_model.proofs.Found.{event_told, line_counts}
 
 -- the events of one line more
@@ -56,15 +52,6 @@ uncounted network event earlier line kind certain told other = by (kind event) r
     by false is = is
 
 -- a clock's difference
-unstepped : (node : NodeName) (event : Event) (earlier : Run) → is_step event ≡ false → difference node (event ∷ earlier) ≡ difference node earlier
-unstepped node event earlier none = by (step_of event) refl (is_named (site_of event) node)
-  where
-    by : (step : Option ℤ) → step_of event ≡ step → (named : Bool)
-        → (if named then unwrap_or (step_of event) (difference node earlier) else difference node earlier) ≡ difference node earlier
-    by None e true = ap (λ (s : Option ℤ). unwrap_or s (difference node earlier)) e
-    by (Some d) e true = let stepped : is_step event ≡ true = ap is_some e in cc
-    by step e false = refl
-
 stepped_alike : (node : NodeName) (event : Event) (one other : Run) → difference node one ≡ difference node other
     → difference node (event ∷ one) ≡ difference node (event ∷ other)
 stepped_alike node event one other same =
@@ -123,7 +110,7 @@ count_at_most network kind (event ∷ earlier) (line ∷ lines) told = by (count
         → count_by kind (events network (line ∷ lines)) ≤ count_by kind (event ∷ earlier)
     by true is before =
         let list = ap (count_by kind) (events-counted network line lines is)
-            ∙ ap (λ (e : Event). count_by kind (e ∷ events network lines)) (event_told network event earlier line told.0) in
+        ∙ ap (λ (e : Event). count_by kind (e ∷ events network lines)) (event_told network event earlier line told.0) in
         with_one (kind event) refl list before
       where
         with_one : (same : Bool) → kind event ≡ same → count_by kind (events network (line ∷ lines)) ≡ count_by kind (event ∷ events network lines)
@@ -158,12 +145,11 @@ module _ (network : Network) (p : Place) (e : LinePlace) (tells : TellsPlace net
       let shown : shown_at p ≡ Some (pos (reading p)) = shown_reading network (until p) p accepted (IsIn-last p.event p.earlier) timed in
       let said : e.line.reading ≡ reading_of p = tells.told.told.reading ∙ tells.told.answered.reading in
       let moment : reading_of p ≡ moment_of (pos (reading p)) = ap (option_and_then moment_of) shown in
-      let is : reading_of p ≡ Some (reading p) = small (nat_lt (reading p) bound) refl moment in
-      (
+      let is : reading_of p ≡ Some (reading p) = small (nat_lt (reading p) bound) refl moment in (
         said ∙ is,
         ap (λ (r : Option ℕ). is_reading r (shown_at (place_of network e))) (said ∙ is)
-        ∙ ap (is_reading (Some (reading p))) (shown_told ∙ shown)
-        ∙ (Decides-int_eq (pos (reading p)) (pos (reading p))).1 refl,
+            ∙ ap (is_reading (Some (reading p))) (shown_told ∙ shown)
+            ∙ (Decides-int_eq (pos (reading p)) (pos (reading p))).1 refl,
       )
     where
       small : (below : Bool) → nat_lt (reading p) bound ≡ below → reading_of p ≡ (if below then Some (reading p) else None) → reading_of p ≡ Some (reading p)

@@ -1,5 +1,5 @@
 -- The stays of journeys, by lines: their readings, how long they were together, and that each was ended once.
-use Rattle.std.proofs.Common.{◌≡◌, ◌∙◌, ℕ, ◌+◌, ◌-◌, ◌≤◌, ◌<◌, Bool, true, false, not, List, [], ◌∷◌, length, Option, Some, None, Ok, IsOk, refl, sym, ap, subst, arith, if◌then◌else◌}
+use Rattle.std.proofs.Common.{◌≡◌, ◌∙◌, ℕ, ◌+◌, ◌-◌, ◌≤◌, Bool, true, false, not, List, [], ◌∷◌, length, Option, Some, Ok, IsOk, refl, sym, ap, subst, arith, if◌then◌else◌}
 use Rattle.std.specs.Prelude.{◌==◌, ◌&&◌, nat_lt, is_some, unwrap_or, count_by, sum_by}
 use Rattle.std.specs.List.{list_all}
 use Rattle.std.proofs.lemmas.Bool.{and_from, eq-eqb, le-ltb}
@@ -7,7 +7,7 @@ use Rattle.std.proofs.lemmas.List.Sums.{sum_by-cons}
 use Rattle.network_model.specs.declared.event.Event.{Event}
 use Rattle.network_model.specs.declared.event.Event.TheVariants.{Sync, SyncOne, Follow, Enter, Leave, Arrive, Hear, Request, Stamped, Tick, SetMaster, StepClock}
 use Rattle.network_model.specs.declared.stepped.Outcome.TheVariants as outcomes
-use Rattle.network_model.specs.Network.{Network, NodeName}
+use Rattle.network_model.specs.Network.{Network}
 use Rattle.network_model.specs.Run.{Run, Place, place, place_at, tag_of, until, IsIn, true_moment}
 use Rattle.network_model.specs.Kinds.{spends}
 use Rattle.network_model.specs.Clock as clocks
@@ -19,13 +19,12 @@ use Rattle.network_model.proofs.Sequences.{count-yes, count-more}
 use Rattle.network_model.proofs.Journeys.{continued}
 use Rattle.network_model.proofs.Spent.{spent_once}
 use Rattle.network_model.proofs.Ways.{IsStay, AreStays, gone_on}
-use Rattle.trace_model.specs.declared.line.TraceLine.{TraceLine}
 use Rattle.trace_model.specs.Line.{Lines, counts}
 use Rattle.trace_model.specs.Record.{LinePlace, line_number, events, reading, reads_right}
 use Rattle.trace_model.specs.Journey as lined
 use Rattle.trace_model.specs.Sound.{stay_reads_right}
-use Rattle.trace_model.specs.Told.{TellsEvent, TellsRun}
-use Rattle.trace_model.specs.Faithful.{is_effective, took_effect, TellsPlace, TellsStay, TellsStays, TellsJourney}
+use Rattle.trace_model.specs.Told.{TellsRun}
+use Rattle.trace_model.specs.Faithful.{took_effect, TellsPlace, TellsStay, TellsStays}
 use Rattle.trace_model.proofs.Found.{event_told, same_number, line_counts}
 use Rattle.trace_model.proofs.Recorded.{events-counted, events-other, count_at_most, each_event_is_recorded}
 use Rattle.trace_model.proofs.Left.{left_made}
@@ -90,13 +89,12 @@ stay_told : (network : Network) (run : Run) (stay : made.Stay) (lines : lined.St
     → (lined.stay_length lines ≡ made.stay_length stay) × (stay_reads_right network lines ≡ true)
 stay_told network run stay lines accepted is tells =
     let entered = reading_told network run stay.entered lines.entered accepted is.entered_in tells.entered is.entered_timed in
-    let left = reading_told network run stay.left lines.left accepted is.left_in tells.left is.left_timed in
-    (
+    let left = reading_told network run stay.left lines.left accepted is.left_in tells.left is.left_timed in (
       ap (λ (n : ℕ). n - reading lines.entered) left.0 ∙ ap (λ (n : ℕ). clocks.reading stay.left - n) entered.0,
       and_from (reads_right network lines.entered && reads_right network lines.left) (not (nat_lt (reading lines.left) (reading lines.entered)))
-      (and_from (reads_right network lines.entered) (reads_right network lines.left) entered.1 left.1)
-      (ap not (ap (λ (n : ℕ). nat_lt n (reading lines.entered)) left.0 ∙ ap (nat_lt (clocks.reading stay.left)) entered.0
-      ∙ le-ltb (clocks.reading stay.left) (clocks.reading stay.entered) is.order)),
+          (and_from (reads_right network lines.entered) (reads_right network lines.left) entered.1 left.1)
+          (ap not (ap (λ (n : ℕ). nat_lt n (reading lines.entered)) left.0 ∙ ap (nat_lt (clocks.reading stay.left)) entered.0
+          ∙ le-ltb (clocks.reading stay.left) (clocks.reading stay.entered) is.order)),
     )
 
 pub stays_told : (network : Network) (run : Run) (stays : List made.Stay) (lines : List lined.Stay) → IsRun network run → AreStays run stays → TellsStays network stays lines
@@ -106,10 +104,9 @@ stays_told network run [] (l ∷ lines) accepted are tells = absurd tells
 stays_told network run (stay ∷ stays) [] accepted are tells = absurd tells
 stays_told network run (stay ∷ stays) (l ∷ lines) accepted are tells =
     let first = stay_told network run stay l accepted are.0 tells.0 in
-    let others = stays_told network run stays lines accepted are.1 tells.1 in
-    (
+    let others = stays_told network run stays lines accepted are.1 tells.1 in (
       sum_by-cons lined.stay_length l lines ∙ ap (λ (n : ℕ). n + sum_by lined.stay_length lines) first.0
-      ∙ ap (λ (n : ℕ). made.stay_length stay + n) others.0 ∙ sym (sum_by-cons made.stay_length stay stays),
+          ∙ ap (λ (n : ℕ). made.stay_length stay + n) others.0 ∙ sym (sum_by-cons made.stay_length stay stays),
       and_from (stay_reads_right network l) (list_all (stay_reads_right network) lines) first.1 others.1,
     )
 
@@ -147,7 +144,7 @@ stays_once network run lines small (stay ∷ stays) [] told accepted within are 
 stays_once network run lines small (stay ∷ stays) (l ∷ others) told accepted within are spent tells =
     let number : line_number l.entered ≡ tag_of stay.entered = same_number network stay.entered l.entered tells.0.entered in
     let some = count_present network (spends (tag_of stay.entered)) run lines (tag_of stay.left) stay.left told (within stay.left are.0.left_in)
-        (ap took_effect spent.0.is_made) spent.0.spent in
+    (ap took_effect spent.0.is_made) spent.0.spent in
     let most = count_at_most network (spends (tag_of stay.entered)) run lines told in
     let once = spent_once network run (tag_of stay.entered) accepted in
     let one : count_by (spends (tag_of stay.entered)) (events network lines) ≡ 1 = omega arith in

@@ -1,14 +1,13 @@
 -- The journey of each copy is the one that lines tell: a stay that an Enter and a Leave event made is the stay of their lines.
-use Rattle.std.proofs.Common.{◌≡◌, ◌∙◌, ℕ, ◌<◌, Bool, true, false, [], ◌∷◌, length, Option, Some, None, Ok, IsOk, refl, sym, ap, subst, option_map, option_and_then, if◌then◌else◌}
+use Rattle.std.proofs.Common.{◌≡◌, ◌∙◌, ℕ, ◌<◌, Bool, true, false, [], ◌∷◌, length, Option, Some, None, IsOk, refl, sym, ap, subst, option_map, option_and_then, if◌then◌else◌}
 use Rattle.std.specs.Prelude.{◌==◌, ◌&&◌, nat_lt}
 use Rattle.std.proofs.lemmas.Bool.{and_from, lt-ltb}
 use Rattle.network_model.specs.declared.event.Event.{Event}
 use Rattle.network_model.specs.declared.event.Event.TheVariants.{Sync, SyncOne, Follow, Enter, Leave, Arrive, Hear, Request, Stamped, Tick, SetMaster, StepClock}
 use Rattle.network_model.specs.Network.{Network, NodeName, is_named}
-use Rattle.network_model.specs.Run.{Run, Place, place, place_at, tag_of, site_of}
+use Rattle.network_model.specs.Run.{Run, Place, place, site_of}
 use Rattle.network_model.specs.Kinds.{entered_copy}
 use Rattle.network_model.specs.Journey as made
-use Rattle.network_model.specs.Truth.{copy_of}
 use Rattle.network_model.specs.Outcome.{outcome_of, IsRun}
 use Rattle.network_model.proofs.Options.{ok_value}
 use Rattle.network_model.proofs.Places.{accepted-place_at}
@@ -17,14 +16,14 @@ use Rattle.network_model.proofs.Journeys.{continued, same_origin}
 use Rattle.network_model.proofs.Ways.{gone_on}
 use Rattle.trace_model.specs.declared.line.TraceLine.{TraceLine}
 use Rattle.trace_model.specs.Line.{Lines, counts}
-use Rattle.trace_model.specs.Record.{LinePlace, line_place, event_of, site, line_number, line_at}
+use Rattle.trace_model.specs.Record.{LinePlace, line_place, event_of, site, line_number}
 use Rattle.trace_model.specs.Journey as lined
 use Rattle.trace_model.specs.Told.{TellsEvent, TellsRun}
-use Rattle.trace_model.specs.Faithful.{is_effective, took_effect, TellsPlace, HasLine, TellsStay, TellsStays, TellsJourney, HasJourney, EachJourneyIsTold}
+use Rattle.trace_model.specs.Faithful.{is_effective, took_effect, TellsPlace, TellsStays, TellsJourney, HasJourney, EachJourneyIsTold}
 use Rattle.trace_model.proofs.Certain.{is_certain, certain_takes}
 use Rattle.trace_model.proofs.Found.{same_length, event_told, same_event, same_number, line_counts, each_event_has_its_line}
 use Rattle.trace_model.proofs.Recorded.{certain_counts}
-use Rattle.trace_model.proofs.Left.{IsLeft, left_parts, made_before, left_made}
+use Rattle.trace_model.proofs.Left.{left_parts, made_before, left_made}
 
 -- a run that lines tell is one
 pub accepted_told : (network : Network) (run : Run) (lines : Lines) → TellsRun network run lines → IsRun network run

@@ -1,66 +1,40 @@
 -- The octets of each line that tells of a message are those that its port or its clock writes: the message that the lines
 -- before it ask for is the copy that the event made.
-use Rattle.std.proofs.Common.{◌≡◌, ◌∙◌, ℕ, Bool, true, false, List, [], ◌∷◌, length, Option, Some, None, Ok, Err, Result, IsOk, refl, sym, ap, subst, option_map, option_and_then, if◌then◌else◌}
-use Rattle.std.specs.Prelude.{◌==◌, ◌&&◌, ◌||◌, is_some, ok_or, unwrap_or, int_lt, sum_by}
-use Rattle.std.specs.List.{list_all}
-use Rattle.std.specs.Result.{result_ok}
-use Rattle.std.proofs.lemmas.Bool.{and_from, eq-eqb}
-use Rattle.ptp_units.specs.Interval.{least, less_fraction}
-use Rattle.ptp_units.specs.Moment.{fraction_of}
+use Rattle.std.proofs.Common.{◌≡◌, ◌∙◌, ℕ, Bool, true, ◌∷◌, length, Option, Some, None, Ok, refl, sym, ap, subst, option_map, option_and_then, if◌then◌else◌}
+use Rattle.std.specs.Prelude.{◌||◌, is_some}
+use Rattle.std.proofs.lemmas.Bool.{eq-eqb}
 use Rattle.ptp_units.specs.Sequence.{of_count}
-use Rattle.event_codec.specs.declared.message.Header.{Header}
-use Rattle.event_codec.specs.declared.message.Body.{Body}
-use Rattle.event_codec.specs.declared.message.Body.TheVariants as bodies
-use Rattle.event_codec.specs.declared.port.PortConfig.{PortConfig}
-use Rattle.event_codec.specs.Packet.{Contents, Packet}
-use Rattle.master_port.specs.declared.refusal.MasterRefusal.{MasterRefusal}
-use Rattle.master_port.specs.declared.refusal.MasterRefusal.TheVariants.{CorrectionTooLow, OtherDomain}
-use Rattle.master_port.specs.Written.{sync, one_step_sync, follow_up, delay_resp, answer, answer_to}
+use Rattle.event_codec.specs.Packet.{Contents}
+use Rattle.master_port.specs.Written.{sync, one_step_sync}
 use Rattle.slave_port.specs.Written.{delay_req}
-use Rattle.slave_port.proofs.Uses.{some_step, some_image}
-use Rattle.transparent_clock.specs.declared.refusal.ClockRefusal.{ClockRefusal}
-use Rattle.transparent_clock.specs.Forwarding.{resided, forwarded}
+use Rattle.transparent_clock.specs.Forwarding.{resided}
 use Rattle.network_model.specs.declared.event.Event.{Event}
 use Rattle.network_model.specs.declared.event.Event.TheVariants.{Sync, SyncOne, Follow, Enter, Leave, Arrive, Hear, Request, Stamped, Tick, SetMaster, StepClock}
-use Rattle.network_model.specs.declared.node.NodeKind.{NodeKind}
-use Rattle.network_model.specs.declared.node.NodeKind.TheVariants as kinds
-use Rattle.network_model.specs.declared.refusal.WorldRefusal.{WorldRefusal}
-use Rattle.network_model.specs.declared.refusal.WorldRefusal.TheVariants.{NoCopy, NothingWaiting, ReadingOutOfRange}
 use Rattle.network_model.specs.declared.stepped.Outcome.{Outcome}
 use Rattle.network_model.specs.declared.stepped.Outcome.TheVariants as outcomes
-use Rattle.network_model.specs.Network.{Network, NodeName, PortSetup, kind_of, master_port, slave_port}
-use Rattle.network_model.specs.Run.{Run, Place, place, place_at, tag_of, until, IsIn, true_moment}
-use Rattle.network_model.specs.Kinds.{is_sync, draws_sync, is_request}
+use Rattle.network_model.specs.Network.{Network, PortSetup, master_port, slave_port}
+use Rattle.network_model.specs.Run.{Run, Place, place, until, true_moment}
+use Rattle.network_model.specs.Kinds.{draws_sync, is_request}
 use Rattle.network_model.specs.Clock as clocks
-use Rattle.network_model.specs.Numbering.{number_of, waiting_sync}
+use Rattle.network_model.specs.Numbering.{number_of}
 use Rattle.network_model.specs.Journey as made
 use Rattle.network_model.specs.Truth as truth
 use Rattle.network_model.specs.Truth.{drawn, copy_made, copy_of, master_at, slave_at}
-use Rattle.network_model.specs.Outcome.{◌>>=◌, node_as, port_of, reads, answered_outcome, left_outcome, arrived_outcome, outcome_of, IsRun}
-use Rattle.network_model.proofs.Options.{ok_step, ok_some, ok_value}
-use Rattle.network_model.proofs.Sites.{at_kind}
+use Rattle.network_model.specs.Outcome.{◌>>=◌, node_as, reads, outcome_of, IsRun}
+use Rattle.network_model.proofs.Options.{ok_step}
 use Rattle.network_model.proofs.Journeys.{IsIn-last, IsIn-origin}
-use Rattle.network_model.proofs.Readings.{sync_timed}
-use Rattle.network_model.proofs.Travelled.{copy_of-travelled}
-use Rattle.network_model.proofs.Leaving.{copy_made-forwarded, copy_of-since}
-use Rattle.network_model.proofs.Ways.{AreStays, stays_are}
-use Rattle.trace_model.specs.declared.line.TraceLine.{TraceLine}
+use Rattle.network_model.proofs.Ways.{stays_are}
 use Rattle.trace_model.specs.declared.line.TraceOut.{TraceOut}
 use Rattle.trace_model.specs.declared.line.TraceOut.TheVariants as outs
-use Rattle.trace_model.specs.Line.{Lines}
-use Rattle.trace_model.specs.Record.{LinePlace, event_of, last_line, reading, sequence}
+use Rattle.trace_model.specs.Record.{LinePlace, event_of, reading, sequence}
 use Rattle.trace_model.specs.Journey as lined
-use Rattle.trace_model.specs.Octets.{drawing_port, message_sent, sent, travelled, followed, answered, message_made, is_packet, is_written, writes_right}
-use Rattle.trace_model.specs.Told.{TellsMade, TellsOutcome, TellsEvent, TellsRun}
-use Rattle.trace_model.specs.Faithful.{TellsPlace, TellsStays, TellsJourney}
-use Rattle.trace_model.proofs.Good.{node_is, port_is, the_value}
+use Rattle.trace_model.specs.Octets.{drawing_port, message_sent, sent, travelled, message_made, is_written, writes_right}
+use Rattle.trace_model.specs.Told.{TellsMade, TellsOutcome}
+use Rattle.trace_model.specs.Faithful.{TellsPlace, TellsJourney}
+use Rattle.trace_model.proofs.Good.{node_is, the_value}
 use Rattle.trace_model.proofs.Found.{same_event}
 use Rattle.trace_model.proofs.Recorded.{sequence_told}
-use Rattle.trace_model.proofs.Last.{last_at-waiting, last_at-is, last_told}
-use Rattle.trace_model.proofs.Certain.{sync_certain}
-use Rattle.trace_model.proofs.Left.{left_parts}
-use Rattle.trace_model.proofs.Travelled.{accepted_told, made_told, each_journey_is_told}
-use Rattle.trace_model.proofs.Stays.{until_accepted, IsSpent, AreSpent, reading_told, stays_told}
+use Rattle.trace_model.proofs.Stays.{until_accepted, reading_told, stays_told}
 use Rattle.trace_model.proofs.Packets.{is_packet-Decides}
 
 -- the octets that tell a message are its octets
@@ -140,19 +114,25 @@ drawn_parts : (network : Network) (event : Event) (earlier : Run) (outcome : Out
     → (outcome ≡ outcomes.Made) × (m : Contents) × (drawn network event earlier ≡ Some m)
 drawn_parts network (Sync node at) earlier outcome draws is =
     let port = ok_step (node_as master_port network node) (λ port. reads (Sync node at) earlier >>= (λ now. Ok outcomes.Made)) is in
-    let now = ok_step (reads (Sync node at) earlier) (λ now. Ok outcomes.Made) port.2 in
-    (sym (the_value outcomes.Made outcome now.2), _,
-    ap (option_map (λ (port : PortSetup). sync port.config (of_count (number_of port (place (Sync node at) earlier))))) (node_is master_port network node {x = port.0} port.1))
+    let now = ok_step (reads (Sync node at) earlier) (λ now. Ok outcomes.Made) port.2 in (
+      sym (the_value outcomes.Made outcome now.2),
+      _,
+      ap (option_map (λ (port : PortSetup). sync port.config (of_count (number_of port (place (Sync node at) earlier))))) (node_is master_port network node {x = port.0} port.1),
+    )
 drawn_parts network (SyncOne node at) earlier outcome draws is =
     let port = ok_step (node_as master_port network node) (λ port. reads (SyncOne node at) earlier >>= (λ now. Ok outcomes.Made)) is in
-    let now = ok_step (reads (SyncOne node at) earlier) (λ now. Ok outcomes.Made) port.2 in
-    (sym (the_value outcomes.Made outcome now.2), _,
-    ap (option_map (λ (port : PortSetup). one_step_sync port.config (of_count (number_of port (place (SyncOne node at) earlier))) (clocks.reading (place (SyncOne node at) earlier)))) (node_is master_port network node {x = port.0} port.1))
+    let now = ok_step (reads (SyncOne node at) earlier) (λ now. Ok outcomes.Made) port.2 in (
+      sym (the_value outcomes.Made outcome now.2),
+      _,
+      ap (option_map (λ (port : PortSetup). one_step_sync port.config (of_count (number_of port (place (SyncOne node at) earlier))) (clocks.reading (place (SyncOne node at) earlier)))) (node_is master_port network node {x = port.0} port.1),
+    )
 drawn_parts network (Request node at) earlier outcome draws is =
     let port = ok_step (node_as slave_port network node) (λ port. reads (Request node at) earlier >>= (λ now. Ok outcomes.Made)) is in
-    let now = ok_step (reads (Request node at) earlier) (λ now. Ok outcomes.Made) port.2 in
-    (sym (the_value outcomes.Made outcome now.2), _,
-    ap (option_map (λ (port : PortSetup). delay_req port.config (of_count (number_of port (place (Request node at) earlier))))) (node_is slave_port network node {x = port.0} port.1))
+    let now = ok_step (reads (Request node at) earlier) (λ now. Ok outcomes.Made) port.2 in (
+      sym (the_value outcomes.Made outcome now.2),
+      _,
+      ap (option_map (λ (port : PortSetup). delay_req port.config (of_count (number_of port (place (Request node at) earlier))))) (node_is slave_port network node {x = port.0} port.1),
+    )
 drawn_parts network (Follow node) earlier outcome draws is = cc
 drawn_parts network (Enter node copy at) earlier outcome draws is = cc
 drawn_parts network (Leave node transit at) earlier outcome draws is = cc

@@ -8,3 +8,4 @@ pub mod Verdict
 pub mod Told
 pub mod Faithful
 pub mod Soundness
+pub mod Complete

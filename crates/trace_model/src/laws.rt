@@ -1,6 +1,7 @@
 //! Laws of lines, each the contract of a function that does nothing: a caller that needs the law in its
 //! proof calls it.
 
+ghost use Rattle.trace_model.specs.Complete.{Complete, CompleteWithinOneTurn, EachExchangeIsWritten, EachMessageIsWritten};
 ghost use Rattle.trace_model.specs.Faithful.{EachEventHasItsLine, EachEventIsRecorded, EachJourneyIsTold, EachLineIsGood};
 ghost use Rattle.trace_model.specs.Soundness.{ReasonsMissNothing, VerdictsTellSoundness};
 
@@ -35,4 +36,25 @@ pub fn each_reading_is_recorded()
 /// of the same event, and each of its stays is the stay of the same two events.
 pub fn each_journey_is_told()
     ensures { EachJourneyIsTold }
+{}
+
+/// Of lines that tell any run of a world, each that tells of a message has the octets that its port or
+/// its clock writes, by the readings and the numbers that the lines before it tell. So whatever
+/// exchange a line has, its octets are right.
+pub fn each_message_is_written()
+    ensures message { EachMessageIsWritten }
+    ensures exchange { EachExchangeIsWritten }
+{}
+
+/// The checker misses nothing. Over runs of any length that are fresh and ticked, each line that tells
+/// a report meets every condition of a sound line but that on octets, which each exchange meets. So
+/// lines that tell the run are accepted, with the number of its reports.
+pub fn verdicts_miss_nothing()
+    ensures { Complete }
+{}
+
+/// The same where the numbers of no port have come round, however old what is heard and however rare
+/// the ticks.
+pub fn verdicts_miss_nothing_within_one_turn()
+    ensures { CompleteWithinOneTurn }
 {}

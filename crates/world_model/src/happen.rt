@@ -1,32 +1,11 @@
 ghost use Rattle.std.specs.Prelude.{◌≡◌, ◌<◌, ◌∷◌, ◌++◌, [], length, vec_len, vec_capacity, IfErr, OnOk, OnErr};
-ghost use Rattle.network_model.specs.Run.{site_of};
 ghost use Rattle.world_model.specs.Acts.{ActsIn, entries_after};
 ghost use Rattle.world_model.specs.Stands.{IsWorld, run_of};
 ghost use Rattle.world_model.specs.Steps.{Steps};
 
 use crate::entry::{Entry, Happened, Left};
 use crate::station::{Room, Station};
-use network_model::{Event, Name, Nodes, Stepped, WorldRefusal};
-
-/// The node at which an event happens.
-fn site(event: &Event) -> Name
-    ensures { result ≡ site_of event.now }
-{
-    match event {
-        Event::Sync { node, .. }
-        | Event::SyncOne { node, .. }
-        | Event::Follow { node }
-        | Event::Enter { node, .. }
-        | Event::Leave { node, .. }
-        | Event::Arrive { node, .. }
-        | Event::Hear { node, .. }
-        | Event::Request { node, .. }
-        | Event::Stamped { node }
-        | Event::Tick { node }
-        | Event::SetMaster { node, .. }
-        | Event::StepClock { node, .. } => *node,
-    }
-}
+use network_model::{Event, Nodes, Stepped, WorldRefusal};
 
 /// What an event does at its node, whose station this is.
 fn happen(
@@ -94,7 +73,7 @@ pub(crate) fn step(
     ensures steps { Steps nodes.now (run_of entries.old.items) event.now result (run_of entries.new.items) }
 {
     let room = room_for_one(entries);
-    let Some(index) = nodes.index_of(&site(event)) else {
+    let Some(index) = nodes.index_of(&event.node()) else {
         return Err(WorldRefusal::NoNode);
     };
     match happen(

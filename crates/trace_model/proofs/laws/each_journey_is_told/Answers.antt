@@ -1,10 +1,5 @@
 -- Journeys, from the event that sent a message on.
 use Rattle.trace_model.proofs.Travelled.{each_journey_is_told as told}
-use Rattle.trace_model.proofs.Stays.{stays_once}
-use Rattle.trace_model.proofs.Written.{drawn_written}
-use Rattle.trace_model.proofs.Octets.{arrival_written}
-use Rattle.trace_model.proofs.Exchanges.{passes}
-use Rattle.trace_model.proofs.Measured.{followed}
 use Rattle.trace_model.proofs.laws.each_journey_is_told.Goals as goal
 
 pub returns : goal.returns

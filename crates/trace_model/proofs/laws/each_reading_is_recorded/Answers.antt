@@ -1,7 +1,5 @@
 -- The reading, by what the clock showed in the run.
 use Rattle.trace_model.proofs.Recorded.{each_event_is_recorded}
-use Rattle.trace_model.proofs.Last.{last_told}
-use Rattle.trace_model.proofs.Left.{left_made}
 use Rattle.trace_model.proofs.laws.each_reading_is_recorded.Goals as goal
 
 pub returns : goal.returns
