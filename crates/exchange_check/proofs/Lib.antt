@@ -1,4 +1,3 @@
-pub mod Packets
 pub mod Once
 pub mod Keeping
 pub mod Reversed

@@ -12,6 +12,9 @@ use Rattle.trace_model.specs.Line.{Lines}
 use Rattle.trace_model.specs.Verdict.{verdict}
 use Rattle.trace_model.specs.Soundness.{TellsSoundness}
 use Rattle.trace_model.proofs.Soundness.{tells_soundness}
+use Rattle.trace_model.specs.Complete.{AcceptsTruth}
+use Rattle.trace_model.proofs.Complete.{complete, complete_within_one_turn}
+use Rattle.network_model.specs.Premises.{IsFreshAndTicked, IsWithinTurn, exact_limits}
 use Rattle.exchange_check.specs.Machine.{Machine, IsKept, machine, after_line}
 
 -- what is kept of one more line
@@ -60,3 +63,12 @@ verdict-kept-all network lines kept count i past h =
 -- the verdict on lines tells which of them are sound
 pub TellsSoundness-of : (network : Network) (lines : Lines) (answer : Verdict) → answer ≡ verdict network lines → TellsSoundness network lines answer
 TellsSoundness-of network lines answer h = subst (TellsSoundness network lines) (sym h) (tells_soundness network lines)
+
+-- what the verdict's answer says of lines that tell a run
+pub AcceptsTruth-of : (network : Network) (lines : Lines) (answer : Verdict) → answer ≡ verdict network lines
+    → AcceptsTruth (IsFreshAndTicked exact_limits) network lines answer
+AcceptsTruth-of network lines answer h run premise told = h ∙ complete.verdicts network lines run premise told
+
+pub AcceptsTruth-within_one_turn : (network : Network) (lines : Lines) (answer : Verdict) → answer ≡ verdict network lines
+    → AcceptsTruth IsWithinTurn network lines answer
+AcceptsTruth-within_one_turn network lines answer h run premise told = h ∙ complete_within_one_turn.verdicts network lines run premise told

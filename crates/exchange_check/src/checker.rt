@@ -4,6 +4,8 @@ ghost use Rattle.network_model.specs.Network.{Network};
 ghost use Rattle.exchange_check.specs.declared.refusal.CheckFault.TheVariants.{Memory};
 ghost use Rattle.trace_model.specs.Verdict.{verdict};
 ghost use Rattle.trace_model.specs.Soundness.{TellsSoundness};
+ghost use Rattle.trace_model.specs.Complete.{AcceptsTruth};
+ghost use Rattle.network_model.specs.Premises.{IsFreshAndTicked, IsWithinTurn, exact_limits};
 
 use crate::kept::Kept;
 use crate::refusal::CheckFault;
@@ -21,6 +23,9 @@ pub fn check(alloc: Global, nodes: &Nodes, lines: &[TraceLine]) -> Result<Verdic
         (λ answer. answer ≡ verdict nodes.now (reverse lines.now))
         (λ fault. fault ≡ Memory) }
     ensures sound { IfOk result (λ answer. TellsSoundness nodes.now (reverse lines.now) answer) }
+    // Nothing is missed: lines that tell a run with exact reports are accepted.
+    ensures complete { IfOk result (λ answer. AcceptsTruth (IsFreshAndTicked exact_limits) nodes.now (reverse lines.now) answer) }
+    ensures complete_within_one_turn { IfOk result (λ answer. AcceptsTruth IsWithinTurn nodes.now (reverse lines.now) answer) }
 {
     let mut kept = Kept::new(alloc);
     for line in lines {
@@ -84,6 +89,8 @@ impl Checker {
     pub fn verdict(&self) -> Verdict
         ensures verdict { result ≡ verdict self.now.network (reverse self.now.lines) }
         ensures sound { TellsSoundness self.now.network (reverse self.now.lines) result }
+        ensures complete { AcceptsTruth (IsFreshAndTicked exact_limits) self.now.network (reverse self.now.lines) result }
+        ensures complete_within_one_turn { AcceptsTruth IsWithinTurn self.now.network (reverse self.now.lines) result }
     {
         self.kept.verdict
     }

@@ -1,47 +1,10 @@
-//! What an event is, where it happens and which line it refers to.
+//! What an event is, and which line it refers to.
 
-ghost use Rattle.std.specs.Prelude.{◌≡◌, Some, option_map};
-ghost use Rattle.network_model.specs.Run.{site_of, true_moment};
+ghost use Rattle.std.specs.Prelude.{◌≡◌};
 ghost use Rattle.network_model.specs.Kinds.{is_sync, is_one_step_sync, draws_sync, is_follow, is_request, entered_copy, heard_copy};
 ghost use Rattle.trace_model.specs.Line.{is_arrival, is_hearing};
 
-use network_model::{Event, Name};
-use ptp_units::ScaledTime;
-
-/// The node at which an event happens.
-pub(crate) fn site(event: &Event) -> Name
-    ensures { result ≡ site_of event.now }
-{
-    match event {
-        Event::Sync { node, .. }
-        | Event::SyncOne { node, .. }
-        | Event::Follow { node }
-        | Event::Enter { node, .. }
-        | Event::Leave { node, .. }
-        | Event::Arrive { node, .. }
-        | Event::Hear { node, .. }
-        | Event::Request { node, .. }
-        | Event::Stamped { node }
-        | Event::Tick { node }
-        | Event::SetMaster { node, .. }
-        | Event::StepClock { node, .. } => *node,
-    }
-}
-
-/// The true moment of an event that has one.
-pub(crate) fn true_moment(event: &Event) -> Option<ScaledTime>
-    ensures { result ≡ true_moment event.now }
-{
-    match event {
-        Event::Sync { at, .. }
-        | Event::SyncOne { at, .. }
-        | Event::Enter { at, .. }
-        | Event::Leave { at, .. }
-        | Event::Arrive { at, .. }
-        | Event::Request { at, .. } => Some(*at),
-        _ => None,
-    }
-}
+use network_model::Event;
 
 /// Whether an event is a master's two-step Sync.
 pub(crate) fn is_sync(event: &Event) -> bool

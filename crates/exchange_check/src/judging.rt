@@ -15,7 +15,7 @@ ghost use Rattle.exchange_check.specs.Judged.{line_of_by, sender_by, sync_by, fo
 
 use crate::events::{
     draws_sync, entered_copy, heard_copy, is_arrival, is_follow, is_hearing, is_one_step_sync,
-    is_request, site,
+    is_request,
 };
 use crate::facts::{Fact, Found, Site, Way};
 use crate::kept::Kept;
@@ -110,9 +110,9 @@ fn is_of_master(
 ) -> bool
     ensures { result ≡ of_master_by nodes.now at.now slave.now report.now found.now sync.now }
 {
-    let master = site(&sync.origin.event);
+    let master = sync.origin.event.node();
     is_told(&at.set_master, &master, report)
-        && site(&found.arrival.event) == master
+        && found.arrival.event.node() == master
         && is_domain(&slave_at(nodes, slave), &master_at(nodes, &master))
 }
 
@@ -241,7 +241,7 @@ fn ways_reason(
 fn is_here(wanted: bool, event: &Event, slave: &Name) -> bool
     ensures { result ≡ is_here wanted event.now slave.now }
 {
-    wanted && site(event) == *slave
+    wanted && event.node() == *slave
 }
 
 impl Kept {
@@ -505,7 +505,7 @@ impl Kept {
         let Some(fact) = fact else {
             return Some(Why::NoSuchLine);
         };
-        let slave = site(&fact.event);
+        let slave = fact.event.node();
         let found = self.found(&slave, fact.line, report);
         self.found_reason(nodes, &slave, report, found)
     }

@@ -13,7 +13,7 @@ ghost use Rattle.ptp_units.specs.Sequence.{of_count};
 ghost use Rattle.exchange_check.specs.Kept.{fact_in, site_in, travel_at, copy_entered_by, stayed, begun_by, travel_by, travelled_by, followed_by, answered_by, message_by, known_by, number_by, fact_known, fact_by, travel_left, written_travel, port_setup, contents_of};
 ghost use Rattle.trace_model.specs.Record.{is_reading};
 
-use crate::events::{entered_copy, site, true_moment};
+use crate::events::entered_copy;
 use crate::facts::{Fact, Known, Site, Travel};
 use crate::good::{completes, counts, is_made};
 use crate::octets::{
@@ -81,7 +81,7 @@ fn copy_entered(clock: &Name, entered: &Fact) -> Option<u64>
     ensures { result ≡ copy_entered_by clock.now entered.now }
 {
     let copy = entered_copy(&entered.event)?;
-    if site(&entered.event) == *clock && copy < entered.line {
+    if entered.event.node() == *clock && copy < entered.line {
         Some(copy)
     } else {
         None
@@ -179,12 +179,12 @@ impl Kept {
     fn known(&self, nodes: &Nodes, line: &TraceLine, number: u64) -> Known
         ensures { result ≡ known_by nodes.now (site_in self.now.sites) line.now number }
     {
-        let site = self.site(&site(&line.event));
+        let site = self.site(&line.event.node());
         Known {
             line: number,
             reading: moment_or_zero(line.reading),
             number: self.number(nodes, &line.event),
-            reads: is_reading(line.reading, true_moment(&line.event), &site),
+            reads: is_reading(line.reading, line.event.true_moment(), &site),
             last_sync: site.last_sync,
         }
     }
@@ -436,7 +436,7 @@ fn move_site(sites: &mut HashMap<Name, Site>, event: &Event, number: u64) -> Res
     ensures moved { OnOk result (site_in sites.new ≡ moved_at event.now number (site_in sites.old)) }
     ensures unchanged { OnErr result (site_in sites.new ≡ site_in sites.old) }
 {
-    let name = site(event);
+    let name = event.node();
     let after = moved(event, number, site_in(sites, &name));
     match sites.insert(name, after) {
         Ok(_) => Ok(()),

@@ -1,11 +1,12 @@
 //! What the checker says of worked transcripts, whole and line by line, and of each with one line
 //! changed.
 
+use crate::values::moment;
 use arrayvec::ArrayVec;
 use event_codec::{PortConfig, PortIdentity};
 use exchange_check::{CheckFault, Checker, TraceLine, TraceOut, Verdict, Why, check};
 use network_model::{Event, Name, NodeKind, NodeSpec, Nodes, Report};
-use ptp_units::{ScaledTime, Seq, Timestamp};
+use ptp_units::{ScaledTime, Seq};
 use std::alloc::Global;
 use std::test::Fail;
 
@@ -83,10 +84,6 @@ fn name(text: &str) -> Result<Name, Fail> {
     Ok(Name::new(text).ok_or("no name")?)
 }
 
-fn moment(seconds: u64, nanos: u32, fraction: u16) -> Result<ScaledTime, Fail> {
-    Ok(ScaledTime::join(Timestamp::new(seconds, nanos)?, fraction))
-}
-
 fn config(identity: PortIdentity) -> PortConfig {
     PortConfig {
         identity,
@@ -119,6 +116,7 @@ fn specs() -> Result<[NodeSpec; 3], Fail> {
     ])
 }
 
+/// The network of these.
 fn nodes(alloc: Global) -> Result<Nodes, Fail> {
     Ok(Nodes::new(alloc, &specs()?)?)
 }
@@ -198,6 +196,11 @@ fn request() -> Result<TraceLine, Fail> {
     Ok(line(event, Some(moment(2, 1_000, 0)?), made(&DELAY_REQ)?))
 }
 
+fn follow() -> Result<TraceLine, Fail> {
+    let node = name("M")?;
+    Ok(line(Event::Follow { node }, None, made(&FOLLOW_UP)?))
+}
+
 fn request_arrives(copy: u64) -> Result<TraceLine, Fail> {
     let at = moment(2, 4_500, 16_384)?;
     let node = name("M")?;
@@ -221,7 +224,6 @@ fn report(offset2: i128, tags: (u64, Option<u64>, u64, u64)) -> Result<TraceLine
 /// The exchange through a clock: S is 1,000 ns ahead, each cable takes 500 ns, the Sync is 2,000 ns
 /// in the clock and the Delay_Req 3,500.25 ns.
 fn exchange() -> Result<[TraceLine; 14], Fail> {
-    let follow = Event::Follow { node: name("M")? };
     Ok([
         step_clock(65_536_000)?,
         set_master("M")?,
@@ -229,7 +231,7 @@ fn exchange() -> Result<[TraceLine; 14], Fail> {
         enter(2, moment(1, 500, 0)?)?,
         leave(3, moment(1, 2_500, 0)?, &FORWARDED_SYNC)?,
         sync_arrives(moment(1, 4_000, 0)?, TraceOut::Held)?,
-        line(follow, None, made(&FOLLOW_UP)?),
+        follow()?,
         hear(6, TraceOut::Completed)?,
         request()?,
         enter(8, moment(2, 500, 0)?)?,
@@ -304,6 +306,88 @@ fn no_lines(rt: HostRuntime) -> Result<(), Fail> {
         verdicts(rt.alloc(), Vec::new(rt.alloc()))?,
         (accepted, accepted)
     );
+    Ok(())
+}
+
+/// The exchange, but the master sends another Sync before the Follow_Up, which is of that one then.
+#[test]
+fn a_follow_up_of_another_sync(rt: HostRuntime) -> Result<(), Fail> {
+    let lines = [
+        step_clock(65_536_000)?,
+        set_master("M")?,
+        sync()?,
+        enter(2, moment(1, 500, 0)?)?,
+        leave(3, moment(1, 2_500, 0)?, &FORWARDED_SYNC)?,
+        sync_arrives(moment(1, 4_000, 0)?, TraceOut::Held)?,
+        sync()?,
+        follow()?,
+        hear(7, TraceOut::Completed)?,
+        request()?,
+        enter(9, moment(2, 500, 0)?)?,
+        leave(10, moment(2, 4_000, 16_384)?, &FORWARDED_DELAY_REQ)?,
+        request_arrives(11)?,
+        stamped()?,
+        hear(12, reported(131_072_000, 131_072_000, (5, Some(8), 9, 14)))?,
+    ];
+    let refused = Verdict::Refused {
+        line: 14,
+        why: Why::OtherNumber,
+    };
+    let lines = Vec::from_array(rt.alloc(), lines)?;
+    assert_eq!(rt; verdicts(rt.alloc(), lines)?, (refused, refused));
+    Ok(())
+}
+
+/// The exchange but for its report.
+fn before_the_report(alloc: Global) -> Result<Vec<TraceLine>, Fail> {
+    let mut lines = Vec::from_array(alloc, exchange()?)?;
+    lines.pop();
+    Ok(lines)
+}
+
+/// The Sync leaves the clock once more.
+fn leave_again() -> Result<TraceLine, Fail> {
+    leave(3, moment(1, 2_500, 0)?, &FORWARDED_SYNC)
+}
+
+#[test]
+fn a_stay_that_is_left_twice(rt: HostRuntime) -> Result<(), Fail> {
+    let mut lines = before_the_report(rt.alloc())?;
+    lines.push(leave_again()?)?;
+    lines.push(report(131_072_000, (5, Some(7), 8, 14))?)?;
+    let refused = Verdict::Refused {
+        line: 14,
+        why: Why::BrokenJourney,
+    };
+    assert_eq!(rt; verdicts(rt.alloc(), lines)?, (refused, refused));
+    Ok(())
+}
+
+#[test]
+fn a_stay_that_is_left_again_after_a_report(rt: HostRuntime) -> Result<(), Fail> {
+    let mut lines = Vec::from_array(rt.alloc(), exchange()?)?;
+    lines.push(report(131_072_000, (5, Some(7), 8, 14))?)?;
+    lines.push(leave_again()?)?;
+    lines.push(report(131_072_000, (5, Some(7), 8, 16))?)?;
+    let refused = Verdict::Refused {
+        line: 16,
+        why: Why::BrokenJourney,
+    };
+    assert_eq!(rt; verdicts(rt.alloc(), lines)?, (refused, refused));
+    Ok(())
+}
+
+/// The Sync enters the clock once more, and that stay is left twice: no report is of it.
+#[test]
+fn another_stay_that_is_left_twice(rt: HostRuntime) -> Result<(), Fail> {
+    let mut lines = Vec::from_array(rt.alloc(), exchange()?)?;
+    lines.push(enter(2, moment(1, 500, 0)?)?)?;
+    for _ in 0..2 {
+        lines.push(leave(14, moment(1, 2_500, 0)?, &FORWARDED_SYNC)?)?;
+    }
+    lines.push(report(131_072_000, (5, Some(7), 8, 17))?)?;
+    let accepted = Verdict::Accepted(2);
+    assert_eq!(rt; verdicts(rt.alloc(), lines)?, (accepted, accepted));
     Ok(())
 }
 

@@ -1,12 +1,14 @@
 //! Lines of schedules and transcripts: each form with keys that are missing, further or ill-formed,
 //! and a whole transcript octet for octet.
 
-use network_model::{Heard, Outcome, Report, Stepped};
+use arrayvec::ArrayVec;
+use network_model::{Heard, Outcome, Reason, Report};
 use ptp_units::{ScaledTime, Timestamp};
-use schedule_lines::{Line, event_value, line_text, node_value};
+use schedule_lines::{Line, TranscriptLine, event_value, line_text, node_value};
 use serde_json::Value;
 use std::alloc::Global;
 use std::test::Fail;
+use trace_model::{TraceLine, TraceOut};
 
 /// The node or event that a line is.
 fn line(alloc: Global, text: &str) -> Result<Option<Line>, Fail> {
@@ -196,8 +198,8 @@ fn nodes_are_written(rt: HostRuntime) -> Result<(), Fail> {
     Ok(())
 }
 
-/// An event as it is read, its reading, what it brought about, the octets of its copy, and the line
-/// that is written.
+/// An event of a schedule, its reading, what it brought about, the octets of its copy, and its line
+/// in a transcript.
 type Row = (
     &'static str,
     Option<(u64, u32, u16)>,
@@ -317,41 +319,294 @@ const EXCHANGE: [Row; 14] = [
     ),
 ];
 
-/// The text of the line of an event with this tag.
-fn written(alloc: Global, tag: u64, row: &Row) -> Result<Option<String>, Fail> {
-    let (read, shown, outcome, hexadecimal, _) = *row;
-    let Some(Line::Event(event)) = line(alloc, read)? else {
-        return Ok(None);
+/// What else may become of events, with the keys in any order.
+const FURTHER: [Row; 6] = [
+    (
+        r#"{"copy":6,"ev":"hear","node":"S"}"#,
+        None,
+        Outcome::Heard(Heard::Ignored(Reason::NotNewer)),
+        "",
+        r#"{"code":512,"copy":6,"ev":"hear","n":0,"node":"S","out":"ignored"}"#,
+    ),
+    (
+        r#"{"ev":"stamped","node":"S"}"#,
+        None,
+        Outcome::Refused(511),
+        "",
+        r#"{"code":511,"ev":"stamped","n":1,"node":"S","out":"refused"}"#,
+    ),
+    (
+        r#"{"ev":"leave","node":"T","transit":2,"at":[0,0,0]}"#,
+        Some((0, 0, 1)),
+        Outcome::Refused(65_535),
+        "",
+        r#"{"at":[0,0,0],"code":65535,"ev":"leave","n":2,"node":"T","out":"refused","reading":[0,0,1],"transit":2}"#,
+    ),
+    (
+        r#"{"ev":"arrive","copy":3,"node":"S","at":[1,0,0]}"#,
+        Some((1, 0, 0)),
+        Outcome::Heard(Heard::Report(ONE_STEP)),
+        "",
+        r#"{"at":[1,0,0],"copy":3,"ev":"arrive","n":3,"node":"S","offset2":"-1","out":"report","path2":"0","reading":[1,0,0],"tags":[3,null,18446744073709551615,0]}"#,
+    ),
+    (
+        r#"{"ev":"syncone","node":"M","at":[281474976710655,999999999,65535]}"#,
+        Some((281_474_976_710_655, 999_999_999, 65_535)),
+        Outcome::Made,
+        "0912003600000000000000000dac000000000000001122fffe3344550001000003000000000000020000119400aabbfffeccddee0001",
+        r#"{"at":[281474976710655,999999999,65535],"ev":"syncone","hex":"0912003600000000000000000dac000000000000001122fffe3344550001000003000000000000020000119400aabbfffeccddee0001","n":4,"node":"M","out":"made","reading":[281474976710655,999999999,65535]}"#,
+    ),
+    (
+        r#"{"ev":"follow","node":"M"}"#,
+        None,
+        Outcome::Made,
+        "",
+        r#"{"ev":"follow","hex":"","n":5,"node":"M","out":"made"}"#,
+    ),
+];
+
+const ONE_STEP: Report = Report {
+    offset2: -1,
+    path2: 0,
+    sync_tag: 3,
+    follow_tag: None,
+    request_tag: u64::MAX,
+    response_tag: 0,
+};
+
+/// What a line has of an outcome, and of the octets that were made.
+fn out(alloc: Global, outcome: &Outcome, hexadecimal: &str) -> Result<TraceOut, Fail> {
+    let octets = hex::decode(alloc, hexadecimal)?;
+    Ok(match outcome {
+        Outcome::Done => TraceOut::Done,
+        Outcome::Made => TraceOut::Made(ArrayVec::try_from(octets.as_slice())?),
+        Outcome::Entered => TraceOut::Entered,
+        Outcome::Heard(Heard::Held) => TraceOut::Held,
+        Outcome::Heard(Heard::Completed) => TraceOut::Completed,
+        Outcome::Heard(Heard::Report(report)) => TraceOut::Report(*report),
+        Outcome::Heard(Heard::Ignored(reason)) => TraceOut::Ignored(reason.code()),
+        Outcome::Refused(code) => TraceOut::Refused(*code),
+    })
+}
+
+/// What was recorded of an event.
+fn recorded(alloc: Global, row: &Row) -> Result<TraceLine, Fail> {
+    let (read, shown, outcome, hexadecimal, _) = row;
+    let event = match line(alloc, *read)? {
+        Some(Line::Event(event)) => Some(event),
+        _ => None,
     };
     let reading = match shown {
-        Some((seconds, nanos, fraction)) => {
-            Some(ScaledTime::join(Timestamp::new(seconds, nanos)?, fraction))
-        }
+        Some((seconds, nanos, fraction)) => Some(ScaledTime::join(
+            Timestamp::new(*seconds, *nanos)?,
+            *fraction,
+        )),
         None => None,
     };
-    let stepped = Stepped {
-        tag,
+    Ok(TraceLine {
+        event: event.ok_or("no event")?,
         reading,
-        outcome,
-    };
-    let octets = hex::decode(alloc, hexadecimal)?;
-    let copy = if hexadecimal.is_empty() {
-        None
-    } else {
-        Some(octets.as_slice())
-    };
-    let value = event_value(alloc, &event, &stepped, copy)?;
-    Ok(Some(line_text(alloc, &value)?))
+        out: out(alloc, outcome, *hexadecimal)?,
+    })
+}
+
+/// Whether each row is written as its line.
+fn are_written(alloc: Global, rows: &[Row]) -> Result<bool, Fail> {
+    let mut same = true;
+    for (number, row) in rows.iter().enumerate() {
+        let value = event_value(alloc, number as u64, &recorded(alloc, row)?)?;
+        let text = line_text(alloc, &value)?;
+        same &= text.as_str() == format!(in alloc; "{}\n", row.4)?.as_str();
+    }
+    Ok(same)
+}
+
+/// Whether each row is read from its line.
+fn are_read(alloc: Global, rows: &[Row]) -> Result<bool, Fail> {
+    let mut same = true;
+    for (number, row) in rows.iter().enumerate() {
+        let expected = TranscriptLine::Event {
+            number: number as u64,
+            line: recorded(alloc, row)?,
+        };
+        same &= transcript_line(alloc, row.4)? == Some(expected);
+    }
+    Ok(same)
 }
 
 #[test]
 fn a_transcript_is_written(rt: HostRuntime) -> Result<(), Fail> {
-    for (tag, row) in EXCHANGE.iter().enumerate() {
-        let text = written(rt.alloc(), tag as u64, row)?.ok_or("no event")?;
+    assert!(rt; are_written(rt.alloc(), &EXCHANGE)?);
+    assert!(rt; are_written(rt.alloc(), &FURTHER)?);
+    Ok(())
+}
+
+#[test]
+fn a_transcript_is_read(rt: HostRuntime) -> Result<(), Fail> {
+    assert!(rt; are_read(rt.alloc(), &EXCHANGE)?);
+    assert!(rt; are_read(rt.alloc(), &FURTHER)?);
+    Ok(())
+}
+
+/// The node or event that a line of a transcript is.
+fn transcript_line(alloc: Global, text: &str) -> Result<Option<TranscriptLine>, Fail> {
+    let value = Value::from_slice(alloc, text.as_bytes())?;
+    Ok(TranscriptLine::of(&value))
+}
+
+/// Lines of one meaning, each as it is read and as it is written.
+const REWRITTEN: [(&str, &str); 6] = [
+    (
+        r#"{"out":"made","hex":"0AfF","n":7,"node":"M","ev":"follow"}"#,
+        r#"{"ev":"follow","hex":"0aff","n":7,"node":"M","out":"made"}"#,
+    ),
+    (
+        r#"{"ev":"tick","node":"S","n":18446744073709551615,"out":"refused","out":"done"}"#,
+        r#"{"ev":"tick","n":18446744073709551615,"node":"S","out":"done"}"#,
+    ),
+    (
+        r#"{"ev":"tick","node":"S","n":0,"out":"refused","code":65536,"code":0}"#,
+        r#"{"code":0,"ev":"tick","n":0,"node":"S","out":"refused"}"#,
+    ),
+    (
+        r#"{"ev":"hear","node":"S","copy":1,"n":2,"out":"report","tags":[],"tags":[ 0 , 1 , 0 , 2 ],"offset2":"99999999999999999999999999999999","path2":"-9999999999999999999999999999999"}"#,
+        r#"{"copy":1,"ev":"hear","n":2,"node":"S","offset2":"99999999999999999999999999999999","out":"report","path2":"-9999999999999999999999999999999","tags":[0,1,0,2]}"#,
+    ),
+    (
+        r#"{"\u0065v":"tick","node":"S","n":0,"out":"d\u006fne"}"#,
+        r#"{"ev":"tick","n":0,"node":"S","out":"done"}"#,
+    ),
+    (
+        r#"{"ev":"request","node":"S","at":[2,0,0],"n":0,"out":"ignored","code":1,"reading":[2,0,1]}"#,
+        r#"{"at":[2,0,0],"code":1,"ev":"request","n":0,"node":"S","out":"ignored","reading":[2,0,1]}"#,
+    ),
+];
+
+#[test]
+fn transcript_lines_are_rewritten(rt: HostRuntime) -> Result<(), Fail> {
+    for (read, written) in REWRITTEN {
+        let text = match transcript_line(rt.alloc(), read)? {
+            Some(TranscriptLine::Event { number, line }) => {
+                let value = event_value(rt.alloc(), number, &line)?;
+                line_text(rt.alloc(), &value)?
+            }
+            _ => String::new(rt.alloc()),
+        };
         assert_eq!(rt;
             text.as_str(),
-            format!(in rt.alloc(); "{}\n", row.4)?.as_str()
+            format!(in rt.alloc(); "{written}\n")?.as_str()
         );
+    }
+    Ok(())
+}
+
+#[test]
+fn nodes_of_a_transcript_are_read(rt: HostRuntime) -> Result<(), Fail> {
+    for text in NODES {
+        assert!(rt;
+            matches!(
+                transcript_line(rt.alloc(), text)?,
+                Some(TranscriptLine::Node(_))
+            ),
+            "{text}"
+        );
+    }
+    Ok(())
+}
+
+#[test]
+fn a_schedule_is_no_transcript(rt: HostRuntime) -> Result<(), Fail> {
+    for text in EVENTS {
+        assert!(rt; transcript_line(rt.alloc(), text)?.is_none(), "{text}");
+    }
+    for row in EXCHANGE {
+        assert!(rt; line(rt.alloc(), row.4)?.is_none(), "{}", row.4);
+    }
+    Ok(())
+}
+
+/// Lines that are no line of a transcript.
+const NOT_TRACED: [&str; 74] = [
+    "null",
+    "[]",
+    "{}",
+    r#"{"node":"T"}"#,
+    r#"{"kind":"clock","node":"T","n":0}"#,
+    r#"{"n":0,"out":"done"}"#,
+    r#"{"ev":"tick","n":0,"out":"done"}"#,
+    r#"{"ev":"tick","node":"","n":0,"out":"done"}"#,
+    r#"{"ev":"tock","node":"S","n":0,"out":"done"}"#,
+    r#"{"ev":"tick","node":"S","out":"done"}"#,
+    r#"{"ev":"tick","node":"S","n":0}"#,
+    r#"{"ev":"tick","node":"S","n":0,"out":"done","of":"S"}"#,
+    r#"{"ev":"tick","node":"S","n":0,"out":"done","copy":1}"#,
+    r#"{"ev":"tick","node":"S","n":0,"out":"done","reading":[1,0,0]}"#,
+    r#"{"ev":"tick","node":"S","n":0,"out":"done","hex":""}"#,
+    r#"{"ev":"tick","node":"S","n":0,"out":"done","code":1}"#,
+    r#"{"ev":"tick","node":"S","n":0,"out":"done","tags":[0,1,2,3]}"#,
+    r#"{"ev":"tick","node":"S","n":-1,"out":"done"}"#,
+    r#"{"ev":"tick","node":"S","n":-0,"out":"done"}"#,
+    r#"{"ev":"tick","node":"S","n":0.0,"out":"done"}"#,
+    r#"{"ev":"tick","node":"S","n":"0","out":"done"}"#,
+    r#"{"ev":"tick","node":"S","n":18446744073709551616,"out":"done"}"#,
+    r#"{"ev":"tick","node":"S","n":0,"n":-1,"out":"done"}"#,
+    r#"{"ev":"tick","node":"S","n":0,"out":"Done"}"#,
+    r#"{"ev":"tick","node":"S","n":0,"out":"did"}"#,
+    r#"{"ev":"tick","node":"S","n":0,"out":""}"#,
+    r#"{"ev":"tick","node":"S","n":0,"out":0}"#,
+    r#"{"ev":"tick","node":"S","n":0,"out":null}"#,
+    r#"{"ev":"tick","node":"S","n":0,"out":"done","out":"held ","out":"do"}"#,
+    r#"{"ev":"sync","node":"M","at":[1,0,0],"n":0,"out":"entered"}"#,
+    r#"{"ev":"sync","node":"M","n":0,"out":"entered","reading":[1,0,0]}"#,
+    r#"{"ev":"sync","node":"M","at":[1,0,0],"n":0,"out":"entered","reading":null}"#,
+    r#"{"ev":"sync","node":"M","at":[1,0,0],"n":0,"out":"entered","reading":[1,0]}"#,
+    r#"{"ev":"sync","node":"M","at":[1,0,0],"n":0,"out":"entered","reading":[1,0,0,0]}"#,
+    r#"{"ev":"sync","node":"M","at":[1,0,0],"n":0,"out":"entered","reading":[1,1000000000,0]}"#,
+    r#"{"ev":"sync","node":"M","at":[1,0,0],"n":0,"out":"entered","reading":[1,0,65536]}"#,
+    r#"{"ev":"follow","node":"M","n":0,"out":"made"}"#,
+    r#"{"ev":"follow","node":"M","n":0,"out":"made","hex":"0"}"#,
+    r#"{"ev":"follow","node":"M","n":0,"out":"made","hex":"0g"}"#,
+    r#"{"ev":"follow","node":"M","n":0,"out":"made","hex":" 00"}"#,
+    r#"{"ev":"follow","node":"M","n":0,"out":"made","hex":0}"#,
+    r#"{"ev":"follow","node":"M","n":0,"out":"made","hex":[0]}"#,
+    r#"{"ev":"follow","node":"M","n":0,"out":"made","hex":"00","code":0}"#,
+    r#"{"ev":"follow","node":"M","n":0,"out":"made","hex":"0912003600000000000000000dac000000000000001122fffe3344550001000003000000000000020000119400aabbfffeccddee00010"}"#,
+    r#"{"ev":"follow","node":"M","n":0,"out":"made","hex":"0912003600000000000000000dac000000000000001122fffe3344550001000003000000000000020000119400aabbfffeccddee000100"}"#,
+    r#"{"ev":"tick","node":"S","n":0,"out":"ignored"}"#,
+    r#"{"ev":"tick","node":"S","n":0,"out":"refused"}"#,
+    r#"{"ev":"tick","node":"S","n":0,"out":"ignored","hex":""}"#,
+    r#"{"ev":"tick","node":"S","n":0,"out":"ignored","code":1,"hex":""}"#,
+    r#"{"ev":"tick","node":"S","n":0,"out":"ignored","code":65536}"#,
+    r#"{"ev":"tick","node":"S","n":0,"out":"refused","code":65536}"#,
+    r#"{"ev":"tick","node":"S","n":0,"out":"refused","code":-1}"#,
+    r#"{"ev":"tick","node":"S","n":0,"out":"refused","code":1.0}"#,
+    r#"{"ev":"tick","node":"S","n":0,"out":"refused","code":"1"}"#,
+    r#"{"ev":"hear","node":"S","copy":0,"n":1,"out":"report","path2":"0","tags":[0,0,0,1]}"#,
+    r#"{"ev":"hear","node":"S","copy":0,"n":1,"out":"report","offset2":"0","tags":[0,0,0,1]}"#,
+    r#"{"ev":"hear","node":"S","copy":0,"n":1,"out":"report","offset2":"0","path2":"0"}"#,
+    r#"{"ev":"hear","node":"S","copy":0,"n":1,"out":"report","offset2":"0","path2":"0","tags":[0,0,0,1],"code":1}"#,
+    r#"{"ev":"hear","node":"S","copy":0,"n":1,"out":"completed","offset2":"0","path2":"0","tags":[0,0,0,1]}"#,
+    r#"{"ev":"hear","node":"S","copy":0,"n":1,"out":"report","offset2":0,"path2":"0","tags":[0,0,0,1]}"#,
+    r#"{"ev":"hear","node":"S","copy":0,"n":1,"out":"report","offset2":"-0","path2":"0","tags":[0,0,0,1]}"#,
+    r#"{"ev":"hear","node":"S","copy":0,"n":1,"out":"report","offset2":"0","path2":"01","tags":[0,0,0,1]}"#,
+    r#"{"ev":"hear","node":"S","copy":0,"n":1,"out":"report","offset2":"0","path2":"+1","tags":[0,0,0,1]}"#,
+    r#"{"ev":"hear","node":"S","copy":0,"n":1,"out":"report","offset2":"-99999999999999999999999999999999","path2":"0","tags":[0,0,0,1]}"#,
+    r#"{"ev":"hear","node":"S","copy":0,"n":1,"out":"report","offset2":"0","path2":"0","tags":[0,0,1]}"#,
+    r#"{"ev":"hear","node":"S","copy":0,"n":1,"out":"report","offset2":"0","path2":"0","tags":[0,0,0,1,1]}"#,
+    r#"{"ev":"hear","node":"S","copy":0,"n":1,"out":"report","offset2":"0","path2":"0","tags":[null,0,0,1]}"#,
+    r#"{"ev":"hear","node":"S","copy":0,"n":1,"out":"report","offset2":"0","path2":"0","tags":[0,0,null,1]}"#,
+    r#"{"ev":"hear","node":"S","copy":0,"n":1,"out":"report","offset2":"0","path2":"0","tags":[0,0,0,null]}"#,
+    r#"{"ev":"hear","node":"S","copy":0,"n":1,"out":"report","offset2":"0","path2":"0","tags":[0,"0",0,1]}"#,
+    r#"{"ev":"hear","node":"S","copy":0,"n":1,"out":"report","offset2":"0","path2":"0","tags":[0,0,0,-1]}"#,
+    r#"{"ev":"hear","node":"S","copy":0,"n":1,"out":"report","offset2":"0","path2":"0","tags":[0,0.0,0,1]}"#,
+    r#"{"ev":"hear","node":"S","copy":0,"n":1,"out":"report","offset2":"0","path2":"0","tags":[18446744073709551616,0,0,1]}"#,
+    r#"{"ev":"hear","node":"S","copy":0,"n":1,"out":"report","offset2":"0","path2":"0","tags":"0001"}"#,
+];
+
+#[test]
+fn other_lines_of_a_transcript_are_refused(rt: HostRuntime) -> Result<(), Fail> {
+    for text in NOT_TRACED {
+        assert!(rt; transcript_line(rt.alloc(), text)?.is_none(), "{text}");
     }
     Ok(())
 }

@@ -28,6 +28,8 @@ mod program;
 #[cfg(test)]
 mod refusals;
 #[cfg(test)]
+mod replay;
+#[cfg(test)]
 mod script;
 #[cfg(test)]
 mod show;
@@ -35,6 +37,8 @@ mod show;
 mod slave;
 #[cfg(test)]
 mod tables;
+#[cfg(test)]
+mod traces;
 #[cfg(test)]
 mod units;
 #[cfg(test)]

@@ -216,7 +216,7 @@ const SHOW_RULES: [&str; 18] = [
     "\n  802  the output can't be written\n",
     "\n  803  a line has more than 4096 octets\n",
     "\n  804  an octet comes after the last of 1048576 lines\n",
-    "\n  806  a line isn't hexadecimal, or has an odd number of digits\n",
+    "\n  806  a line isn't pairs of hexadecimal digits\n",
     "\n  808  memory was refused\n",
     "\n  0  each line was answered",
     "\n  2  the arguments aren't a command\n",

@@ -91,7 +91,7 @@ pub data IsCopy (network : Network) (run : Run) (copy : ℕ) (m : Contents) : Ty
   DelayResp : IsDelayResp network run copy m → IsCopy network run copy m
 
 -- a master answers a Delay_Req alone, by its Delay_Resp
-answered : (config : PortConfig) (body : Body) (header : Header) (t4 : ℕ) (m : Contents) → result_ok (answer_to config body header t4) ≡ Some m
+pub answered : (config : PortConfig) (body : Body) (header : Header) (t4 : ℕ) (m : Contents) → result_ok (answer_to config body header t4) ≡ Some m
     → ((origin : _) × (body ≡ bodies.DelayReq origin)) × (m ≡ delay_resp config header t4)
 answered config (bodies.Sync origin) header t4 m e = cc
 answered config (bodies.FollowUp precise) header t4 m e = cc

@@ -130,23 +130,23 @@ meet-fresh_ticked limits network run premise = record {
   used = (reach-fresh_ticked limits network run premise).used;
 }
 
+pub within_turn_shorter : (network : Network) (event : Event) (earlier : Run) → IsWithinTurn network (event ∷ earlier) → IsWithinTurn network earlier
+within_turn_shorter network event earlier premise = record {
+  apart = premise.apart;
+  accepted = premise.accepted.1;
+  one_turn = record {
+    syncs = λ node. let few = premise.one_turn.syncs node in omega (arith, count-more (is_at draws_sync node) event earlier);
+    requests = λ node. let few = premise.one_turn.requests node in omega (arith, count-more (is_at is_request node) event earlier);
+  };
+}
+
 pub meet-one_turn : (network : Network) (run : Run) → IsWithinTurn network run → NumbersMeet 65536 network run
 meet-one_turn network run premise = record {
   apart = premise.apart;
   accepted = premise.accepted;
-  held = λ p there. (reach-one_turn network p.earlier (before_each (IsWithinTurn network) shorter run p there premise)).held;
+  held = λ p there. (reach-one_turn network p.earlier (before_each (IsWithinTurn network) (within_turn_shorter network) run p there premise)).held;
   used = (reach-one_turn network run premise).used;
 }
-  where
-    shorter : (event : Event) (earlier : Run) → IsWithinTurn network (event ∷ earlier) → IsWithinTurn network earlier
-    shorter event earlier premise = record {
-      apart = premise.apart;
-      accepted = premise.accepted.1;
-      one_turn = record {
-        syncs = λ node. let few = premise.one_turn.syncs node in omega (arith, count-more (is_at draws_sync node) event earlier);
-        requests = λ node. let few = premise.one_turn.requests node in omega (arith, count-more (is_at is_request node) event earlier);
-      };
-    }
 
 -- what holds of a run and of each that it goes on from, up to an event
 pub until_each : (P : Run → Type 0) → ((event : Event) (earlier : Run) → P (event ∷ earlier) → P earlier) → (run : Run) (p : Place) → IsIn run p → P run → P (until p)

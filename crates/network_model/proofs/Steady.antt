@@ -14,7 +14,7 @@ use Rattle.network_model.specs.Level.{moment_at, is_steady, IsSteady}
 use Rattle.network_model.proofs.Readings.{shown_reading}
 
 -- an event that steps no clock leaves all differences
-unstepped : (node : NodeName) (event : Event) (earlier : Run) → is_step event ≡ false → difference node (event ∷ earlier) ≡ difference node earlier
+pub unstepped : (node : NodeName) (event : Event) (earlier : Run) → is_step event ≡ false → difference node (event ∷ earlier) ≡ difference node earlier
 unstepped node event earlier none = by (step_of event) refl (is_named (site_of event) node)
   where
     by : (step : Option ℤ) → step_of event ≡ step → (named : Bool)

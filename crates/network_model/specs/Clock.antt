@@ -1,5 +1,5 @@
 -- Clocks: each is ahead of the true time by as much as it was last stepped to.
-use Rattle.std.specs.Prelude.{ℕ, ℤ, pos, ◌+ℤ◌, [], ◌∷◌, if◌then◌else◌, Option, Some, None, unwrap_or, option_map, option_and_then}
+use Rattle.std.specs.Prelude.{ℕ, ℤ, pos, ◌+ℤ◌, [], ◌∷◌, if◌then◌else◌, Option, unwrap_or, option_map, option_and_then}
 use Rattle.ptp_units.specs.Moment.{moment_of}
 use Rattle.network_model.specs.Network.{NodeName, is_named}
 use Rattle.network_model.specs.Run.{Run, Place, site_of, true_moment}

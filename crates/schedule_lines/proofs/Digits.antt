@@ -9,7 +9,7 @@ use Rattle.std.proofs.lemmas.Bool.Decides.{nat_tests}
 use Rattle.schedule_lines.specs.Json.{positive_of}
 use mir.Syntax.{w128}
 
-own : IsNumeralModel (λ ds. all_ascii_digits ds ≡ true) (digits_value 10)
+pub own : IsNumeralModel (λ ds. all_ascii_digits ds ≡ true) (digits_value 10)
 own = numerals_by_value _ tells_all_ascii_digits
 
 decided : {E : Type 0} (some digits : Bool) (L U : Type 0) (f : ℕ → ℤ) (n : ℕ) (r : Result ℤ E) → some ≡ true

@@ -12,14 +12,14 @@ parts true true false h = (refl, refl, h)
 parts true false octets h = absurd (cc)
 parts false fits octets h = absurd (cc)
 
-IsName-from_test : (text : List ℕ) → is_name text ≡ true → IsName text
+pub IsName-from_test : (text : List ℕ) → is_name text ≡ true → IsName text
 IsName-from_test text h =
     let p = parts (nat_le 1 (length text)) (nat_le (length text) 16) (list_all is_name_octet text) h in
     let some : 1 ≤ length text = grind (arith, nat_tests, p.0) in
     let fits : length text ≤ 16 = grind (arith, nat_tests, p.1) in
     record { some = some; fits = fits; octets = AllPass-from_list_all is_name_octet text p.2 }
 
-test-from_IsName : (text : List ℕ) → IsName text → is_name text ≡ true
+pub test-from_IsName : (text : List ℕ) → IsName text → is_name text ≡ true
 test-from_IsName text name =
     let some : nat_le 1 (length text) ≡ true = grind (arith, nat_tests, name.some) in
     let fits : nat_le (length text) 16 ≡ true = grind (arith, nat_tests, name.fits) in

@@ -4,7 +4,7 @@ use Rattle.std.specs.List.{list_all}
 use Rattle.std.specs.Result.{result_ok}
 use Rattle.std.specs.Str.{all_ascii_digits, bytes_eq}
 use Rattle.std.specs.Str.Parse.{digits_value}
-use Rattle.hex.specs.Hex.{decode_sized}
+use Rattle.hex.specs.Hex.{decode_of, decode_sized}
 use Rattle.serde_json.specs.Data.{Data}
 use Rattle.serde_json.specs.Events.{items_len, members_len}
 use Rattle.serde_json.specs.Find.{get, at, as_number, as_str, as_array, as_object, as_u64, as_i64}
@@ -40,19 +40,23 @@ name_in d = option_and_then (λ text. if is_name text then Some text else None) 
 abbrev pub clock_in : Data → Option (List ℕ)
 clock_in d = option_and_then (λ text. result_ok (decode_sized text 8)) (as_str d)
 
--- the item at an index, a whole number below a bound
-abbrev pub part_below : ℕ → ℕ → Data → Option ℕ
-part_below index bound d = option_and_then (whole_below bound) (at index d)
+-- octets in hexadecimal of either case, at most 54
+abbrev pub octets_in : Data → Option (List ℕ)
+octets_in d = option_and_then (λ text. if nat_lt 108 (length text) then None else result_ok (decode_of text)) (as_str d)
 
--- whether it is an array of three
-abbrev pub is_triple : Data → Bool
-is_triple d = unwrap_or (option_map (λ items. items_len items == 3) (as_array d)) false
+-- the item at an index, where it is what is asked for
+abbrev pub item_at : {X : Type 0} → (Data → Option X) → ℕ → Data → Option X
+item_at reads index d = option_and_then reads (at index d)
+
+-- whether it is an array of this many
+abbrev pub has_items : ℕ → Data → Bool
+has_items count d = unwrap_or (option_map (λ items. items_len items == count) (as_array d)) false
 
 -- a moment `[s,n,f]`: seconds, nanoseconds, and 2^-16 ns
 abbrev pub moment_in : Data → Option ℕ
 moment_in d =
-    if is_triple d then
-    option_and_then (λ s. option_and_then (λ n. option_map (moment (stamp s n)) (part_below 2 65536 d)) (part_below 1 1000000000 d)) (part_below 0 281474976710656 d)
+    if has_items 3 d then
+    option_and_then (λ s. option_and_then (λ n. option_map (moment (stamp s n)) (item_at (whole_below 65536) 2 d)) (item_at (whole_below 1000000000) 1 d)) (item_at (whole_below 281474976710656) 0 d)
     else None
 
 -- the value of a key, where it is what is asked for
@@ -63,11 +67,11 @@ field reads key d = option_and_then reads (get key d)
 abbrev pub has_keys : ℕ → Data → Bool
 has_keys count d = unwrap_or (option_map (λ members. members_len members == count) (as_object d)) false
 
--- a number above 0, in digits without leading zeros
+-- a number above 0, in decimal without leading zeros
 abbrev pub positive_of : List ℕ → Option ℕ
 positive_of digits = if nat_lt 48 (slice_index digits 0) && all_ascii_digits digits then Some (digits_value 10 digits) else None
 
--- a signed number in 32 octets at the most: `0`, or a number above 0, alone or after a `-`
+-- a whole number in decimal, within 32 octets: a sign stands in front of negative ones alone, and there are no leading zeros and no `-0`
 abbrev pub difference_of : List ℕ → Option ℤ
 difference_of text =
     if bytes_eq text (codes "0") then Some (pos 0)
@@ -75,6 +79,6 @@ difference_of text =
     else if slice_index text 0 == 45 then option_map (λ n. neg_ℤ (pos n)) (positive_of (drop 1 text))
     else option_map pos (positive_of text)
 
--- the text of a signed number
+-- a whole number as its text
 abbrev pub difference_in : Data → Option ℤ
 difference_in d = option_and_then difference_of (as_str d)

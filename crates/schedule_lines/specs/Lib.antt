@@ -1,3 +1,5 @@
 pub mod Json
 pub mod Line
+pub mod Recorded
+pub mod Traced
 pub mod Transcript

@@ -12,8 +12,8 @@ use Rattle.network_model.specs.declared.node.NodeKind.TheVariants as kinds
 use Rattle.network_model.specs.declared.node.NodeSpec.{NodeSpec}
 use Rattle.schedule_lines.specs.declared.kind.EventKind.{EventKind}
 use Rattle.schedule_lines.specs.declared.kind.EventKind.TheVariants.{Sync, SyncOne, Follow, Enter, Leave, Arrive, Hear, Request, Stamped, Tick, SetMaster, StepClock}
-use Rattle.schedule_lines.specs.declared.entry.Line.{Line}
-use Rattle.schedule_lines.specs.declared.entry.Line.TheVariants as lines
+use Rattle.schedule_lines.specs.declared.schedule.Line.{Line}
+use Rattle.schedule_lines.specs.declared.schedule.Line.TheVariants as lines
 use Rattle.schedule_lines.specs.Json.{field, has_keys, name_in, moment_in, whole_in, whole_below, signed_octet_in, clock_in, difference_in}
 
 -- the kind of event that the text of `ev` names
@@ -32,21 +32,6 @@ kind_of text =
     else if bytes_eq text (codes "setmaster") then Some SetMaster
     else if bytes_eq text (codes "stepclock") then Some StepClock
     else None
-
--- how many keys an event of this kind has, `ev` and `node` among them
-abbrev pub key_count : EventKind → ℕ
-key_count Sync = 3
-key_count SyncOne = 3
-key_count Follow = 2
-key_count Enter = 4
-key_count Leave = 4
-key_count Arrive = 4
-key_count Hear = 3
-key_count Request = 3
-key_count Stamped = 2
-key_count Tick = 2
-key_count SetMaster = 3
-key_count StepClock = 3
 
 -- the keys of events
 abbrev pub node_in : Data → Option (List ℕ)
@@ -73,13 +58,29 @@ event_at Tick node d = Some (events.Tick node)
 event_at SetMaster node d = option_map (events.SetMaster node) (field name_in (codes "master") d)
 event_at StepClock node d = option_map (events.StepClock node) (field difference_in (codes "diff") d)
 
--- an event of a kind, with just its keys
-abbrev pub event_of : EventKind → Data → Option Event
-event_of kind d = if has_keys (key_count kind) d then option_and_then (λ node. event_at kind node d) (node_in d) else None
-
--- the event that an object with key `ev` is
+-- the event that an object's keys are, whatever keys stand beside them
 abbrev pub event_in : Data → Option Event
-event_in d = option_and_then (λ kind. event_of kind d) (option_and_then kind_of (field as_str (codes "ev") d))
+event_in d =
+    option_and_then (λ kind. option_and_then (λ node. event_at kind node d) (node_in d)) (option_and_then kind_of (field as_str (codes "ev") d))
+
+-- how many keys an event has, `ev` and `node` among them
+abbrev pub event_keys : Event → ℕ
+event_keys (events.Sync node at) = 3
+event_keys (events.SyncOne node at) = 3
+event_keys (events.Follow node) = 2
+event_keys (events.Enter node copy at) = 4
+event_keys (events.Leave node transit at) = 4
+event_keys (events.Arrive node copy at) = 4
+event_keys (events.Hear node copy) = 3
+event_keys (events.Request node at) = 3
+event_keys (events.Stamped node) = 2
+event_keys (events.Tick node) = 2
+event_keys (events.SetMaster node master) = 3
+event_keys (events.StepClock node diff) = 3
+
+-- the event that an object with key `ev` is, with just its keys
+abbrev pub scheduled_in : Data → Option Event
+scheduled_in d = option_and_then (λ event. if has_keys (event_keys event) d then Some event else None) (event_in d)
 
 -- the configuration of a node's port
 abbrev pub config_in : Data → Option PortConfig
@@ -112,4 +113,4 @@ node_spec_in d =
 
 -- the line that a value is; None where a key is missing, one is too many, or one's value isn't what is asked for
 abbrev pub line_of : Data → Option Line
-line_of d = if is_some (get (codes "ev") d) then option_map lines.Event (event_in d) else option_map lines.Node (node_spec_in d)
+line_of d = if is_some (get (codes "ev") d) then option_map lines.Event (scheduled_in d) else option_map lines.Node (node_spec_in d)

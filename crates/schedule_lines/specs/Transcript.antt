@@ -9,20 +9,17 @@ use Rattle.serde_json.specs.Written.{compact_text}
 use Rattle.event_codec.specs.declared.port.PortConfig.{PortConfig}
 use Rattle.ptp_units.specs.declared.sequence.Seq.{Seq}
 use Rattle.ptp_units.specs.Moment.{stamp_of, fraction_of}
-use Rattle.slave_port.specs.declared.heard.Heard.{Heard}
-use Rattle.slave_port.specs.declared.heard.Heard.TheVariants as answers
 use Rattle.slave_port.specs.declared.heard.Report.{Report}
-use Rattle.slave_port.specs.Refusal.{code_of_reason}
 use Rattle.network_model.specs.declared.event.Event.{Event}
 use Rattle.network_model.specs.declared.event.Event.TheVariants.{Sync, SyncOne, Follow, Enter, Leave, Arrive, Hear, Request, Stamped, Tick, SetMaster, StepClock}
 use Rattle.network_model.specs.declared.node.NodeKind.{NodeKind}
 use Rattle.network_model.specs.declared.node.NodeKind.TheVariants as kinds
 use Rattle.network_model.specs.declared.node.NodeSpec.{NodeSpec}
-use Rattle.network_model.specs.declared.stepped.Outcome.{Outcome}
-use Rattle.network_model.specs.declared.stepped.Outcome.TheVariants as outcomes
-use Rattle.network_model.specs.declared.stepped.Stepped.{Stepped}
 use Rattle.network_model.specs.Run.{site_of, true_moment}
 use Rattle.network_model.specs.Kinds.{named_master, step_of, entered_copy, heard_copy, spent_transit}
+use Rattle.trace_model.specs.declared.line.TraceLine.{TraceLine}
+use Rattle.trace_model.specs.declared.line.TraceOut.{TraceOut}
+use Rattle.trace_model.specs.declared.line.TraceOut.TheVariants as outs
 
 -- a whole number
 abbrev pub whole : ℕ → Data
@@ -91,49 +88,49 @@ with_event event members =
     (with_some (codes "node") (Some (string (site_of event)))
     (with_some (codes "transit") (option_map whole (spent_transit event)) members))))))
 
--- the text of `out` for a message that was heard
-abbrev pub heard_text : Heard → List ℕ
-heard_text answers.Held = codes "held"
-heard_text answers.Completed = codes "completed"
-heard_text (answers.Report report) = codes "report"
-heard_text (answers.Ignored reason) = codes "ignored"
-
 -- the text of `out`
-abbrev pub outcome_text : Outcome → List ℕ
-outcome_text outcomes.Done = codes "done"
-outcome_text outcomes.Made = codes "made"
-outcome_text outcomes.Entered = codes "entered"
-outcome_text (outcomes.Heard heard) = heard_text heard
-outcome_text (outcomes.Refused code) = codes "refused"
+abbrev pub out_text : TraceOut → List ℕ
+out_text outs.Done = codes "done"
+out_text (outs.Made octets) = codes "made"
+out_text outs.Entered = codes "entered"
+out_text outs.Held = codes "held"
+out_text outs.Completed = codes "completed"
+out_text (outs.Report report) = codes "report"
+out_text (outs.Ignored code) = codes "ignored"
+out_text (outs.Refused code) = codes "refused"
 
--- the number of the reason for which a message is ignored
-abbrev pub ignored_code : Heard → Option ℕ
-ignored_code answers.Held = None
-ignored_code answers.Completed = None
-ignored_code (answers.Report report) = None
-ignored_code (answers.Ignored reason) = Some (code_of_reason reason)
+-- the octets of the message that was made
+abbrev pub made_octets : TraceOut → Option (List ℕ)
+made_octets outs.Done = None
+made_octets (outs.Made octets) = Some octets.items
+made_octets outs.Entered = None
+made_octets outs.Held = None
+made_octets outs.Completed = None
+made_octets (outs.Report report) = None
+made_octets (outs.Ignored code) = None
+made_octets (outs.Refused code) = None
 
 -- the number of a reason or a refusal
-abbrev pub outcome_code : Outcome → Option ℕ
-outcome_code outcomes.Done = None
-outcome_code outcomes.Made = None
-outcome_code outcomes.Entered = None
-outcome_code (outcomes.Heard heard) = ignored_code heard
-outcome_code (outcomes.Refused code) = Some code
+abbrev pub out_code : TraceOut → Option ℕ
+out_code outs.Done = None
+out_code (outs.Made octets) = None
+out_code outs.Entered = None
+out_code outs.Held = None
+out_code outs.Completed = None
+out_code (outs.Report report) = None
+out_code (outs.Ignored code) = Some code
+out_code (outs.Refused code) = Some code
 
--- the report that a message gave
-abbrev pub heard_report : Heard → Option Report
-heard_report answers.Held = None
-heard_report answers.Completed = None
-heard_report (answers.Report report) = Some report
-heard_report (answers.Ignored reason) = None
-
-abbrev pub outcome_report : Outcome → Option Report
-outcome_report outcomes.Done = None
-outcome_report outcomes.Made = None
-outcome_report outcomes.Entered = None
-outcome_report (outcomes.Heard heard) = heard_report heard
-outcome_report (outcomes.Refused code) = None
+-- the report that a slave gave
+abbrev pub out_report : TraceOut → Option Report
+out_report outs.Done = None
+out_report (outs.Made octets) = None
+out_report outs.Entered = None
+out_report outs.Held = None
+out_report outs.Completed = None
+out_report (outs.Report report) = Some report
+out_report (outs.Ignored code) = None
+out_report (outs.Refused code) = None
 
 -- the tag of a Follow_Up, or null after a one-step Sync
 abbrev pub follow_data : Option ℕ → Data
@@ -146,25 +143,24 @@ tags_data report = array (item (whole report.sync_tag) (item (follow_data report
 
 -- the keys that a report has
 abbrev pub with_report : Option Report → Members → Members
-with_report None members = members
-with_report (Some report) members =
-    put (codes "offset2") (difference_data report.offset2)
-    (put (codes "path2") (difference_data report.path2)
-    (put (codes "tags") (tags_data report) members))
+with_report report members =
+    with_some (codes "offset2") (option_map (λ r. difference_data r.offset2) report)
+    (with_some (codes "path2") (option_map (λ r. difference_data r.path2) report)
+    (with_some (codes "tags") (option_map tags_data report) members))
 
--- the keys that the answer to an event has beside them; the octets are those of the copy that it made
-abbrev pub with_answer : Stepped → Option (List ℕ) → Members → Members
-with_answer stepped octets members =
-    with_some (codes "code") (option_map whole (outcome_code stepped.outcome))
-    (with_some (codes "hex") (option_map octets_data octets)
-    (with_some (codes "n") (Some (whole stepped.tag))
-    (with_some (codes "out") (Some (string (outcome_text stepped.outcome)))
-    (with_some (codes "reading") (option_map moment_data stepped.reading)
-    (with_report (outcome_report stepped.outcome) members)))))
+-- the keys that a line has beside those of its event
+abbrev pub with_answer : ℕ → TraceLine → Members → Members
+with_answer n line members =
+    with_some (codes "code") (option_map whole (out_code line.out))
+    (with_some (codes "hex") (option_map octets_data (made_octets line.out))
+    (with_some (codes "n") (Some (whole n))
+    (with_some (codes "out") (Some (string (out_text line.out)))
+    (with_some (codes "reading") (option_map moment_data line.reading)
+    (with_report (out_report line.out) members)))))
 
--- the line of an event that happened
-abbrev pub event_data : Event → Stepped → Option (List ℕ) → Data
-event_data event stepped octets = object (with_event event (with_answer stepped octets no_members))
+-- the line of this number of a transcript's events
+abbrev pub event_data : ℕ → TraceLine → Data
+event_data n line = object (with_event line.event (with_answer n line no_members))
 
 -- the text of a line: the compact text of its value, and LF
 abbrev pub line_text : Data → List ℕ

@@ -1,8 +1,9 @@
 //! The values of fields.
 ghost use Rattle.std.specs.Prelude.{◌≡◌, ◌≢◌, ◌≤◌, ◌&&◌, ℕ, pos, neg_ℤ, nat_lt, drop, length, slice_index, option_map};
 ghost use Rattle.serde_json.specs.View.{view};
-ghost use Rattle.schedule_lines.specs.Json.{field, has_keys, is_triple, whole_in, whole_below, part_below, signed_octet_in, name_in, clock_in, moment_in, positive_of, difference_of, difference_in};
+ghost use Rattle.schedule_lines.specs.Json.{field, has_keys, has_items, whole_in, whole_below, item_at, octets_in, signed_octet_in, name_in, clock_in, moment_in, positive_of, difference_of, difference_in};
 
+use arrayvec::ArrayVec;
 use hex::FromHex;
 use network_model::Name;
 use ptp_units::{ScaledTime, Timestamp};
@@ -18,12 +19,12 @@ pub(crate) fn has_keys(value: &Value, count: usize) -> bool
     }
 }
 
-/// Whether it is an array of three.
-fn is_triple(value: &Value) -> bool
-    ensures { result ≡ is_triple (view value.now) }
+/// Whether it is an array of this many.
+pub(crate) fn has_items(value: &Value, count: usize) -> bool
+    ensures { result ≡ has_items count (view value.now) }
 {
     match value.as_array() {
-        Some(items) => items.len() == 3,
+        Some(items) => items.len() == count,
         None => false,
     }
 }
@@ -38,7 +39,7 @@ pub(crate) fn whole_below(value: &Value, bound: u64) -> Option<u64>
 
 /// The item at an index, a whole number below a bound.
 fn part_below(value: &Value, index: usize, bound: u64) -> Option<u64>
-    ensures { result ≡ part_below index bound (view value.now) }
+    ensures { result ≡ item_at (whole_below bound) index (view value.now) }
 {
     whole_below(value.get(index)?, bound)
 }
@@ -47,7 +48,7 @@ fn part_below(value: &Value, index: usize, bound: u64) -> Option<u64>
 pub(crate) fn moment_in(value: &Value) -> Option<ScaledTime>
     ensures { result ≡ moment_in (view value.now) }
 {
-    if !is_triple(value) {
+    if !has_items(value, 3) {
         return None;
     }
     let seconds = part_below(value, 0, 1 << 48)?;
@@ -83,8 +84,22 @@ pub(crate) fn clock_in(value: &Value) -> Option<[u8; 8]>
     <[u8; 8] as FromHex>::from_hex(value.as_str()?).ok()
 }
 
-/// A signed number, as a text of 32 octets at the most: no sign but a `-`, no leading zeros, and `0`
-/// without a sign.
+/// At most 54 octets in hexadecimal, of either case.
+pub(crate) fn octets_in(value: &Value) -> Option<ArrayVec<u8, 54>>
+    ensures { option_map (λ octets. octets.items) result ≡ octets_in (view value.now) }
+{
+    let text = value.as_str()?;
+    if text.len() > 108 {
+        return None;
+    }
+    let mut octets = [0; 54];
+    let count = text.len() / 2;
+    hex::decode_to_slice(text, &mut octets[..count]).ok()?;
+    ArrayVec::try_from(&octets[..count]).ok()
+}
+
+/// A whole number as its text: in decimal within 32 octets, a sign in front of negative ones alone,
+/// and without leading zeros.
 pub(crate) fn difference_in(value: &Value) -> Option<i128>
     ensures { result ≡ difference_in (view value.now) }
 {

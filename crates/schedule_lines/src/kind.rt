@@ -1,6 +1,6 @@
 //! Kinds of events, by the text of `ev`.
 ghost use Rattle.std.specs.Prelude.{◌≡◌};
-ghost use Rattle.schedule_lines.specs.Line.{kind_of, key_count};
+ghost use Rattle.schedule_lines.specs.Line.{kind_of};
 
 /// A kind of event.
 #[derive(Clone, Copy, Debug, PartialEq, Eq)]
@@ -37,21 +37,5 @@ pub(crate) fn kind_of(text: &str) -> Option<EventKind>
         "setmaster" => Some(EventKind::SetMaster),
         "stepclock" => Some(EventKind::StepClock),
         _ => None,
-    }
-}
-
-/// How many keys an event of this kind has.
-pub(crate) fn key_count(kind: EventKind) -> usize
-    ensures { result ≡ key_count kind }
-{
-    match kind {
-        EventKind::Enter | EventKind::Leave | EventKind::Arrive => 4,
-        EventKind::Follow | EventKind::Stamped | EventKind::Tick => 2,
-        EventKind::Sync
-        | EventKind::SyncOne
-        | EventKind::Hear
-        | EventKind::Request
-        | EventKind::SetMaster
-        | EventKind::StepClock => 3,
     }
 }

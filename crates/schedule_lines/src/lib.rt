@@ -2,11 +2,14 @@
 //! and events.
 #![tactic(auto)]
 
-mod entry;
 mod fields;
 mod kind;
+pub mod laws;
 mod members;
+mod schedule;
+mod traced;
 mod transcript;
 
-pub use entry::Line;
+pub use schedule::Line;
+pub use traced::TranscriptLine;
 pub use transcript::{event_value, line_text, node_value};

@@ -84,23 +84,16 @@ pub(crate) fn put_difference(
     }
 }
 
-/// Puts octets in hexadecimal, where there are some.
+/// Puts octets in hexadecimal.
 pub(crate) fn put_octets(
     members: &mut Map<String, Value>,
     alloc: Global,
     key: &str,
-    octets: Option<&[u8]>,
+    octets: &[u8],
 ) -> Result<(), AllocError>
     ensures { OnOk result (members_view members.new.entries
-        ≡ with_some key.now (option_map (λ o. octets_data o.now) octets.entry) (members_view members.old.entries)) }
+        ≡ with_some key.now (Some (octets_data octets.now)) (members_view members.old.entries)) }
 {
-    match octets {
-        Some(octets) => put(
-            members,
-            alloc,
-            key,
-            Value::String(hex::encode(alloc, octets)?),
-        ),
-        None => Ok(()),
-    }
+    let text = hex::encode(alloc, octets)?;
+    put(members, alloc, key, Value::String(text))
 }

@@ -1,22 +1,22 @@
-//! The lines that are written: nodes, and events with what became of them.
-ghost use Rattle.std.specs.Prelude.{◌≡◌, false, IfOk, OnOk, option_map, Some, codes, string_bytes};
-ghost use Rattle.serde_json.specs.Data.{string};
+//! The lines that are written: nodes, and events with what was recorded of them.
+ghost use Rattle.std.specs.Prelude.{◌≡◌, false, IfOk, OnOk, Some, string_bytes};
 ghost use Rattle.serde_json.specs.Written.{has_float};
 ghost use Rattle.serde_json.specs.View.{view, members_view};
-ghost use Rattle.network_model.specs.Run.{site_of, true_moment};
-ghost use Rattle.network_model.specs.Kinds.{named_master, step_of, spent_transit};
-ghost use Rattle.schedule_lines.specs.Transcript.{node_data, port_data, event_data, line_text, event_text, named_copy, outcome_text, heard_text, outcome_code, outcome_report, follow_data, tags_data, with_event, with_answer, with_report, with_some};
+ghost use Rattle.network_model.specs.Kinds.{step_of, spent_transit};
+ghost use Rattle.schedule_lines.specs.Transcript.{node_data, port_data, event_data, line_text, event_text, named_copy, out_text, out_code, follow_data, tags_data, with_event, with_answer, with_report};
 
 use crate::members::{put_difference, put_moment, put_octets, put_text, put_whole};
 use event_codec::PortConfig;
-use network_model::{Event, Heard, Name, NodeKind, NodeSpec, Outcome, Report, Stepped};
-use ptp_units::{ScaledTime, Seq};
+use network_model::{Event, NodeKind, NodeSpec, Report};
+use ptp_units::Seq;
 use serde_json::{Map, Value, json, put};
 use std::alloc::{AllocError, Global};
+use trace_model::{TraceLine, TraceOut};
 
-/// The value of a node's line. Memory fails by `AllocError`.
+/// The value of a node's line, which holds no float. Memory fails by `AllocError`.
 pub fn node_value(alloc: Global, node: &NodeSpec) -> Result<Value, AllocError>
-    ensures { IfOk result (λ v. view v ≡ node_data node.now) }
+    ensures value { IfOk result (λ v. view v ≡ node_data node.now) }
+    ensures no_float { IfOk result (λ v. has_float (view v) ≡ false) }
 {
     let name = node.name.text();
     match &node.kind {
@@ -48,19 +48,15 @@ fn port_value(
     })
 }
 
-/// The value of the line of an event that happened, with the octets of the copy that it made, which
-/// are there exactly where it made one. Memory fails by `AllocError`.
-pub fn event_value(
-    alloc: Global,
-    event: &Event,
-    stepped: &Stepped,
-    octets: Option<&[u8]>,
-) -> Result<Value, AllocError>
-    ensures { IfOk result (λ v. view v ≡ event_data event.now stepped.now (option_map (λ o. o.now) octets.entry)) }
+/// The value of an event's line in a transcript, with the number of the event, which holds no float.
+/// Memory fails by `AllocError`.
+pub fn event_value(alloc: Global, number: u64, line: &TraceLine) -> Result<Value, AllocError>
+    ensures value { IfOk result (λ v. view v ≡ event_data number line.now) }
+    ensures no_float { IfOk result (λ v. has_float (view v) ≡ false) }
 {
     let mut members = Map::new(alloc);
-    put_answer(&mut members, alloc, stepped, octets)?;
-    put_event(&mut members, alloc, event)?;
+    put_answer(&mut members, alloc, number, line)?;
+    put_event(&mut members, alloc, &line.event)?;
     Ok(Value::Object(members))
 }
 
@@ -82,34 +78,36 @@ fn put_event(
     ensures { OnOk result (members_view members.new.entries ≡ with_event event.now (members_view members.old.entries)) }
 {
     put_whole(members, alloc, "transit", spent_transit(event))?;
-    put_text(members, alloc, "node", site_of(event).text())?;
+    put_text(members, alloc, "node", event.node().text())?;
     if let Event::SetMaster { master, .. } = event {
         put_text(members, alloc, "master", master.text())?;
     }
     put_text(members, alloc, "ev", event_text(event))?;
     put_difference(members, alloc, "diff", step_of(event))?;
     put_whole(members, alloc, "copy", named_copy(event))?;
-    put_moment(members, alloc, "at", true_moment(event))
+    put_moment(members, alloc, "at", event.true_moment())
 }
 
-/// Puts the keys of the answer to an event.
+/// Puts the keys that a line has beside those of its event.
 fn put_answer(
     members: &mut Map<String, Value>,
     alloc: Global,
-    stepped: &Stepped,
-    octets: Option<&[u8]>,
+    number: u64,
+    line: &TraceLine,
 ) -> Result<(), AllocError>
     ensures { OnOk result (members_view members.new.entries
-        ≡ with_answer stepped.now (option_map (λ o. o.now) octets.entry) (members_view members.old.entries)) }
+        ≡ with_answer number line.now (members_view members.old.entries)) }
 {
-    if let Outcome::Heard(Heard::Report(report)) = &stepped.outcome {
+    if let TraceOut::Report(report) = &line.out {
         put_report(members, alloc, report)?;
     }
-    put_moment(members, alloc, "reading", stepped.reading)?;
-    put_text(members, alloc, "out", outcome_text(&stepped.outcome))?;
-    put_whole(members, alloc, "n", Some(stepped.tag))?;
-    put_octets(members, alloc, "hex", octets)?;
-    put_whole(members, alloc, "code", outcome_code(&stepped.outcome))
+    put_moment(members, alloc, "reading", line.reading)?;
+    put_text(members, alloc, "out", out_text(&line.out))?;
+    put_whole(members, alloc, "n", Some(number))?;
+    if let TraceOut::Made(octets) = &line.out {
+        put_octets(members, alloc, "hex", octets.as_slice())?;
+    }
+    put_whole(members, alloc, "code", out_code(&line.out))
 }
 
 /// Puts the keys of a report.
@@ -144,28 +142,27 @@ fn follow_value(tag: Option<u64>) -> Value
 }
 
 /// The text of `out`.
-fn outcome_text(outcome: &Outcome) -> &'static str
-    ensures { result.now ≡ outcome_text outcome.now }
+fn out_text(out: &TraceOut) -> &'static str
+    ensures { result.now ≡ out_text out.now }
 {
-    match outcome {
-        Outcome::Done => "done",
-        Outcome::Made => "made",
-        Outcome::Entered => "entered",
-        Outcome::Heard(Heard::Held) => "held",
-        Outcome::Heard(Heard::Completed) => "completed",
-        Outcome::Heard(Heard::Report(_)) => "report",
-        Outcome::Heard(Heard::Ignored(_)) => "ignored",
-        Outcome::Refused(_) => "refused",
+    match out {
+        TraceOut::Done => "done",
+        TraceOut::Made(_) => "made",
+        TraceOut::Entered => "entered",
+        TraceOut::Held => "held",
+        TraceOut::Completed => "completed",
+        TraceOut::Report(_) => "report",
+        TraceOut::Ignored(_) => "ignored",
+        TraceOut::Refused(_) => "refused",
     }
 }
 
 /// The number of a reason or a refusal.
-fn outcome_code(outcome: &Outcome) -> Option<u64>
-    ensures { result ≡ outcome_code outcome.now }
+fn out_code(out: &TraceOut) -> Option<u64>
+    ensures { result ≡ out_code out.now }
 {
-    match outcome {
-        Outcome::Heard(Heard::Ignored(reason)) => Some(u64::from(reason.code())),
-        Outcome::Refused(code) => Some(u64::from(*code)),
+    match out {
+        TraceOut::Ignored(code) | TraceOut::Refused(code) => Some(u64::from(*code)),
         _ => None,
     }
 }
@@ -187,41 +184,6 @@ fn event_text(event: &Event) -> &'static str
         Event::Tick { .. } => "tick",
         Event::SetMaster { .. } => "setmaster",
         Event::StepClock { .. } => "stepclock",
-    }
-}
-
-/// The node at which an event happens.
-fn site_of(event: &Event) -> Name
-    ensures { result ≡ site_of event.now }
-{
-    match event {
-        Event::Sync { node, .. }
-        | Event::SyncOne { node, .. }
-        | Event::Follow { node }
-        | Event::Enter { node, .. }
-        | Event::Leave { node, .. }
-        | Event::Arrive { node, .. }
-        | Event::Hear { node, .. }
-        | Event::Request { node, .. }
-        | Event::Stamped { node }
-        | Event::Tick { node }
-        | Event::SetMaster { node, .. }
-        | Event::StepClock { node, .. } => *node,
-    }
-}
-
-/// The true moment of an event that has one.
-fn true_moment(event: &Event) -> Option<ScaledTime>
-    ensures { result ≡ true_moment event.now }
-{
-    match event {
-        Event::Sync { at, .. }
-        | Event::SyncOne { at, .. }
-        | Event::Enter { at, .. }
-        | Event::Leave { at, .. }
-        | Event::Arrive { at, .. }
-        | Event::Request { at, .. } => Some(*at),
-        _ => None,
     }
 }
 

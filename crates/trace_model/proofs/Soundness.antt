@@ -1,5 +1,5 @@
 -- A report line is sound exactly where there is no reason against it, and what verdicts say of that.
-use Rattle.std.proofs.Common.{◌≡◌, ◌∙◌, ◌↔◌, ℕ, ◌+◌, Bool, true, false, ◌&&◌, cond, not, [], ◌∷◌, ◌++◌, length, count_by, Option, Some, None, option_map, is_some, refl, sym, ap, subst, arith}
+use Rattle.std.proofs.Common.{◌≡◌, ◌∙◌, ℕ, ◌+◌, Bool, true, false, ◌&&◌, cond, not, [], ◌∷◌, ◌++◌, length, Option, Some, None, option_map, is_some, refl, sym, ap, subst, arith}
 use Rattle.std.proofs.lemmas.Bool.{and_parts}
 use Rattle.std.proofs.lemmas.List.Sums.{sum_by-cons}
 use Rattle.slave_port.specs.declared.heard.Report.{Report}

@@ -6,4 +6,6 @@ pub mod Octets
 pub mod Sound
 pub mod Verdict
 pub mod Told
+pub mod Faithful
 pub mod Soundness
+pub mod Complete

@@ -29,7 +29,7 @@ AllSound network lines = (e : LinePlace) (report : Report) → ReportLine lines 
 abbrev pub report_count : Lines → ℕ
 report_count lines = count_by (λ line. is_some (report_in line.out)) lines
 
--- the line of this number is the first report line that isn't sound, and this is the first condition that it fails
+-- the line of this number has the first report that isn't sound, and this is the first condition that it fails
 pub record FirstUnsound (network : Network) (lines : Lines) (number : ℕ) (why : Why) : Type 0 where
   pub e : LinePlace
   pub report : Report

@@ -1,6 +1,8 @@
 //! Laws of lines, each the contract of a function that does nothing: a caller that needs the law in its
 //! proof calls it.
 
+ghost use Rattle.trace_model.specs.Complete.{Complete, CompleteWithinOneTurn, EachExchangeIsWritten, EachMessageIsWritten};
+ghost use Rattle.trace_model.specs.Faithful.{EachEventHasItsLine, EachEventIsRecorded, EachJourneyIsTold, EachLineIsGood};
 ghost use Rattle.trace_model.specs.Soundness.{ReasonsMissNothing, VerdictsTellSoundness};
 
 /// Whatever wrote the lines, there is no reason against a report line exactly where all eight
@@ -14,4 +16,45 @@ pub fn reasons_miss_nothing()
 /// condition that it fails.
 pub fn verdicts_tell_soundness()
     ensures { VerdictsTellSoundness }
+{}
+
+/// Each line that tells an event of a world is good, and counts exactly where the event took effect:
+/// where no port and no clock refused it, and no slave ignored it. An event that took effect is told
+/// by the line that has its tag for a number.
+pub fn each_line_is_good()
+    ensures good { EachLineIsGood }
+    ensures found { EachEventHasItsLine }
+{}
+
+/// Each line that tells an event with a true moment has its reading, and the lines before it ask for
+/// no other: they tell of each step of the clock.
+pub fn each_reading_is_recorded()
+    ensures { EachEventIsRecorded }
+{}
+
+/// The journey of each copy of a Sync or a Delay_Req is the one that lines tell: it begins at the line
+/// of the same event, and each of its stays is the stay of the same two events.
+pub fn each_journey_is_told()
+    ensures { EachJourneyIsTold }
+{}
+
+/// Of lines that tell any run of a world, each that tells of a message has the octets that its port or
+/// its clock writes, by the readings and the numbers that the lines before it tell. So whatever
+/// exchange a line has, its octets are right.
+pub fn each_message_is_written()
+    ensures message { EachMessageIsWritten }
+    ensures exchange { EachExchangeIsWritten }
+{}
+
+/// The checker misses nothing. Over runs of any length that are fresh and ticked, each line that tells
+/// a report meets every condition of a sound line but that on octets, which each exchange meets. So
+/// lines that tell the run are accepted, with the number of its reports.
+pub fn verdicts_miss_nothing()
+    ensures { Complete }
+{}
+
+/// The same where the numbers of no port have come round, however old what is heard and however rare
+/// the ticks.
+pub fn verdicts_miss_nothing_within_one_turn()
+    ensures { CompleteWithinOneTurn }
 {}

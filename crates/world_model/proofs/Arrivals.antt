@@ -3,7 +3,6 @@ use Rattle.std.proofs.Common.{◌≡◌, ◌∙◌, ℕ, ◌∷◌, length, Opti
 use Rattle.std.specs.Result.{result_ok}
 use Rattle.event_codec.specs.Packet.{Contents, Packet}
 use Rattle.master_port.specs.declared.refusal.MasterRefusal.{MasterRefusal}
-use Rattle.arrayvec.specs.ArrayVec.{ArrayVec}
 use Rattle.master_port.specs.Refusal.{code_of as master_code}
 use Rattle.master_port.specs.Written.{answer as master_answer}
 use Rattle.slave_port.specs.History as calls
@@ -24,10 +23,11 @@ use Rattle.network_model.specs.Truth.{TellsTruth, copy_of, master_at, slave_at, 
 use Rattle.network_model.specs.SlaveHistory.{slave_setup, history_of}
 use Rattle.network_model.specs.Outcome.{◌>>=◌, node_as, port_of, reads, heard, answered_outcome, arrived_outcome}
 use Rattle.world_model.specs.declared.entry.Happened.{Happened}
+use Rattle.world_model.specs.declared.entry.Octets.{Octets}
 use Rattle.world_model.specs.declared.entry.Left.TheVariants.{Copy, Nothing}
 use Rattle.world_model.specs.declared.station.Master.{Master}
 use Rattle.world_model.specs.declared.station.Slave.{Slave}
-use Rattle.world_model.specs.Stands.{octets_in, MasterStands, SlaveStands}
+use Rattle.world_model.specs.Stands.{listed, octets_in, MasterStands, SlaveStands}
 use Rattle.world_model.specs.Acts.{Brings, Gives}
 use Rattle.world_model.proofs.Own.{history-made, reading_of-read, reading-read, node_as-at}
 
@@ -161,12 +161,12 @@ answer-brings network run node copy at now setup master m happened is stands is_
         ∙ ap (λ o. option_and_then (responded setup (reading (place (Arrive node copy at) run))) o) is_copy
 
 -- a master's answer as what it gives
-pub gives_answer : (answer : Result Contents MasterRefusal) (response : Contents) (now : ℕ) (octets : ArrayVec ℕ) → answer ≡ Ok response → Packet response octets.items
+pub gives_answer : (answer : Result Contents MasterRefusal) (response : Contents) (now : ℕ) (octets : Octets) → answer ≡ Ok response → Packet response (listed octets)
     → Gives (Some now) (answered_outcome answer) (result_ok answer) (record { reading = Some now; outcome = outcomes.Made; left = Copy octets })
 gives_answer answer response now octets is packet = record {
   read = refl;
   answered = sym (ap answered_outcome is);
-  made = subst (λ (a : Result Contents MasterRefusal). TellsTruth (result_ok a) (Some octets.items)) (sym is) packet;
+  made = subst (λ (a : Result Contents MasterRefusal). TellsTruth (result_ok a) (Some (listed octets))) (sym is) packet;
   stay = refl;
 }
 

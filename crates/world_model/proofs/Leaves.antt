@@ -1,10 +1,10 @@
 -- Messages that leave clocks.
-use Rattle.std.proofs.Common.{◌≡◌, ◌∙◌, ℕ, ◌-◌, Bool, true, false, List, ◌∷◌, if◌then◌else◌, nat_lt, Option, Some, None, Ok, Err, Result, IsOk, is_some, ok_or, ◌⊎◌, option_map, option_and_then, inl, inr, sym, ap, refl, subst}
-use Rattle.std.specs.Prelude.{◌&&◌, not}
+use Rattle.std.proofs.Common.{◌≡◌, ◌∙◌, ℕ, ◌-◌, Bool, true, false, List, ◌∷◌, length, if◌then◌else◌, nat_lt, Option, Some, None, Ok, Err, Result, IsOk, is_some, ok_or, ◌⊎◌, option_map, option_and_then, inl, inr, sym, ap, refl, subst}
+use Rattle.std.specs.Prelude.{◌&&◌, not, MatchResult}
 use Rattle.std.specs.List.{list_any}
 use Rattle.std.specs.Result.{result_ok}
-use Rattle.arrayvec.specs.ArrayVec.{ArrayVec}
 use Rattle.event_codec.specs.Packet.{Contents, Packet}
+use Rattle.event_codec.specs.Reading.{IsReading}
 use Rattle.event_codec.specs.Refusal.{message_length}
 use Rattle.transparent_clock.specs.declared.refusal.ClockRefusal.{ClockRefusal}
 use Rattle.transparent_clock.specs.declared.refusal.ClockRefusal.TheVariants.{NegativeResidence, NotEvent}
@@ -28,20 +28,22 @@ use Rattle.network_model.proofs.Places.{accepted-place_at}
 use Rattle.network_model.proofs.Leaving.{copy_made-forwarded, copy_of-since}
 use Rattle.world_model.specs.declared.entry.Entry.{Entry}
 use Rattle.world_model.specs.declared.entry.Happened.{Happened}
+use Rattle.world_model.specs.declared.entry.Octets.{Octets}
 use Rattle.world_model.specs.declared.entry.Left.TheVariants.{Copy, Nothing}
 use Rattle.world_model.specs.declared.station.Port.TheVariants as ports
 use Rattle.world_model.specs.declared.station.Station.{Station}
-use Rattle.world_model.specs.Stands.{octets_in, event_at, octets_at, stay_at, entering, open_stay, Keeps, PortStands, Stands}
-use Rattle.world_model.specs.Acts.{Room, Answers, Gives, Departs, copy_taken, copy_inside}
+use Rattle.world_model.specs.Stands.{listed, octets_in, event_at, octets_at, stay_at, entering, open_stay, Keeps, PortStands, Stands}
+use Rattle.world_model.specs.Acts.{Room, Answers, IsSent, Gives, Departs, copy_taken, copy_inside}
+use Rattle.world_model.proofs.Readings.{whole, packet_read}
 use Rattle.world_model.proofs.Own.{difference-stays, reading_of-read, reading-read}
 
 -- what a clock makes of a message as what it gives
-pub gives_left : (sent : Result Contents ClockRefusal) (m : Contents) (now : ℕ) (octets : ArrayVec ℕ) → sent ≡ Ok m → Packet m octets.items
+pub gives_left : (sent : Result Contents ClockRefusal) (m : Contents) (now : ℕ) (octets : Octets) → sent ≡ Ok m → Packet m (listed octets)
     → Gives (Some now) (left_outcome sent) (result_ok sent) (record { reading = Some now; outcome = Made; left = Copy octets })
 gives_left sent m now octets is packet = record {
   read = refl;
   answered = sym (ap left_outcome is);
-  made = subst (λ (s : Result Contents ClockRefusal). TellsTruth (result_ok s) (Some octets.items)) (sym is) packet;
+  made = subst (λ (s : Result Contents ClockRefusal). TellsTruth (result_ok s) (Some (listed octets))) (sym is) packet;
   stay = refl;
 }
 
@@ -62,6 +64,14 @@ forwarded-length m x entered now sent = by_tests (is_event m.body) (nat_lt now e
     by_tests true true made = absurd (cc)
     by_tests true false made = let same : resided m (now - entered) ≡ x = cc in sym (ap message_length same)
     by_tests false fell made = absurd (cc)
+
+-- octets that say what a clock sent on are its message
+pub is_sent : (m : Contents) (entered now : ℕ) (old new : List ℕ) (sent : Result (Unit {0}) ClockRefusal) → Packet m old → length new ≡ length old
+    → MatchResult sent (λ ok. (x : Contents) × (forwarded (Ok m) entered now ≡ Ok x) × IsReading new (Ok x)) (λ refusal. forwarded (Ok m) entered now ≡ Err refusal)
+    → IsSent (forwarded (Ok m) entered now) new sent
+is_sent m entered now old new (Ok ok) packet same said =
+    (said.0, said.1, packet_read said.0 new (forwarded-length m said.0 entered now said.1 ∙ whole m old packet ∙ sym same) said.2)
+is_sent m entered now old new (Err refusal) packet same said = said
 
 -- a message that is inside a clock: its Enter event, and the copy that entered
 pub record Inside (network : Network) (run : Run) (entries : List Entry) (clock : NodeName) (transit copy : ℕ) : Type 0 where

@@ -1,6 +1,5 @@
 -- Events that a master answers.
 use Rattle.std.proofs.Common.{◌≡◌, ◌∙◌, ℕ, ◌∷◌, if◌then◌else◌, Some, None, Ok, option_map, sym, ap, refl, subst}
-use Rattle.arrayvec.specs.ArrayVec.{ArrayVec}
 use Rattle.ptp_units.specs.Sequence.{next}
 use Rattle.event_codec.specs.declared.port.PortConfig.{PortConfig}
 use Rattle.event_codec.specs.Packet.{Packet}
@@ -13,11 +12,13 @@ use Rattle.network_model.specs.Numbering.{waiting_sync}
 use Rattle.network_model.specs.Truth.{master_at}
 use Rattle.network_model.specs.Kinds.{is_at, is_follow}
 use Rattle.network_model.specs.Outcome.{◌>>=◌, reads}
+use Rattle.network_model.proofs.Sites.{named-self}
+use Rattle.world_model.specs.declared.entry.Octets.{Octets}
 use Rattle.world_model.specs.declared.entry.Left.TheVariants.{Copy}
 use Rattle.world_model.specs.declared.station.Master.{Master}
-use Rattle.world_model.specs.Stands.{departure, sequence_of, MasterStands}
+use Rattle.world_model.specs.Stands.{listed, departure, sequence_of, MasterStands}
 use Rattle.world_model.specs.Acts.{Brings}
-use Rattle.world_model.proofs.Own.{named, next_sync-drawn, reading_of-read, reading-read, node_as-at}
+use Rattle.world_model.proofs.Own.{next_sync-drawn, reading_of-read, reading-read, node_as-at}
 
 -- a master that waits for the Follow_Up of the Sync that it drew
 abbrev pub with_sync : (now : ℕ) → Master → Master
@@ -33,12 +34,12 @@ with_one_step_sync master = record {
   waiting = master.waiting;
 }
 
-module _ (network : Network) (run : Run) (node : NodeName) (at now : ℕ) (setup : PortSetup) (master : Master) (octets : ArrayVec ℕ)
+module _ (network : Network) (run : Run) (node : NodeName) (at now : ℕ) (setup : PortSetup) (master : Master) (octets : Octets)
     (is : master_at network node ≡ Some setup) (stands : MasterStands run node setup master) where
   waits : waiting_sync node (Sync node at ∷ run) ≡ Some (place (Sync node at) run)
-  waits = ap (λ b. if b then Some (place (Sync node at) run) else (if is_at is_follow node (Sync node at) then None else waiting_sync node run)) (named node)
+  waits = ap (λ b. if b then Some (place (Sync node at) run) else (if is_at is_follow node (Sync node at) then None else waiting_sync node run)) (named-self node)
 
-  pub sync-brings : Ok now ≡ reads (Sync node at) run → Packet (sync master.port.config master.port.next) octets.items
+  pub sync-brings : Ok now ≡ reads (Sync node at) run → Packet (sync master.port.config master.port.next) (listed octets)
       → Brings network run (Sync node at) (MasterStands (Sync node at ∷ run) node setup (with_sync now master))
       (record { reading = Some now; outcome = Made; left = Copy octets })
   sync-brings shown packet = record {
@@ -52,12 +53,12 @@ module _ (network : Network) (run : Run) (node : NodeName) (at now : ℕ) (setup
       waiting = (λ i. Some (record { number = record { 0 = stands.next i }; at = sym (reading-read (Sync node at) run now shown) i }))
           ∙ sym (ap (option_map (λ (p : Place). departure (sequence_of setup p) p)) waits);
     };
-    copy = rw is (subst (λ (n : ℕ). Packet (sync setup.config n) octets.items) stands.next
-        (subst (λ (config : PortConfig). Packet (sync config master.port.next) octets.items) stands.config packet));
+    copy = rw is (subst (λ (n : ℕ). Packet (sync setup.config n) (listed octets)) stands.next
+        (subst (λ (config : PortConfig). Packet (sync config master.port.next) (listed octets)) stands.config packet));
     stay = refl;
   }
 
-  pub one_step_sync-brings : Ok now ≡ reads (SyncOne node at) run → Packet (one_step_sync master.port.config master.port.next now) octets.items
+  pub one_step_sync-brings : Ok now ≡ reads (SyncOne node at) run → Packet (one_step_sync master.port.config master.port.next now) (listed octets)
       → Brings network run (SyncOne node at) (MasterStands (SyncOne node at ∷ run) node setup (with_one_step_sync master))
       (record { reading = Some now; outcome = Made; left = Copy octets })
   one_step_sync-brings shown packet = record {
@@ -70,8 +71,8 @@ module _ (network : Network) (run : Run) (node : NodeName) (at now : ℕ) (setup
       number = stands.number;
       waiting = stands.waiting;
     };
-    copy = rw is (subst (λ (t1 : ℕ). Packet (one_step_sync setup.config (sequence_of setup (place (SyncOne node at) run)) t1) octets.items) (sym (reading-read (SyncOne node at) run now shown))
-        (subst (λ (n : ℕ). Packet (one_step_sync setup.config n now) octets.items) stands.next
-        (subst (λ (config : PortConfig). Packet (one_step_sync config master.port.next now) octets.items) stands.config packet)));
+    copy = rw is (subst (λ (t1 : ℕ). Packet (one_step_sync setup.config (sequence_of setup (place (SyncOne node at) run)) t1) (listed octets)) (sym (reading-read (SyncOne node at) run now shown))
+        (subst (λ (n : ℕ). Packet (one_step_sync setup.config n now) (listed octets)) stands.next
+        (subst (λ (config : PortConfig). Packet (one_step_sync config master.port.next now) (listed octets)) stands.config packet)));
     stay = refl;
   }

@@ -3,7 +3,6 @@ use Rattle.std.proofs.Common.{◌≡◌, ◌∙◌, ℕ, ◌+◌, Bool, true, fa
 use Rattle.std.specs.Prelude.{◌&&◌}
 use Rattle.std.specs.Option.{option_to_list}
 use Rattle.std.proofs.lemmas.List.Sums.{sum_by-cons}
-use Rattle.std.proofs.lemmas.Slice.Eq.{bytes_eq-Decides}
 use Rattle.ptp_units.specs.Sequence.{of_count, next}
 use Rattle.slave_port.specs.History.{Call}
 use Rattle.network_model.specs.declared.event.Event.{Event}
@@ -18,11 +17,8 @@ use Rattle.network_model.specs.Clock.{difference, reading, reading_of}
 use Rattle.network_model.specs.Numbering.{draws_with}
 use Rattle.network_model.specs.SlaveHistory.{call_made, history_of}
 use Rattle.network_model.specs.Outcome.{◌>>=◌, node_as, reads}
+use Rattle.network_model.proofs.Sites.{named-self}
 use Rattle.world_model.specs.Stands.{next_sync}
-
--- a node has its own name
-pub named : (name : NodeName) → is_named name name ≡ true
-named name = (bytes_eq-Decides name name).1 refl
 
 pub same_if : {X : Type 0} (b : Bool) (x : X) → (if b then x else x) ≡ x
 same_if true x = refl
@@ -49,7 +45,7 @@ pub next_sync-drawn : (setup : PortSetup) (run : Run) (event : Event) → draws_
     → next (next_sync setup (site_of event) run) ≡ next_sync setup (site_of event) (event ∷ run)
 next_sync-drawn setup run event draws =
     let p : Event → Bool = draws_with (Sync (site_of event) 0) in
-    let more : count_by p (event ∷ run) ≡ count_by p run + 1 = count_by-passed p event run (both (draws_sync event) (is_named (site_of event) (site_of event)) draws (named (site_of event))) in
+    let more : count_by p (event ∷ run) ≡ count_by p run + 1 = count_by-passed p event run (both (draws_sync event) (is_named (site_of event) (site_of event)) draws (named-self (site_of event))) in
     next-of_count (setup.first + count_by p run) ∙ ap of_count (let sum : (setup.first + count_by p run) + 1 ≡ setup.first + count_by p (event ∷ run) = omega (arith, more) in sum)
   where
     both : (a b : Bool) → a ≡ true → b ≡ true → (a && b) ≡ true
@@ -86,5 +82,5 @@ node_as-at {X} wanted network name x there = at (kind_of network name) there
 pub history-made : (network : Network) (setup : PortSetup) (event : Event) (run : Run) (call : Call) → call_made network setup event run ≡ Some call
     → history_of network setup (site_of event) (event ∷ run) ≡ call ∷ history_of network setup (site_of event) run
 history-made network setup event run call made =
-    ap (λ b. if b then option_to_list (call_made network setup event run) ++ history_of network setup (site_of event) run else history_of network setup (site_of event) run) (named (site_of event))
+    ap (λ b. if b then option_to_list (call_made network setup event run) ++ history_of network setup (site_of event) run else history_of network setup (site_of event) run) (named-self (site_of event))
     ∙ ap (λ o. option_to_list o ++ history_of network setup (site_of event) run) made

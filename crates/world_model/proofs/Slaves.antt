@@ -3,7 +3,6 @@ use Rattle.std.proofs.Common.{◌≡◌, ◌∙◌, ℕ, ◌+◌, ◌%◌, Bool,
 use Rattle.std.specs.Prelude.{◌&&◌}
 use Rattle.std.specs.Option.{option_to_list}
 use Rattle.std.proofs.lemmas.List.Sums.{sum_by-cons}
-use Rattle.arrayvec.specs.ArrayVec.{ArrayVec}
 use Rattle.ptp_units.specs.declared.sequence.Seq.{Seq}
 use Rattle.event_codec.specs.Packet.{Packet, Contents}
 use Rattle.slave_port.specs.History as calls
@@ -21,11 +20,13 @@ use Rattle.network_model.specs.Numbering.{draws_with, waiting_request}
 use Rattle.network_model.specs.Truth.{slave_at, copy_of, master_at}
 use Rattle.network_model.specs.SlaveHistory.{slave_setup, call_made, history_of}
 use Rattle.network_model.specs.Outcome.{◌>>=◌, reads}
+use Rattle.network_model.proofs.Sites.{named-self}
+use Rattle.world_model.specs.declared.entry.Octets.{Octets}
 use Rattle.world_model.specs.declared.entry.Left.TheVariants.{Copy}
 use Rattle.world_model.specs.declared.station.Slave.{Slave}
-use Rattle.world_model.specs.Stands.{departure, sequence_of, SlaveStands}
+use Rattle.world_model.specs.Stands.{listed, departure, sequence_of, SlaveStands}
 use Rattle.world_model.specs.Acts.{Brings}
-use Rattle.world_model.proofs.Own.{named, history-made, reading_of-read, reading-read, node_as-at}
+use Rattle.world_model.proofs.Own.{history-made, reading_of-read, reading-read, node_as-at}
 
 -- a call that an event makes where it makes one, which draws nothing
 none_drawn : {X : Type 0} (o : Option X) (call : X → Call) (history : List Call)
@@ -76,11 +77,11 @@ request_number network setup node at run = ap (λ n. (setup.first + n) % 65536) 
 
 module _ (network : Network) (run : Run) (node : NodeName) (at now : ℕ) (setup : PortSetup) (slave : Slave)
     (is : slave_at network node ≡ Some setup) (stands : SlaveStands network run node setup slave) (shown : Ok now ≡ reads (Request node at) run)
-    (octets : ArrayVec ℕ) (number : Seq) (new : Port) where
+    (octets : Octets) (number : Seq) (new : Port) where
   waits : waiting_request node (Request node at ∷ run) ≡ Some (place (Request node at) run)
-  waits = ap (λ b. if b then Some (place (Request node at) run) else (if is_at is_stamped node (Request node at) then None else waiting_request node run)) (named node)
+  waits = ap (λ b. if b then Some (place (Request node at) run) else (if is_at is_stamped node (Request node at) then None else waiting_request node run)) (named-self node)
 
-  pub request-brings : Packet (delay_req setup.config (next_number (slave_setup setup) (history_of network setup node run))) octets.items
+  pub request-brings : Packet (delay_req setup.config (next_number (slave_setup setup) (history_of network setup node run))) (listed octets)
       → number.0 ≡ next_number (slave_setup setup) (history_of network setup node run)
       → StandsFor (slave_setup setup) new (calls.NextRequest (length run) ∷ history_of network setup node run)
       → Brings network run (Request node at)
@@ -95,6 +96,6 @@ module _ (network : Network) (run : Run) (node : NodeName) (at now : ℕ) (setup
       waiting = (λ i. Some (record { number = record { 0 = (drawn ∙ request_number network setup node at run) i }; at = sym (reading-read (Request node at) run now shown) i }))
           ∙ sym (ap (option_map (λ (p : Place). departure (sequence_of setup p) p)) waits);
     };
-    copy = rw is (subst (λ (n : ℕ). Packet (delay_req setup.config n) octets.items) (request_number network setup node at run) packet);
+    copy = rw is (subst (λ (n : ℕ). Packet (delay_req setup.config n) (listed octets)) (request_number network setup node at run) packet);
     stay = refl;
   }

@@ -1,7 +1,8 @@
 -- What an event does at its node. The world's own functions cite these.
 use Rattle.std.specs.Prelude.{◌≡◌, ◌⊎◌, ℕ, List, ◌∷◌, length, if◌then◌else◌, Option, Some, None, option_map, option_and_then, Ok, Err, Result, IsOk, MatchResult}
 use Rattle.std.specs.Result.{result_ok}
-use Rattle.event_codec.specs.Packet.{Contents}
+use Rattle.event_codec.specs.Packet.{Contents, Packet}
+use Rattle.transparent_clock.specs.declared.refusal.ClockRefusal.{ClockRefusal}
 use Rattle.transparent_clock.specs.Forwarding.{forwarded}
 use Rattle.network_model.specs.declared.event.Event.{Event}
 use Rattle.network_model.specs.declared.event.Event.TheVariants.{Sync, SyncOne, Follow, Enter, Leave, Arrive, Hear, Request, Stamped, Tick, SetMaster, StepClock}
@@ -96,6 +97,12 @@ pub record Gives (reading : Option ℕ) (outcome : Outcome) (copy : Option Conte
   pub answered : happened.outcome ≡ outcome
   pub made : TellsTruth copy (octets_in happened.left)
   pub stay : stay_in happened.left ≡ None
+
+-- what a clock answers of a message that is sent on in these octets, or refused
+abbrev pub IsSent : Result Contents ClockRefusal → List ℕ → Result (Unit {0}) ClockRefusal → Type 0
+IsSent message octets sent = MatchResult sent
+    (λ ok. (m : Contents) × (message ≡ Ok m) × Packet m octets)
+    (λ refusal. message ≡ Err refusal)
 
 -- a message that entered a clock at one reading leaves at this one, for which there is room, or it doesn't
 abbrev pub Departs : Contents → ℕ → Result ℕ WorldRefusal → Room → Result Happened WorldRefusal → Type 0

@@ -18,6 +18,8 @@ use Rattle.network_model.specs.Truth.{TellsTruth, copy_of}
 use Rattle.network_model.specs.SlaveHistory.{slave_setup, history_of}
 use Rattle.network_model.specs.Outcome.{IsRun}
 use Rattle.world_model.specs.declared.entry.Entry.{Entry}
+use Rattle.world_model.specs.declared.entry.Octets.{Octets}
+use Rattle.world_model.specs.declared.entry.Octets.TheVariants.{Short, Long}
 use Rattle.world_model.specs.declared.entry.Left.{Left}
 use Rattle.world_model.specs.declared.entry.Left.TheVariants.{Copy, Stay, Nothing}
 use Rattle.world_model.specs.declared.station.Departure.{Departure}
@@ -31,9 +33,14 @@ use Rattle.world_model.specs.declared.station.Station.{Station}
 abbrev pub run_of : List Entry → Run
 run_of entries = reverse (map (λ entry. entry.event) entries)
 
+-- octets of either length
+abbrev pub listed : Octets → List ℕ
+listed (Short octets) = octets
+listed (Long octets) = octets
+
 -- the octets of a copy
 abbrev pub octets_in : Left → Option (List ℕ)
-octets_in (Copy octets) = Some octets.items
+octets_in (Copy octets) = Some (listed octets)
 octets_in (Stay transit) = None
 octets_in Nothing = None
 

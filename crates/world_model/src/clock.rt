@@ -1,18 +1,18 @@
-ghost use Rattle.std.specs.Prelude.{◌≡◌, ℕ, Some, OnErr, OnOk};
+ghost use Rattle.std.specs.Prelude.{◌≡◌, ℕ, Some, Result, OnErr, OnOk};
 ghost use Rattle.std.specs.Result.{result_ok};
 ghost use Rattle.event_codec.specs.Packet.{Contents, Packet};
 ghost use Rattle.transparent_clock.specs.Forwarding.{forwarded};
 ghost use Rattle.network_model.specs.Network.{NodeName};
 ghost use Rattle.network_model.specs.Outcome.{left_outcome};
-ghost use Rattle.world_model.specs.Stands.{stay_in, stay_at, ended, spent};
-ghost use Rattle.world_model.specs.Acts.{Acts, Gives, Departs, copy_inside};
+ghost use Rattle.world_model.specs.Stands.{listed, stay_in, stay_at, ended, spent};
+ghost use Rattle.world_model.specs.Acts.{Acts, IsSent, Gives, Departs, copy_inside};
 
-use crate::entry::{Entry, Happened, Left, Octets, copied, octets_of};
+use crate::entry::{Entry, Happened, Left, Octets, copy_at};
 use crate::station::{Port, Room, Shown, Station};
 use network_model::{Event, Name, Outcome, WorldRefusal};
 use ptp_units::ScaledTime;
 use std::mem;
-use transparent_clock::{Transit, enter};
+use transparent_clock::{ClockRefusal, Transit, enter};
 
 /// The tag of the copy that entered this clock by the event of this tag, and is still inside.
 fn copy_inside(entries: &[Entry], clock: &Name, transit: u64) -> Option<u64>
@@ -55,12 +55,12 @@ fn take_out(entries: &mut [Entry], transit: u64) -> Option<Transit>
     }
 }
 
-/// What comes of a message that leaves a clock now.
-fn left(transit: Transit, mut octets: Octets, now: ScaledTime) -> Happened
-    ensures { (m : Contents) → Packet m octets.items → let sent = forwarded (Ok m) transit now in
-        Gives (Some now) (left_outcome sent) (result_ok sent) result }
+/// What comes of a message that a clock let go with these octets, or refused.
+fn left_as(sent: Result<(), ClockRefusal>, octets: Octets, now: ScaledTime) -> Happened
+    ensures { (message : Result Contents ClockRefusal) → IsSent message (listed octets) sent
+        → Gives (Some now) (left_outcome message) (result_ok message) result }
 {
-    match transit.leave(octets.as_mut_slice(), now) {
+    match sent {
         Ok(()) => Happened {
             reading: Some(now),
             outcome: Outcome::Made,
@@ -74,6 +74,23 @@ fn left(transit: Transit, mut octets: Octets, now: ScaledTime) -> Happened
     }
 }
 
+/// What comes of a message that leaves a clock now.
+fn left(transit: Transit, octets: Octets, now: ScaledTime) -> Happened
+    ensures { (m : Contents) → Packet m (listed octets) → let sent = forwarded (Ok m) transit now in
+        Gives (Some now) (left_outcome sent) (result_ok sent) result }
+{
+    match octets {
+        Octets::Short(mut octets) => {
+            let sent = transit.leave(&mut octets, now);
+            left_as(sent, Octets::Short(octets), now)
+        }
+        Octets::Long(mut octets) => {
+            let sent = transit.leave(&mut octets, now);
+            left_as(sent, Octets::Long(octets), now)
+        }
+    }
+}
+
 /// The message of these octets leaves its clock, which shows this now. Room for the copy is tested
 /// before the stay ends.
 fn depart(
@@ -83,7 +100,7 @@ fn depart(
     shown: Shown,
     room: Room,
 ) -> Result<Happened, WorldRefusal>
-    ensures departs { (m : Contents) (entered : ℕ) → Packet m octets.items → stay_at entries.old transit ≡ Some entered → Departs m entered shown room result }
+    ensures departs { (m : Contents) (entered : ℕ) → Packet m (listed octets) → stay_at entries.old transit ≡ Some entered → Departs m entered shown room result }
     ensures spent { OnOk result (entries.new ≡ spent transit entries.old) }
     ensures kept { OnErr result (entries.new ≡ entries.old) }
 {
@@ -109,7 +126,7 @@ impl Station {
         let Port::Clock = &self.port else {
             return Err(WorldRefusal::WrongKind);
         };
-        if octets_of(entries, copy).is_none() {
+        if copy_at(entries, copy).is_none() {
             return Err(WorldRefusal::NoCopy);
         }
         let now = self.shown(at)?;
@@ -140,8 +157,8 @@ impl Station {
         let Some(copy) = copy_inside(entries, clock, transit) else {
             return Err(WorldRefusal::NoTransit);
         };
-        let octets = match octets_of(entries, copy) {
-            Some(octets) => copied(octets),
+        let octets = match copy_at(entries, copy) {
+            Some(octets) => *octets,
             None => return Err(WorldRefusal::NoTransit),
         };
         depart(entries, transit, octets, self.shown(at), room)

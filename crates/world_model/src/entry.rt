@@ -1,13 +1,18 @@
 ghost use Rattle.std.specs.Prelude.{◌≡◌, ◌≤◌, length, option_map, IfSome};
-ghost use Rattle.world_model.specs.Stands.{octets_in, octets_at};
+ghost use Rattle.world_model.specs.Stands.{listed, octets_in, octets_at};
 
-use arrayvec::ArrayVec;
 use network_model::{Event, Outcome};
 use ptp_units::ScaledTime;
 use transparent_clock::Transit;
 
-/// The octets of a copy; a Delay_Resp is the longest.
-pub(crate) type Octets = ArrayVec<u8, 54>;
+/// The octets of a copy.
+#[derive(Clone, Copy)]
+pub(crate) enum Octets {
+    /// A Sync, a Follow_Up or a Delay_Req.
+    Short([u8; 44]),
+    /// A Delay_Resp.
+    Long([u8; 54]),
+}
 
 /// What an event leaves to later ones.
 #[derive(Drop)]
@@ -35,33 +40,45 @@ pub(crate) struct Happened {
     pub(crate) left: Left,
 }
 
-/// These octets, of which there are at most 54.
-pub(crate) fn copied(octets: &[u8]) -> Octets
-    requires { length octets.now ≤ 54 }
-    ensures { result.items ≡ octets.now }
-{
-    let mut copy = Octets::new();
-    let _ = copy.try_extend_from_slice(octets);
-    copy
+impl Octets {
+    /// All of them.
+    pub(crate) fn as_slice(&self) -> &[u8]
+        ensures value { result.now ≡ listed self.now }
+        ensures fits { length result.now ≤ 54 }
+    {
+        match self {
+            Octets::Short(octets) => octets,
+            Octets::Long(octets) => octets,
+        }
+    }
 }
 
 impl Entry {
     /// The octets of the copy that the event made.
-    fn octets(&self) -> Option<&[u8]>
-        ensures value { option_map (λ octets. octets.now) result ≡ octets_in self.now.left }
-        ensures fits { IfSome result (λ octets. length octets.now ≤ 54) }
+    fn octets(&self) -> Option<&Octets>
+        ensures { option_map (λ octets. listed octets.now) result ≡ octets_in self.now.left }
     {
         match &self.left {
-            Left::Copy(octets) => Some(octets.as_slice()),
+            Left::Copy(octets) => Some(octets),
             Left::Stay(_) | Left::Nothing => None,
         }
     }
 }
 
 /// The octets of the copy of this tag.
+pub(crate) fn copy_at(entries: &[Entry], copy: u64) -> Option<&Octets>
+    ensures { option_map (λ octets. listed octets.now) result ≡ octets_at entries.now copy }
+{
+    entries.get(copy as usize)?.octets()
+}
+
+/// The same octets as a slice.
 pub(crate) fn octets_of(entries: &[Entry], copy: u64) -> Option<&[u8]>
     ensures value { option_map (λ octets. octets.now) result ≡ octets_at entries.now copy }
     ensures fits { IfSome result (λ octets. length octets.now ≤ 54) }
 {
-    entries.get(copy as usize)?.octets()
+    match copy_at(entries, copy) {
+        Some(octets) => Some(octets.as_slice()),
+        None => None,
+    }
 }

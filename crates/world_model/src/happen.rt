@@ -1,32 +1,11 @@
 ghost use Rattle.std.specs.Prelude.{◌≡◌, ◌<◌, ◌∷◌, ◌++◌, [], length, vec_len, vec_capacity, IfErr, OnOk, OnErr};
-ghost use Rattle.network_model.specs.Run.{site_of};
 ghost use Rattle.world_model.specs.Acts.{ActsIn, entries_after};
 ghost use Rattle.world_model.specs.Stands.{IsWorld, run_of};
 ghost use Rattle.world_model.specs.Steps.{Steps};
 
-use crate::entry::{Entry, Happened};
+use crate::entry::{Entry, Happened, Left};
 use crate::station::{Room, Station};
-use network_model::{Event, Name, Nodes, Stepped, WorldRefusal};
-
-/// The node at which an event happens.
-fn site(event: &Event) -> Name
-    ensures { result ≡ site_of event.now }
-{
-    match event {
-        Event::Sync { node, .. }
-        | Event::SyncOne { node, .. }
-        | Event::Follow { node }
-        | Event::Enter { node, .. }
-        | Event::Leave { node, .. }
-        | Event::Arrive { node, .. }
-        | Event::Hear { node, .. }
-        | Event::Request { node, .. }
-        | Event::Stamped { node }
-        | Event::Tick { node }
-        | Event::SetMaster { node, .. }
-        | Event::StepClock { node, .. } => *node,
-    }
-}
+use network_model::{Event, Nodes, Stepped, WorldRefusal};
 
 /// What an event does at its node, whose station this is.
 fn happen(
@@ -56,22 +35,18 @@ fn happen(
     }
 }
 
-/// Puts the entry of an event after the others, for which there is room.
-fn append(entries: &mut Vec<Entry>, event: &Event, happened: Happened) -> Stepped
+/// Puts the entry of an event after the others, for which there is room, and answers its tag.
+fn append(entries: &mut Vec<Entry>, event: &Event, left: Left) -> u64
     requires { vec_len entries.old < vec_capacity entries.old }
-    ensures entries { entries.new.items ≡ entries.old.items ++ record { event = event.now; left = happened.left } ∷ [] }
-    ensures stepped { result ≡ record { tag = length entries.old.items; reading = happened.reading; outcome = happened.outcome } }
+    ensures entries { entries.new.items ≡ entries.old.items ++ record { event = event.now; left = left } ∷ [] }
+    ensures tag { result ≡ length entries.old.items }
 {
-    let stepped = Stepped {
-        tag: entries.len() as u64,
-        reading: happened.reading,
-        outcome: happened.outcome,
-    };
+    let tag = entries.len() as u64;
     entries.push_reserved(Entry {
         event: *event,
-        left: happened.left,
+        left,
     });
-    stepped
+    tag
 }
 
 /// Takes the room for one more entry.
@@ -98,7 +73,7 @@ pub(crate) fn step(
     ensures steps { Steps nodes.now (run_of entries.old.items) event.now result (run_of entries.new.items) }
 {
     let room = room_for_one(entries);
-    let Some(index) = nodes.index_of(&site(event)) else {
+    let Some(index) = nodes.index_of(&event.node()) else {
         return Err(WorldRefusal::NoNode);
     };
     match happen(
@@ -108,7 +83,11 @@ pub(crate) fn step(
         event,
         room,
     ) {
-        Ok(happened) => Ok(append(entries, event, happened)),
+        Ok(happened) => Ok(Stepped {
+            tag: append(entries, event, happened.left),
+            reading: happened.reading,
+            outcome: happened.outcome,
+        }),
         Err(why) => Err(why),
     }
 }

@@ -4,7 +4,7 @@ ghost use Rattle.network_model.specs.Run.{Run};
 ghost use Rattle.world_model.specs.declared.entry.Entry.{Entry};
 ghost use Rattle.world_model.specs.Acts.{Acts, MasterActs, Nothing, Reads, IsCopy};
 
-use crate::entry::{Happened, Left, copied};
+use crate::entry::{Happened, Left, Octets};
 use crate::station::{Departure, Master, Port, Room, Shown, Station};
 use network_model::{Event, Outcome, WorldRefusal};
 use ptp_units::ScaledTime;
@@ -21,7 +21,7 @@ impl Master {
         Ok(Happened {
             reading: Some(now),
             outcome: Outcome::Made,
-            left: Left::Copy(copied(&octets)),
+            left: Left::Copy(Octets::Short(octets)),
         })
     }
 
@@ -35,7 +35,7 @@ impl Master {
         Ok(Happened {
             reading: Some(now),
             outcome: Outcome::Made,
-            left: Left::Copy(copied(&octets)),
+            left: Left::Copy(Octets::Short(octets)),
         })
     }
 
@@ -54,7 +54,7 @@ impl Master {
         Ok(Happened {
             reading: None,
             outcome: Outcome::Made,
-            left: Left::Copy(copied(&octets)),
+            left: Left::Copy(Octets::Short(octets)),
         })
     }
 
@@ -78,7 +78,7 @@ impl Master {
             Ok(response) => Ok(Happened {
                 reading: Some(now),
                 outcome: Outcome::Made,
-                left: Left::Copy(copied(&response)),
+                left: Left::Copy(Octets::Long(response)),
             }),
             Err(refusal) => Ok(Happened {
                 reading: Some(now),

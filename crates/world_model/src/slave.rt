@@ -4,7 +4,7 @@ ghost use Rattle.network_model.specs.Run.{Run};
 ghost use Rattle.world_model.specs.declared.entry.Entry.{Entry as TheEntry};
 ghost use Rattle.world_model.specs.Acts.{Acts, ActsIn, SlaveActs, Nothing, Reads, IsCopy, IsNext, IsKind};
 
-use crate::entry::{Entry, Happened, Left, copied, octets_of};
+use crate::entry::{Entry, Happened, Left, Octets, octets_of};
 use crate::station::{Departure, Port, Room, Shown, Slave, Station};
 use network_model::{Event, Name, NodeKind, Nodes, Outcome, WorldRefusal};
 use ptp_units::ScaledTime;
@@ -64,7 +64,7 @@ impl Slave {
         Ok(Happened {
             reading: Some(now),
             outcome: Outcome::Made,
-            left: Left::Copy(copied(&octets)),
+            left: Left::Copy(Octets::Short(octets)),
         })
     }
 

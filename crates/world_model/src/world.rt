@@ -15,7 +15,8 @@ use std::alloc::Global;
 use std::marker::Model;
 
 /// A network of real ports and clocks, and what happened in it: its run, the events that it
-/// accepted, one after the other. An event costs the same however long the run is.
+/// accepted, one after the other. What an event names is found by its tag or its name: no event
+/// searches the run.
 #[derive(Drop)]
 pub struct World {
     nodes: Nodes,

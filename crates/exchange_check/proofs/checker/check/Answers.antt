@@ -1,5 +1,5 @@
 use Rattle.std.proofs.Common.{reverse}
-use Rattle.exchange_check.proofs.Reversed.{IsKept-more, verdict-kept-all, TellsSoundness-of}
+use Rattle.exchange_check.proofs.Reversed.{IsKept-more, verdict-kept-all, TellsSoundness-of, AcceptsTruth-of, AcceptsTruth-within_one_turn}
 use Rattle.exchange_check.proofs.checker.check.Goals as goal
 
 pub loop-line-init : goal.loop-line-init
@@ -13,4 +13,5 @@ loop-line-preserved c =
 pub returns : goal.returns
 returns c =
     let kept = verdict-kept-all c.args.nodes.now c.args.lines.now c.loop-line.kept _ c.loop-line.line-index c.loop-line-test.false c.loop-line.invariant in
-    record { verdict = kept; sound = TellsSoundness-of c.args.nodes.now (reverse c.args.lines.now) _ kept }
+    record { verdict = kept; sound = TellsSoundness-of c.args.nodes.now (reverse c.args.lines.now) _ kept; complete = AcceptsTruth-of c.args.nodes.now (reverse c.args.lines.now) _ kept;
+      complete_within_one_turn = AcceptsTruth-within_one_turn c.args.nodes.now (reverse c.args.lines.now) _ kept }

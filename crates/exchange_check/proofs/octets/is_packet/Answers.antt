@@ -1,6 +1,6 @@
 use Rattle.std.proofs.Common.{take}
 use Rattle.event_codec.specs.Packet.{contents}
-use Rattle.exchange_check.proofs.Packets.{is_packet-written, is_packet-refused}
+use Rattle.trace_model.proofs.Packets.{is_packet-written, is_packet-refused}
 use Rattle.exchange_check.proofs.octets.is_packet.Goals as goal
 
 pub returns-in-Ok : goal.returns-in-Ok

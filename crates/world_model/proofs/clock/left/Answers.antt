@@ -1,23 +1,21 @@
-use Rattle.std.proofs.Common.{◌≡◌, ◌∙◌, List, ℕ, Ok, length, sym, ap, subst}
-use Rattle.std.proofs.lemmas.List.{take_at}
-use Rattle.event_codec.specs.Refusal.{message_length}
+use Rattle.std.proofs.Common.{Ok, ap, subst}
 use Rattle.event_codec.specs.Packet.{Packet}
-use Rattle.event_codec.specs.Reading.{IsReading}
 use Rattle.transparent_clock.specs.Forwarding.{forwarded}
-use Rattle.world_model.proofs.Readings.{whole, IsReading-packet, packet_read}
-use Rattle.world_model.proofs.Leaves.{gives_left, gives_no_leave, forwarded-length}
+use Rattle.world_model.specs.Stands.{listed}
+use Rattle.world_model.proofs.Readings.{IsReading-packet}
+use Rattle.world_model.proofs.Leaves.{is_sent}
 use Rattle.world_model.proofs.clock.left.Goals as goal
 
-pub returns-in-Ok : goal.returns-in-Ok
-returns-in-Ok c = λ m packet.
-    let old = subst (λ (b : List ℕ). IsReading b (Ok m)) (sym c.as_mut_slice.ensures.value) (IsReading-packet m c.args.octets.items packet) in
-    let sent = c.in-Ok.ensures.forwarded (Ok m) old in
-    let same : length c.leave.new.octets ≡ length c.args.octets.items = c.leave.auto.octets ∙ ap length c.as_mut_slice.ensures.value in
-    let long : message_length sent.0 ≡ length c.leave.new.octets = forwarded-length m sent.0 c.args.transit c.args.now sent.1 ∙ whole m c.args.octets.items packet ∙ sym same in
-    gives_left (forwarded (Ok m) c.args.transit c.args.now) sent.0 c.args.now _ sent.1
-    (subst (Packet sent.0) (sym (take_at c.leave.new.octets _ (length c.args.octets.items) same)) (packet_read sent.0 c.leave.new.octets long sent.2))
+pub returns-in-Short : goal.returns-in-Short
+returns-in-Short c = λ m packet.
+    let entered : Packet m c.in-Short.octets = subst (Packet m) (ap listed c.in-Short.is) packet in
+    c.left_as.ensures (forwarded (Ok m) c.args.transit c.args.now)
+    (is_sent m c.args.transit c.args.now c.in-Short.octets c.leave-sent.new.octets c.leave-sent.result entered c.leave-sent.auto.octets
+    (c.leave-sent.ensures.forwarded (Ok m) (IsReading-packet m c.in-Short.octets entered)))
 
-pub returns-in-Err : goal.returns-in-Err
-returns-in-Err c = λ m packet.
-    let old = subst (λ (b : List ℕ). IsReading b (Ok m)) (sym c.as_mut_slice.ensures.value) (IsReading-packet m c.args.octets.items packet) in
-    gives_no_leave (forwarded (Ok m) c.args.transit c.args.now) c.in-Err.refusal c.args.now c.code.result (c.in-Err.ensures.forwarded (Ok m) old) c.code.ensures
+pub returns-in-Long : goal.returns-in-Long
+returns-in-Long c = λ m packet.
+    let entered : Packet m c.in-Long.octets = subst (Packet m) (ap listed c.in-Long.is) packet in
+    c.left_as-in-Long.ensures (forwarded (Ok m) c.args.transit c.args.now)
+    (is_sent m c.args.transit c.args.now c.in-Long.octets c.leave-sent-in-Long.new.octets c.leave-sent-in-Long.result entered c.leave-sent-in-Long.auto.octets
+    (c.leave-sent-in-Long.ensures.forwarded (Ok m) (IsReading-packet m c.in-Long.octets entered)))

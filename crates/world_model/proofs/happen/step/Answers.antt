@@ -12,22 +12,22 @@ use Rattle.world_model.proofs.happen.step.Goals as goal
 pub append-requires : goal.append-requires
 append-requires c =
     let old = c.index_mut.result.now in
-    let here = found c.args.nodes.now c.site.result c.in-Some.index c.in-Some.ensures.node c.in-Some.ensures.found in
+    let here = found c.args.nodes.now c.node.result c.in-Some.index c.in-Some.ensures.node c.in-Some.ensures.found in
     let less : c.in-Some.index < length c.args.stations.now.items = omega (arith, slice_get_within c.args.nodes.now c.in-Some.index here.node here.at, c.requires.nodes.count) in
     let lent : c.as_mut_slice.result.now ≡ c.args.entries.now.items = c.as_mut_slice.ensures.value ∙ c.room_for_one-room.ensures.items in
     let acts = subst (λ (es : List Entry). ActsIn c.args.nodes.now c.args.event.now es old c.happen.new.station c.room_for_one-room.result (Ok c.in-Ok.happened)) lent c.in-Ok.ensures.acts in
-    let ans = answered c.args.nodes.now c.args.event.now c.args.stations.now.items c.args.entries.now.items c.requires c.site.result c.site.ensures
+    let ans = answered c.args.nodes.now c.args.event.now c.args.stations.now.items c.args.entries.now.items c.requires c.node.result c.node.ensures
     c.in-Some.index here less old c.happen.new.station c.index_mut.ensures.value c.room_for_one-room.result (Ok c.in-Ok.happened) acts in
     on_ok c.room_for_one-room.result c.room_for_one-room.ensures.room ans.0
 
 pub returns-in-Ok-clause-world : goal.returns-in-Ok-clause-world
 returns-in-Ok-clause-world c =
     let old = c.index_mut.result.now in
-    let here = found c.args.nodes.now c.site.result c.in-Some.index c.in-Some.ensures.node c.in-Some.ensures.found in
+    let here = found c.args.nodes.now c.node.result c.in-Some.index c.in-Some.ensures.node c.in-Some.ensures.found in
     let less : c.in-Some.index < length c.args.stations.now.items = omega (arith, slice_get_within c.args.nodes.now c.in-Some.index here.node here.at, c.requires.nodes.count) in
     let lent : c.as_mut_slice.result.now ≡ c.args.entries.now.items = c.as_mut_slice.ensures.value ∙ c.room_for_one-room.ensures.items in
     let acts = subst (λ (es : List Entry). ActsIn c.args.nodes.now c.args.event.now es old c.happen.new.station c.room_for_one-room.result (Ok c.in-Ok.happened)) lent c.in-Ok.ensures.acts in
-    let ans = answered c.args.nodes.now c.args.event.now c.args.stations.now.items c.args.entries.now.items c.requires c.site.result c.site.ensures
+    let ans = answered c.args.nodes.now c.args.event.now c.args.stations.now.items c.args.entries.now.items c.requires c.node.result c.node.ensures
     c.in-Some.index here less old c.happen.new.station c.index_mut.ensures.value c.room_for_one-room.result (Ok c.in-Ok.happened) acts in
     let kept : c.happen.new.entries ≡ entries_after c.args.event.now c.args.entries.now.items = c.in-Ok.ensures.entries ∙ ap (entries_after c.args.event.now) lent in
     let same : length (entries_after c.args.event.now c.args.entries.now.items) ≡ length c.args.entries.now.items = after-length c.args.event.now c.args.entries.now.items in
@@ -38,17 +38,17 @@ returns-in-Ok-clause-world c =
     let entry : Entry = record { event = c.args.event.now; left = c.in-Ok.happened.left } in
     let put : c.append.new.entries.items ≡ entries_after c.args.event.now c.args.entries.now.items ++ entry ∷ [] = c.append.ensures.entries ∙ ap (λ (es : List Entry). es ++ entry ∷ []) whole in
     subst (λ (es : List Entry). IsWorld c.args.nodes.now (slice_set c.args.stations.now.items c.in-Some.index c.happen.new.station) es) (sym put)
-    (done-world c.args.nodes.now c.args.event.now c.args.stations.now.items c.args.entries.now.items c.requires c.site.result c.site.ensures
+    (done-world c.args.nodes.now c.args.event.now c.args.stations.now.items c.args.entries.now.items c.requires c.node.result c.node.ensures
     c.in-Some.index here less old c.happen.new.station c.index_mut.ensures.value c.room_for_one-room.result c.in-Ok.happened ans.1)
 
 pub returns-in-Ok-clause-steps : goal.returns-in-Ok-clause-steps
 returns-in-Ok-clause-steps c =
     let old = c.index_mut.result.now in
-    let here = found c.args.nodes.now c.site.result c.in-Some.index c.in-Some.ensures.node c.in-Some.ensures.found in
+    let here = found c.args.nodes.now c.node.result c.in-Some.index c.in-Some.ensures.node c.in-Some.ensures.found in
     let less : c.in-Some.index < length c.args.stations.now.items = omega (arith, slice_get_within c.args.nodes.now c.in-Some.index here.node here.at, c.requires.nodes.count) in
     let lent : c.as_mut_slice.result.now ≡ c.args.entries.now.items = c.as_mut_slice.ensures.value ∙ c.room_for_one-room.ensures.items in
     let acts = subst (λ (es : List Entry). ActsIn c.args.nodes.now c.args.event.now es old c.happen.new.station c.room_for_one-room.result (Ok c.in-Ok.happened)) lent c.in-Ok.ensures.acts in
-    let ans = answered c.args.nodes.now c.args.event.now c.args.stations.now.items c.args.entries.now.items c.requires c.site.result c.site.ensures
+    let ans = answered c.args.nodes.now c.args.event.now c.args.stations.now.items c.args.entries.now.items c.requires c.node.result c.node.ensures
     c.in-Some.index here less old c.happen.new.station c.index_mut.ensures.value c.room_for_one-room.result (Ok c.in-Ok.happened) acts in
     let kept : c.happen.new.entries ≡ entries_after c.args.event.now c.args.entries.now.items = c.in-Ok.ensures.entries ∙ ap (entries_after c.args.event.now) lent in
     let same : length (entries_after c.args.event.now c.args.entries.now.items) ≡ length c.args.entries.now.items = after-length c.args.event.now c.args.entries.now.items in
@@ -61,9 +61,11 @@ returns-in-Ok-clause-steps c =
     let stepped : Stepped = record { tag = length c.args.entries.now.items; reading = c.in-Ok.happened.reading; outcome = c.in-Ok.happened.outcome } in
     let tag : length (take c.room_for_one-room.new.entries.len (c.happen.new.entries ++ drop (length c.happen.new.entries) c.room_for_one-room.new.entries.items))
     ≡ length c.args.entries.now.items = ap (length {A = Entry}) whole ∙ same in
-    let is : c.append.result ≡ stepped = c.append.ensures.stepped ∙ (λ i. record { tag = tag i; reading = c.in-Ok.happened.reading; outcome = c.in-Ok.happened.outcome }) in (
+    let counted : c.append.result ≡ length c.args.entries.now.items = c.append.ensures.tag ∙ tag in
+    let answer : Stepped = record { tag = c.append.result; reading = c.in-Ok.happened.reading; outcome = c.in-Ok.happened.outcome } in
+    let is : answer ≡ stepped = (λ i. record { tag = counted i; reading = c.in-Ok.happened.reading; outcome = c.in-Ok.happened.outcome }) in (
       subst (IsStepped c.args.nodes.now (run_of c.args.entries.now.items) c.args.event.now) (sym is)
-          (done-stepped c.args.nodes.now c.args.event.now c.args.stations.now.items c.args.entries.now.items c.requires c.site.result c.site.ensures
+          (done-stepped c.args.nodes.now c.args.event.now c.args.stations.now.items c.args.entries.now.items c.requires c.node.result c.node.ensures
           c.in-Some.index here less old c.happen.new.station c.index_mut.ensures.value c.room_for_one-room.result c.in-Ok.happened ans.1),
       ap run_of put ∙ run_of-after c.args.event.now c.args.entries.now.items c.in-Ok.happened.left,
     )
@@ -71,39 +73,39 @@ returns-in-Ok-clause-steps c =
 pub returns-in-Err-clause-world : goal.returns-in-Err-clause-world
 returns-in-Err-clause-world c =
     let old = c.index_mut.result.now in
-    let here = found c.args.nodes.now c.site.result c.in-Some.index c.in-Some.ensures.node c.in-Some.ensures.found in
+    let here = found c.args.nodes.now c.node.result c.in-Some.index c.in-Some.ensures.node c.in-Some.ensures.found in
     let less : c.in-Some.index < length c.args.stations.now.items = omega (arith, slice_get_within c.args.nodes.now c.in-Some.index here.node here.at, c.requires.nodes.count) in
     let lent : c.as_mut_slice.result.now ≡ c.args.entries.now.items = c.as_mut_slice.ensures.value ∙ c.room_for_one-room.ensures.items in
     let acts = subst (λ (es : List Entry). ActsIn c.args.nodes.now c.args.event.now es old c.happen.new.station c.room_for_one-room.result (Err c.in-Err.why)) lent c.in-Err.ensures.acts in
-    let ans = answered c.args.nodes.now c.args.event.now c.args.stations.now.items c.args.entries.now.items c.requires c.site.result c.site.ensures
+    let ans = answered c.args.nodes.now c.args.event.now c.args.stations.now.items c.args.entries.now.items c.requires c.node.result c.node.ensures
     c.in-Some.index here less old c.happen.new.station c.index_mut.ensures.value c.room_for_one-room.result (Err c.in-Err.why) acts in
     let kept : c.happen.new.entries ≡ c.args.entries.now.items = c.in-Err.ensures.kept ∙ lent in
     let whole : take c.room_for_one-room.new.entries.len (c.happen.new.entries ++ drop (length c.happen.new.entries) c.room_for_one-room.new.entries.items) ≡ c.args.entries.now.items =
     refilled c.happen.new.entries c.room_for_one-room.new.entries.items c.room_for_one-room.new.entries.len c.room_for_one-room.new.entries.ok.0
     (ap (length {A = Entry}) (kept ∙ sym c.room_for_one-room.ensures.items)) ∙ kept in
     subst (λ (es : List Entry). IsWorld c.args.nodes.now (slice_set c.args.stations.now.items c.in-Some.index c.happen.new.station) es) (sym whole)
-    (refused-world c.args.nodes.now c.args.event.now c.args.stations.now.items c.args.entries.now.items c.requires c.site.result c.site.ensures
+    (refused-world c.args.nodes.now c.args.event.now c.args.stations.now.items c.args.entries.now.items c.requires c.node.result c.node.ensures
     c.in-Some.index here less old c.happen.new.station c.index_mut.ensures.value c.room_for_one-room.result ans.0)
 
 pub returns-in-Err-clause-steps : goal.returns-in-Err-clause-steps
 returns-in-Err-clause-steps c =
     let old = c.index_mut.result.now in
-    let here = found c.args.nodes.now c.site.result c.in-Some.index c.in-Some.ensures.node c.in-Some.ensures.found in
+    let here = found c.args.nodes.now c.node.result c.in-Some.index c.in-Some.ensures.node c.in-Some.ensures.found in
     let less : c.in-Some.index < length c.args.stations.now.items = omega (arith, slice_get_within c.args.nodes.now c.in-Some.index here.node here.at, c.requires.nodes.count) in
     let lent : c.as_mut_slice.result.now ≡ c.args.entries.now.items = c.as_mut_slice.ensures.value ∙ c.room_for_one-room.ensures.items in
     let acts = subst (λ (es : List Entry). ActsIn c.args.nodes.now c.args.event.now es old c.happen.new.station c.room_for_one-room.result (Err c.in-Err.why)) lent c.in-Err.ensures.acts in
-    let ans = answered c.args.nodes.now c.args.event.now c.args.stations.now.items c.args.entries.now.items c.requires c.site.result c.site.ensures
+    let ans = answered c.args.nodes.now c.args.event.now c.args.stations.now.items c.args.entries.now.items c.requires c.node.result c.node.ensures
     c.in-Some.index here less old c.happen.new.station c.index_mut.ensures.value c.room_for_one-room.result (Err c.in-Err.why) acts in
     let kept : c.happen.new.entries ≡ c.args.entries.now.items = c.in-Err.ensures.kept ∙ lent in
     let whole : take c.room_for_one-room.new.entries.len (c.happen.new.entries ++ drop (length c.happen.new.entries) c.room_for_one-room.new.entries.items) ≡ c.args.entries.now.items =
     refilled c.happen.new.entries c.room_for_one-room.new.entries.items c.room_for_one-room.new.entries.len c.room_for_one-room.new.entries.ok.0
     (ap (length {A = Entry}) (kept ∙ sym c.room_for_one-room.ensures.items)) ∙ kept in (
-      refused-why c.args.nodes.now c.args.event.now c.args.stations.now.items c.args.entries.now.items c.requires c.site.result c.site.ensures
+      refused-why c.args.nodes.now c.args.event.now c.args.stations.now.items c.args.entries.now.items c.requires c.node.result c.node.ensures
           c.in-Some.index here less old c.happen.new.station c.index_mut.ensures.value c.room_for_one-room.result c.in-Err.why c.room_for_one-room.ensures.refused ans.1,
       ap run_of whole,
     )
 
 pub index_mut-requires : goal.index_mut-requires
 index_mut-requires c =
-    let here = found c.args.nodes.now c.site.result c.in-Some.index c.in-Some.ensures.node c.in-Some.ensures.found in
+    let here = found c.args.nodes.now c.node.result c.in-Some.index c.in-Some.ensures.node c.in-Some.ensures.found in
     omega (arith, slice_get_within c.args.nodes.now c.in-Some.index here.node here.at, c.requires.nodes.count, c.args.stations.now.ok.0)

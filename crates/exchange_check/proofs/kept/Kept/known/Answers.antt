@@ -9,7 +9,7 @@ pub returns : goal.returns
 returns c =
     let line = c.args.line.now in
     let at_site : c.site-site.result ≡ site_in c.args.self.now.sites (site_of line.event) =
-    c.site-site.ensures ∙ ap (site_in c.args.self.now.sites) c.site.ensures in
+    c.site-site.ensures ∙ ap (site_in c.args.self.now.sites) c.node.ensures in
     let moment = c.true_moment.ensures in
     let reads : c.is_reading.result ≡ is_reading line.reading (shown_by c.site-site.result line.event) = rw moment at c.is_reading.ensures in
     let shown = ap (λ (site : Site). is_reading line.reading (shown_by site line.event)) at_site in

@@ -1,6 +1,7 @@
 use Rattle.std.proofs.Common.{◌∙◌, Ok, ap, sym, is_ok}
 use Rattle.master_port.specs.Written.{answer}
 use Rattle.network_model.specs.Truth.{copy_of}
+use Rattle.world_model.specs.declared.entry.Octets.TheVariants.{Long}
 use Rattle.world_model.proofs.Readings.{Told, told, IsReading-packet}
 use Rattle.world_model.proofs.Arrivals.{answer-brings, gives_answer, gives_refusal}
 use Rattle.world_model.proofs.station.Master.arrive.Goals as goal
@@ -11,7 +12,7 @@ returns-in-Ok c = λ node copy at network run setup is stands given.
     let written = c.in-Ok.ensures (Ok t.m) (IsReading-packet t.m c.in-Some.octets.now t.packet) in (
       ap is_ok c.in_ok-room.was,
       answer-brings network run node copy at c.in_ok-now.now setup c.args.self.now t.m _ is stands t.is (sym c.in_ok-now.was ∙ given.1)
-          (gives_answer (answer c.args.self.now.port.config (Ok t.m) c.in_ok-now.now) written.0 c.in_ok-now.now c.copied.result written.1 (rw c.copied.ensures written.2)),
+          (gives_answer (answer c.args.self.now.port.config (Ok t.m) c.in_ok-now.now) written.0 c.in_ok-now.now (Long c.in-Ok.response) written.1 written.2),
     )
 
 pub returns-in-Err : goal.returns-in-Err

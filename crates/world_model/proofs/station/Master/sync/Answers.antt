@@ -1,5 +1,6 @@
 use Rattle.std.proofs.Common.{◌≡◌, ◌∙◌, ap, sym, is_ok}
 use Rattle.ptp_units.specs.declared.sequence.Seq.{Seq}
+use Rattle.world_model.specs.declared.entry.Octets.TheVariants.{Short}
 use Rattle.world_model.proofs.Masters.{sync-brings}
 use Rattle.world_model.proofs.station.Master.sync.Goals as goal
 
@@ -9,6 +10,6 @@ returns c = λ node at network run setup is stands given.
     let number : c.next_sync.result.1 ≡ drawn = λ i. record { 0 = c.next_sync.ensures.number i } in (
       ap is_ok c.in_ok-room.was,
       rw (c.next_sync.ensures.port, number)
-          (sync-brings network run node at c.in_ok-now.now setup c.args.self.now c.copied.result is stands
-          (sym c.in_ok-now.was ∙ given) (rw c.copied.ensures c.next_sync.ensures.octets)),
+          (sync-brings network run node at c.in_ok-now.now setup c.args.self.now (Short c.next_sync.result.0) is stands
+          (sym c.in_ok-now.was ∙ given) c.next_sync.ensures.octets),
     )

@@ -1,12 +1,12 @@
-//! Lines that are read: nodes and events.
+//! Lines of schedules, read: nodes and events.
 ghost use Rattle.std.specs.Prelude.{◌≡◌};
 ghost use Rattle.serde_json.specs.View.{view};
-ghost use Rattle.schedule_lines.specs.Line.{line_of, event_in, event_of, event_at, node_in, at_in, copy_in, config_in, first_in, node_kind, node_spec_in};
+ghost use Rattle.schedule_lines.specs.Line.{line_of, scheduled_in, event_in, event_at, event_keys, node_in, at_in, copy_in, config_in, first_in, node_kind, node_spec_in};
 
 use crate::fields::{
     clock_in, difference_in, has_keys, moment_in, name_in, signed_octet_in, whole_below,
 };
-use crate::kind::{EventKind, key_count, kind_of};
+use crate::kind::{EventKind, kind_of};
 use event_codec::{PortConfig, PortIdentity};
 use network_model::{Event, Name, NodeKind, NodeSpec};
 use ptp_units::{ScaledTime, Seq};
@@ -29,28 +29,47 @@ impl Line {
         ensures { result ≡ line_of (view value.now) }
     {
         if value.get("ev").is_some() {
-            Some(Line::Event(event_in(value)?))
+            Some(Line::Event(scheduled_in(value)?))
         } else {
             Some(Line::Node(node_spec_in(value)?))
         }
     }
 }
 
-/// The event that an object is.
-fn event_in(value: &Value) -> Option<Event>
-    ensures { result ≡ event_in (view value.now) }
+/// The event that an object is, with just its keys.
+fn scheduled_in(value: &Value) -> Option<Event>
+    ensures { result ≡ scheduled_in (view value.now) }
 {
-    event_of(kind_of(value.get("ev")?.as_str()?)?, value)
+    let event = event_in(value)?;
+    if has_keys(value, event_keys(&event)) {
+        Some(event)
+    } else {
+        None
+    }
 }
 
-/// The event of a kind.
-fn event_of(kind: EventKind, value: &Value) -> Option<Event>
-    ensures { result ≡ event_of kind (view value.now) }
+/// The event that an object's keys are, whatever keys stand beside them.
+pub(crate) fn event_in(value: &Value) -> Option<Event>
+    ensures { result ≡ event_in (view value.now) }
 {
-    if !has_keys(value, key_count(kind)) {
-        return None;
-    }
+    let kind = kind_of(value.get("ev")?.as_str()?)?;
     event_at(kind, node_in(value)?, value)
+}
+
+/// How many keys an event has, `ev` and `node` among them.
+pub(crate) fn event_keys(event: &Event) -> usize
+    ensures { result ≡ event_keys event.now }
+{
+    match event {
+        Event::Enter { .. } | Event::Leave { .. } | Event::Arrive { .. } => 4,
+        Event::Follow { .. } | Event::Stamped { .. } | Event::Tick { .. } => 2,
+        Event::Sync { .. }
+        | Event::SyncOne { .. }
+        | Event::Hear { .. }
+        | Event::Request { .. }
+        | Event::SetMaster { .. }
+        | Event::StepClock { .. } => 3,
+    }
 }
 
 /// The event of a kind at a node.
@@ -126,7 +145,7 @@ fn copy_in(value: &Value) -> Option<u64>
 }
 
 /// The node that an object is.
-fn node_spec_in(value: &Value) -> Option<NodeSpec>
+pub(crate) fn node_spec_in(value: &Value) -> Option<NodeSpec>
     ensures { result ≡ node_spec_in (view value.now) }
 {
     let text = value.get("kind")?.as_str()?;

@@ -1,0 +1,39 @@
+-- The keys of a line, as a list.
+use Rattle.std.proofs.Common.{◌≡◌, ℕ, List, [], ◌∷◌, codes, Option, Some, option_map, refl}
+use Rattle.serde_json.specs.Data.{Data, string, object, Members, no_members}
+use Rattle.network_model.specs.Run.{site_of, true_moment}
+use Rattle.network_model.specs.Kinds.{named_master, step_of, spent_transit}
+use Rattle.trace_model.specs.declared.line.TraceLine.{TraceLine}
+use Rattle.schedule_lines.specs.Transcript.{whole, moment_data, difference_data, octets_data, tags_data, with_some, named_copy, event_text, made_octets, out_text, out_code, out_report, event_data}
+
+-- a key, and its value where there is one
+abbrev pub Field : Type 0
+Field = List ℕ × Option Data
+
+-- the members with these keys
+abbrev pub members_of : List Field → Members
+members_of [] = no_members
+members_of (f ∷ fs) = with_some f.0 f.1 (members_of fs)
+
+-- the keys of an event's line
+abbrev pub line_fields : ℕ → TraceLine → List Field
+line_fields n line =
+    (codes "at", option_map moment_data (true_moment line.event))
+    ∷ (codes "copy", option_map whole (named_copy line.event))
+    ∷ (codes "diff", option_map difference_data (step_of line.event))
+    ∷ (codes "ev", Some (string (event_text line.event)))
+    ∷ (codes "master", option_map string (named_master line.event))
+    ∷ (codes "node", Some (string (site_of line.event)))
+    ∷ (codes "transit", option_map whole (spent_transit line.event))
+    ∷ (codes "code", option_map whole (out_code line.out))
+    ∷ (codes "hex", option_map octets_data (made_octets line.out))
+    ∷ (codes "n", Some (whole n))
+    ∷ (codes "out", Some (string (out_text line.out)))
+    ∷ (codes "reading", option_map moment_data line.reading)
+    ∷ (codes "offset2", option_map (λ r. difference_data r.offset2) (out_report line.out))
+    ∷ (codes "path2", option_map (λ r. difference_data r.path2) (out_report line.out))
+    ∷ (codes "tags", option_map tags_data (out_report line.out))
+    ∷ []
+
+pub event_data-by_fields : (n : ℕ) (line : TraceLine) → event_data n line ≡ object (members_of (line_fields n line))
+event_data-by_fields n line = refl

@@ -1,0 +1,225 @@
+-- A written line, read again.
+use Rattle.std.proofs.Common.{◌≡◌, ◌==◌, ℕ, ℤ, ◌+◌, ◌<◌, List, codes, Option, Some, None, true, is_some, IfSome, option_map, option_and_then, refl, ap, ◌∙◌, arith}
+use Rattle.std.specs.Option.{option_or}
+use Rattle.std.proofs.lemmas.Bool.Decides.{nat_tests}
+use Rattle.serde_json.specs.Data.{Data, string}
+use Rattle.serde_json.specs.Find.{get, as_str}
+use Rattle.ptp_units.specs.Moment.{bound}
+use Rattle.slave_port.specs.declared.heard.Report.{Report}
+use Rattle.network_model.specs.declared.event.Event.{Event}
+use Rattle.network_model.specs.declared.event.Event.TheVariants.{Sync, SyncOne, Follow, Enter, Leave, Arrive, Hear, Request, Stamped, Tick, SetMaster, StepClock}
+use Rattle.network_model.specs.Name.{IsName}
+use Rattle.network_model.specs.Run.{site_of, true_moment}
+use Rattle.network_model.specs.Kinds.{named_master, step_of, spent_transit}
+use Rattle.trace_model.specs.declared.line.TraceLine.{TraceLine}
+use Rattle.trace_model.specs.declared.line.TraceOut.{TraceOut}
+use Rattle.trace_model.specs.declared.line.TraceOut.TheVariants as outs
+use Rattle.schedule_lines.specs.declared.traced.TranscriptLine.TheVariants as lines
+use Rattle.schedule_lines.specs.Json.{field, has_keys, moment_in, name_in, whole_in, whole_below, octets_in, difference_in}
+use Rattle.schedule_lines.specs.Line.{event_in, event_keys, node_in, at_in, copy_in}
+use Rattle.schedule_lines.specs.Traced.{transcript_line_of, recorded_in, reading_in, reading_keys, out_of, out_keys, line_keys, code_in, report_in}
+use Rattle.schedule_lines.specs.Transcript.{whole, moment_data, difference_data, octets_data, tags_data, named_copy, event_text, made_octets, out_text, out_code, out_report, event_data}
+use Rattle.schedule_lines.specs.Recorded.{IsShort, IsOut, IsRecorded, EventsReadBack}
+use Rattle.schedule_lines.proofs.Keys.{line_fields}
+use Rattle.schedule_lines.proofs.Lookup.{find, get_member-members_of, option_or-none, one_if, count, members_len-members_of}
+use Rattle.schedule_lines.proofs.Texts.{name_back, below_back, octets_back, moment_back, difference_back, report_back}
+
+-- ---- an event, from its keys
+
+event_back : (event : Event) (d : Data) → field as_str (codes "ev") d ≡ Some (event_text event) → node_in d ≡ Some (site_of event)
+    → at_in d ≡ true_moment event → copy_in d ≡ named_copy event → field whole_in (codes "transit") d ≡ spent_transit event
+    → field name_in (codes "master") d ≡ named_master event → field difference_in (codes "diff") d ≡ step_of event → event_in d ≡ Some event
+event_back (Sync node at) d ev site moment copy transit master diff = rw (ev, site, moment)
+event_back (SyncOne node at) d ev site moment copy transit master diff = rw (ev, site, moment)
+event_back (Follow node) d ev site moment copy transit master diff = rw (ev, site)
+event_back (Enter node tag at) d ev site moment copy transit master diff = rw (ev, site, copy, moment)
+event_back (Leave node tag at) d ev site moment copy transit master diff = rw (ev, site, transit, moment)
+event_back (Arrive node tag at) d ev site moment copy transit master diff = rw (ev, site, copy, moment)
+event_back (Hear node tag) d ev site moment copy transit master diff = rw (ev, site, copy)
+event_back (Request node at) d ev site moment copy transit master diff = rw (ev, site, moment)
+event_back (Stamped node) d ev site moment copy transit master diff = rw (ev, site)
+event_back (Tick node) d ev site moment copy transit master diff = rw (ev, site)
+event_back (SetMaster node told) d ev site moment copy transit master diff = rw (ev, site, master)
+event_back (StepClock node size) d ev site moment copy transit master diff = rw (ev, site, diff)
+
+-- ---- what it brought about
+
+report_in_back : (report : Option Report) (d : Data) → field difference_in (codes "offset2") d ≡ option_map (λ r. r.offset2) report
+    → field difference_in (codes "path2") d ≡ option_map (λ r. r.path2) report → get (codes "tags") d ≡ option_map tags_data report → report_in d ≡ report
+report_in_back None d offset2 path2 tags = rw offset2
+report_in_back (Some report) d offset2 path2 tags = rw (offset2, path2, tags) (report_back report)
+
+out_back : (out : TraceOut) (d : Data) → field octets_in (codes "hex") d ≡ made_octets out → code_in d ≡ out_code out → report_in d ≡ out_report out
+    → out_of (out_text out) d ≡ Some out
+out_back outs.Done d hex code report = refl
+out_back (outs.Made octets) d hex code report = rw hex
+out_back outs.Entered d hex code report = refl
+out_back outs.Held d hex code report = refl
+out_back outs.Completed d hex code report = refl
+out_back (outs.Report answer) d hex code report = rw report
+out_back (outs.Ignored reason) d hex code report = rw code
+out_back (outs.Refused reason) d hex code report = rw code
+
+reading_back : (at reading : Option ℕ) (d : Data) → is_some reading ≡ is_some at → field moment_in (codes "reading") d ≡ reading → reading_in at d ≡ Some reading
+reading_back None None d timed read = refl
+reading_back None (Some time) d timed read = absurd (cc)
+reading_back (Some at) None d timed read = absurd (cc)
+reading_back (Some at) (Some time) d timed read = rw read
+
+-- ---- a line
+
+recorded_back : (line : TraceLine) (d : Data) → event_in d ≡ Some line.event → reading_in (true_moment line.event) d ≡ Some line.reading
+    → field as_str (codes "out") d ≡ Some (out_text line.out) → out_of (out_text line.out) d ≡ Some line.out → recorded_in d ≡ Some line
+recorded_back line d event reading text out = rw (event, reading, text, out)
+
+line_back : (n : ℕ) (line : TraceLine) (d : Data) → get (codes "ev") d ≡ Some (string (event_text line.event)) → recorded_in d ≡ Some line
+    → field whole_in (codes "n") d ≡ Some n → has_keys (line_keys line) d ≡ true → transcript_line_of d ≡ Some (lines.Event n line)
+line_back n line d ev recorded number keys = rw (recorded, number, keys, ev)
+
+-- ---- the number of its keys
+
+event_counted : (event : Event)
+    → one_if (option_map moment_data (true_moment event)) + one_if (option_map whole (named_copy event)) + one_if (option_map difference_data (step_of event))
+    + one_if (option_map string (named_master event)) + one_if (option_map whole (spent_transit event)) + 2 ≡ event_keys event
+event_counted (Sync node at) = refl
+event_counted (SyncOne node at) = refl
+event_counted (Follow node) = refl
+event_counted (Enter node tag at) = refl
+event_counted (Leave node tag at) = refl
+event_counted (Arrive node tag at) = refl
+event_counted (Hear node tag) = refl
+event_counted (Request node at) = refl
+event_counted (Stamped node) = refl
+event_counted (Tick node) = refl
+event_counted (SetMaster node told) = refl
+event_counted (StepClock node size) = refl
+
+out_counted : (out : TraceOut)
+    → one_if (option_map whole (out_code out)) + one_if (option_map octets_data (made_octets out)) + one_if (option_map (λ r. difference_data r.offset2) (out_report out))
+    + one_if (option_map (λ r. difference_data r.path2) (out_report out)) + one_if (option_map tags_data (out_report out)) + 1 ≡ out_keys out
+out_counted outs.Done = refl
+out_counted (outs.Made octets) = refl
+out_counted outs.Entered = refl
+out_counted outs.Held = refl
+out_counted outs.Completed = refl
+out_counted (outs.Report answer) = refl
+out_counted (outs.Ignored reason) = refl
+out_counted (outs.Refused reason) = refl
+
+reading_counted : (reading : Option ℕ) → one_if (option_map moment_data reading) ≡ reading_keys reading
+reading_counted None = refl
+reading_counted (Some time) = refl
+
+line_counted : (n : ℕ) (line : TraceLine) → count (line_fields n line) ≡ line_keys line
+line_counted n line = omega (arith, event_counted line.event, out_counted line.out, reading_counted line.reading)
+
+same_count : (m k : ℕ) → m ≡ k → (m == k) ≡ true
+same_count m k e = grind (arith, nat_tests)
+
+keys_back : (n : ℕ) (line : TraceLine) → has_keys (line_keys line) (event_data n line) ≡ true
+keys_back n line = same_count _ _ (members_len-members_of (line_fields n line) refl ∙ line_counted n line)
+
+-- ---- what stands at its keys
+
+back : {X : Type 0} (reads : Data → Option X) (f : X → Data) (o : Option X) (P : X → Type 0) → ((x : X) → P x → reads (f x) ≡ Some x)
+    → IfSome o P → option_and_then reads (option_map f o) ≡ o
+back reads f None P each h = refl
+back reads f (Some x) P each h = each x h
+
+stands : (n : ℕ) (line : TraceLine) (key : List ℕ) (o : Option Data) → find key (line_fields n line) ≡ option_or o None → get key (event_data n line) ≡ o
+stands n line key o e = get_member-members_of key (line_fields n line) ∙ e ∙ option_or-none o
+
+told : {X : Type 0} (n : ℕ) (line : TraceLine) (key : List ℕ) (reads : Data → Option X) (f : X → Data) (o : Option X) (P : X → Type 0)
+    → find key (line_fields n line) ≡ option_or (option_map f o) None → ((x : X) → P x → reads (f x) ≡ Some x) → IfSome o P
+    → field reads key (event_data n line) ≡ o
+told n line key reads f o P e each h = ap (option_and_then reads) (stands n line key (option_map f o) e) ∙ back reads f o P each h
+
+always : {X : Type 0} (o : Option X) → IfSome o (λ _. Unit {0})
+always None = tt
+always (Some x) = tt
+
+octets_out : (out : TraceOut) → IsOut out → IfSome (made_octets out) (λ octets. IsOut (outs.Made (record { items = octets })))
+octets_out outs.Done h = tt
+octets_out (outs.Made octets) h = h
+octets_out outs.Entered h = tt
+octets_out outs.Held h = tt
+octets_out outs.Completed h = tt
+octets_out (outs.Report answer) h = tt
+octets_out (outs.Ignored reason) h = tt
+octets_out (outs.Refused reason) h = tt
+
+code_out : (out : TraceOut) → IsOut out → IfSome (out_code out) (λ code. code < 65536)
+code_out outs.Done h = tt
+code_out (outs.Made octets) h = tt
+code_out outs.Entered h = tt
+code_out outs.Held h = tt
+code_out outs.Completed h = tt
+code_out (outs.Report answer) h = tt
+code_out (outs.Ignored reason) h = h
+code_out (outs.Refused reason) h = h
+
+report_out : (out : TraceOut) → IsOut out → IfSome (out_report out) (λ report. IsShort report.offset2 × IsShort report.path2)
+report_out outs.Done h = tt
+report_out (outs.Made octets) h = tt
+report_out outs.Entered h = tt
+report_out outs.Held h = tt
+report_out outs.Completed h = tt
+report_out (outs.Report answer) h = h
+report_out (outs.Ignored reason) h = tt
+report_out (outs.Refused reason) h = tt
+
+twice_mapped : {X Y Z : Type 0} (f : Y → Z) (g : X → Y) (o : Option X) → option_map (λ x. f (g x)) o ≡ option_map f (option_map g o)
+twice_mapped f g None = refl
+twice_mapped f g (Some x) = refl
+
+short_of : (g : Report → ℤ) (o : Option Report) → IfSome o (λ report. IsShort (g report)) → IfSome (option_map g o) IsShort
+short_of g None h = tt
+short_of g (Some report) h = h
+
+both_short : (o : Option Report) → IfSome o (λ report. IsShort report.offset2 × IsShort report.path2)
+    → IfSome o (λ report. IsShort report.offset2) × IfSome o (λ report. IsShort report.path2)
+both_short None h = (tt, tt)
+both_short (Some report) h = (h.0, h.1)
+
+read_event : (n : ℕ) (line : TraceLine) → IsRecorded line → event_in (event_data n line) ≡ Some line.event
+read_event n line h =
+    let e = line.event in
+    event_back e (event_data n line)
+    (told n line (codes "ev") as_str string (Some (event_text e)) (λ _. Unit {0}) refl (λ _ _. refl) tt)
+    (told n line (codes "node") name_in string (Some (site_of e)) IsName refl name_back h.event.node)
+    (told n line (codes "at") moment_in moment_data (true_moment e) (λ time. time < bound) refl moment_back h.event.moment)
+    (told n line (codes "copy") whole_in whole (named_copy e) (λ _. Unit {0}) refl (λ _ _. refl) (always (named_copy e)))
+    (told n line (codes "transit") whole_in whole (spent_transit e) (λ _. Unit {0}) refl (λ _ _. refl) (always (spent_transit e)))
+    (told n line (codes "master") name_in string (named_master e) IsName refl name_back h.event.master)
+    (told n line (codes "diff") difference_in difference_data (step_of e) IsShort refl difference_back h.event.step)
+
+read_report : (n : ℕ) (line : TraceLine) → IsRecorded line → report_in (event_data n line) ≡ out_report line.out
+read_report n line h =
+    let report = out_report line.out in
+    let short = both_short report (report_out line.out h.out) in
+    report_in_back report (event_data n line)
+    (told n line (codes "offset2") difference_in difference_data (option_map (λ r. r.offset2) report) IsShort
+    (ap (λ o. option_or o None) (twice_mapped difference_data (λ r. r.offset2) report)) difference_back (short_of (λ r. r.offset2) report short.0))
+    (told n line (codes "path2") difference_in difference_data (option_map (λ r. r.path2) report) IsShort
+    (ap (λ o. option_or o None) (twice_mapped difference_data (λ r. r.path2) report)) difference_back (short_of (λ r. r.path2) report short.1))
+    (stands n line (codes "tags") (option_map tags_data report) refl)
+
+read_out : (n : ℕ) (line : TraceLine) → IsRecorded line → out_of (out_text line.out) (event_data n line) ≡ Some line.out
+read_out n line h =
+    out_back line.out (event_data n line)
+    (told n line (codes "hex") octets_in octets_data (made_octets line.out) _ refl (λ octets fits. octets_back octets fits.0 fits.1) (octets_out line.out h.out))
+    (told n line (codes "code") (whole_below 65536) whole (out_code line.out) (λ code. code < 65536) refl (below_back 65536) (code_out line.out h.out))
+    (read_report n line h)
+
+-- a line that tells what may be recorded is read as it was written
+pub reads_back : EventsReadBack
+reads_back n line h =
+    line_back n line (event_data n line)
+    (stands n line (codes "ev") (Some (string (event_text line.event))) refl)
+    (recorded_back line (event_data n line) (read_event n line h)
+    (reading_back (true_moment line.event) line.reading (event_data n line) h.timed
+    (told n line (codes "reading") moment_in moment_data line.reading (λ time. time < bound) refl moment_back h.reading))
+    (told n line (codes "out") as_str string (Some (out_text line.out)) (λ _. Unit {0}) refl (λ _ _. refl) tt)
+    (read_out n line h))
+    (told n line (codes "n") whole_in whole (Some n) (λ _. Unit {0}) refl (λ _ _. refl) tt)
+    (keys_back n line)

@@ -1,0 +1,94 @@
+-- What may be recorded of an event, what a node may be, and that a line that tells it is read as it was written.
+use Rattle.std.specs.Prelude.{◌≡◌, ℕ, ◌+◌, ◌^◌, ◌<◌, ◌≤◌, ◌≤ℤ◌, ℤ, pos, negsuc, length, Some, IfSome, is_some}
+use Rattle.hex.specs.Hex.{IsBytes}
+use Rattle.event_codec.specs.declared.port.PortConfig.{PortConfig}
+use Rattle.ptp_units.specs.Moment.{bound}
+use Rattle.network_model.specs.Name.{IsName}
+use Rattle.network_model.specs.Run.{site_of, true_moment}
+use Rattle.network_model.specs.Kinds.{named_master, step_of}
+use Rattle.network_model.specs.declared.event.Event.{Event}
+use Rattle.network_model.specs.declared.node.NodeKind.{NodeKind}
+use Rattle.network_model.specs.declared.node.NodeKind.TheVariants as kinds
+use Rattle.network_model.specs.declared.node.NodeSpec.{NodeSpec}
+use Rattle.trace_model.specs.declared.line.TraceLine.{TraceLine}
+use Rattle.trace_model.specs.declared.line.TraceOut.{TraceOut}
+use Rattle.trace_model.specs.declared.line.TraceOut.TheVariants as outs
+use Rattle.serde_json.specs.Data.{Data}
+use Rattle.schedule_lines.specs.declared.schedule.Line.{Line}
+use Rattle.schedule_lines.specs.declared.schedule.Line.TheVariants as schedules
+use Rattle.schedule_lines.specs.declared.traced.TranscriptLine.{TranscriptLine}
+use Rattle.schedule_lines.specs.declared.traced.TranscriptLine.TheVariants as lines
+use Rattle.schedule_lines.specs.Line.{line_of}
+use Rattle.schedule_lines.specs.Traced.{transcript_line_of}
+use Rattle.schedule_lines.specs.Transcript.{node_data, event_data}
+
+-- a whole number whose text has 32 octets at the most
+abbrev pub IsShort : ℤ → Type 0
+IsShort (pos n) = n < 10 ^ 32
+IsShort (negsuc n) = n + 1 < 10 ^ 31
+
+-- an event whose values are within their ranges
+pub record IsEvent (event : Event) : Type 0 where
+  pub node : IsName (site_of event)
+  pub master : IfSome (named_master event) IsName
+  pub moment : IfSome (true_moment event) (λ time. time < bound)
+  pub step : IfSome (step_of event) IsShort
+
+-- an outcome whose values are within their ranges
+abbrev pub IsOut : TraceOut → Type 0
+IsOut outs.Done = Unit {0}
+IsOut (outs.Made octets) = (length octets.items ≤ 54) × IsBytes octets.items
+IsOut outs.Entered = Unit {0}
+IsOut outs.Held = Unit {0}
+IsOut outs.Completed = Unit {0}
+IsOut (outs.Report report) = IsShort report.offset2 × IsShort report.path2
+IsOut (outs.Ignored code) = code < 65536
+IsOut (outs.Refused code) = code < 65536
+
+-- what may be recorded of an event: its values are within their ranges, and it has a reading where the event has a true moment
+pub record IsRecorded (line : TraceLine) : Type 0 where
+  pub event : IsEvent line.event
+  pub timed : is_some line.reading ≡ is_some (true_moment line.event)
+  pub reading : IfSome line.reading (λ time. time < bound)
+  pub out : IsOut line.out
+
+-- the settings of a port within their ranges
+pub record IsConfig (config : PortConfig) : Type 0 where
+  pub clock : (length config.identity.clock ≡ 8) × IsBytes config.identity.clock
+  pub port : config.identity.port < 65536
+  pub domain : config.domain < 256
+  pub log : (negsuc 127 ≤ℤ config.log) × (config.log ≤ℤ pos 127)
+
+-- what a node is, its settings within their ranges
+abbrev pub IsKind : NodeKind → Type 0
+IsKind (kinds.Master config first) = IsConfig config × (first.0 < 65536)
+IsKind (kinds.Slave config first) = IsConfig config × (first.0 < 65536)
+IsKind kinds.Clock = Unit {0}
+
+-- a node within these ranges, by a name
+abbrev pub IsNode : NodeSpec → Type 0
+IsNode node = IsName node.name × IsKind node.kind
+
+-- the line of each such node is read as it was written, in a schedule and in a transcript
+abbrev pub NodesReadBack : Type 0
+NodesReadBack =
+    (node : NodeSpec) → IsNode node
+    → (line_of (node_data node) ≡ Some (schedules.Node node)) × (transcript_line_of (node_data node) ≡ Some (lines.Node node))
+
+-- each line that tells what may be recorded is read as it was written
+abbrev pub EventsReadBack : Type 0
+EventsReadBack = (n : ℕ) (line : TraceLine) → IsRecorded line → transcript_line_of (event_data n line) ≡ Some (lines.Event n line)
+
+-- a line of a schedule whose values are within their ranges
+abbrev pub IsLine : Line → Type 0
+IsLine (schedules.Node node) = IsNode node
+IsLine (schedules.Event event) = IsEvent event
+
+-- a line of a transcript whose values are within their ranges
+abbrev pub IsTranscriptLine : TranscriptLine → Type 0
+IsTranscriptLine (lines.Node node) = IsNode node
+IsTranscriptLine (lines.Event n line) = IsRecorded line
+
+-- whatever is read is within its ranges
+abbrev pub ReadsInRange : Type 0
+ReadsInRange = (d : Data) → IfSome (line_of d) IsLine × IfSome (transcript_line_of d) IsTranscriptLine

@@ -1,0 +1,19 @@
+//! Laws that follow from the definitions, each the contract of a function that does nothing: a caller
+//! that needs one in its proof calls it.
+
+ghost use Rattle.schedule_lines.specs.Recorded.{EventsReadBack, NodesReadBack, ReadsInRange};
+
+/// What is written of a node is read as that node, and what is written of an event as the number and
+/// what was recorded that it was written from, for all values that are within their ranges.
+pub fn written_lines_are_read()
+    ensures nodes { NodesReadBack }
+    ensures events { EventsReadBack }
+{}
+
+/// Whatever is read is within its ranges: names are names, moments are below 2^48 s, texts of numbers
+/// have 32 octets at the most, a message has at most 54 octets, and a reading stands where there is a
+/// true moment and nowhere else. So each line of a transcript that is read can be written and read
+/// again.
+pub fn read_lines_are_in_range()
+    ensures { ReadsInRange }
+{}
