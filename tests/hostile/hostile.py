@@ -17,7 +17,7 @@ import sys
 import inputs
 
 # A subcommand joins here once the program has it.
-SUBCOMMANDS = ['show']
+SUBCOMMANDS = ['show', 'replay']
 
 INPUTS = 20_000
 SEED = 1588
