@@ -17,7 +17,7 @@ import sys
 import inputs
 
 # A subcommand joins here once the program has it.
-SUBCOMMANDS = ['show']
+SUBCOMMANDS = ['show', 'replay']
 
 INPUTS = 20_000
 SEED = 1588
@@ -139,7 +139,7 @@ def files_for(subcommand):
 
 def try_all(subcommand, count):
     """Runs so many inputs, and answers how many had which answer."""
-    maker = inputs.datagrams if subcommand == 'show' else inputs.objects
+    maker = {'show': inputs.datagrams, 'replay': inputs.schedules, 'check': inputs.objects}[subcommand]
     made = inputs.inputs(SEED, maker, files_for(subcommand), count)
     seen = collections.Counter()
     with concurrent.futures.ThreadPoolExecutor(AT_ONCE) as pool:

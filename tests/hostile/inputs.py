@@ -92,15 +92,15 @@ def change_lines(rng, lines):
         elif what == 3 and lines:
             one, other = rng.randrange(len(lines)), rng.randrange(len(lines))
             lines[one], lines[other] = lines[other], lines[one]
-        else:
+        elif rng.random() < 0.2:
             lines.insert(first, b'')
     return lines
 
 
-def join(rng, lines):
-    """The text of the lines, most of them ended as usual."""
+def join(rng, lines, odd_ends):
+    """The text of the lines, most of them ended as usual; so many texts have other ends among them."""
     text = bytearray()
-    odd = rng.random() < 0.3
+    odd = rng.random() < odd_ends
     for line in lines:
         text += line + (rng.choice(ENDS) if odd and rng.random() < 0.2 else b'\n')
     if rng.random() < 0.2:
@@ -137,7 +137,7 @@ def datagrams(rng, files):
     made = [change_datagram(rng, rng.choice(lines)) for _ in range(rng.choice([1, 5, 40]))]
     if rng.random() < 0.1:
         made.insert(rng.randint(0, len(made)), rng.choice(b'0f') .to_bytes(1, 'big') * rng.choice([0, 1, 4094, 4095, 4096, 4097, 5000]))
-    text = join(rng, made)
+    text = join(rng, made, 0.3)
     return change_octets(rng, text) if rng.random() < 0.3 else text
 
 
@@ -180,6 +180,59 @@ def change_object(rng, line):
     return ('{' + (space + ',').join(f'{key}:{space}{value}' for key, value in members) + '}').encode()
 
 
+# The nodes of a network: two masters, two slaves and two clocks.
+NODES = [{'node': name, 'kind': kind, 'id': f'001122fffe33445{place}', 'port': 1, 'domain': 0, 'first': 65530, 'log': 0}
+         for place, (name, kind) in enumerate([('M', 'master'), ('N', 'master'), ('S', 'slave'), ('R', 'slave')])]
+NODES += [{'node': name, 'kind': 'clock'} for name in 'TU']
+
+
+def happen(rng, kind, place, world):
+    """An event of this kind at this place, of which most can happen in the world of those before it: the copies that were made, the
+    stays in clocks, the nodes of which a message waits for its departure time, and the true time."""
+    copies, stays, waits, time = world
+    if kind in ('enter', 'arrive', 'hear') and not copies or kind == 'leave' and not stays:
+        kind = 'sync'
+    node = rng.choice({'sync': 'MN', 'syncone': 'MN', 'follow': 'MN', 'enter': 'TU', 'arrive': 'MNSR', 'stepclock': 'MNSRTU'}.get(kind, 'SR'))
+    if kind in ('follow', 'stamped') and node not in waits:
+        kind = {'follow': 'sync', 'stamped': 'request'}[kind]
+    event = {'ev': kind, 'node': node}
+    if kind == 'leave':
+        event['node'], event['transit'] = stays.pop(rng.randrange(len(stays)))
+    elif kind == 'enter':
+        stays.append((node, place))
+    if kind in ('enter', 'arrive', 'hear'):
+        event['copy'] = rng.choice(copies[-8:])
+    elif kind == 'setmaster':
+        event['master'] = rng.choice('MN')
+    elif kind == 'stepclock':
+        event['diff'] = rng.choice(['0', '1', '-1', '65536000', '-65536000'])
+    if kind in ('sync', 'syncone', 'request', 'enter', 'leave', 'arrive'):
+        event['at'] = [time // 10**9, time % 10**9, rng.randrange(65536)]
+    if kind in ('sync', 'syncone', 'follow', 'request', 'leave') or kind == 'arrive' and node in 'MN':
+        copies.append(place)
+    if kind in ('sync', 'request'):
+        waits.add(node)
+    elif kind in ('follow', 'stamped'):
+        waits.discard(node)
+    return event
+
+
+def walk(rng):
+    """A schedule in which most events can happen."""
+    lines, copies, stays, waits, time = list(NODES), [], [], set(), 10**9
+    for place in range(rng.choice([5, 20, 80])):
+        time += rng.choice([1, 500, 10**9])
+        lines.append(happen(rng, rng.choice(EVENTS), place, (copies, stays, waits, time)))
+    return [json.dumps(line).encode() for line in lines]
+
+
+def schedules(rng, files):
+    """A schedule, as it is or changed."""
+    if rng.random() < 0.5:
+        return objects(rng, files)
+    return b'\n'.join(walk(rng)) if rng.random() < 0.5 else objects(rng, [b'\n'.join(walk(rng))])
+
+
 def objects(rng, files):
     """The lines of one file, in another order, some with other keys and values, and perhaps other octets."""
     lines = change_lines(rng, rng.choice(files).splitlines())
@@ -189,8 +242,8 @@ def objects(rng, files):
             lines[place] = change_object(rng, lines[place])
     if rng.random() < 0.05:
         lines.insert(rng.randint(0, len(lines)), b' ' * rng.choice([4095, 4096, 4097]))
-    text = join(rng, lines)
-    return change_octets(rng, text) if rng.random() < 0.3 else text
+    text = join(rng, lines, 0.1)
+    return change_octets(rng, text) if rng.random() < 0.2 else text
 
 
 def inputs(seed, maker, files, count):
