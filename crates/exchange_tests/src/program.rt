@@ -195,7 +195,7 @@ fn says_which_device_failed(rt: HostRuntime) -> Result<(), Fail> {
 }
 
 /// What stands in the help of the program, and of `show`.
-const WHOLE_HELP: &str = "Usage: ptpx <COMMAND>\n\nCommands:\n  show  Print the datagrams";
+const WHOLE_HELP: &str = "Usage: ptpx <COMMAND>\n\nCommands:\n  show    Print the datagrams";
 
 const SHOW_HELP: &str = "one a line\n\nUsage: ptpx show\n";
 
