@@ -1,5 +1,5 @@
 -- Lines of a schedule and of its transcript, worked by hand.
-use Rattle.std.proofs.Common.{◌≡◌, refl, [], ◌∷◌, ◌++◌, codes, Some, None, Ok, Err}
+use Rattle.std.proofs.Common.{◌≡◌, refl, [], ◌∷◌, ◌++◌, codes, Ok, Err}
 use Rattle.std.specs.Str.{is_utf8, chars}
 use Rattle.serde_json.proofs.OnLiterals.{serde_json_on_literals}
 use Rattle.network_model.specs.declared.event.Event.TheVariants as events
