@@ -74,6 +74,30 @@ fn shows_with_status_0(rt: HostRuntime) -> Result<(), Fail> {
     Ok(())
 }
 
+/// A clock and its first event, which no clock may have.
+const SCHEDULE: &[u8] = b"{\"node\":\"T\",\"kind\":\"clock\"}\n{\"ev\":\"tick\",\"node\":\"T\"}\n";
+
+const CLOCK: &[u8] = b"{\"kind\":\"clock\",\"node\":\"T\"}\n";
+
+#[test]
+fn replays_with_status_0_or_3(rt: HostRuntime) -> Result<(), Fail> {
+    let cases: [(&[u8], u8, &[u8], &[u8]); 4] = [
+        (b"", 0, b"", b""),
+        (CLOCK, 0, CLOCK, b""),
+        (SCHEDULE, 3, CLOCK, b"ptpx: fault 807 (604) at line 2\n"),
+        (SYNC, 3, b"", b"ptpx: fault 805 at line 1\n"),
+    ];
+    for (input, status, output, said) in cases {
+        for line in ["ptpx replay", "ptpx replay --"] {
+            let ended = run(rt.alloc(), line, input)?;
+            assert_eq!(rt; ended.status, status, "{input:?}");
+            assert_eq!(rt; ended.output.as_slice(), output, "{input:?}");
+            assert_eq!(rt; ended.errors.as_slice(), said, "{input:?}");
+        }
+    }
+    Ok(())
+}
+
 #[test]
 fn says_faults_with_status_3(rt: HostRuntime) -> Result<(), Fail> {
     let long = [b'0'; 4097];
@@ -171,12 +195,12 @@ fn says_which_device_failed(rt: HostRuntime) -> Result<(), Fail> {
 }
 
 /// What stands in the help of the program, and of `show`.
-const WHOLE_HELP: &str = "Usage: ptpx <COMMAND>\n\nCommands:\n  show  Print the datagrams";
+const WHOLE_HELP: &str = "Usage: ptpx <COMMAND>\n\nCommands:\n  show    Print the datagrams";
 
 const SHOW_HELP: &str = "one a line\n\nUsage: ptpx show\n";
 
 /// Arguments that ask for help, and what stands in the text.
-const HELPS: [(&str, &str); 9] = [
+const HELPS: [(&str, &str); 11] = [
     ("ptpx --help", WHOLE_HELP),
     ("ptpx -h", WHOLE_HELP),
     ("ptpx help", WHOLE_HELP),
@@ -185,6 +209,8 @@ const HELPS: [(&str, &str); 9] = [
     ("ptpx help show", SHOW_HELP),
     ("ptpx show --help", SHOW_HELP),
     ("other show -h", SHOW_HELP),
+    ("ptpx help replay", "Usage: ptpx replay\n"),
+    ("ptpx replay --help", "Usage: ptpx replay\n"),
     ("ptpx help help", "Usage: ptpx help [COMMAND]..."),
 ];
 
@@ -240,7 +266,7 @@ fn says_in_help_what_is_read_and_written(rt: HostRuntime) -> Result<(), Fail> {
 const MISTAKES: [(&str, &str); 15] = [
     (
         "ptpx",
-        "'ptpx' requires a subcommand but one was not provided\n  [subcommands: show, help]\n\nUsage: ptpx <COMMAND>\n",
+        "'ptpx' requires a subcommand but one was not provided\n  [subcommands: show, replay, help]\n\nUsage: ptpx <COMMAND>\n",
     ),
     ("ptpx --", "'ptpx' requires a subcommand"),
     (

@@ -123,10 +123,7 @@ fn stops_at_a_line_that_is_no_json(rt: HostRuntime) -> Result<(), Fail> {
         written.as_slice(),
         joined(rt.alloc(), &TRANSCRIPT[..5])?.as_bytes()
     );
-    assert_eq!(rt;
-        unread,
-        joined(rt.alloc(), &SCHEDULE[6..])?.as_bytes()
-    );
+    assert_eq!(rt; unread, joined(rt.alloc(), &SCHEDULE[6..])?.as_bytes());
     Ok(())
 }
 
@@ -233,7 +230,8 @@ fn nodes_alone_are_written_at_the_end(rt: HostRuntime) -> Result<(), Fail> {
 
 #[test]
 fn refuses_nodes_at_the_first_event(rt: HostRuntime) -> Result<(), Fail> {
-    let other = r#"{"domain":1,"first":7,"id":"001122FFFE334455","kind":"slave","log":0,"node":"Z","port":1}"#;
+    let other =
+        r#"{"domain":1,"first":7,"id":"001122FFFE334455","kind":"slave","log":0,"node":"Z","port":1}"#;
     let cases = [
         (SCHEDULE[0], WorldRefusal::SameName),
         (other, WorldRefusal::SameIdentity),

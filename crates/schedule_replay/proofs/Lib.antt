@@ -11,6 +11,7 @@ pub mod NodeLines
 pub mod EventLines
 pub mod StageLines
 pub mod ReplayedLines
+pub mod WorkedSchedule
 pub mod ErrorKinds
 pub mod FlagWords
 pub mod SubcommandNames

@@ -1,6 +1,6 @@
 -- How far the lines of a schedule were replayed.
-use Rattle.std.proofs.Common.{◌≡◌, ◌≢◌, ◌⊎◌, inl, inr, ℕ, zero, suc, ◌+◌, ◌<◌, ◌≤◌, List, [], ◌∷◌, ◌++◌, Bool, true, false, length, take, drop, map, Option, Some, None, Ok, refl, sym, ap, ◌∙◌, subst, arith, append-nil, append_assoc, add-one, add-zero, add_comm, length-take-le, take_all, le_refl, true≢false}
-use Rattle.std.specs.Prelude.{reverse, slice_get, IsTrue}
+use Rattle.std.proofs.Common.{◌≡◌, ◌≢◌, inl, inr, ℕ, suc, ◌+◌, ◌≤◌, List, [], ◌∷◌, ◌++◌, Bool, true, false, length, take, drop, map, Option, Some, None, Ok, refl, sym, ap, ◌∙◌, subst, arith, append-nil, append_assoc, add-zero, add_comm, length-take-le, take_all, le_refl}
+use Rattle.std.specs.Prelude.{reverse}
 use Rattle.std.proofs.lemmas.List.{map-append, reverse-append}
 use Rattle.std.specs.Io.KnownBytes.{Appends}
 use Rattle.std.proofs.KnownBytes.{Appends-nil}
@@ -21,10 +21,10 @@ use Rattle.schedule_replay.specs.declared.replaying.Stage.TheVariants.{Nodes, Ev
 use Rattle.schedule_replay.specs.Lines.{lines_of, lfs_in, after_lines, without_cr, reading_fault, LeavesUnread, StopsReading, ReadsLine, IsFromReading}
 use Rattle.schedule_replay.specs.Schedule.{entry_in, AreEntries, schedule_of, FaultsIn, FaultsAt, FaultsAtEnd}
 use Rattle.schedule_replay.specs.Show.{WentOutAs}
-use Rattle.schedule_replay.specs.Replay.{nodes_text, IsEventLine, WritesRun, NodesWentOut, WentOutBefore, StopsAfter, ReplaysAll, ReplaysUntil}
-use Rattle.schedule_replay.specs.Stage.{nodes_of, run_of, begun_of, owed_by, IsStage, HasNodes, HasWorld, IsWorldOf, Follows, TakesLine, WritesAtFault, ShowsFault, IsFromReplaying}
+use Rattle.schedule_replay.specs.Replay.{nodes_text, WritesRun, WentOutBefore, StopsAfter, ReplaysAll, ReplaysUntil}
+use Rattle.schedule_replay.specs.Stage.{nodes_of, run_of, begun_of, owed_by, IsStage, IsWorldOf, Follows, TakesLine, WritesAtFault, ShowsFault}
 use Rattle.schedule_replay.proofs.KnownOctets.{Appends-known}
-use Rattle.schedule_replay.proofs.ShownLines.{IsAt, is_at, within_list, after_lines-more}
+use Rattle.schedule_replay.proofs.ShownLines.{is_at, within_list, after_lines-more}
 
 -- the first lines, which are count, were taken
 pub record HasReplayed (octets held : List ℕ) (count : ℕ) (ended : Bool) (stage : Stage) (left now : Option (List ℕ)) : Type 0 where

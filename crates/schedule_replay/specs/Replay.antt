@@ -1,5 +1,5 @@
 -- What `replay` writes, as a function of the schedule that it reads.
-use Rattle.std.specs.Prelude.{◌≡◌, ◌≢◌, ◌⊎◌, ℕ, ◌+◌, ◌≤◌, List, [], ◌∷◌, ◌++◌, length, take, slice_get, if◌then◌else◌, is_none, Option, Some, None, MatchResult, Result, ⊤}
+use Rattle.std.specs.Prelude.{◌≡◌, ◌⊎◌, ℕ, ◌+◌, ◌≤◌, List, [], ◌∷◌, ◌++◌, length, take, slice_get, if◌then◌else◌, is_none, Option, Some, None, MatchResult, Result, ⊤}
 use Rattle.std.specs.Option.{ForSome}
 use Rattle.network_model.specs.declared.event.Event.{Event}
 use Rattle.network_model.specs.Network.{Network}

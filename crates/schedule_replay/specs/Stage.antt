@@ -15,7 +15,7 @@ use Rattle.schedule_replay.specs.declared.fault.FaultKind.TheVariants.{Read, Wri
 use Rattle.schedule_replay.specs.declared.replaying.Stage.{Stage}
 use Rattle.schedule_replay.specs.declared.replaying.Stage.TheVariants.{Nodes, Events}
 use Rattle.schedule_replay.specs.Counted.{HasFailed, HasNotFailed}
-use Rattle.schedule_replay.specs.Schedule.{entry_in, FaultsIn}
+use Rattle.schedule_replay.specs.Schedule.{entry_in}
 use Rattle.schedule_replay.specs.Replay.{nodes_text, IsEventLine, NodesWentOut}
 use Rattle.schedule_replay.specs.Show.{WentOutAs}
 

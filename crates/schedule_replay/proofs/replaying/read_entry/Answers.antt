@@ -1,4 +1,4 @@
-use Rattle.std.proofs.Common.{◌∙◌, inl, inr, refl, sym, ap, true≢false}
+use Rattle.std.proofs.Common.{◌∙◌, inl, inr, refl, sym, true≢false}
 use Rattle.schedule_replay.proofs.Entries.{entry_read, no_entry}
 use Rattle.schedule_replay.proofs.replaying.read_entry.Goals as goal
 

@@ -1,4 +1,3 @@
-use Rattle.std.proofs.Common.{◌∙◌, ap, Ok}
 use Rattle.std.proofs.lemmas.Result.{err_from_is_err_and}
 use Rattle.schedule_replay.proofs.StageLines.{unread_entry, stopped_event, node_taken, event_taken}
 use Rattle.schedule_replay.proofs.replaying.Stage.after.Goals as goal
