@@ -6,6 +6,9 @@ pub mod Bounds
 pub mod Printing
 pub mod Joining
 pub mod ShownLines
+pub mod Entries
+pub mod NodeLines
+pub mod ReplayedLines
 pub mod ErrorKinds
 pub mod FlagWords
 pub mod SubcommandNames

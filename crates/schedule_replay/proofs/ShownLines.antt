@@ -7,7 +7,7 @@ use Rattle.schedule_replay.proofs.KnownOctets.{Keeps-known, Appends-known}
 use Rattle.schedule_replay.specs.declared.counted.Counted.{Counted}
 use Rattle.schedule_replay.specs.declared.fault.Fault.{Fault}
 use Rattle.schedule_replay.specs.declared.fault.FaultKind.{FaultKind}
-use Rattle.schedule_replay.specs.declared.fault.FaultKind.TheVariants.{Read, Write, LineTooLong, TooManyLines, Field, Memory}
+use Rattle.schedule_replay.specs.declared.fault.FaultKind.TheVariants.{Read, Write, LineTooLong, TooManyLines, Json, Field, Refused, Memory}
 use Rattle.schedule_replay.specs.Lines.{lines_of, lfs_in, after_lines, without_cr, reading_fault, LeavesUnread, StopsReading, ReadsLine, IsFromReading}
 use Rattle.schedule_replay.specs.Show.{IsAnswer, line_fault, digits_fault, own_fault, ShowsLines, WentOutAs, IsFaultAt, IsFromAnswering, ShowsAll, ShowsUntil}
 
@@ -23,16 +23,16 @@ pub record HasShown (octets held : List ℕ) (count : ℕ) (ended : Bool) (left 
 
 -- ---- lists at a place
 
-within_list : {A : Type 0} (k : ℕ) (xs : List A) → drop k xs ≡ [] → k ≤ length xs → k ≡ length xs
+pub within_list : {A : Type 0} (k : ℕ) (xs : List A) → drop k xs ≡ [] → k ≤ length xs → k ≡ length xs
 within_list k xs e within = let left = ap length e in omega (arith, simp length-drop at left)
 
-record IsAt {A : Type 0} (k : ℕ) (xs : List A) (y : A) (ys : List A) : Type 0 where
-  at : slice_get xs k ≡ Some y
-  within : k < length xs
-  upto : take (k + 1) xs ≡ take k xs ++ y ∷ []
-  behind : drop (k + 1) xs ≡ ys
+pub record IsAt {A : Type 0} (k : ℕ) (xs : List A) (y : A) (ys : List A) : Type 0 where
+  pub at : slice_get xs k ≡ Some y
+  pub within : k < length xs
+  pub upto : take (k + 1) xs ≡ take k xs ++ y ∷ []
+  pub behind : drop (k + 1) xs ≡ ys
 
-is_at : {A : Type 0} (k : ℕ) (xs : List A) (y : A) (ys : List A) → drop k xs ≡ y ∷ ys → IsAt k xs y ys
+pub is_at : {A : Type 0} (k : ℕ) (xs : List A) (y : A) (ys : List A) → drop k xs ≡ y ∷ ys → IsAt k xs y ys
 is_at zero [] y ys e = absurd cc
 is_at zero (x ∷ xs) y ys e = record { at = cc; within = omega arith; upto = cc; behind = cc }
 is_at (suc k) [] y ys e = absurd cc
@@ -49,7 +49,7 @@ after_lines-suc : (count : ℕ) (octets : List ℕ) → after_lines (suc count) 
 after_lines-suc zero octets = refl
 after_lines-suc (suc count) octets = after_lines-suc count (drop_through 10 octets)
 
-after_lines-more : (count : ℕ) (octets : List ℕ) → after_lines (count + 1) octets ≡ after_lines 1 (after_lines count octets)
+pub after_lines-more : (count : ℕ) (octets : List ℕ) → after_lines (count + 1) octets ≡ after_lines 1 (after_lines count octets)
 after_lines-more count octets = rw add-one (after_lines-suc count octets)
 
 -- one line more is shown after the others
@@ -138,7 +138,9 @@ stopped_reading octets held count left left' now TooManyLines input input' so_fa
     let place = is_at count (lines_of octets) line others (so_far.rest ∙ cut) in
     until octets held count left left' now now TooManyLines so_far so_far.output (rw place.at (at_reading (count + 1) line TooManyLines fault)) unread
 stopped_reading octets held count left left' now Write input input' so_far stops allowed = absurd allowed
+stopped_reading octets held count left left' now Json input input' so_far stops allowed = absurd allowed
 stopped_reading octets held count left left' now Field input input' so_far stops allowed = absurd allowed
+stopped_reading octets held count left left' now Refused input input' so_far stops allowed = absurd allowed
 stopped_reading octets held count left left' now Memory input input' so_far stops allowed = absurd allowed
 
 pub stopped_answering : (octets held : List ℕ) (count : ℕ) (ended : Bool) (left left' now now' : Option (List ℕ)) (line : List ℕ) (what : FaultKind) {W : Type 0} (output output' : Counted W)
@@ -155,6 +157,8 @@ stopped_answering octets held count ended left left' now now' line Memory output
     let place = is_at count (lines_of octets) line _ (so_far.rest ∙ cut) in
     until octets held count left left' now now' Memory so_far (Keeps-known now now' _ out so_far.output) (rw place.at (at_answering (count + 1) line Memory read own)) behind
 stopped_answering octets held count ended left left' now now' line Read output output' so_far read own out allowed = absurd allowed
+stopped_answering octets held count ended left left' now now' line Json output output' so_far read own out allowed = absurd allowed
+stopped_answering octets held count ended left left' now now' line Refused output output' so_far read own out allowed = absurd allowed
 stopped_answering octets held count ended left left' now now' line LineTooLong output output' so_far read own out allowed = absurd allowed
 stopped_answering octets held count ended left left' now now' line TooManyLines output output' so_far read own out allowed = absurd allowed
 

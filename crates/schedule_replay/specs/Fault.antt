@@ -3,7 +3,9 @@ use Rattle.std.specs.Prelude.{ℕ, MatchResult, Result}
 use Rattle.schedule_replay.specs.declared.counted.Counted.{Counted}
 use Rattle.schedule_replay.specs.declared.fault.Fault.{Fault}
 use Rattle.schedule_replay.specs.declared.fault.FaultKind.{FaultKind}
-use Rattle.schedule_replay.specs.declared.fault.FaultKind.TheVariants.{Read, Write, LineTooLong, TooManyLines, Field, Memory}
+use Rattle.schedule_replay.specs.declared.fault.FaultKind.TheVariants.{Read, Write, LineTooLong, TooManyLines, Json, Field, Refused, Memory}
+use Rattle.network_model.specs.declared.refusal.WorldRefusal.{WorldRefusal}
+use Rattle.network_model.specs.declared.refusal.WorldRefusal.TheVariants as refusals
 use Rattle.schedule_replay.specs.Counted.{HasFailed, HasNotFailed}
 
 -- the number of a fault
@@ -12,8 +14,22 @@ code_of Read = 801
 code_of Write = 802
 code_of LineTooLong = 803
 code_of TooManyLines = 804
+code_of Json = 805
 code_of Field = 806
+code_of Refused = 807
 code_of Memory = 808
+
+-- the fault by which the refusal of a network or of an event is told
+abbrev pub fault_of : WorldRefusal → FaultKind
+fault_of refusals.SameName = Refused
+fault_of refusals.SameIdentity = Refused
+fault_of refusals.NoNode = Refused
+fault_of refusals.WrongKind = Refused
+fault_of refusals.NoCopy = Refused
+fault_of refusals.NoTransit = Refused
+fault_of refusals.ReadingOutOfRange = Refused
+fault_of refusals.NothingWaiting = Refused
+fault_of refusals.Memory = Memory
 
 -- which of the two devices failed where this is answered
 abbrev pub FailedAs : {R W : Type 0} → FaultKind → (input input' : Counted R) (output output' : Counted W) → Type 0

@@ -4,5 +4,8 @@ pub mod OctetReader
 pub mod Lines
 pub mod Shown
 pub mod Show
+pub mod Schedule
+pub mod Replay
+pub mod Stage
 pub mod Words
 pub mod Program

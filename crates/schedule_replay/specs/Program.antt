@@ -5,12 +5,16 @@ use Rattle.schedule_replay.specs.declared.counted.Counted.{Counted}
 use Rattle.schedule_replay.specs.Counted.{device_of, HasFailed, HasNotFailed}
 use Rattle.schedule_replay.specs.Fault.{FailedWith}
 use Rattle.schedule_replay.specs.declared.fault.Fault.{Fault}
-use Rattle.schedule_replay.specs.declared.words.Subcommand.TheVariants.{Show}
+use Rattle.schedule_replay.specs.declared.words.Subcommand.TheVariants.{Show, Replay}
 use Rattle.schedule_replay.specs.Words.{Names, NamesNothing, HasHelpFlag, BeginsWithHelp}
 
 -- the arguments ask for `show`
 abbrev pub AsksShow : List (List ℕ) → Type 0
 AsksShow words = Names words Show
+
+-- the arguments ask for `replay`
+abbrev pub AsksReplay : List (List ℕ) → Type 0
+AsksReplay words = Names words Replay
 
 -- the arguments ask for no subcommand and no help
 abbrev pub AsksNothing : List (List ℕ) → Type 0

@@ -1,7 +1,8 @@
 ghost use Rattle.std.specs.Prelude.{◌≡◌};
 ghost use Rattle.schedule_replay.specs.declared.fault.FaultKind.TheVariants.{Memory};
 
-use std::alloc::AllocError;
+use network_model::WorldRefusal;
+use std::alloc::{AllocError, AllocFailed};
 use thiserror::Error;
 
 /// A fault that ended the reading of lines, and where. The display text says both in words.
@@ -30,9 +31,15 @@ pub enum FaultKind {
     /// There is an octet after the last line that is allowed, the 1,048,576th.
     #[error("804")]
     TooManyLines,
+    /// A line isn't UTF-8 or isn't JSON.
+    #[error("805")]
+    Json,
     /// A line isn't what is asked for.
     #[error("806")]
     Field,
+    /// The nodes are no network, or an event can't happen in it.
+    #[error("807")]
+    Refused,
     /// Memory was refused.
     #[error("808")]
     Memory,
@@ -50,7 +57,9 @@ impl FaultKind {
             FaultKind::Write => 802,
             FaultKind::LineTooLong => 803,
             FaultKind::TooManyLines => 804,
+            FaultKind::Json => 805,
             FaultKind::Field => 806,
+            FaultKind::Refused => 807,
             FaultKind::Memory => 808,
         }
     }
@@ -62,7 +71,9 @@ impl FaultKind {
             FaultKind::Write => "the output can't be written",
             FaultKind::LineTooLong => "the line has more than 4096 octets",
             FaultKind::TooManyLines => "an octet comes after the last of 1048576 lines",
+            FaultKind::Json => "the line isn't JSON",
             FaultKind::Field => "the line isn't what is asked for",
+            FaultKind::Refused => "the nodes or the event are refused",
             FaultKind::Memory => "memory was refused",
         }
     }
@@ -72,6 +83,34 @@ impl From<AllocError> for FaultKind {
     ghost from_gives = { λ _ kind. kind ≡ Memory };
 
     fn from(_refused: AllocError) -> FaultKind {
+        FaultKind::Memory
+    }
+}
+
+impl From<WorldRefusal> for FaultKind {
+    ghost use Rattle.schedule_replay.specs.Fault.{fault_of};
+
+    ghost from_gives = { λ why kind. kind ≡ fault_of why };
+
+    fn from(why: WorldRefusal) -> FaultKind {
+        match why {
+            WorldRefusal::Memory => FaultKind::Memory,
+            WorldRefusal::SameName
+            | WorldRefusal::SameIdentity
+            | WorldRefusal::NoNode
+            | WorldRefusal::WrongKind
+            | WorldRefusal::NoCopy
+            | WorldRefusal::NoTransit
+            | WorldRefusal::ReadingOutOfRange
+            | WorldRefusal::NothingWaiting => FaultKind::Refused,
+        }
+    }
+}
+
+impl<T: Drop> From<AllocFailed<T>> for FaultKind {
+    ghost from_gives = { λ _ kind. kind ≡ Memory };
+
+    fn from(_refused: AllocFailed<T>) -> FaultKind {
         FaultKind::Memory
     }
 }

@@ -87,6 +87,17 @@ impl Lines {
         }
     }
 
+    /// A fault after the last line.
+    pub(crate) fn fault_after(&self, what: FaultKind) -> Fault
+        ensures line { result.line ≡ self.now.count + 1 }
+        ensures what { result.what ≡ what }
+    {
+        Fault {
+            line: self.count + 1,
+            what,
+        }
+    }
+
     /// Reads the next line, and answers whether there was one. A fault stands at that line, which
     /// is partly read then; no more than one octet after the limits is read, and none after the
     /// end of the input.

@@ -1,13 +1,15 @@
 ghost use Rattle.std.specs.Prelude.{◌≡◌, ◌≢◌, ◌⊎◌, map, string_bytes};
 ghost use Rattle.std.specs.Option.{ForSome};
-ghost use Rattle.schedule_replay.specs.Program.{AsksShow, AsksNothing, EndsRun, EndsUnread, status_of};
+ghost use Rattle.schedule_replay.specs.Program.{AsksShow, AsksReplay, AsksNothing, EndsRun, EndsUnread, status_of};
 ghost use Rattle.schedule_replay.specs.Lines.{input_limit, ReadsWithin};
 ghost use Rattle.schedule_replay.specs.Counted.{device_of};
 ghost use Rattle.schedule_replay.specs.Show.{ShowsAnswer};
+ghost use Rattle.schedule_replay.specs.Replay.{ReplaysAnswer};
 ghost use Rattle.schedule_replay.specs.Words.{HasHelpFlag, NamesNothing};
 
 use crate::counted::Counted;
 use crate::fault::{Fault, FaultKind};
+use crate::replaying::replay;
 use crate::showing::show;
 use crate::words::{Invocation, Subcommand, parse};
 use std::alloc::Global;
@@ -30,6 +32,10 @@ pub fn command<R: Read, W: Write, E: Write>(
     ensures show { AsksShow (map string_bytes words.now) →
         EndsRun (λ answer. ShowsAnswer R.remaining W.contents answer input.old input.new output.old output.new)
         result input.old input.new output.old output.new }
+    // They are those of `replay`, where the arguments ask for that.
+    ensures replay { AsksReplay (map string_bytes words.now) →
+        EndsRun (λ answer. ReplaysAnswer R.remaining W.contents answer input.old input.new output.old output.new)
+        result input.old input.new output.old output.new }
     // Whatever the arguments are, only so much is read of a reader that tells its octets.
     ensures bounded { ForSome (R.remaining (device_of input.old)) (λ octets.
         ReadsWithin input_limit octets (R.remaining (device_of input.new))) }
@@ -44,6 +50,7 @@ pub fn command<R: Read, W: Write, E: Write>(
 {
     match parse(alloc, words) {
         Ok(Invocation::Run(Subcommand::Show)) => finish(errors, show(alloc, input, output)),
+        Ok(Invocation::Run(Subcommand::Replay)) => finish(errors, replay(alloc, input, output)),
         Ok(Invocation::Help(text)) => match output.write_all(text.as_bytes()) {
             Ok(()) => 0,
             Err(_) => report(errors, before_lines(FaultKind::Write)),

@@ -16,6 +16,8 @@ use std::alloc::{AllocError, Global};
 pub(crate) enum Subcommand {
     /// Print the datagrams that standard input gives in hexadecimal.
     Show,
+    /// Print what comes of the schedule that standard input gives.
+    Replay,
 }
 
 /// What the arguments ask for.
@@ -52,12 +54,16 @@ fn program<'a>(alloc: Global) -> Result<Command<'a>, AllocError>
         "Print the datagrams that standard input gives in hexadecimal, one a line",
         help::SHOW,
     );
+    let replay = Command::new(alloc, "replay").about(
+        "Print what comes of the nodes and events that standard input gives, one a line",
+    );
     Command::new(alloc, "ptpx")
         .bin_name("ptpx")?
         .about("The delay request-response exchange of the Precision Time Protocol (IEEE 1588)")
         .after_help(help::PROGRAM)
         .subcommand_required(true)
-        .subcommand(show)
+        .subcommand(show)?
+        .subcommand(replay)
 }
 
 /// Reads the arguments, of which the first is the program's own name. Memory fails by `AllocError`.
@@ -77,6 +83,7 @@ fn chosen(matches: &ArgMatches<'_>) -> Subcommand
 {
     match matches.subcommand_name() {
         Some("show") => Subcommand::Show,
+        Some("replay") => Subcommand::Replay,
         _ => unreachable!(),
     }
 }

@@ -1,0 +1,82 @@
+-- How the lines of nodes go out, and what is known where they don't.
+use Rattle.std.proofs.Common.{◌≡◌, ◌∙◌, ◌⊎◌, inl, inr, refl, sym, ap, ℕ, zero, suc, ◌+◌, List, [], ◌∷◌, ◌++◌, Option, Some, None, length, take, append_assoc, append-nil, add-one, ◌<◌, get_or, arith}
+use Rattle.std.specs.Prelude.{is_none, if◌then◌else◌}
+use Rattle.std.specs.Io.KnownBytes.{Appends, Keeps}
+use Rattle.std.proofs.KnownBytes.{Appends-nil, Appends-trans}
+use Rattle.network_model.specs.declared.node.NodeSpec.{NodeSpec}
+use Rattle.network_model.specs.declared.refusal.WorldRefusal.{WorldRefusal}
+use Rattle.network_model.specs.declared.refusal.WorldRefusal.TheVariants.{SameName, SameIdentity, NoNode, WrongKind, NoCopy, NoTransit, ReadingOutOfRange, NothingWaiting, Memory}
+use Rattle.network_model.specs.Network.{Network}
+use Rattle.network_model.specs.Clash.{first_clash}
+use Rattle.schedule_lines.specs.Transcript.{node_data, line_text}
+use Rattle.schedule_replay.specs.declared.fault.FaultKind.{FaultKind}
+use Rattle.schedule_replay.specs.declared.fault.FaultKind.TheVariants as kinds
+use Rattle.schedule_replay.specs.Fault.{fault_of}
+use Rattle.schedule_replay.specs.Schedule.{FaultsAtEnd}
+use Rattle.schedule_replay.specs.Replay.{nodes_text, NodesWentOut}
+use Rattle.schedule_replay.specs.Show.{WentOutAs}
+use Rattle.schedule_replay.specs.Stage.{LeavesUnwritten}
+
+-- what is appended and then kept was appended
+pub Appends-kept : (a b c : Option (List ℕ)) (bs : List ℕ) → Appends a b bs → Keeps b c → Appends a c bs
+Appends-kept None b c bs h k = tt
+Appends-kept (Some x) None c bs h k = absurd h
+Appends-kept (Some x) (Some y) None bs h k = absurd k
+Appends-kept (Some x) (Some y) (Some z) bs h k = k ∙ h
+
+-- one node more
+pub nodes_text-more : (count : ℕ) (nodes : Network) (node : NodeSpec) → count < length nodes → node ≡ get_or nodes count node
+    → nodes_text (take (count + 1) nodes) ≡ nodes_text (take count nodes) ++ line_text (node_data node)
+nodes_text-more count [] node within is = absurd (omega arith)
+nodes_text-more zero (first ∷ others) node within is =
+    append-nil (line_text (node_data first)) ∙ ap (λ (n : NodeSpec). line_text (node_data n)) (sym is)
+nodes_text-more (suc count) (first ∷ others) node within is =
+    let more = nodes_text-more count others node (omega arith) is in
+    rw add-one (ap (λ text. line_text (node_data first) ++ text) (rw add-one at more)
+    ∙ sym (append_assoc (line_text (node_data first)) (nodes_text (take count others)) (line_text (node_data node))))
+
+-- what is said of nodes whose lines didn't all go out
+abbrev pub Unbegun : FaultKind → Network → Option (List ℕ) → Option (List ℕ) → Type 0
+Unbegun kind nodes before after =
+    FaultsAtEnd kind nodes × ((written : List ℕ) × NodesWentOut kind nodes written × WentOutAs kind (Appends before after written))
+
+clashes : (why : WorldRefusal) (nodes : Network) (at : Option (List ℕ)) → fault_of why ≡ kinds.Refused → first_clash nodes ≡ Some why
+    → Unbegun kinds.Refused nodes at at
+clashes why nodes at is clash = ((why, clash), ([], rw clash refl, Appends-nil at))
+
+pub no_network : (why : WorldRefusal) (nodes : Network) (at : Option (List ℕ)) → (why ≡ Memory) ⊎ (first_clash nodes ≡ Some why)
+    → Unbegun (fault_of why) nodes at at
+no_network Memory nodes at h = (tt, ([], (0, refl), Appends-nil at))
+no_network SameName nodes at (inl e) = absurd cc
+no_network SameIdentity nodes at (inl e) = absurd cc
+no_network NoNode nodes at (inl e) = absurd cc
+no_network WrongKind nodes at (inl e) = absurd cc
+no_network NoCopy nodes at (inl e) = absurd cc
+no_network NoTransit nodes at (inl e) = absurd cc
+no_network ReadingOutOfRange nodes at (inl e) = absurd cc
+no_network NothingWaiting nodes at (inl e) = absurd cc
+no_network SameName nodes at (inr clash) = clashes SameName nodes at refl clash
+no_network SameIdentity nodes at (inr clash) = clashes SameIdentity nodes at refl clash
+no_network NoNode nodes at (inr clash) = clashes NoNode nodes at refl clash
+no_network WrongKind nodes at (inr clash) = clashes WrongKind nodes at refl clash
+no_network NoCopy nodes at (inr clash) = clashes NoCopy nodes at refl clash
+no_network NoTransit nodes at (inr clash) = clashes NoTransit nodes at refl clash
+no_network ReadingOutOfRange nodes at (inr clash) = clashes ReadingOutOfRange nodes at refl clash
+no_network NothingWaiting nodes at (inr clash) = clashes NothingWaiting nodes at refl clash
+
+-- memory was refused after the lines of so many nodes
+pub no_memory : (count : ℕ) (nodes : Network) (before after : Option (List ℕ)) → Appends before after (nodes_text (take count nodes))
+    → Unbegun kinds.Memory nodes before after
+no_memory count nodes before after so_far = (tt, (nodes_text (take count nodes), (count, refl), so_far))
+
+-- a line wasn't written after those of so many nodes
+pub no_line : (kind : FaultKind) (count : ℕ) (nodes : Network) (before now after : Option (List ℕ))
+    → Appends before now (nodes_text (take count nodes)) → first_clash nodes ≡ None → LeavesUnwritten kind now after → Unbegun kind nodes before after
+no_line kinds.Memory count nodes before now after so_far network kept = no_memory count nodes before after (Appends-kept before now after _ so_far kept)
+no_line kinds.Write count nodes before now after so_far network kept = (network, ([], tt, tt))
+no_line kinds.Read count nodes before now after so_far network kept = absurd kept
+no_line kinds.LineTooLong count nodes before now after so_far network kept = absurd kept
+no_line kinds.TooManyLines count nodes before now after so_far network kept = absurd kept
+no_line kinds.Json count nodes before now after so_far network kept = absurd kept
+no_line kinds.Field count nodes before now after so_far network kept = absurd kept
+no_line kinds.Refused count nodes before now after so_far network kept = absurd kept

@@ -1,0 +1,200 @@
+-- How far the lines of a schedule were replayed.
+use Rattle.std.proofs.Common.{◌≡◌, ◌≢◌, ◌⊎◌, inl, inr, ℕ, zero, suc, ◌+◌, ◌<◌, ◌≤◌, List, [], ◌∷◌, ◌++◌, Bool, true, false, length, take, drop, map, Option, Some, None, Ok, refl, sym, ap, ◌∙◌, subst, arith, append-nil, append_assoc, add-one, add-zero, add_comm, length-take-le, take_all, le_refl, true≢false}
+use Rattle.std.specs.Prelude.{reverse, slice_get, IsTrue}
+use Rattle.std.proofs.lemmas.List.{map-append}
+use Rattle.std.specs.Io.KnownBytes.{Appends}
+use Rattle.network_model.specs.declared.event.Event.{Event}
+use Rattle.network_model.specs.declared.node.NodeSpec.{NodeSpec}
+use Rattle.network_model.specs.Network.{Network}
+use Rattle.network_model.specs.Run.{Run}
+use Rattle.network_model.specs.Clash.{first_clash}
+use Rattle.world_model.specs.State.{State}
+use Rattle.schedule_lines.specs.declared.entry.Line.{Line}
+use Rattle.schedule_lines.specs.declared.entry.Line.TheVariants as entries
+use Rattle.schedule_replay.specs.declared.counted.Counted.{Counted}
+use Rattle.schedule_replay.specs.declared.fault.Fault.{Fault}
+use Rattle.schedule_replay.specs.declared.fault.FaultKind.{FaultKind}
+use Rattle.schedule_replay.specs.declared.fault.FaultKind.TheVariants.{Read, Write, LineTooLong, TooManyLines, Json, Field, Refused, Memory}
+use Rattle.schedule_replay.specs.declared.replaying.Stage.{Stage}
+use Rattle.schedule_replay.specs.declared.replaying.Stage.TheVariants.{Nodes, Events}
+use Rattle.schedule_replay.specs.Lines.{lines_of, lfs_in, after_lines, without_cr, reading_fault, LeavesUnread, StopsReading, ReadsLine, IsFromReading}
+use Rattle.schedule_replay.specs.Schedule.{entry_in, AreEntries, schedule_of, FaultsIn, FaultsAt, FaultsAtEnd}
+use Rattle.schedule_replay.specs.Show.{WentOutAs}
+use Rattle.schedule_replay.specs.Replay.{nodes_text, IsEventLine, WritesRun, NodesWentOut, WentOutBefore, StopsAfter, ReplaysAll, ReplaysUntil}
+use Rattle.schedule_replay.specs.Stage.{nodes_of, run_of, begun_of, owed_by, IsStage, HasNodes, HasWorld, IsWorldOf, Follows, TakesLine, WritesAtFault, ShowsFault, IsFromReplaying}
+use Rattle.schedule_replay.proofs.KnownOctets.{Appends-known}
+use Rattle.schedule_replay.proofs.ShownLines.{IsAt, is_at, within_list, after_lines-more}
+
+-- the first lines, which are count, were taken
+pub record HasReplayed (octets held : List ℕ) (count : ℕ) (ended : Bool) (stage : Stage) (left now : Option (List ℕ)) : Type 0 where
+  pub schedule : AreEntries 1 (take count (lines_of octets)) (schedule_of (nodes_of stage) (run_of stage))
+  pub text : List ℕ
+  pub transcript : WritesRun (nodes_of stage) (run_of stage) text
+  pub output : now ≡ Some (held ++ (begun_of stage ++ text))
+  pub input : left ≡ Some (after_lines count octets)
+  pub rest : drop count (lines_of octets) ≡ lines_of (after_lines count octets)
+  pub within : count ≤ length (lines_of octets)
+  pub lfs : ended ≡ false → lfs_in octets ≡ lfs_in (after_lines count octets) + count
+
+-- ---- schedules
+
+-- one line more
+AreEntries-push : (number : ℕ) (lines : List (List ℕ)) (line : List ℕ) (schedule : List Line) (entry : Line) → AreEntries number lines schedule
+    → reading_fault (number + length lines) line ≡ None → entry_in (without_cr line) ≡ Ok entry
+    → AreEntries number (lines ++ line ∷ []) (schedule ++ entry ∷ [])
+AreEntries-push number [] line [] entry are fine is = (rw add-zero at fine, is, tt)
+AreEntries-push number [] line (other ∷ schedule) entry are fine is = absurd are
+AreEntries-push number (first ∷ lines) line [] entry are fine is = absurd are
+AreEntries-push number (first ∷ lines) line (other ∷ schedule) entry (read, said, rest) fine is =
+    let place : (number + 1) + length lines ≡ number + suc (length lines) = omega arith in
+    (read, said, AreEntries-push (number + 1) lines line schedule entry rest (rw place fine) is)
+
+schedule_of-node : (nodes : Network) (node : NodeSpec) → schedule_of (nodes ++ node ∷ []) [] ≡ schedule_of nodes [] ++ entries.Node node ∷ []
+schedule_of-node nodes node =
+    append-nil (map entries.Node (nodes ++ node ∷ [])) ∙ map-append entries.Node nodes (node ∷ [])
+    ∙ ap (λ (l : List Line). l ++ entries.Node node ∷ []) (sym (append-nil (map entries.Node nodes)))
+
+schedule_of-event : (nodes : Network) (run : Run) (event : Event) → schedule_of nodes (event ∷ run) ≡ schedule_of nodes run ++ entries.Event event ∷ []
+schedule_of-event nodes run event =
+    ap (λ (l : List Event). map entries.Node nodes ++ map entries.Event l) (reverse-cons event run)
+    ∙ ap (λ (l : List Line). map entries.Node nodes ++ l) (map-append entries.Event (reverse run) (event ∷ []))
+    ∙ sym (append_assoc (map entries.Node nodes) (map entries.Event (reverse run)) (entries.Event event ∷ []))
+
+-- ---- one line more was taken
+
+-- what a line did to the schedule, the transcript and what went out
+record HasTaken (stage next : Stage) (entry : Line) (text written : List ℕ) : Type 0 where
+  schedule : schedule_of (nodes_of next) (run_of next) ≡ schedule_of (nodes_of stage) (run_of stage) ++ entry ∷ []
+  text' : List ℕ
+  transcript : WritesRun (nodes_of next) (run_of next) text'
+  out : (begun_of stage ++ text) ++ written ≡ begun_of next ++ text'
+
+went_out : (stage : Stage) (text line : List ℕ) → WritesRun (nodes_of stage) (run_of stage) text
+    → (begun_of stage ++ text) ++ (owed_by stage ++ line) ≡ nodes_text (nodes_of stage) ++ (text ++ line)
+went_out (Nodes nodes) text line none = rw none refl
+went_out (Events world) text line written = append_assoc (nodes_text world.network) text line
+
+took : (stage next : Stage) (entry : Line) (text written : List ℕ) → WritesRun (nodes_of stage) (run_of stage) text
+    → Follows entry stage next written → HasTaken stage next entry text written
+took stage (Nodes nodes) (entries.Node node) text written so_far (first, unbegun, nodes_are, none) = record {
+  schedule = rw (nodes_are, first) (schedule_of-node (nodes_of stage) node);
+  text' = text;
+  transcript = rw first at so_far;
+  out = rw (unbegun, none) (append-nil text);
+}
+took stage (Events world) (entries.Node node) text written so_far (first, unbegun, nodes_are, none) = absurd nodes_are
+took stage (Nodes nodes) (entries.Event event) text written so_far (world_is, network, line, is_line, all) = absurd world_is
+took stage (Events world) (entries.Event event) text written so_far (world_is, network, line, is_line, all) = record {
+  schedule = rw world_is (schedule_of-event (nodes_of stage) (run_of stage) event);
+  text' = text ++ line;
+  transcript = rw world_is (text, line, so_far, is_line, refl);
+  out = rw (world_is, all) (went_out stage text line so_far);
+}
+
+pub replayed_more : (octets held : List ℕ) (count : ℕ) (ended : Bool) (stage next : Stage) (left left' now now' : Option (List ℕ)) (line written : List ℕ)
+    → HasReplayed octets held count false stage left now → ReadsLine true (count + 1) line ended (after_lines count octets) left'
+    → TakesLine (without_cr line) stage next written → Appends now now' written → HasReplayed octets held (count + 1) ended next left' now'
+replayed_more octets held count ended stage next left left' now now' line written so_far (cut, fine, behind, lf) (entry, is, follows) appended =
+    let place = is_at count (lines_of octets) line _ (so_far.rest ∙ cut) in
+    let more = after_lines-more count octets in
+    let taken = took stage next entry so_far.text written so_far.transcript follows in
+    let (new, now_is, new_is) = Appends-known now now' written (held ++ (begun_of stage ++ so_far.text)) appended so_far.output in
+    record {
+      schedule = rw (place.upto, taken.schedule) (AreEntries-push 1 (take count (lines_of octets)) line _ entry so_far.schedule
+          (rw (length-take-le count (lines_of octets) so_far.within, add_comm 1 count) fine) is);
+      text = taken.text';
+      transcript = taken.transcript;
+      output = now_is ∙ ap Some (new_is ∙ append_assoc held (begun_of stage ++ so_far.text) written ∙ ap (λ t. held ++ t) taken.out);
+      input = behind ∙ ap Some (sym more);
+      rest = place.behind ∙ ap lines_of (sym more);
+      within = omega (arith, place.within);
+      lfs = λ unended. let lfs = so_far.lfs refl in let one = lf unended in rw more (omega (arith, lfs, one));
+    }
+
+-- ---- the end
+
+pub replayed_all : (octets held : List ℕ) (count : ℕ) (ended : Bool) (stage : Stage) (left left' now now' : Option (List ℕ)) (world : State)
+    → HasReplayed octets held count ended stage left now → after_lines count octets ≡ [] → left' ≡ Some []
+    → IsWorldOf stage world → Appends now now' (owed_by stage) → ReplaysAll octets held left' now' (length world.run)
+replayed_all octets held count ended stage left left' now now' world so_far none end (is, network) appended =
+    let all = within_list count (lines_of octets) (so_far.rest ∙ ap lines_of none) so_far.within in
+    let (new, now_is, new_is) = Appends-known now now' (owed_by stage) (held ++ (begun_of stage ++ so_far.text)) appended so_far.output in
+    record {
+      nodes = nodes_of stage;
+      run = run_of stage;
+      schedule = rw (all, take_all (length (lines_of octets)) (lines_of octets) (le_refl _)) at so_far.schedule;
+      network = network;
+      count = ap (λ (w : State). length w.run) is;
+      text = so_far.text;
+      transcript = so_far.transcript;
+      output = now_is ∙ ap Some (new_is ∙ append_assoc held (begun_of stage ++ so_far.text) (owed_by stage)
+          ∙ ap (λ t. held ++ t) (owed stage so_far.text so_far.transcript));
+      input = end;
+    }
+  where
+    owed : (stage : Stage) (text : List ℕ) → WritesRun (nodes_of stage) (run_of stage) text
+        → (begun_of stage ++ text) ++ owed_by stage ≡ nodes_text (nodes_of stage) ++ text
+    owed (Nodes nodes) text empty = rw empty (sym (append-nil (nodes_text nodes.items)))
+    owed (Events world) text written = append-nil (nodes_text world.network ++ text)
+
+-- ---- faults
+
+-- what went out before a fault, of the nodes' lines and of the events'
+went_out_before : (kind : FaultKind) (stage : Stage) (text written : List ℕ) → IsStage stage → WritesRun (nodes_of stage) (run_of stage) text
+    → WritesAtFault kind stage written
+    → (begun : List ℕ) × WentOutBefore kind (nodes_of stage) (run_of stage) begun × ((begun_of stage ++ text) ++ written ≡ begun ++ text)
+went_out_before kind (Nodes nodes) text written is empty out = (written, out, rw empty (sym (append-nil written)))
+went_out_before kind (Events world) text written (begun, network) transcript out = (
+  nodes_text world.network,
+  after_events world.run world.network begun network,
+  rw out (append-nil (nodes_text world.network ++ text)),
+)
+  where
+    after_events : (run : Run) (network : Network) → run ≢ [] → first_clash network ≡ None → WentOutBefore kind network run (nodes_text network)
+    after_events [] network begun fine = absurd (begun refl)
+    after_events (event ∷ earlier) network begun fine = (refl, fine)
+
+-- what the output holds before a fault
+held_until : (kind : FaultKind) (held front text written begun : List ℕ) (now now' : Option (List ℕ)) → now ≡ Some (held ++ (front ++ text))
+    → WentOutAs kind (Appends now now' written) → (front ++ text) ++ written ≡ begun ++ text → WentOutAs kind (now' ≡ Some (held ++ (begun ++ text)))
+held_until kind held front text written begun now now' known out is = go kind out
+  where
+    whole : Appends now now' written → now' ≡ Some (held ++ (begun ++ text))
+    whole appended =
+        let (new, now_is, new_is) = Appends-known now now' written (held ++ (front ++ text)) appended known in
+        now_is ∙ ap Some (new_is ∙ append_assoc held (front ++ text) written ∙ ap (λ t. held ++ t) is)
+
+    go : (kind : FaultKind) → WentOutAs kind (Appends now now' written) → WentOutAs kind (now' ≡ Some (held ++ (begun ++ text)))
+    go Write out = tt
+    go Read out = whole out
+    go LineTooLong out = whole out
+    go TooManyLines out = whole out
+    go Json out = whole out
+    go Field out = whole out
+    go Refused out = whole out
+    go Memory out = whole out
+
+until : (octets held : List ℕ) (count : ℕ) (ended : Bool) (stage : Stage) (left left' now now' : Option (List ℕ)) (what : FaultKind) → IsStage stage
+    → HasReplayed octets held count ended stage left now → ShowsFault what stage now now'
+    → StopsAfter count (nodes_of stage) (run_of stage) octets left' (record { line = count + 1; what = what })
+    → ReplaysUntil octets held left' now' (record { line = count + 1; what = what })
+until octets held count ended stage left left' now now' what is so_far (written, out, went) stops =
+    let (begun, before, whole) = went_out_before what stage so_far.text written is so_far.transcript out in
+    record {
+      earlier = count;
+      line = refl;
+      nodes = nodes_of stage;
+      run = run_of stage;
+      schedule = so_far.schedule;
+      begun = begun;
+      went_out = before;
+      text = so_far.text;
+      transcript = so_far.transcript;
+      output = held_until what held (begun_of stage) so_far.text written begun now now' so_far.output went whole;
+      fault = stops;
+    }
+
+-- the fault is at that line
+pub at_line : (octets held : List ℕ) (stop : Fault) (number : ℕ) (left now : Option (List ℕ)) → stop.line ≡ number
+    → ReplaysUntil octets held left now (record { line = number; what = stop.what }) → ReplaysUntil octets held left now stop
+at_line octets held stop number left now e h = subst (λ n. ReplaysUntil octets held left now (record { line = n; what = stop.what })) (sym e) h

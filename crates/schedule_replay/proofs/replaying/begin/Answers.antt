@@ -1,0 +1,25 @@
+use Rattle.std.proofs.Common.{◌<◌, length, arith, rules}
+use Rattle.std.proofs.KnownBytes.{Appends-trans}
+use Rattle.std.proofs.lemmas.Result.{err_from_is_err_and}
+use Rattle.schedule_replay.proofs.NodeLines.{nodes_text-more, no_line, no_memory}
+use Rattle.schedule_replay.proofs.replaying.begin.Goals as goal
+
+pub returns-in_err-value-clause-begun : goal.returns-in_err-value-clause-begun
+returns-in_err-value-clause-begun g c =
+    let e = err_from_is_err_and c.from_residual-in_err-value.result c.from_residual-in_err-value.ensures.1 in
+    rw (e.1, e.2) (no_memory c.loop-node.node-index c.args.nodes.now _ _ c.loop-node.invariant.written)
+
+pub returns-in_err-write_line-clause-begun : goal.returns-in_err-write_line-clause-begun
+returns-in_err-write_line-clause-begun g c =
+    let e = err_from_is_err_and c.from_residual-in_err-write_line.result c.from_residual-in_err-write_line.ensures.1 in
+    rw (e.1, e.2)
+    (no_line _ c.loop-node.node-index c.args.nodes.now _ _ _ c.loop-node.invariant.written c.in_ok-network.ensures.decided.1 c.in_err-write_line.ensures.written)
+
+pub loop-node-preserved : goal.loop-node-preserved
+loop-node-preserved g c =
+    let within : c.loop-node.node-index < length c.args.nodes.now = omega arith in
+    record {
+      written = rw (nodes_text-more c.loop-node.node-index c.args.nodes.now c.node-item.result within c.node-item.is)
+          (Appends-trans _ _ _ _ _ c.loop-node.invariant.written (rw c.in_ok-value.ensures at c.in_ok-write_line.ensures.written));
+      writer = search rules;
+    }

@@ -1,0 +1,85 @@
+-- The nodes and events of a schedule, and the faults of its lines.
+use Rattle.std.specs.Prelude.{◌≡◌, ◌≢◌, ◌⊎◌, ℕ, ◌+◌, List, [], ◌∷◌, ◌++◌, map, reverse, if◌then◌else◌, Option, Some, None, option_and_then, ok_or, Result, Ok, Err, IsOk, ⊤}
+use Rattle.std.specs.Option.{option_or}
+use Rattle.std.specs.Result.{result_err}
+use Rattle.std.specs.Str.{is_utf8}
+use Rattle.serde_json.specs.Data.{Data}
+use Rattle.serde_json.specs.Read.{read}
+use Rattle.network_model.specs.declared.event.Event.{Event}
+use Rattle.network_model.specs.declared.node.NodeSpec.{NodeSpec}
+use Rattle.network_model.specs.declared.refusal.WorldRefusal.{WorldRefusal}
+use Rattle.network_model.specs.Network.{Network}
+use Rattle.network_model.specs.Run.{Run}
+use Rattle.network_model.specs.Clash.{first_clash}
+use Rattle.network_model.specs.Outcome.{outcome_of}
+use Rattle.schedule_lines.specs.declared.entry.Line.{Line}
+use Rattle.schedule_lines.specs.declared.entry.Line.TheVariants as entries
+use Rattle.schedule_lines.specs.Line.{line_of}
+use Rattle.schedule_replay.specs.declared.fault.FaultKind.{FaultKind}
+use Rattle.schedule_replay.specs.declared.fault.FaultKind.TheVariants.{Read, Write, LineTooLong, TooManyLines, Json, Field, Refused, Memory}
+use Rattle.schedule_replay.specs.Lines.{without_cr, reading_fault}
+
+-- the JSON value that a line is; None where it isn't UTF-8 or isn't JSON
+abbrev pub value_in : List ℕ → Option Data
+value_in line = if is_utf8 line then read line else None
+
+-- the node or the event that a line's value is
+abbrev pub entry_of_value : Option Data → Result Line FaultKind
+entry_of_value None = Err Json
+entry_of_value (Some value) = ok_or (line_of value) Field
+
+-- the node or the event that a line is, or its fault
+abbrev pub entry_in : List ℕ → Result Line FaultKind
+entry_in line = entry_of_value (value_in line)
+
+-- lines, of which the first has this number, are these nodes and events in turn
+abbrev pub AreEntries : ℕ → List (List ℕ) → List Line → Type 0
+AreEntries number [] [] = ⊤
+AreEntries number [] (entry ∷ others) = ⊥
+AreEntries number (line ∷ lines) [] = ⊥
+AreEntries number (line ∷ lines) (entry ∷ others) =
+    (reading_fault number line ≡ None) × (entry_in (without_cr line) ≡ Ok entry) × AreEntries (number + 1) lines others
+
+-- a schedule: its nodes, and then its events, the oldest first
+abbrev pub schedule_of : Network → Run → List Line
+schedule_of nodes run = map entries.Node nodes ++ map entries.Event (reverse run)
+
+-- why an event can't happen after these: there is no such network, or the network doesn't accept the event
+abbrev pub refusal_of : Network → Run → Event → Option WorldRefusal
+refusal_of nodes run event = option_or (first_clash nodes) (result_err (outcome_of nodes run event))
+
+-- The fault of a line after these nodes and events, where the line itself was read. Where memory is refused, nothing is
+-- known of the line; where the writer fails, it is an event, of which at least the nodes' lines were to be written.
+abbrev pub FaultsIn : FaultKind → Network → Run → List ℕ → Type 0
+FaultsIn Read nodes run line = ⊥
+FaultsIn LineTooLong nodes run line = ⊥
+FaultsIn TooManyLines nodes run line = ⊥
+FaultsIn Json nodes run line = entry_in line ≡ Err Json
+FaultsIn Field nodes run line =
+    (entry_in line ≡ Err Field) ⊎ ((node : NodeSpec) × (entry_in line ≡ Ok (entries.Node node)) × (run ≢ []))
+FaultsIn Refused nodes run line =
+    (event : Event) × (why : WorldRefusal) × (entry_in line ≡ Ok (entries.Event event)) × (refusal_of nodes run event ≡ Some why)
+FaultsIn Write nodes run line =
+    (event : Event) × (entry_in line ≡ Ok (entries.Event event)) × (first_clash nodes ≡ None)
+    × (run ≢ [] → IsOk (outcome_of nodes run event))
+FaultsIn Memory nodes run line = ⊤
+
+-- the line of this number, at which this is answered after these nodes and events, is there and has this fault; a
+-- reader fails before the line is there
+abbrev pub FaultsAt : FaultKind → ℕ → Network → Run → Option (List ℕ) → Type 0
+FaultsAt Read number nodes run line = ⊤
+FaultsAt kind number nodes run None = ⊥
+FaultsAt LineTooLong number nodes run (Some line) = reading_fault number line ≡ Some LineTooLong
+FaultsAt TooManyLines number nodes run (Some line) = reading_fault number line ≡ Some TooManyLines
+FaultsAt kind number nodes run (Some line) = (reading_fault number line ≡ None) × FaultsIn kind nodes run (without_cr line)
+
+-- the fault at the end of an input of nodes alone: the nodes are no network, or their lines can't be made or written
+abbrev pub FaultsAtEnd : FaultKind → Network → Type 0
+FaultsAtEnd Read nodes = ⊥
+FaultsAtEnd LineTooLong nodes = ⊥
+FaultsAtEnd TooManyLines nodes = ⊥
+FaultsAtEnd Json nodes = ⊥
+FaultsAtEnd Field nodes = ⊥
+FaultsAtEnd Refused nodes = (why : WorldRefusal) × (first_clash nodes ≡ Some why)
+FaultsAtEnd Write nodes = first_clash nodes ≡ None
+FaultsAtEnd Memory nodes = ⊤

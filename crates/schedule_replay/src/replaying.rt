@@ -1,0 +1,223 @@
+//! A schedule that is replayed line by line.
+ghost use Rattle.std.specs.Prelude.{◌≡◌, ◌⊎◌, ◌++◌, ◌∷◌, ℕ, List, [], false, IfOk, MatchResult, Ok, None};
+ghost use Rattle.std.specs.Option.{ForSome};
+ghost use Rattle.std.specs.Io.KnownBytes.{Appends};
+ghost use Rattle.serde_json.specs.View.{view};
+ghost use Rattle.serde_json.specs.Written.{has_float};
+ghost use Rattle.network_model.specs.Clash.{first_clash};
+ghost use Rattle.world_model.specs.State.{new_state, after};
+ghost use Rattle.schedule_lines.specs.Transcript.{line_text};
+ghost use Rattle.schedule_replay.specs.Counted.{device_of, HasNotFailed};
+ghost use Rattle.schedule_replay.specs.Fault.{FailedWith};
+ghost use Rattle.schedule_replay.specs.Lines.{input_limit, ReadsWithin};
+ghost use Rattle.schedule_replay.specs.Schedule.{entry_in, FaultsIn, FaultsAtEnd};
+ghost use Rattle.schedule_replay.specs.Replay.{nodes_text, NodesWentOut, IsEventLine, ReplaysAnswer};
+ghost use Rattle.schedule_replay.specs.Show.{WentOutAs};
+ghost use Rattle.schedule_replay.specs.Stage.{nodes_of, run_of, begun_of, owed_by, IsStage, IsBegun, IsWorldOf, HasNodes, TakesLine, ShowsFault, IsOwnFault, LeavesUnwritten, WritesNone, StopsEvent, IsFromReplaying};
+
+use crate::counted::Counted;
+use crate::fault::{Fault, FaultKind};
+use crate::lines::Lines;
+use network_model::{Event, NodeSpec, Nodes};
+use schedule_lines::{Line, event_value, line_text, node_value};
+use serde_json::Value;
+use std::alloc::Global;
+use std::io::{Read, Write};
+use world_model::World;
+
+/// How far a schedule was replayed.
+#[derive(Drop)]
+enum Stage {
+    /// These are its nodes so far.
+    Nodes(Vec<NodeSpec>),
+    /// Events happened in a world of its nodes.
+    Events(World),
+}
+
+impl Stage {
+    /// Takes one more line.
+    fn after<W: Write>(
+        self,
+        alloc: Global,
+        line: &[u8],
+        output: &mut Counted<W>,
+    ) -> Result<Stage, FaultKind>
+        requires { IsStage self }
+        ensures taken { let before = W.contents (device_of output.old) in
+            let after = W.contents (device_of output.new) in
+            MatchResult result
+            (λ next. (written : List ℕ) × TakesLine line.now self next written × Appends before after written)
+            (λ kind. FaultsIn kind (nodes_of self) (run_of self) line.now × ShowsFault kind self before after) }
+        ensures stage { IfOk result IsStage }
+        ensures failures { MatchResult result
+            (λ _. HasNotFailed output.old output.new)
+            (λ kind. IsFromReplaying kind output.old output.new) }
+    {
+        match read_entry(alloc, line)? {
+            Line::Node(node) => self.with_node(node),
+            Line::Event(event) => {
+                let mut world = self.into_world(alloc, output)?;
+                happen(alloc, &mut world, &event, output)?;
+                Ok(Stage::Events(world))
+            }
+        }
+    }
+
+    /// Takes one more node, which stands before all events.
+    fn with_node(self, node: NodeSpec) -> Result<Stage, FaultKind>
+        ensures { MatchResult result
+            (λ next. (run_of self ≡ []) × (begun_of self ≡ []) × HasNodes (nodes_of self ++ node ∷ []) next)
+            (λ kind. (kind ≡ FaultKind.Memory) ⊎ ((kind ≡ FaultKind.Field) × IsBegun self)) }
+    {
+        match self {
+            Stage::Nodes(mut nodes) => {
+                nodes.push(node)?;
+                Ok(Stage::Nodes(nodes))
+            }
+            Stage::Events(_) => Err(FaultKind::Field),
+        }
+    }
+
+    /// The world of the nodes and events, which begins where there was no event yet.
+    fn into_world<W: Write>(
+        self,
+        alloc: Global,
+        output: &mut Counted<W>,
+    ) -> Result<World, FaultKind>
+        requires { IsStage self }
+        ensures world { let before = W.contents (device_of output.old) in
+            let after = W.contents (device_of output.new) in
+            MatchResult result
+            (λ world. IsWorldOf self world × Appends before after (owed_by self))
+            (λ kind. FaultsAtEnd kind (nodes_of self) × (run_of self ≡ []) × ShowsFault kind self before after) }
+        ensures failures { MatchResult result
+            (λ _. HasNotFailed output.old output.new)
+            (λ kind. IsFromReplaying kind output.old output.new) }
+    {
+        match self {
+            Stage::Nodes(nodes) => begin(alloc, nodes.as_slice(), output),
+            Stage::Events(world) => Ok(world),
+        }
+    }
+}
+
+/// The node or the event that a line is.
+fn read_entry(alloc: Global, line: &[u8]) -> Result<Line, FaultKind>
+    ensures { MatchResult result
+        (λ entry. entry_in line.now ≡ Ok entry)
+        (λ kind. (kind ≡ FaultKind.Memory) ⊎ IsOwnFault kind line.now) }
+{
+    let value = match Value::from_slice(alloc, line) {
+        Ok(value) => value,
+        Err(error) if error.is_memory() => return Err(FaultKind::Memory),
+        Err(_) => return Err(FaultKind::Json),
+    };
+    match Line::of(&value) {
+        Some(entry) => Ok(entry),
+        None => Err(FaultKind::Field),
+    }
+}
+
+/// Writes a line, in one write.
+fn write_line<W: Write>(
+    alloc: Global,
+    value: &Value,
+    output: &mut Counted<W>,
+) -> Result<(), FaultKind>
+    requires { has_float (view value.now) ≡ false }
+    ensures written { let before = W.contents (device_of output.old) in
+        let after = W.contents (device_of output.new) in
+        MatchResult result
+        (λ _. Appends before after (line_text (view value.now)))
+        (λ kind. LeavesUnwritten kind before after) }
+    ensures failures { MatchResult result
+        (λ _. HasNotFailed output.old output.new)
+        (λ kind. IsFromReplaying kind output.old output.new) }
+{
+    let text = line_text(alloc, value)?;
+    match output.write_all(text.as_bytes()) {
+        Ok(()) => Ok(()),
+        Err(_) => Err(FaultKind::Write),
+    }
+}
+
+/// Begins a world of these nodes, and writes their lines.
+fn begin<W: Write>(
+    alloc: Global,
+    nodes: &[NodeSpec],
+    output: &mut Counted<W>,
+) -> Result<World, FaultKind>
+    ensures begun { let before = W.contents (device_of output.old) in
+        let after = W.contents (device_of output.new) in
+        MatchResult result
+        (λ world. (world ≡ new_state nodes.now) × (first_clash nodes.now ≡ None) × Appends before after (nodes_text nodes.now))
+        (λ kind. FaultsAtEnd kind nodes.now
+        × ((written : List ℕ) × NodesWentOut kind nodes.now written × WentOutAs kind (Appends before after written))) }
+    ensures failures { MatchResult result
+        (λ _. HasNotFailed output.old output.new)
+        (λ kind. IsFromReplaying kind output.old output.new) }
+{
+    let network = Nodes::new(alloc, nodes)?;
+    let world = World::new(alloc, network)?;
+    for node in nodes {
+        let value = node_value(alloc, node)?;
+        write_line(alloc, &value, output)?;
+    }
+    Ok(world)
+}
+
+/// Lets an event happen, and writes its line.
+fn happen<W: Write>(
+    alloc: Global,
+    world: &mut World,
+    event: &Event,
+    output: &mut Counted<W>,
+) -> Result<(), FaultKind>
+    ensures happens { let before = W.contents (device_of output.old) in
+        let after_it = W.contents (device_of output.new) in
+        MatchResult result
+        (λ _. (world.new ≡ after event.now world.old)
+        × ((line : List ℕ) × IsEventLine world.old.network world.old.run event.now line × Appends before after_it line))
+        (λ kind. StopsEvent kind world.old event.now × WritesNone kind before after_it) }
+    ensures failures { MatchResult result
+        (λ _. HasNotFailed output.old output.new)
+        (λ kind. IsFromReplaying kind output.old output.new) }
+{
+    let stepped = world.step(event)?;
+    let value = event_value(alloc, event, &stepped, world.octets(stepped.tag))?;
+    write_line(alloc, &value, output)
+}
+
+/// Replays a schedule: lines of nodes and then of events, each a JSON object. The nodes' lines are
+/// written before the first event happens, or at the end of the input where there is none; then,
+/// before the next line is read, one line for each event, with what came of it. Answers how many
+/// events there were.
+///
+/// The faults are 801 to 804; 805 for a line that is no JSON; 806 for a line that is neither a node
+/// nor an event, or a node after an event; 807 where the nodes are no network, or an event can't
+/// happen in it; and 808. What the nodes are refused for stands at the line of the first event, or
+/// after the last line where there is none. The lines before a fault were answered then.
+pub fn replay<R: Read, W: Write>(
+    alloc: Global,
+    input: &mut Counted<R>,
+    output: &mut Counted<W>,
+) -> Result<u64, Fault>
+    ensures replayed { ReplaysAnswer R.remaining W.contents result input.old input.new output.old output.new }
+    // However the writer is, only so much is read of a reader that tells its octets.
+    ensures bounded { ForSome (R.remaining (device_of input.old)) (λ octets.
+        ReadsWithin input_limit octets (R.remaining (device_of input.new))) }
+    ensures failures { FailedWith result input.old input.new output.old output.new }
+{
+    let mut lines = Lines::new();
+    let mut stage = Stage::Nodes(Vec::new(alloc));
+    while lines.read_next(input)? {
+        stage = match stage.after(alloc, lines.line(), output) {
+            Ok(next) => next,
+            Err(what) => return Err(lines.fault(what)),
+        };
+    }
+    match stage.into_world(alloc, output) {
+        Ok(world) => Ok(world.len()),
+        Err(what) => Err(lines.fault_after(what)),
+    }
+}
