@@ -6,7 +6,7 @@ use Rattle.std.specs.Io.BufRead.{drop_through}
 use Rattle.std.proofs.lemmas.Bool.{ltb-false}
 use Rattle.schedule_replay.specs.declared.counted.Counted.{Counted}
 use Rattle.schedule_replay.specs.declared.fault.FaultKind.{FaultKind}
-use Rattle.schedule_replay.specs.declared.fault.FaultKind.TheVariants.{Read, Write, LineTooLong, TooManyLines, Json, Field, Refused, Memory}
+use Rattle.schedule_replay.specs.declared.fault.FaultKind.TheVariants.{Read, Write, LineTooLong, TooManyLines, Json, Field, World, Memory}
 use Rattle.schedule_replay.specs.Lines.{lines_of, line_limit, lines_limit, input_limit, room_of, IsFromReading, ReadsLine, ReadsWithin, StopsReading}
 use Rattle.schedule_replay.proofs.Cutting.{first_line}
 
@@ -78,7 +78,7 @@ stop_read number LineTooLong input input' octets left (line, others, cut, fault,
 stop_read number Write input input' octets left stops allowed = absurd allowed
 stop_read number Json input input' octets left stops allowed = absurd allowed
 stop_read number Field input input' octets left stops allowed = absurd allowed
-stop_read number Refused input input' octets left stops allowed = absurd allowed
+stop_read number (World why) input input' octets left stops allowed = absurd allowed
 stop_read number Memory input input' octets left stops allowed = absurd allowed
 
 -- whole lines and the octets of a last one are within the limit

@@ -40,9 +40,8 @@ abbrev pub Unbegun : FaultKind → Network → Option (List ℕ) → Option (Lis
 Unbegun kind nodes before after =
     FaultsAtEnd kind nodes × ((written : List ℕ) × NodesWentOut kind nodes written × WentOutAs kind (Appends before after written))
 
-clashes : (why : WorldRefusal) (nodes : Network) (at : Option (List ℕ)) → fault_of why ≡ kinds.Refused → first_clash nodes ≡ Some why
-    → Unbegun kinds.Refused nodes at at
-clashes why nodes at is clash = ((why, clash), ([], rw clash refl, Appends-nil at))
+clashes : (why : WorldRefusal) (nodes : Network) (at : Option (List ℕ)) → first_clash nodes ≡ Some why → Unbegun (kinds.World why) nodes at at
+clashes why nodes at clash = (clash, ([], rw clash refl, Appends-nil at))
 
 pub no_network : (why : WorldRefusal) (nodes : Network) (at : Option (List ℕ)) → (why ≡ Memory) ⊎ (first_clash nodes ≡ Some why)
     → Unbegun (fault_of why) nodes at at
@@ -55,14 +54,14 @@ no_network NoCopy nodes at (inl e) = absurd cc
 no_network NoTransit nodes at (inl e) = absurd cc
 no_network ReadingOutOfRange nodes at (inl e) = absurd cc
 no_network NothingWaiting nodes at (inl e) = absurd cc
-no_network SameName nodes at (inr clash) = clashes SameName nodes at refl clash
-no_network SameIdentity nodes at (inr clash) = clashes SameIdentity nodes at refl clash
-no_network NoNode nodes at (inr clash) = clashes NoNode nodes at refl clash
-no_network WrongKind nodes at (inr clash) = clashes WrongKind nodes at refl clash
-no_network NoCopy nodes at (inr clash) = clashes NoCopy nodes at refl clash
-no_network NoTransit nodes at (inr clash) = clashes NoTransit nodes at refl clash
-no_network ReadingOutOfRange nodes at (inr clash) = clashes ReadingOutOfRange nodes at refl clash
-no_network NothingWaiting nodes at (inr clash) = clashes NothingWaiting nodes at refl clash
+no_network SameName nodes at (inr clash) = clashes SameName nodes at clash
+no_network SameIdentity nodes at (inr clash) = clashes SameIdentity nodes at clash
+no_network NoNode nodes at (inr clash) = clashes NoNode nodes at clash
+no_network WrongKind nodes at (inr clash) = clashes WrongKind nodes at clash
+no_network NoCopy nodes at (inr clash) = clashes NoCopy nodes at clash
+no_network NoTransit nodes at (inr clash) = clashes NoTransit nodes at clash
+no_network ReadingOutOfRange nodes at (inr clash) = clashes ReadingOutOfRange nodes at clash
+no_network NothingWaiting nodes at (inr clash) = clashes NothingWaiting nodes at clash
 
 -- memory was refused after the lines of so many nodes
 pub no_memory : (count : ℕ) (nodes : Network) (before after : Option (List ℕ)) → Appends before after (nodes_text (take count nodes))
@@ -79,4 +78,4 @@ no_line kinds.LineTooLong count nodes before now after so_far network kept = abs
 no_line kinds.TooManyLines count nodes before now after so_far network kept = absurd kept
 no_line kinds.Json count nodes before now after so_far network kept = absurd kept
 no_line kinds.Field count nodes before now after so_far network kept = absurd kept
-no_line kinds.Refused count nodes before now after so_far network kept = absurd kept
+no_line (kinds.World why) count nodes before now after so_far network kept = absurd kept

@@ -1,7 +1,7 @@
 -- How far the lines of a schedule were replayed.
 use Rattle.std.proofs.Common.{◌≡◌, ◌≢◌, ◌⊎◌, inl, inr, ℕ, zero, suc, ◌+◌, ◌<◌, ◌≤◌, List, [], ◌∷◌, ◌++◌, Bool, true, false, length, take, drop, map, Option, Some, None, Ok, refl, sym, ap, ◌∙◌, subst, arith, append-nil, append_assoc, add-one, add-zero, add_comm, length-take-le, take_all, le_refl, true≢false}
 use Rattle.std.specs.Prelude.{reverse, slice_get, IsTrue}
-use Rattle.std.proofs.lemmas.List.{map-append}
+use Rattle.std.proofs.lemmas.List.{map-append, reverse-append}
 use Rattle.std.specs.Io.KnownBytes.{Appends}
 use Rattle.network_model.specs.declared.event.Event.{Event}
 use Rattle.network_model.specs.declared.node.NodeSpec.{NodeSpec}
@@ -9,12 +9,12 @@ use Rattle.network_model.specs.Network.{Network}
 use Rattle.network_model.specs.Run.{Run}
 use Rattle.network_model.specs.Clash.{first_clash}
 use Rattle.world_model.specs.State.{State}
-use Rattle.schedule_lines.specs.declared.entry.Line.{Line}
-use Rattle.schedule_lines.specs.declared.entry.Line.TheVariants as entries
+use Rattle.schedule_lines.specs.declared.schedule.Line.{Line}
+use Rattle.schedule_lines.specs.declared.schedule.Line.TheVariants as entries
 use Rattle.schedule_replay.specs.declared.counted.Counted.{Counted}
 use Rattle.schedule_replay.specs.declared.fault.Fault.{Fault}
 use Rattle.schedule_replay.specs.declared.fault.FaultKind.{FaultKind}
-use Rattle.schedule_replay.specs.declared.fault.FaultKind.TheVariants.{Read, Write, LineTooLong, TooManyLines, Json, Field, Refused, Memory}
+use Rattle.schedule_replay.specs.declared.fault.FaultKind.TheVariants.{Read, Write, LineTooLong, TooManyLines, Json, Field, World, Memory}
 use Rattle.schedule_replay.specs.declared.replaying.Stage.{Stage}
 use Rattle.schedule_replay.specs.declared.replaying.Stage.TheVariants.{Nodes, Events}
 use Rattle.schedule_replay.specs.Lines.{lines_of, lfs_in, after_lines, without_cr, reading_fault, LeavesUnread, StopsReading, ReadsLine, IsFromReading}
@@ -56,7 +56,7 @@ schedule_of-node nodes node =
 
 schedule_of-event : (nodes : Network) (run : Run) (event : Event) → schedule_of nodes (event ∷ run) ≡ schedule_of nodes run ++ entries.Event event ∷ []
 schedule_of-event nodes run event =
-    ap (λ (l : List Event). map entries.Node nodes ++ map entries.Event l) (reverse-cons event run)
+    ap (λ (l : List Event). map entries.Node nodes ++ map entries.Event l) (reverse-append (event ∷ []) run)
     ∙ ap (λ (l : List Line). map entries.Node nodes ++ l) (map-append entries.Event (reverse run) (event ∷ []))
     ∙ sym (append_assoc (map entries.Node nodes) (map entries.Event (reverse run)) (entries.Event event ∷ []))
 
@@ -171,7 +171,7 @@ held_until kind held front text written begun now now' known out is = go kind ou
     go TooManyLines out = whole out
     go Json out = whole out
     go Field out = whole out
-    go Refused out = whole out
+    go (World why) out = whole out
     go Memory out = whole out
 
 until : (octets held : List ℕ) (count : ℕ) (ended : Bool) (stage : Stage) (left left' now now' : Option (List ℕ)) (what : FaultKind) → IsStage stage

@@ -7,7 +7,7 @@ use Rattle.schedule_replay.proofs.KnownOctets.{Keeps-known, Appends-known}
 use Rattle.schedule_replay.specs.declared.counted.Counted.{Counted}
 use Rattle.schedule_replay.specs.declared.fault.Fault.{Fault}
 use Rattle.schedule_replay.specs.declared.fault.FaultKind.{FaultKind}
-use Rattle.schedule_replay.specs.declared.fault.FaultKind.TheVariants.{Read, Write, LineTooLong, TooManyLines, Json, Field, Refused, Memory}
+use Rattle.schedule_replay.specs.declared.fault.FaultKind.TheVariants.{Read, Write, LineTooLong, TooManyLines, Json, Field, World, Memory}
 use Rattle.schedule_replay.specs.Lines.{lines_of, lfs_in, after_lines, without_cr, reading_fault, LeavesUnread, StopsReading, ReadsLine, IsFromReading}
 use Rattle.schedule_replay.specs.Show.{IsAnswer, line_fault, digits_fault, own_fault, ShowsLines, WentOutAs, IsFaultAt, IsFromAnswering, ShowsAll, ShowsUntil}
 
@@ -140,7 +140,7 @@ stopped_reading octets held count left left' now TooManyLines input input' so_fa
 stopped_reading octets held count left left' now Write input input' so_far stops allowed = absurd allowed
 stopped_reading octets held count left left' now Json input input' so_far stops allowed = absurd allowed
 stopped_reading octets held count left left' now Field input input' so_far stops allowed = absurd allowed
-stopped_reading octets held count left left' now Refused input input' so_far stops allowed = absurd allowed
+stopped_reading octets held count left left' now (World why) input input' so_far stops allowed = absurd allowed
 stopped_reading octets held count left left' now Memory input input' so_far stops allowed = absurd allowed
 
 pub stopped_answering : (octets held : List ℕ) (count : ℕ) (ended : Bool) (left left' now now' : Option (List ℕ)) (line : List ℕ) (what : FaultKind) {W : Type 0} (output output' : Counted W)
@@ -158,7 +158,7 @@ stopped_answering octets held count ended left left' now now' line Memory output
     until octets held count left left' now now' Memory so_far (Keeps-known now now' _ out so_far.output) (rw place.at (at_answering (count + 1) line Memory read own)) behind
 stopped_answering octets held count ended left left' now now' line Read output output' so_far read own out allowed = absurd allowed
 stopped_answering octets held count ended left left' now now' line Json output output' so_far read own out allowed = absurd allowed
-stopped_answering octets held count ended left left' now now' line Refused output output' so_far read own out allowed = absurd allowed
+stopped_answering octets held count ended left left' now now' line (World why) output output' so_far read own out allowed = absurd allowed
 stopped_answering octets held count ended left left' now now' line LineTooLong output output' so_far read own out allowed = absurd allowed
 stopped_answering octets held count ended left left' now now' line TooManyLines output output' so_far read own out allowed = absurd allowed
 

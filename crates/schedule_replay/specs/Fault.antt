@@ -3,7 +3,7 @@ use Rattle.std.specs.Prelude.{ℕ, MatchResult, Result}
 use Rattle.schedule_replay.specs.declared.counted.Counted.{Counted}
 use Rattle.schedule_replay.specs.declared.fault.Fault.{Fault}
 use Rattle.schedule_replay.specs.declared.fault.FaultKind.{FaultKind}
-use Rattle.schedule_replay.specs.declared.fault.FaultKind.TheVariants.{Read, Write, LineTooLong, TooManyLines, Json, Field, Refused, Memory}
+use Rattle.schedule_replay.specs.declared.fault.FaultKind.TheVariants.{Read, Write, LineTooLong, TooManyLines, Json, Field, World, Memory}
 use Rattle.network_model.specs.declared.refusal.WorldRefusal.{WorldRefusal}
 use Rattle.network_model.specs.declared.refusal.WorldRefusal.TheVariants as refusals
 use Rattle.schedule_replay.specs.Counted.{HasFailed, HasNotFailed}
@@ -16,19 +16,19 @@ code_of LineTooLong = 803
 code_of TooManyLines = 804
 code_of Json = 805
 code_of Field = 806
-code_of Refused = 807
+code_of (World why) = 807
 code_of Memory = 808
 
 -- the fault by which the refusal of a network or of an event is told
 abbrev pub fault_of : WorldRefusal → FaultKind
-fault_of refusals.SameName = Refused
-fault_of refusals.SameIdentity = Refused
-fault_of refusals.NoNode = Refused
-fault_of refusals.WrongKind = Refused
-fault_of refusals.NoCopy = Refused
-fault_of refusals.NoTransit = Refused
-fault_of refusals.ReadingOutOfRange = Refused
-fault_of refusals.NothingWaiting = Refused
+fault_of refusals.SameName = World refusals.SameName
+fault_of refusals.SameIdentity = World refusals.SameIdentity
+fault_of refusals.NoNode = World refusals.NoNode
+fault_of refusals.WrongKind = World refusals.WrongKind
+fault_of refusals.NoCopy = World refusals.NoCopy
+fault_of refusals.NoTransit = World refusals.NoTransit
+fault_of refusals.ReadingOutOfRange = World refusals.ReadingOutOfRange
+fault_of refusals.NothingWaiting = World refusals.NothingWaiting
 fault_of refusals.Memory = Memory
 
 -- which of the two devices failed where this is answered

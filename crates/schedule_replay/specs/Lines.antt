@@ -3,7 +3,7 @@ use Rattle.std.specs.Prelude.{◌≡◌, ◌≢◌, ℕ, zero, suc, ◌+◌, ◌
 use Rattle.std.specs.Io.BufRead.{drop_through, strip_last}
 use Rattle.schedule_replay.specs.declared.counted.Counted.{Counted}
 use Rattle.schedule_replay.specs.declared.fault.FaultKind.{FaultKind}
-use Rattle.schedule_replay.specs.declared.fault.FaultKind.TheVariants.{Read, Write, LineTooLong, TooManyLines, Json, Field, Refused, Memory}
+use Rattle.schedule_replay.specs.declared.fault.FaultKind.TheVariants.{Read, Write, LineTooLong, TooManyLines, Json, Field, World, Memory}
 use Rattle.schedule_replay.specs.Counted.{HasFailed, HasNotFailed}
 
 -- an octet in front of the first line
@@ -58,7 +58,7 @@ LeavesUnread TooManyLines number octets left = left ≡ Some (drop 1 octets)
 LeavesUnread Write number octets left = left ≡ Some (after_lines 1 octets)
 LeavesUnread Json number octets left = left ≡ Some (after_lines 1 octets)
 LeavesUnread Field number octets left = left ≡ Some (after_lines 1 octets)
-LeavesUnread Refused number octets left = left ≡ Some (after_lines 1 octets)
+LeavesUnread (World why) number octets left = left ≡ Some (after_lines 1 octets)
 LeavesUnread Memory number octets left = left ≡ Some (after_lines 1 octets)
 
 -- a fault in reading the line of this number, with which these octets begin, and what it leaves unread

@@ -2,17 +2,16 @@
 use Rattle.std.specs.Prelude.{◌≡◌, ◌≢◌, ◌⊎◌, ℕ, ◌+◌, ◌≤◌, List, [], ◌∷◌, ◌++◌, length, take, slice_get, if◌then◌else◌, is_none, Option, Some, None, MatchResult, Result, ⊤}
 use Rattle.std.specs.Option.{ForSome}
 use Rattle.network_model.specs.declared.event.Event.{Event}
-use Rattle.network_model.specs.declared.stepped.Stepped.{Stepped}
 use Rattle.network_model.specs.Network.{Network}
 use Rattle.network_model.specs.Run.{Run}
 use Rattle.network_model.specs.Clash.{first_clash}
-use Rattle.network_model.specs.Outcome.{IsStepped}
-use Rattle.network_model.specs.Truth.{TellsTruth, copy_of}
+use Rattle.trace_model.specs.declared.line.TraceLine.{TraceLine}
+use Rattle.trace_model.specs.Told.{TellsEvent}
 use Rattle.schedule_lines.specs.Transcript.{node_data, event_data, line_text}
 use Rattle.schedule_replay.specs.declared.counted.Counted.{Counted}
 use Rattle.schedule_replay.specs.declared.fault.Fault.{Fault}
 use Rattle.schedule_replay.specs.declared.fault.FaultKind.{FaultKind}
-use Rattle.schedule_replay.specs.declared.fault.FaultKind.TheVariants.{Read, Write, LineTooLong, TooManyLines, Json, Field, Refused, Memory}
+use Rattle.schedule_replay.specs.declared.fault.FaultKind.TheVariants.{Read, Write, LineTooLong, TooManyLines, Json, Field, World, Memory}
 use Rattle.schedule_replay.specs.Counted.{device_of}
 use Rattle.schedule_replay.specs.Lines.{lines_of, lfs_in, after_lines, LeavesUnread}
 use Rattle.schedule_replay.specs.Schedule.{AreEntries, schedule_of, FaultsAt, FaultsAtEnd}
@@ -23,13 +22,11 @@ abbrev pub nodes_text : Network → List ℕ
 nodes_text [] = []
 nodes_text (node ∷ others) = line_text (node_data node) ++ nodes_text others
 
--- the line of an event after these: what the network answers, with octets of which copy it made
+-- the line of an event after these: it tells what became of the event, with the octets of the copy that it made
 pub record IsEventLine (network : Network) (earlier : Run) (event : Event) (line : List ℕ) : Type 0 where
-  pub stepped : Stepped
-  pub answer : IsStepped network earlier event stepped
-  pub octets : Option (List ℕ)
-  pub truth : TellsTruth (copy_of network (event ∷ earlier) (length earlier)) octets
-  pub text : line ≡ line_text (event_data event stepped octets)
+  pub recorded : TraceLine
+  pub told : TellsEvent network event earlier recorded
+  pub text : line ≡ line_text (event_data (length earlier) recorded)
 
 -- the lines of the events of a run, the oldest first
 abbrev pub WritesRun : Network → Run → List ℕ → Type 0
@@ -46,7 +43,7 @@ NodesWentOut LineTooLong nodes written = written ≡ []
 NodesWentOut TooManyLines nodes written = written ≡ []
 NodesWentOut Json nodes written = written ≡ []
 NodesWentOut Field nodes written = written ≡ []
-NodesWentOut Refused nodes written = written ≡ (if is_none (first_clash nodes) then nodes_text nodes else [])
+NodesWentOut (World why) nodes written = written ≡ (if is_none (first_clash nodes) then nodes_text nodes else [])
 NodesWentOut Write nodes written = ⊤
 NodesWentOut Memory nodes written = (count : ℕ) × (written ≡ nodes_text (take count nodes))
 

@@ -12,11 +12,11 @@ use Rattle.network_model.specs.Network.{Network}
 use Rattle.network_model.specs.Run.{Run}
 use Rattle.network_model.specs.Clash.{first_clash}
 use Rattle.network_model.specs.Outcome.{outcome_of}
-use Rattle.schedule_lines.specs.declared.entry.Line.{Line}
-use Rattle.schedule_lines.specs.declared.entry.Line.TheVariants as entries
+use Rattle.schedule_lines.specs.declared.schedule.Line.{Line}
+use Rattle.schedule_lines.specs.declared.schedule.Line.TheVariants as entries
 use Rattle.schedule_lines.specs.Line.{line_of}
 use Rattle.schedule_replay.specs.declared.fault.FaultKind.{FaultKind}
-use Rattle.schedule_replay.specs.declared.fault.FaultKind.TheVariants.{Read, Write, LineTooLong, TooManyLines, Json, Field, Refused, Memory}
+use Rattle.schedule_replay.specs.declared.fault.FaultKind.TheVariants.{Read, Write, LineTooLong, TooManyLines, Json, Field, World, Memory}
 use Rattle.schedule_replay.specs.Lines.{without_cr, reading_fault}
 
 -- the JSON value that a line is; None where it isn't UTF-8 or isn't JSON
@@ -57,8 +57,8 @@ FaultsIn TooManyLines nodes run line = ⊥
 FaultsIn Json nodes run line = entry_in line ≡ Err Json
 FaultsIn Field nodes run line =
     (entry_in line ≡ Err Field) ⊎ ((node : NodeSpec) × (entry_in line ≡ Ok (entries.Node node)) × (run ≢ []))
-FaultsIn Refused nodes run line =
-    (event : Event) × (why : WorldRefusal) × (entry_in line ≡ Ok (entries.Event event)) × (refusal_of nodes run event ≡ Some why)
+FaultsIn (World why) nodes run line =
+    (event : Event) × (entry_in line ≡ Ok (entries.Event event)) × (refusal_of nodes run event ≡ Some why)
 FaultsIn Write nodes run line =
     (event : Event) × (entry_in line ≡ Ok (entries.Event event)) × (first_clash nodes ≡ None)
     × (run ≢ [] → IsOk (outcome_of nodes run event))
@@ -80,6 +80,6 @@ FaultsAtEnd LineTooLong nodes = ⊥
 FaultsAtEnd TooManyLines nodes = ⊥
 FaultsAtEnd Json nodes = ⊥
 FaultsAtEnd Field nodes = ⊥
-FaultsAtEnd Refused nodes = (why : WorldRefusal) × (first_clash nodes ≡ Some why)
+FaultsAtEnd (World why) nodes = first_clash nodes ≡ Some why
 FaultsAtEnd Write nodes = first_clash nodes ≡ None
 FaultsAtEnd Memory nodes = ⊤

@@ -2,17 +2,16 @@
 use Rattle.std.specs.Prelude.{◌≡◌, ◌≢◌, ◌⊎◌, ℕ, List, [], ◌∷◌, ◌++◌, Option, None, Ok, Err, IsOk, ⊤}
 use Rattle.std.specs.Io.KnownBytes.{Appends, Keeps}
 use Rattle.network_model.specs.declared.event.Event.{Event}
-use Rattle.network_model.specs.declared.refusal.WorldRefusal.{WorldRefusal}
 use Rattle.network_model.specs.Network.{Network}
 use Rattle.network_model.specs.Outcome.{outcome_of}
 use Rattle.network_model.specs.Run.{Run}
 use Rattle.network_model.specs.Clash.{first_clash}
 use Rattle.world_model.specs.State.{State}
-use Rattle.schedule_lines.specs.declared.entry.Line.{Line}
-use Rattle.schedule_lines.specs.declared.entry.Line.TheVariants as entries
+use Rattle.schedule_lines.specs.declared.schedule.Line.{Line}
+use Rattle.schedule_lines.specs.declared.schedule.Line.TheVariants as entries
 use Rattle.schedule_replay.specs.declared.counted.Counted.{Counted}
 use Rattle.schedule_replay.specs.declared.fault.FaultKind.{FaultKind}
-use Rattle.schedule_replay.specs.declared.fault.FaultKind.TheVariants.{Read, Write, LineTooLong, TooManyLines, Json, Field, Refused, Memory}
+use Rattle.schedule_replay.specs.declared.fault.FaultKind.TheVariants.{Read, Write, LineTooLong, TooManyLines, Json, Field, World, Memory}
 use Rattle.schedule_replay.specs.declared.replaying.Stage.{Stage}
 use Rattle.schedule_replay.specs.declared.replaying.Stage.TheVariants.{Nodes, Events}
 use Rattle.schedule_replay.specs.Counted.{HasFailed, HasNotFailed}
@@ -98,14 +97,14 @@ LeavesUnwritten kind before after = ⊥
 -- where this fault comes nothing was written, but where the writer failed
 abbrev pub WritesNone : FaultKind → Option (List ℕ) → Option (List ℕ) → Type 0
 WritesNone Memory before after = Keeps before after
-WritesNone Refused before after = Keeps before after
+WritesNone (World why) before after = Keeps before after
 WritesNone Write before after = ⊤
 WritesNone kind before after = ⊥
 
 -- why no line of an event was written
 abbrev pub StopsEvent : FaultKind → State → Event → Type 0
 StopsEvent Memory world event = ⊤
-StopsEvent Refused world event = (why : WorldRefusal) × (outcome_of world.network world.run event ≡ Err why)
+StopsEvent (World why) world event = outcome_of world.network world.run event ≡ Err why
 StopsEvent Write world event = IsOk (outcome_of world.network world.run event)
 StopsEvent kind world event = ⊥
 
@@ -114,7 +113,7 @@ abbrev pub IsFromReplaying : {W : Type 0} → FaultKind → Counted W → Counte
 IsFromReplaying Write old new = HasFailed old new
 IsFromReplaying Json old new = HasNotFailed old new
 IsFromReplaying Field old new = HasNotFailed old new
-IsFromReplaying Refused old new = HasNotFailed old new
+IsFromReplaying (World why) old new = HasNotFailed old new
 IsFromReplaying Memory old new = HasNotFailed old new
 IsFromReplaying Read old new = ⊥
 IsFromReplaying LineTooLong old new = ⊥

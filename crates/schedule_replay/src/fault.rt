@@ -37,9 +37,9 @@ pub enum FaultKind {
     /// A line isn't what is asked for.
     #[error("806")]
     Field,
-    /// The nodes are no network, or an event can't happen in it.
+    /// The nodes are no network, or an event can't happen in it, for this reason.
     #[error("807")]
-    Refused,
+    World(WorldRefusal),
     /// Memory was refused.
     #[error("808")]
     Memory,
@@ -59,7 +59,7 @@ impl FaultKind {
             FaultKind::TooManyLines => 804,
             FaultKind::Json => 805,
             FaultKind::Field => 806,
-            FaultKind::Refused => 807,
+            FaultKind::World(_) => 807,
             FaultKind::Memory => 808,
         }
     }
@@ -73,7 +73,7 @@ impl FaultKind {
             FaultKind::TooManyLines => "an octet comes after the last of 1048576 lines",
             FaultKind::Json => "the line isn't JSON",
             FaultKind::Field => "the line isn't what is asked for",
-            FaultKind::Refused => "the nodes or the event are refused",
+            FaultKind::World(_) => "the nodes are no network, or the event can't happen in it",
             FaultKind::Memory => "memory was refused",
         }
     }
@@ -95,14 +95,7 @@ impl From<WorldRefusal> for FaultKind {
     fn from(why: WorldRefusal) -> FaultKind {
         match why {
             WorldRefusal::Memory => FaultKind::Memory,
-            WorldRefusal::SameName
-            | WorldRefusal::SameIdentity
-            | WorldRefusal::NoNode
-            | WorldRefusal::WrongKind
-            | WorldRefusal::NoCopy
-            | WorldRefusal::NoTransit
-            | WorldRefusal::ReadingOutOfRange
-            | WorldRefusal::NothingWaiting => FaultKind::Refused,
+            why => FaultKind::World(why),
         }
     }
 }

@@ -82,6 +82,12 @@ fn finish<E: Write>(errors: &mut E, answer: Result<u64, Fault>) -> u8
 fn report<E: Write>(errors: &mut E, fault: Fault) -> u8
     ensures { result ≡ 3 }
 {
-    let _ = writeln!(errors, "ptpx: fault {} at line {}", fault.what, fault.line);
+    let (what, line) = (fault.what, fault.line);
+    let _ = match what {
+        FaultKind::World(why) => {
+            writeln!(errors, "ptpx: fault {what} ({}) at line {line}", why.code())
+        }
+        _ => writeln!(errors, "ptpx: fault {what} at line {line}"),
+    };
     3
 }

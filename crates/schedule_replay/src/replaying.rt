@@ -23,6 +23,7 @@ use schedule_lines::{Line, event_value, line_text, node_value};
 use serde_json::Value;
 use std::alloc::Global;
 use std::io::{Read, Write};
+use trace_model::TraceLine;
 use world_model::World;
 
 /// How far a schedule was replayed.
@@ -184,7 +185,8 @@ fn happen<W: Write>(
         (λ kind. IsFromReplaying kind output.old output.new) }
 {
     let stepped = world.step(event)?;
-    let value = event_value(alloc, event, &stepped, world.octets(stepped.tag))?;
+    let line = TraceLine::of(event, &stepped, world);
+    let value = event_value(alloc, stepped.tag, &line)?;
     write_line(alloc, &value, output)
 }
 

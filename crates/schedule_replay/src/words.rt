@@ -54,8 +54,11 @@ fn program<'a>(alloc: Global) -> Result<Command<'a>, AllocError>
         "Print the datagrams that standard input gives in hexadecimal, one a line",
         help::SHOW,
     );
-    let replay = Command::new(alloc, "replay").about(
-        "Print what comes of the nodes and events that standard input gives, one a line",
+    let replay = with_help(
+        alloc,
+        "replay",
+        "Print what comes of the events that standard input gives, one a line",
+        help::REPLAY,
     );
     Command::new(alloc, "ptpx")
         .bin_name("ptpx")?
