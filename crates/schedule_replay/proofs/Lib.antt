@@ -7,8 +7,10 @@ pub mod Printing
 pub mod Joining
 pub mod ShownLines
 pub mod Entries
+pub mod Records
 pub mod NodeLines
 pub mod ReplayedLines
+pub mod CheckedLines
 pub mod ErrorKinds
 pub mod FlagWords
 pub mod SubcommandNames
