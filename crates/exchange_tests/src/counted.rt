@@ -1,6 +1,7 @@
 //! Devices that count their failures, the reader that reads ahead, and the numbers of faults.
 
 use crate::devices::{Failing, Full, Pieces};
+use network_model::WorldRefusal;
 use schedule_replay::{Counted, FaultKind, OctetReader};
 use std::io::{ErrorKind, Read, Write};
 use std::test::Fail;
@@ -63,7 +64,9 @@ fn faults_print_their_number(rt: HostRuntime) -> Result<(), Fail> {
         (FaultKind::Write, 802, "802"),
         (FaultKind::LineTooLong, 803, "803"),
         (FaultKind::TooManyLines, 804, "804"),
+        (FaultKind::Json, 805, "805"),
         (FaultKind::Field, 806, "806"),
+        (FaultKind::World(WorldRefusal::NoNode), 807, "807"),
         (FaultKind::Memory, 808, "808"),
     ] {
         assert_eq!(rt; kind.code(), number);

@@ -28,6 +28,8 @@ mod program;
 #[cfg(test)]
 mod refusals;
 #[cfg(test)]
+mod replay;
+#[cfg(test)]
 mod script;
 #[cfg(test)]
 mod show;

@@ -300,6 +300,14 @@ fn of_lines(rt: HostRuntime) -> Result<(), Fail> {
                 "fault 804 at line 3: an octet comes after the last of 1048576 lines",
             ),
             (
+                fault(FaultKind::Json),
+                "fault 805 at line 3: the line isn't JSON",
+            ),
+            (
+                fault(FaultKind::World(WorldRefusal::NoNode)),
+                "fault 807 at line 3: the nodes are no network, or the event can't happen in it",
+            ),
+            (
                 fault(FaultKind::Field),
                 "fault 806 at line 3: the line isn't what is asked for",
             ),

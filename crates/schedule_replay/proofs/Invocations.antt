@@ -1,5 +1,5 @@
 -- What a parse of the words answers is what they ask for.
-use Rattle.std.proofs.Common.{◌≡◌, ◌≢◌, ◌∙◌, ◌⊎◌, inl, inr, true, refl, sym, ap, subst, List, [], ◌∷◌, Option, Some, None, codes, drop, option_map}
+use Rattle.std.proofs.Common.{◌≡◌, ◌≢◌, ◌∙◌, ◌⊎◌, inl, inr, true, refl, sym, ap, subst, arith, ℕ, List, [], ◌∷◌, Option, Some, None, codes, drop, option_map}
 use Rattle.std.specs.Prelude.{Box, IfOk, Result}
 use Rattle.std.specs.Box.{box_value}
 use Rattle.std.proofs.lemmas.Result.{IfOk-weaker}
@@ -19,6 +19,7 @@ use Rattle.schedule_replay.specs.Words.{Asks, BeginsWithHelp, HasHelpFlag, Names
 use Rattle.schedule_replay.specs.declared.words.Invocation.{Invocation}
 use Rattle.schedule_replay.specs.declared.words.Invocation.TheVariants.{Run, Help, Mistake}
 use Rattle.schedule_replay.specs.declared.words.Subcommand.{Subcommand}
+use Rattle.schedule_replay.specs.declared.words.Subcommand.TheVariants.{Show, Replay}
 use Rattle.schedule_replay.proofs.ErrorKinds.{some_kind}
 use Rattle.schedule_replay.proofs.FlagWords.{same_in}
 use Rattle.schedule_replay.proofs.CommandLines.{Verdict, flags_help, help_first, is_free_program, is_simple_program, names_run, verdict}
@@ -100,3 +101,23 @@ named_asks_no_help (program_name ∷ word ∷ rest) s named (inr begins) =
     let help : fault_of program (program_name ∷ word ∷ rest) ≡ kind.DisplayHelp ∷ kind.InvalidSubcommand ∷ [] =
     ap (λ (w : Text). fault_of program (program_name ∷ w ∷ rest)) is ∙ help_first program_name rest in
     some_kind kind.DisplayHelp (kind.InvalidSubcommand ∷ []) (sym help ∙ none)
+
+-- ---- no words name two subcommands
+
+first_letter : List (List ℕ) → ℕ
+first_letter [] = 0
+first_letter ([] ∷ words) = 0
+first_letter ((letter ∷ letters) ∷ words) = letter
+
+begins_as : (words : List (List ℕ)) (s : Subcommand) → Names words s → first_letter (drop 1 words) ≡ first_letter (name_of s ∷ [])
+unfolding first_letter
+begins_as words Show (inl named) = ap first_letter named
+begins_as words Show (inr named) = ap first_letter named
+begins_as words Replay (inl named) = ap first_letter named
+begins_as words Replay (inr named) = ap first_letter named
+
+pub names_one_only : (words : List (List ℕ)) → Names words Show → Names words Replay → ⊥
+unfolding first_letter
+names_one_only words show replay =
+    let same : 115 ≡ 114 = sym (begins_as words Show show) ∙ begins_as words Replay replay in
+    absurd (omega (arith, same))

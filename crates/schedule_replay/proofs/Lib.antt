@@ -9,6 +9,8 @@ pub mod ShownLines
 pub mod Entries
 pub mod Records
 pub mod NodeLines
+pub mod EventLines
+pub mod StageLines
 pub mod ReplayedLines
 pub mod CheckedLines
 pub mod ErrorKinds

@@ -3,6 +3,7 @@ use Rattle.std.proofs.Common.{◌≡◌, ◌≢◌, ◌⊎◌, inl, inr, ℕ, ze
 use Rattle.std.specs.Prelude.{reverse, slice_get, IsTrue}
 use Rattle.std.proofs.lemmas.List.{map-append, reverse-append}
 use Rattle.std.specs.Io.KnownBytes.{Appends}
+use Rattle.std.proofs.KnownBytes.{Appends-nil}
 use Rattle.network_model.specs.declared.event.Event.{Event}
 use Rattle.network_model.specs.declared.node.NodeSpec.{NodeSpec}
 use Rattle.network_model.specs.Network.{Network}
@@ -198,3 +199,86 @@ until octets held count ended stage left left' now now' what is so_far (written,
 pub at_line : (octets held : List ℕ) (stop : Fault) (number : ℕ) (left now : Option (List ℕ)) → stop.line ≡ number
     → ReplaysUntil octets held left now (record { line = number; what = stop.what }) → ReplaysUntil octets held left now stop
 at_line octets held stop number left now e h = subst (λ n. ReplaysUntil octets held left now (record { line = n; what = stop.what })) (sym e) h
+
+-- reading a line faults
+pub stopped_reading : (octets held : List ℕ) (count : ℕ) (stage : Stage) (left left' now : Option (List ℕ)) (what : FaultKind) {R : Type 0}
+    (input input' : Counted R) → IsStage stage → HasReplayed octets held count false stage left now
+    → StopsReading what (count + 1) (after_lines count octets) left' → IsFromReading what input input'
+    → ReplaysUntil octets held left' now (record { line = count + 1; what = what })
+stopped_reading octets held count stage left left' now what input input' is so_far stops allowed =
+    go what stops allowed
+  where
+    ended : count ≤ lfs_in octets
+    ended = omega (arith, so_far.lfs refl)
+
+    reader_fails : (stage : Stage) → ShowsFault Read stage now now
+    reader_fails (Nodes nodes) = ([], refl, Appends-nil now)
+    reader_fails (Events world) = ([], refl, Appends-nil now)
+
+    too_long : (stage : Stage) → ShowsFault LineTooLong stage now now
+    too_long (Nodes nodes) = ([], refl, Appends-nil now)
+    too_long (Events world) = ([], refl, Appends-nil now)
+
+    too_many : (stage : Stage) → ShowsFault TooManyLines stage now now
+    too_many (Nodes nodes) = ([], refl, Appends-nil now)
+    too_many (Events world) = ([], refl, Appends-nil now)
+
+    go : (what : FaultKind) → StopsReading what (count + 1) (after_lines count octets) left' → IsFromReading what input input'
+        → ReplaysUntil octets held left' now (record { line = count + 1; what = what })
+    go Read stops allowed =
+        until octets held count false stage left left' now now Read is so_far (reader_fails stage) (inl (ended, tt, stops))
+    go LineTooLong (line, others, cut, fault, unread) allowed =
+        let place = is_at count (lines_of octets) line others (so_far.rest ∙ cut) in
+        until octets held count false stage left left' now now LineTooLong is so_far (too_long stage) (inl (ended, rw place.at fault, unread))
+    go TooManyLines (line, others, cut, fault, unread) allowed =
+        let place = is_at count (lines_of octets) line others (so_far.rest ∙ cut) in
+        until octets held count false stage left left' now now TooManyLines is so_far (too_many stage) (inl (ended, rw place.at fault, unread))
+    go Write stops allowed = absurd allowed
+    go Json stops allowed = absurd allowed
+    go Field stops allowed = absurd allowed
+    go (World why) stops allowed = absurd allowed
+    go Memory stops allowed = absurd allowed
+
+-- a fault of a line that was read
+faults_at : (what : FaultKind) (number : ℕ) (nodes : Network) (run : Run) (line : List ℕ) (there : Option (List ℕ)) → there ≡ Some line
+    → reading_fault number line ≡ None → FaultsIn what nodes run (without_cr line) → FaultsAt what number nodes run there
+faults_at Read number nodes run line there is fine fault = absurd fault
+faults_at LineTooLong number nodes run line there is fine fault = absurd fault
+faults_at TooManyLines number nodes run line there is fine fault = absurd fault
+faults_at Write number nodes run line there is fine fault = rw is (fine, fault)
+faults_at Json number nodes run line there is fine fault = rw is (fine, fault)
+faults_at Field number nodes run line there is fine fault = rw is (fine, fault)
+faults_at (World why) number nodes run line there is fine fault = rw is (fine, fault)
+faults_at Memory number nodes run line there is fine fault = rw is (fine, fault)
+
+-- a line that was read faults
+pub stopped_taking : (octets held : List ℕ) (count : ℕ) (ended : Bool) (stage : Stage) (left left' now now' : Option (List ℕ)) (line : List ℕ)
+    (what : FaultKind) → IsStage stage → HasReplayed octets held count false stage left now
+    → ReadsLine true (count + 1) line ended (after_lines count octets) left'
+    → FaultsIn what (nodes_of stage) (run_of stage) (without_cr line) → ShowsFault what stage now now'
+    → ReplaysUntil octets held left' now' (record { line = count + 1; what = what })
+stopped_taking octets held count ended stage left left' now now' line what is so_far (cut, fine, behind, lf) fault out =
+    let place = is_at count (lines_of octets) line _ (so_far.rest ∙ cut) in
+    let before : count ≤ lfs_in octets = omega (arith, so_far.lfs refl) in
+    until octets held count false stage left left' now now' what is so_far out
+    (inl (before, faults_at what (count + 1) (nodes_of stage) (run_of stage) line _ place.at fine fault, leaves what behind fault))
+  where
+    leaves : (what : FaultKind) → left' ≡ Some (after_lines 1 (after_lines count octets)) → FaultsIn what (nodes_of stage) (run_of stage) (without_cr line)
+        → LeavesUnread what (count + 1) (after_lines count octets) left'
+    leaves Read behind fault = absurd fault
+    leaves LineTooLong behind fault = absurd fault
+    leaves TooManyLines behind fault = absurd fault
+    leaves Write behind fault = behind
+    leaves Json behind fault = behind
+    leaves Field behind fault = behind
+    leaves (World why) behind fault = behind
+    leaves Memory behind fault = behind
+
+-- the nodes fault at the end
+pub stopped_at_end : (octets held : List ℕ) (count : ℕ) (ended : Bool) (stage : Stage) (left left' now now' : Option (List ℕ)) (what : FaultKind)
+    → IsStage stage → HasReplayed octets held count ended stage left now → after_lines count octets ≡ [] → left' ≡ Some []
+    → FaultsAtEnd what (nodes_of stage) → run_of stage ≡ [] → ShowsFault what stage now now'
+    → ReplaysUntil octets held left' now' (record { line = count + 1; what = what })
+stopped_at_end octets held count ended stage left left' now now' what is so_far none end fault first out =
+    until octets held count ended stage left left' now now' what is so_far out
+    (inr (within_list count (lines_of octets) (so_far.rest ∙ ap lines_of none) so_far.within, first, fault, end))

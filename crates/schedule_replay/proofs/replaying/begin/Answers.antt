@@ -20,6 +20,6 @@ loop-node-preserved g c =
     let within : c.loop-node.node-index < length c.args.nodes.now = omega arith in
     record {
       written = rw (nodes_text-more c.loop-node.node-index c.args.nodes.now c.node-item.result within c.node-item.is)
-          (Appends-trans _ _ _ _ _ c.loop-node.invariant.written (rw c.in_ok-value.ensures at c.in_ok-write_line.ensures.written));
+          (Appends-trans _ _ _ _ _ c.loop-node.invariant.written (rw c.in_ok-value.ensures.value at c.in_ok-write_line.ensures.written));
       writer = search rules;
     }

@@ -1,0 +1,324 @@
+//! `replay` over schedules and devices of all kinds.
+
+use crate::devices::{Endless, Failing, Full};
+use network_model::WorldRefusal;
+use schedule_replay::{Counted, Fault, FaultKind, OctetReader, replay};
+use std::alloc::Global;
+use std::io::ErrorKind;
+use std::process::Abort;
+use std::test::Fail;
+
+/// One exchange with a slave behind a clock.
+const SCHEDULE: [&str; 17] = [
+    r#"{"domain":0,"first":0,"id":"001122fffe334455","kind":"master","log":0,"node":"M","port":1}"#,
+    r#"{"domain":0,"first":0,"id":"00aabbfffeccddee","kind":"slave","log":0,"node":"S","port":1}"#,
+    r#"{"kind":"clock","node":"T"}"#,
+    r#"{"diff":"65536000","ev":"stepclock","node":"S"}"#,
+    r#"{"ev":"setmaster","master":"M","node":"S"}"#,
+    r#"{"at":[1,0,0],"ev":"sync","node":"M"}"#,
+    r#"{"at":[1,500,0],"copy":2,"ev":"enter","node":"T"}"#,
+    r#"{"at":[1,2500,0],"ev":"leave","node":"T","transit":3}"#,
+    r#"{"at":[1,3000,0],"copy":4,"ev":"arrive","node":"S"}"#,
+    r#"{"ev":"follow","node":"M"}"#,
+    r#"{"copy":6,"ev":"hear","node":"S"}"#,
+    r#"{"at":[2,0,0],"ev":"request","node":"S"}"#,
+    r#"{"at":[2,500,0],"copy":8,"ev":"enter","node":"T"}"#,
+    r#"{"at":[2,4000,16384],"ev":"leave","node":"T","transit":9}"#,
+    r#"{"at":[2,4500,16384],"copy":10,"ev":"arrive","node":"M"}"#,
+    r#"{"ev":"stamped","node":"S"}"#,
+    r#"{"copy":11,"ev":"hear","node":"S"}"#,
+];
+
+/// What comes of it.
+const TRANSCRIPT: [&str; 17] = [
+    r#"{"domain":0,"first":0,"id":"001122fffe334455","kind":"master","log":0,"node":"M","port":1}"#,
+    r#"{"domain":0,"first":0,"id":"00aabbfffeccddee","kind":"slave","log":0,"node":"S","port":1}"#,
+    r#"{"kind":"clock","node":"T"}"#,
+    r#"{"diff":"65536000","ev":"stepclock","n":0,"node":"S","out":"done"}"#,
+    r#"{"ev":"setmaster","master":"M","n":1,"node":"S","out":"done"}"#,
+    r#"{"at":[1,0,0],"ev":"sync","hex":"0012002c00000200000000000000000000000000001122fffe33445500010000000000000000000000000000","n":2,"node":"M","out":"made","reading":[1,0,0]}"#,
+    r#"{"at":[1,500,0],"copy":2,"ev":"enter","n":3,"node":"T","out":"entered","reading":[1,500,0]}"#,
+    r#"{"at":[1,2500,0],"ev":"leave","hex":"0012002c000002000000000007d0000000000000001122fffe33445500010000000000000000000000000000","n":4,"node":"T","out":"made","reading":[1,2500,0],"transit":3}"#,
+    r#"{"at":[1,3000,0],"copy":4,"ev":"arrive","n":5,"node":"S","out":"held","reading":[1,4000,0]}"#,
+    r#"{"ev":"follow","hex":"0812002c00000000000000000000000000000000001122fffe33445500010000020000000000000100000000","n":6,"node":"M","out":"made"}"#,
+    r#"{"copy":6,"ev":"hear","n":7,"node":"S","out":"completed"}"#,
+    r#"{"at":[2,0,0],"ev":"request","hex":"0112002c0000000000000000000000000000000000aabbfffeccddee00010000017f00000000000000000000","n":8,"node":"S","out":"made","reading":[2,1000,0]}"#,
+    r#"{"at":[2,500,0],"copy":8,"ev":"enter","n":9,"node":"T","out":"entered","reading":[2,500,0]}"#,
+    r#"{"at":[2,4000,16384],"ev":"leave","hex":"0112002c00000000000000000dac40000000000000aabbfffeccddee00010000017f00000000000000000000","n":10,"node":"T","out":"made","reading":[2,4000,16384],"transit":9}"#,
+    r#"{"at":[2,4500,16384],"copy":10,"ev":"arrive","hex":"0912003600000000000000000dac000000000000001122fffe3344550001000003000000000000020000119400aabbfffeccddee0001","n":11,"node":"M","out":"made","reading":[2,4500,16384]}"#,
+    r#"{"ev":"stamped","n":12,"node":"S","out":"done"}"#,
+    r#"{"copy":11,"ev":"hear","n":13,"node":"S","offset2":"131072000","out":"report","path2":"131072000","tags":[5,7,8,13]}"#,
+];
+
+/// What `replay` answers to these octets, what it wrote, and what it left unread.
+fn replayed(alloc: Global, input: &[u8]) -> (Result<u64, Fault>, Vec<u8>, &[u8]) {
+    let mut reader = Counted::new(input);
+    let mut writer = Counted::new(Vec::new(alloc));
+    let answer = replay(alloc, &mut reader, &mut writer);
+    (answer, writer.into_inner(), reader.into_inner())
+}
+
+/// Lines, each with its LF.
+fn joined(alloc: Global, lines: &[&str]) -> Result<String, Fail> {
+    let mut text = String::new(alloc);
+    for line in lines {
+        text.push_str(line)?;
+        text.push('\n')?;
+    }
+    Ok(text)
+}
+
+/// The schedule gives these lines and this answer.
+fn assert_replayed(
+    rt: &(impl Abort + AllocGlobal),
+    schedule: &[u8],
+    transcript: &[&str],
+    wanted: Result<u64, Fault>,
+) -> Result<(), Fail> {
+    let (answer, written, _) = replayed(rt.alloc(), schedule);
+    assert_eq!(rt; answer, wanted, "{schedule:?}");
+    assert_eq!(rt;
+        written.as_slice(),
+        joined(rt.alloc(), transcript)?.as_bytes(),
+        "{schedule:?}"
+    );
+    Ok(())
+}
+
+/// The first lines of the transcript.
+fn begun(alloc: Global, count: usize) -> Result<String, Fail> {
+    let mut text = String::new(alloc);
+    for line in TRANSCRIPT.iter().take(count) {
+        text.push_str(line)?;
+        text.push('\n')?;
+    }
+    Ok(text)
+}
+
+fn fault(line: u64, what: FaultKind) -> Result<u64, Fault> {
+    Err(Fault { line, what })
+}
+
+#[test]
+fn replays_an_exchange(rt: HostRuntime) -> Result<(), Fail> {
+    let schedule = joined(rt.alloc(), &SCHEDULE)?;
+    let (answer, written, unread) = replayed(rt.alloc(), schedule.as_bytes());
+    assert_eq!(rt; answer, Ok(14));
+    assert_eq!(rt;
+        written.as_slice(),
+        joined(rt.alloc(), &TRANSCRIPT)?.as_bytes()
+    );
+    assert_eq!(rt; unread.len(), 0);
+    Ok(())
+}
+
+#[test]
+fn stops_at_a_line_that_is_no_json(rt: HostRuntime) -> Result<(), Fail> {
+    let mut lines = SCHEDULE;
+    lines[5] = "x";
+    let schedule = joined(rt.alloc(), &lines)?;
+    let (answer, written, unread) = replayed(rt.alloc(), schedule.as_bytes());
+    assert_eq!(rt; answer, fault(6, FaultKind::Json));
+    assert_eq!(rt;
+        written.as_slice(),
+        joined(rt.alloc(), &TRANSCRIPT[..5])?.as_bytes()
+    );
+    assert_eq!(rt;
+        unread,
+        joined(rt.alloc(), &SCHEDULE[6..])?.as_bytes()
+    );
+    Ok(())
+}
+
+/// Lines that are no JSON.
+const NO_JSON: [&[u8]; 13] = [
+    b"",
+    b"x",
+    b"\r",
+    b"{",
+    b"[1e999]",
+    b"NaN",
+    b"[01]",
+    b"\xff",
+    b"{\"kind\":\"clock\",\"node\":\"\xff\"}",
+    b"\xef\xbb\xbf{\"kind\":\"clock\",\"node\":\"T\"}",
+    b"\"\\ud800\"",
+    b"\"\t\"",
+    b"{\"kind\":\"clock\",\"node\":\"T\"} {}",
+];
+
+#[test]
+fn refuses_what_is_no_json(rt: HostRuntime) -> Result<(), Fail> {
+    for line in NO_JSON {
+        let mut schedule = Vec::from_slice(rt.alloc(), b"{\"kind\":\"clock\",\"node\":\"C\"}\n")?;
+        schedule.extend_from_slice(line)?;
+        schedule.extend_from_slice(b"\n\n\n")?;
+        let (answer, written, unread) = replayed(rt.alloc(), schedule.as_slice());
+        assert_eq!(rt; answer, fault(2, FaultKind::Json), "{line:?}");
+        assert_eq!(rt; written.len(), 0, "{line:?}");
+        assert_eq!(rt; unread.len(), 2, "{line:?}");
+    }
+    Ok(())
+}
+
+#[test]
+fn refuses_deep_nesting(rt: HostRuntime) -> Result<(), Fail> {
+    let mut line = vec![in rt.alloc(); b'['; 200]?;
+    line.extend_from_slice(vec![in rt.alloc(); b']'; 200]?.as_slice())?;
+    assert_replayed(&rt, line.as_slice(), &[], fault(1, FaultKind::Json))
+}
+
+/// Lines that are neither nodes nor events.
+const ILL_FORMED: [&str; 9] = [
+    "7",
+    "{}",
+    r#"{"ev":"tick"}"#,
+    r#"{"ev":"tock","node":"S"}"#,
+    r#"{"ev":"tick","node":"S","at":[0,0,0]}"#,
+    r#"{"kind":"bridge","node":"B"}"#,
+    r#"{"kind":"clock","node":"no name"}"#,
+    r#"{"at":[1.0,0,0],"ev":"sync","node":"M"}"#,
+    r#"{"copy":18446744073709551616,"ev":"hear","node":"S"}"#,
+];
+
+#[test]
+fn refuses_other_lines(rt: HostRuntime) -> Result<(), Fail> {
+    for line in ILL_FORMED {
+        let before = [SCHEDULE[0], SCHEDULE[0], line];
+        let schedule = joined(rt.alloc(), &before)?;
+        assert_replayed(&rt, schedule.as_bytes(), &[], fault(3, FaultKind::Field))?;
+        let mut lines = SCHEDULE;
+        lines[4] = line;
+        let schedule = joined(rt.alloc(), &lines)?;
+        let wanted = fault(5, FaultKind::Field);
+        assert_replayed(&rt, schedule.as_bytes(), &TRANSCRIPT[..4], wanted)?;
+    }
+    Ok(())
+}
+
+#[test]
+fn nodes_stand_before_events(rt: HostRuntime) -> Result<(), Fail> {
+    let mut lines = SCHEDULE;
+    lines[4] = r#"{"kind":"clock","node":"Z"}"#;
+    let schedule = joined(rt.alloc(), &lines)?;
+    let wanted = fault(5, FaultKind::Field);
+    assert_replayed(&rt, schedule.as_bytes(), &TRANSCRIPT[..4], wanted)
+}
+
+/// One node in other spellings.
+const SPELLINGS: [&str; 4] = [
+    r#"{"node":"T","kind":"clock"}"#,
+    "{\"kind\":\"clock\",\"node\":\"T\"}\r",
+    r#"  { "node" : "\u0054" , "kind" : "cl\u006fck" }  "#,
+    r#"{"kind":"master","node":"no name","node":"T","kind":"clock"}"#,
+];
+
+#[test]
+fn nodes_alone_are_written_at_the_end(rt: HostRuntime) -> Result<(), Fail> {
+    assert_replayed(&rt, b"", &[], Ok(0))?;
+    for line in SPELLINGS {
+        let (clock, wanted) = (TRANSCRIPT[2], Ok(0));
+        assert_replayed(&rt, line.as_bytes(), &[clock], wanted)?;
+        let schedule = joined(rt.alloc(), &[line])?;
+        assert_replayed(&rt, schedule.as_bytes(), &[clock], wanted)?;
+        let twice = joined(rt.alloc(), &[line, line])?;
+        let clash = fault(3, FaultKind::World(WorldRefusal::SameName));
+        assert_replayed(&rt, twice.as_bytes(), &[], clash)?;
+        let clash = fault(3, FaultKind::World(WorldRefusal::SameName));
+        let unended = twice.as_str().trim_end();
+        assert_replayed(&rt, unended.as_bytes(), &[], clash)?;
+    }
+    Ok(())
+}
+
+#[test]
+fn refuses_nodes_at_the_first_event(rt: HostRuntime) -> Result<(), Fail> {
+    let other = r#"{"domain":1,"first":7,"id":"001122FFFE334455","kind":"slave","log":0,"node":"Z","port":1}"#;
+    let cases = [
+        (SCHEDULE[0], WorldRefusal::SameName),
+        (other, WorldRefusal::SameIdentity),
+    ];
+    for (node, why) in cases {
+        let lines = [SCHEDULE[0], node, SCHEDULE[3]];
+        let schedule = joined(rt.alloc(), &lines)?;
+        let wanted = fault(3, FaultKind::World(why));
+        assert_replayed(&rt, schedule.as_bytes(), &[], wanted)?;
+    }
+    Ok(())
+}
+
+#[test]
+fn writes_the_nodes_though_the_first_event_is_refused(rt: HostRuntime) -> Result<(), Fail> {
+    for (at, before) in [(3, 3), (4, 4), (16, 16)] {
+        let mut lines = SCHEDULE;
+        lines[at] = r#"{"ev":"tick","node":"Z"}"#;
+        let schedule = joined(rt.alloc(), &lines)?;
+        let wanted = fault(at as u64 + 1, FaultKind::World(WorldRefusal::NoNode));
+        assert_replayed(&rt, schedule.as_bytes(), &TRANSCRIPT[..before], wanted)?;
+    }
+    Ok(())
+}
+
+#[test]
+fn ends_at_endless_lines(rt: HostRuntime) -> Result<(), Fail> {
+    for (octet, what, given) in [
+        (b'\n', FaultKind::Json, 1),
+        (b'x', FaultKind::LineTooLong, 4097),
+    ] {
+        let mut reader = Counted::new(Endless::new(octet));
+        let mut writer = Counted::new(Vec::new(rt.alloc()));
+        let answer = replay(rt.alloc(), &mut reader, &mut writer);
+        assert_eq!(rt; answer, fault(1, what));
+        assert_eq!(rt; reader.failures(), 0);
+        assert_eq!(rt; reader.into_inner().given(), given);
+        assert_eq!(rt; writer.into_inner().len(), 0);
+    }
+    Ok(())
+}
+
+#[test]
+fn stops_where_the_reader_fails(rt: HostRuntime) -> Result<(), Fail> {
+    let schedule = joined(rt.alloc(), &SCHEDULE)?;
+    for given in 0..=schedule.len() {
+        let octets = &schedule.as_bytes()[..given];
+        let ended = octets.iter().filter(|octet| **octet == b'\n').count();
+        let device = Failing::new(octets, ErrorKind::Interrupted);
+        let mut reader = Counted::new(OctetReader::new(device));
+        let mut writer = Counted::new(Vec::new(rt.alloc()));
+        let answer = replay(rt.alloc(), &mut reader, &mut writer);
+        let wanted = fault((ended as u64).saturating_add(1), FaultKind::Read);
+        assert_eq!(rt; answer, wanted, "{given}");
+        assert_eq!(rt; reader.failures(), 1, "{given}");
+        let lines = if ended > 3 { ended } else { 0 };
+        assert_eq!(rt;
+            writer.into_inner().as_slice(),
+            begun(rt.alloc(), lines)?.as_bytes(),
+            "{given}"
+        );
+    }
+    Ok(())
+}
+
+#[test]
+fn stops_where_the_writer_fails(rt: HostRuntime) -> Result<(), Fail> {
+    let schedule = joined(rt.alloc(), &SCHEDULE)?;
+    for room in 0..=17usize {
+        let mut reader = Counted::new(schedule.as_bytes());
+        let mut writer = Counted::new(Full::new(Vec::new(rt.alloc()), room, None));
+        let answer = replay(rt.alloc(), &mut reader, &mut writer);
+        let wanted = if room < 17 {
+            fault((room as u64).max(3).saturating_add(1), FaultKind::Write)
+        } else {
+            Ok(14)
+        };
+        assert_eq!(rt; answer, wanted, "{room}");
+        assert_eq!(rt; writer.failures(), u64::from(room < 17), "{room}");
+        let written = writer.into_inner();
+        assert_eq!(rt;
+            written.text(),
+            begun(rt.alloc(), room)?.as_bytes(),
+            "{room}"
+        );
+    }
+    Ok(())
+}
