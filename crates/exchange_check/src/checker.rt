@@ -1,5 +1,5 @@
 ghost use Rattle.std.specs.Prelude.{◌≡◌, reverse, MatchResult, IfOk};
-ghost use Rattle.std.specs.Prelude.{◌++◌, ◌∷◌, []};
+ghost use Rattle.std.specs.Prelude.{◌++◌, ◌∷◌, [], length};
 ghost use Rattle.network_model.specs.Network.{Network};
 ghost use Rattle.exchange_check.specs.declared.refusal.CheckFault.TheVariants.{Memory};
 ghost use Rattle.trace_model.specs.Verdict.{verdict};
@@ -83,6 +83,13 @@ impl Checker {
         let pushed = self.lines.push(line);
         prove!(pushed.is_ok());
         Ok(())
+    }
+
+    /// How many lines were fed so far.
+    pub fn len(&self) -> u64
+        ensures { result ≡ length self.now.lines }
+    {
+        self.lines.len() as u64
     }
 
     /// The verdict on the lines fed so far, as [`check`] answers it.

@@ -11,7 +11,7 @@ use Rattle.schedule_replay.specs.declared.fault.FaultKind.{FaultKind}
 use Rattle.schedule_replay.specs.declared.fault.FaultKind.TheVariants.{Json, Field}
 use Rattle.schedule_replay.specs.Schedule.{value_in, entry_in, entry_of_value}
 
-value_read : (line : List ℕ) (value : Data) → IsUtf8 line → read line ≡ Some value → value_in line ≡ Some value
+pub value_read : (line : List ℕ) (value : Data) → IsUtf8 line → read line ≡ Some value → value_in line ≡ Some value
 value_read line value text is = rw (is_utf8-from_IsUtf8 line text) is
 
 pub entry_read : (line : List ℕ) (value : Data) (entry : Option Line) → IsUtf8 line × (read line ≡ Some value) → entry ≡ line_of value
@@ -19,7 +19,7 @@ pub entry_read : (line : List ℕ) (value : Data) (entry : Option Line) → IsUt
 entry_read line value entry (text, is) of =
     ap entry_of_value (value_read line value text is) ∙ ap (λ (o : Option Line). ok_or {E = FaultKind} o Field) (sym of)
 
-no_value : (line : List ℕ) → (IsUtf8 line → read line ≡ None) → value_in line ≡ None
+pub no_value : (line : List ℕ) → (IsUtf8 line → read line ≡ None) → value_in line ≡ None
 no_value line none = by_text (is_utf8 line) refl
   where
     by_text : (is_text : Bool) → is_utf8 line ≡ is_text → (if is_text then read line else None) ≡ None

@@ -7,11 +7,13 @@ pub mod Printing
 pub mod Joining
 pub mod ShownLines
 pub mod Entries
+pub mod Records
 pub mod NodeLines
 pub mod EventLines
 pub mod StageLines
 pub mod ReplayedLines
 pub mod WorkedSchedule
+pub mod CheckedLines
 pub mod ErrorKinds
 pub mod FlagWords
 pub mod SubcommandNames

@@ -38,7 +38,7 @@ FailedAs Write input input' output output' = HasNotFailed input input' × HasFai
 FailedAs kind input input' output output' = HasNotFailed input input' × HasNotFailed output output'
 
 -- which of the two devices failed at this answer
-abbrev pub FailedWith : {R W : Type 0} → Result ℕ Fault → (input input' : Counted R) (output output' : Counted W) → Type 0
+abbrev pub FailedWith : {A R W : Type 0} → Result A Fault → (input input' : Counted R) (output output' : Counted W) → Type 0
 FailedWith answer input input' output output' = MatchResult answer
     (λ _. HasNotFailed input input' × HasNotFailed output output')
     (λ fault. FailedAs fault.what input input' output output')

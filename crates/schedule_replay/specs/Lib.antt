@@ -9,3 +9,5 @@ pub mod Replay
 pub mod Stage
 pub mod Words
 pub mod Program
+pub mod CheckText
+pub mod Progress

@@ -1,6 +1,7 @@
 ghost use Rattle.std.specs.Prelude.{◌≡◌};
 ghost use Rattle.schedule_replay.specs.declared.fault.FaultKind.TheVariants.{Memory};
 
+use exchange_check::CheckFault;
 use network_model::WorldRefusal;
 use std::alloc::{AllocError, AllocFailed};
 use thiserror::Error;
@@ -97,6 +98,14 @@ impl From<WorldRefusal> for FaultKind {
             WorldRefusal::Memory => FaultKind::Memory,
             why => FaultKind::World(why),
         }
+    }
+}
+
+impl From<CheckFault> for FaultKind {
+    ghost from_gives = { λ _ kind. kind ≡ Memory };
+
+    fn from(_refused: CheckFault) -> FaultKind {
+        FaultKind::Memory
     }
 }
 

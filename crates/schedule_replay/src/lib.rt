@@ -1,6 +1,7 @@
 //! Schedules and datagrams as lines of text: what is written is a stated function of what is read.
 #![tactic(auto)]
 
+mod checking;
 mod counted;
 mod fault;
 mod help;
@@ -13,6 +14,7 @@ mod showing;
 mod shown;
 mod words;
 
+pub use checking::check_text;
 pub use counted::Counted;
 pub use fault::{Fault, FaultKind};
 pub use octet_reader::OctetReader;
