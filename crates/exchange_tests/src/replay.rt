@@ -245,14 +245,23 @@ fn refuses_nodes_at_the_first_event(rt: HostRuntime) -> Result<(), Fail> {
     Ok(())
 }
 
+/// An event at no node.
+const NOWHERE: &str = r#"{"ev":"tick","node":"Z"}"#;
+
 #[test]
 fn writes_the_nodes_though_the_first_event_is_refused(rt: HostRuntime) -> Result<(), Fail> {
-    for (at, before) in [(3, 3), (4, 4), (16, 16)] {
-        let mut lines = SCHEDULE;
-        lines[at] = r#"{"ev":"tick","node":"Z"}"#;
+    let (mut first, mut second, mut last) = (SCHEDULE, SCHEDULE, SCHEDULE);
+    first[3] = NOWHERE;
+    second[4] = NOWHERE;
+    last[16] = NOWHERE;
+    for (lines, line, written) in [
+        (first, 4, &TRANSCRIPT[..3]),
+        (second, 5, &TRANSCRIPT[..4]),
+        (last, 17, &TRANSCRIPT[..16]),
+    ] {
         let schedule = joined(rt.alloc(), &lines)?;
-        let wanted = fault(at as u64 + 1, FaultKind::World(WorldRefusal::NoNode));
-        assert_replayed(&rt, schedule.as_bytes(), &TRANSCRIPT[..before], wanted)?;
+        let wanted = fault(line, FaultKind::World(WorldRefusal::NoNode));
+        assert_replayed(&rt, schedule.as_bytes(), written, wanted)?;
     }
     Ok(())
 }
@@ -276,9 +285,10 @@ fn ends_at_endless_lines(rt: HostRuntime) -> Result<(), Fail> {
 
 #[test]
 fn stops_where_the_reader_fails(rt: HostRuntime) -> Result<(), Fail> {
-    let schedule = joined(rt.alloc(), &SCHEDULE)?;
+    let text = joined(rt.alloc(), &SCHEDULE)?;
+    let schedule = text.as_bytes();
     for given in 0..=schedule.len() {
-        let octets = &schedule.as_bytes()[..given];
+        let octets = &schedule[..given];
         let ended = octets.iter().filter(|octet| **octet == b'\n').count();
         let device = Failing::new(octets, ErrorKind::Interrupted);
         let mut reader = Counted::new(OctetReader::new(device));
