@@ -18,6 +18,8 @@ pub(crate) enum Subcommand {
     Show,
     /// Print what comes of the schedule that standard input gives.
     Replay,
+    /// Print the verdict on the transcript that standard input gives.
+    Check,
 }
 
 /// What the arguments ask for.
@@ -60,13 +62,17 @@ fn program<'a>(alloc: Global) -> Result<Command<'a>, AllocError>
         "Print what comes of the events that standard input gives, one a line",
         help::REPLAY,
     );
+    let check = Command::new(alloc, "check").about(
+        "Print whether each report of the transcript that standard input gives is sound",
+    );
     Command::new(alloc, "ptpx")
         .bin_name("ptpx")?
         .about("The delay request-response exchange of the Precision Time Protocol (IEEE 1588)")
         .after_help(help::PROGRAM)
         .subcommand_required(true)
         .subcommand(show)?
-        .subcommand(replay)
+        .subcommand(replay)?
+        .subcommand(check)
 }
 
 /// Reads the arguments, of which the first is the program's own name. Memory fails by `AllocError`.
@@ -87,6 +93,7 @@ fn chosen(matches: &ArgMatches<'_>) -> Subcommand
     match matches.subcommand_name() {
         Some("show") => Subcommand::Show,
         Some("replay") => Subcommand::Replay,
+        Some("check") => Subcommand::Check,
         _ => unreachable!(),
     }
 }
