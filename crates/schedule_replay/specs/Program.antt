@@ -18,7 +18,7 @@ AsksShow words = Names words Show
 abbrev pub AsksReplay : List (List ℕ) → Type 0
 AsksReplay words = Names words Replay
 
--- the words ask for `check`
+-- the arguments ask for `check`
 abbrev pub AsksCheck : List (List ℕ) → Type 0
 AsksCheck words = Names words Check
 

@@ -4,7 +4,7 @@ ghost use Rattle.clap.specs.Matches.{subcommand_name_of};
 ghost use Rattle.clap.specs.declared.builder.command.Command.TheViews.{out-Command as fields_of};
 ghost use Rattle.clap.specs.Simple.{app_of, new_shape, shape_of};
 ghost use Rattle.clap.specs.Values.{kind_of};
-ghost use Rattle.schedule_replay.specs.Words.{Asks, ShowsKind, name_of, program};
+ghost use Rattle.schedule_replay.specs.Words.{Asks, ShowsKind, bare_program, name_of, program};
 
 use crate::help;
 use clap::error::ErrorKind;
@@ -46,6 +46,18 @@ fn with_help<'a>(
     Command::new(alloc, name).about(about).after_help(help)
 }
 
+/// `ptpx` without its subcommands, as `clap` has it.
+fn bare_program<'a>(alloc: Global) -> Result<Command<'a>, AllocError>
+    ensures app { IfOk result (λ c. app_of c ≡ bare_program) }
+{
+    let program = Command::new(alloc, "ptpx")
+        .bin_name("ptpx")?
+        .about("The delay request-response exchange of the Precision Time Protocol (IEEE 1588)")
+        .after_help(help::PROGRAM)
+        .subcommand_required(true);
+    Ok(program)
+}
+
 /// `ptpx` as `clap` has it.
 fn program<'a>(alloc: Global) -> Result<Command<'a>, AllocError>
     ensures app { IfOk result (λ c. app_of c ≡ program) }
@@ -62,14 +74,13 @@ fn program<'a>(alloc: Global) -> Result<Command<'a>, AllocError>
         "Print what comes of the events that standard input gives, one a line",
         help::REPLAY,
     );
-    let check = Command::new(alloc, "check").about(
+    let check = with_help(
+        alloc,
+        "check",
         "Print whether each report of the transcript that standard input gives is sound",
+        help::CHECK,
     );
-    Command::new(alloc, "ptpx")
-        .bin_name("ptpx")?
-        .about("The delay request-response exchange of the Precision Time Protocol (IEEE 1588)")
-        .after_help(help::PROGRAM)
-        .subcommand_required(true)
+    bare_program(alloc)?
         .subcommand(show)?
         .subcommand(replay)?
         .subcommand(check)
