@@ -19,7 +19,7 @@ use Rattle.schedule_replay.specs.Words.{Asks, BeginsWithHelp, HasHelpFlag, Names
 use Rattle.schedule_replay.specs.declared.words.Invocation.{Invocation}
 use Rattle.schedule_replay.specs.declared.words.Invocation.TheVariants.{Run, Help, Mistake}
 use Rattle.schedule_replay.specs.declared.words.Subcommand.{Subcommand}
-use Rattle.schedule_replay.specs.declared.words.Subcommand.TheVariants.{Show, Replay}
+use Rattle.schedule_replay.specs.declared.words.Subcommand.TheVariants.{Show, Replay, Check}
 use Rattle.schedule_replay.proofs.ErrorKinds.{some_kind}
 use Rattle.schedule_replay.proofs.FlagWords.{same_in}
 use Rattle.schedule_replay.proofs.CommandLines.{Verdict, flags_help, help_first, is_free_program, is_simple_program, names_run, verdict}
@@ -115,9 +115,23 @@ begins_as words Show (inl named) = ap first_letter named
 begins_as words Show (inr named) = ap first_letter named
 begins_as words Replay (inl named) = ap first_letter named
 begins_as words Replay (inr named) = ap first_letter named
+begins_as words Check (inl named) = ap first_letter named
+begins_as words Check (inr named) = ap first_letter named
 
-pub names_one_only : (words : List (List ℕ)) → Names words Show → Names words Replay → ⊥
+pub names_show_or_replay : (words : List (List ℕ)) → Names words Show → Names words Replay → ⊥
 unfolding first_letter
-names_one_only words show replay =
+names_show_or_replay words show replay =
     let same : 115 ≡ 114 = sym (begins_as words Show show) ∙ begins_as words Replay replay in
+    absurd (omega (arith, same))
+
+pub names_show_or_check : (words : List (List ℕ)) → Names words Show → Names words Check → ⊥
+unfolding first_letter
+names_show_or_check words show check =
+    let same : 115 ≡ 99 = sym (begins_as words Show show) ∙ begins_as words Check check in
+    absurd (omega (arith, same))
+
+pub names_replay_or_check : (words : List (List ℕ)) → Names words Replay → Names words Check → ⊥
+unfolding first_letter
+names_replay_or_check words replay check =
+    let same : 114 ≡ 99 = sym (begins_as words Replay replay) ∙ begins_as words Check check in
     absurd (omega (arith, same))

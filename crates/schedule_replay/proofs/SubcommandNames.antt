@@ -16,7 +16,7 @@ use Rattle.clap.proofs.FaultLemmas.{stopped_fault}
 use Rattle.clap.proofs.OnLiterals.{clap_on_literals}
 use Rattle.schedule_replay.specs.Words.{AsksHelp, name_of, program, subcommands}
 use Rattle.schedule_replay.specs.declared.words.Subcommand.{Subcommand}
-use Rattle.schedule_replay.specs.declared.words.Subcommand.TheVariants.{Show, Replay}
+use Rattle.schedule_replay.specs.declared.words.Subcommand.TheVariants.{Show, Replay, Check}
 use Rattle.schedule_replay.proofs.ErrorKinds.{IsFlagOrMistake, IsHelp, IsMistake, LastsFirst, help_lasts, flag_or_mistake_lasts, mistake_lasts, unknown_argument}
 use Rattle.schedule_replay.proofs.FlagWords.{at_first_word, flag_is_help, flag_or_mistake, help_rules, with_help_alone}
 
@@ -87,6 +87,17 @@ computed Show = record {
   met_marked = λ name. refl;
 }
 computed Replay = record {
+  walk = λ rest. refl;
+  stop = λ rest. refl;
+  enters = λ rest. refl;
+  level = refl;
+  mark = λ word rest. refl;
+  alone = λ name. refl;
+  marked = λ name. refl;
+  met_alone = λ name. refl;
+  met_marked = λ name. refl;
+}
+computed Check = record {
   walk = λ rest. refl;
   stop = λ rest. refl;
   enters = λ rest. refl;

@@ -7,21 +7,25 @@ use Rattle.clap.specs.declared.error.kind.ErrorKind.TheVariants.{DisplayHelp, Ou
 use Rattle.schedule_replay.specs.declared.words.Invocation.{Invocation}
 use Rattle.schedule_replay.specs.declared.words.Invocation.TheVariants.{Run, Help, Mistake}
 use Rattle.schedule_replay.specs.declared.words.Subcommand.{Subcommand}
-use Rattle.schedule_replay.specs.declared.words.Subcommand.TheVariants.{Show, Replay}
+use Rattle.schedule_replay.specs.declared.words.Subcommand.TheVariants.{Show, Replay, Check}
 
 -- the argument that names a subcommand
 abbrev pub name_of : Subcommand → List ℕ
 name_of Show = codes "show"
 name_of Replay = codes "replay"
+name_of Check = codes "check"
 
 -- the subcommands, in the order of the text of help
 abbrev pub subcommands : List Subcommand
-subcommands = Show ∷ Replay ∷ []
+subcommands = Show ∷ Replay ∷ Check ∷ []
 
--- the program as clap's specifications have one: a subcommand is required, and there is no other argument
+-- the program without its subcommands, as clap's specifications have it: a subcommand is required, and there is no other argument
+abbrev pub bare_program : App
+bare_program = on_top (λ top. record top { subcommand_required = true }) (new_app (codes "ptpx"))
+
+-- the program as clap's specifications have one
 abbrev pub program : App
-program = fold (λ app s. with_subcommand app (new_shape (name_of s)))
-    (on_top (λ top. record top { subcommand_required = true }) (new_app (codes "ptpx"))) subcommands
+program = fold (λ app s. with_subcommand app (new_shape (name_of s))) bare_program subcommands
 
 -- after the program's own name stands the subcommand's name, alone or with `--` after it
 abbrev pub Names : List (List ℕ) → Subcommand → Type 0

@@ -1,26 +1,29 @@
 ghost use Rattle.std.specs.Prelude.{◌≡◌, ◌≢◌, ◌⊎◌, map, string_bytes};
 ghost use Rattle.std.specs.Option.{ForSome};
-ghost use Rattle.schedule_replay.specs.Program.{AsksShow, AsksReplay, AsksNothing, EndsRun, EndsUnread, status_of};
+ghost use Rattle.schedule_replay.specs.Program.{AsksShow, AsksReplay, AsksCheck, AsksNothing, EndsRun, EndsUnread, status_of, check_status};
 ghost use Rattle.schedule_replay.specs.Lines.{input_limit, ReadsWithin};
 ghost use Rattle.schedule_replay.specs.Counted.{device_of};
 ghost use Rattle.schedule_replay.specs.Show.{ShowsAnswer};
 ghost use Rattle.schedule_replay.specs.Replay.{ReplaysAnswer};
+ghost use Rattle.schedule_replay.specs.CheckText.{ChecksAnswer};
 ghost use Rattle.schedule_replay.specs.Words.{HasHelpFlag, NamesNothing};
 
+use crate::checking::check_text;
 use crate::counted::Counted;
 use crate::fault::{Fault, FaultKind};
 use crate::replaying::replay;
 use crate::showing::show;
 use crate::words::{Invocation, Subcommand, parse};
+use exchange_check::Verdict;
 use std::alloc::Global;
 use std::io::{Read, Write};
 
 /// The whole program over its arguments, of which the first is its own name: runs the subcommand that
-/// they name, and answers the exit status. Status 0: done, or help was asked for, which goes to
-/// `output`. Status 2: the arguments are no command, and the reason goes to `errors`. Status 3: a
-/// fault, whose number and line go to `errors`; at line 0 stand want of memory before the
-/// subcommand ran, and a help text that can't be written. What can't be written to `errors` is
-/// lost.
+/// they name, and answers the exit status. Status 0: done or accepted, or help was asked for, which
+/// goes to `output`. Status 1: `check` refused the transcript. Status 2: the arguments are no command,
+/// and the reason goes to `errors`. Status 3: a fault, whose number and line go to `errors`; at line 0
+/// stand want of memory before the subcommand ran, and a help text that can't be written. What can't
+/// be written to `errors` is lost.
 pub fn command<R: Read, W: Write, E: Write>(
     alloc: Global,
     words: &[String],
@@ -30,11 +33,15 @@ pub fn command<R: Read, W: Write, E: Write>(
 ) -> u8
     // The status and what is read and written are those of `show`, unless memory was refused before it.
     ensures show { AsksShow (map string_bytes words.now) →
-        EndsRun (λ answer. ShowsAnswer R.remaining W.contents answer input.old input.new output.old output.new)
+        EndsRun status_of (λ answer. ShowsAnswer R.remaining W.contents answer input.old input.new output.old output.new)
         result input.old input.new output.old output.new }
     // They are those of `replay`, where the arguments ask for that.
     ensures replay { AsksReplay (map string_bytes words.now) →
-        EndsRun (λ answer. ReplaysAnswer R.remaining W.contents answer input.old input.new output.old output.new)
+        EndsRun status_of (λ answer. ReplaysAnswer R.remaining W.contents answer input.old input.new output.old output.new)
+        result input.old input.new output.old output.new }
+    // They are those of `check`, where the arguments ask for that.
+    ensures check { AsksCheck (map string_bytes words.now) →
+        EndsRun check_status (λ answer. ChecksAnswer R.remaining W.contents answer input.old input.new output.old output.new)
         result input.old input.new output.old output.new }
     // Whatever the arguments are, only so much is read of a reader that tells its octets.
     ensures bounded { ForSome (R.remaining (device_of input.old)) (λ octets.
@@ -51,6 +58,9 @@ pub fn command<R: Read, W: Write, E: Write>(
     match parse(alloc, words) {
         Ok(Invocation::Run(Subcommand::Show)) => finish(errors, show(alloc, input, output)),
         Ok(Invocation::Run(Subcommand::Replay)) => finish(errors, replay(alloc, input, output)),
+        Ok(Invocation::Run(Subcommand::Check)) => {
+            finish_check(errors, check_text(alloc, input, output))
+        }
         Ok(Invocation::Help(text)) => match output.write_all(text.as_bytes()) {
             Ok(()) => 0,
             Err(_) => report(errors, before_lines(FaultKind::Write)),
@@ -74,6 +84,17 @@ fn finish<E: Write>(errors: &mut E, answer: Result<u64, Fault>) -> u8
 {
     match answer {
         Ok(_) => 0,
+        Err(fault) => report(errors, fault),
+    }
+}
+
+/// Answers the exit status of `check`, and says its fault.
+fn finish_check<E: Write>(errors: &mut E, answer: Result<Verdict, Fault>) -> u8
+    ensures { result ≡ check_status answer }
+{
+    match answer {
+        Ok(Verdict::Accepted(_)) => 0,
+        Ok(Verdict::Refused { .. }) => 1,
         Err(fault) => report(errors, fault),
     }
 }

@@ -4,7 +4,7 @@ ghost use Rattle.clap.specs.Matches.{subcommand_name_of};
 ghost use Rattle.clap.specs.declared.builder.command.Command.TheViews.{out-Command as fields_of};
 ghost use Rattle.clap.specs.Simple.{app_of, new_shape, shape_of};
 ghost use Rattle.clap.specs.Values.{kind_of};
-ghost use Rattle.schedule_replay.specs.Words.{Asks, ShowsKind, name_of, program};
+ghost use Rattle.schedule_replay.specs.Words.{Asks, ShowsKind, bare_program, name_of, program};
 
 use crate::help;
 use clap::error::ErrorKind;
@@ -18,6 +18,8 @@ pub(crate) enum Subcommand {
     Show,
     /// Print what comes of the schedule that standard input gives.
     Replay,
+    /// Print the verdict on the transcript that standard input gives.
+    Check,
 }
 
 /// What the arguments ask for.
@@ -44,6 +46,18 @@ fn with_help<'a>(
     Command::new(alloc, name).about(about).after_help(help)
 }
 
+/// `ptpx` without its subcommands, as `clap` has it.
+fn bare_program<'a>(alloc: Global) -> Result<Command<'a>, AllocError>
+    ensures app { IfOk result (λ c. app_of c ≡ bare_program) }
+{
+    let program = Command::new(alloc, "ptpx")
+        .bin_name("ptpx")?
+        .about("The delay request-response exchange of the Precision Time Protocol (IEEE 1588)")
+        .after_help(help::PROGRAM)
+        .subcommand_required(true);
+    Ok(program)
+}
+
 /// `ptpx` as `clap` has it.
 fn program<'a>(alloc: Global) -> Result<Command<'a>, AllocError>
     ensures app { IfOk result (λ c. app_of c ≡ program) }
@@ -60,13 +74,16 @@ fn program<'a>(alloc: Global) -> Result<Command<'a>, AllocError>
         "Print what comes of the events that standard input gives, one a line",
         help::REPLAY,
     );
-    Command::new(alloc, "ptpx")
-        .bin_name("ptpx")?
-        .about("The delay request-response exchange of the Precision Time Protocol (IEEE 1588)")
-        .after_help(help::PROGRAM)
-        .subcommand_required(true)
+    let check = with_help(
+        alloc,
+        "check",
+        "Print whether each report of the transcript that standard input gives is sound",
+        help::CHECK,
+    );
+    bare_program(alloc)?
         .subcommand(show)?
-        .subcommand(replay)
+        .subcommand(replay)?
+        .subcommand(check)
 }
 
 /// Reads the arguments, of which the first is the program's own name. Memory fails by `AllocError`.
@@ -87,6 +104,7 @@ fn chosen(matches: &ArgMatches<'_>) -> Subcommand
     match matches.subcommand_name() {
         Some("show") => Subcommand::Show,
         Some("replay") => Subcommand::Replay,
+        Some("check") => Subcommand::Check,
         _ => unreachable!(),
     }
 }
