@@ -1,3 +1,4 @@
+pub mod Compact
 pub mod Digits
 pub mod Keys
 pub mod Lookup
@@ -6,4 +7,5 @@ pub mod Texts
 pub mod Floats
 pub mod Names
 pub mod Nodes
+pub mod Printed
 pub mod Ranges

@@ -134,7 +134,7 @@ told : {X : Type 0} (n : ℕ) (line : TraceLine) (key : List ℕ) (reads : Data 
     → field reads key (event_data n line) ≡ o
 told n line key reads f o P e each h = ap (option_and_then reads) (stands n line key (option_map f o) e) ∙ back reads f o P each h
 
-always : {X : Type 0} (o : Option X) → IfSome o (λ _. Unit {0})
+pub always : {X : Type 0} (o : Option X) → IfSome o (λ _. Unit {0})
 always None = tt
 always (Some x) = tt
 
@@ -148,7 +148,7 @@ octets_out (outs.Report answer) h = tt
 octets_out (outs.Ignored reason) h = tt
 octets_out (outs.Refused reason) h = tt
 
-code_out : (out : TraceOut) → IsOut out → IfSome (out_code out) (λ code. code < 65536)
+pub code_out : (out : TraceOut) → IsOut out → IfSome (out_code out) (λ code. code < 65536)
 code_out outs.Done h = tt
 code_out (outs.Made octets) h = tt
 code_out outs.Entered h = tt

@@ -5,7 +5,7 @@ use Rattle.event_codec.specs.declared.port.PortConfig.{PortConfig}
 use Rattle.ptp_units.specs.Moment.{bound}
 use Rattle.network_model.specs.Name.{IsName}
 use Rattle.network_model.specs.Run.{site_of, true_moment}
-use Rattle.network_model.specs.Kinds.{named_master, step_of}
+use Rattle.network_model.specs.Kinds.{named_master, step_of, spent_transit}
 use Rattle.network_model.specs.declared.event.Event.{Event}
 use Rattle.network_model.specs.declared.node.NodeKind.{NodeKind}
 use Rattle.network_model.specs.declared.node.NodeKind.TheVariants as kinds
@@ -14,13 +14,16 @@ use Rattle.trace_model.specs.declared.line.TraceLine.{TraceLine}
 use Rattle.trace_model.specs.declared.line.TraceOut.{TraceOut}
 use Rattle.trace_model.specs.declared.line.TraceOut.TheVariants as outs
 use Rattle.serde_json.specs.Data.{Data}
+use Rattle.serde_json.specs.Read.{read}
+use Rattle.serde_json.specs.Written.{compact_text}
+use Rattle.slave_port.specs.declared.heard.Report.{Report}
 use Rattle.schedule_lines.specs.declared.schedule.Line.{Line}
 use Rattle.schedule_lines.specs.declared.schedule.Line.TheVariants as schedules
 use Rattle.schedule_lines.specs.declared.traced.TranscriptLine.{TranscriptLine}
 use Rattle.schedule_lines.specs.declared.traced.TranscriptLine.TheVariants as lines
 use Rattle.schedule_lines.specs.Line.{line_of}
 use Rattle.schedule_lines.specs.Traced.{transcript_line_of}
-use Rattle.schedule_lines.specs.Transcript.{node_data, event_data}
+use Rattle.schedule_lines.specs.Transcript.{named_copy, out_report, node_data, event_data}
 
 -- a whole number whose text has 32 octets at the most
 abbrev pub IsShort : ℤ → Type 0
@@ -92,3 +95,29 @@ IsTranscriptLine (lines.Event n line) = IsRecorded line
 -- whatever is read is within its ranges
 abbrev pub ReadsInRange : Type 0
 ReadsInRange = (d : Data) → IfSome (line_of d) IsLine × IfSome (transcript_line_of d) IsTranscriptLine
+
+-- a tag, which has 64 bits
+abbrev pub IsTag : ℕ → Type 0
+IsTag tag = tag < 2 ^ 64
+
+-- the tags of a report
+pub record HasTags (report : Report) : Type 0 where
+  pub sync : IsTag report.sync_tag
+  pub follow : IfSome report.follow_tag IsTag
+  pub request : IsTag report.request_tag
+  pub response : IsTag report.response_tag
+
+-- the tags of a line
+pub record IsTagged (n : ℕ) (line : TraceLine) : Type 0 where
+  pub number : IsTag n
+  pub copy : IfSome (named_copy line.event) IsTag
+  pub transit : IfSome (spent_transit line.event) IsTag
+  pub report : IfSome (out_report line.out) HasTags
+
+-- the compact text of a node's line is read as its value
+abbrev pub NodeTextsReadBack : Type 0
+NodeTextsReadBack = (node : NodeSpec) → IsNode node → read (compact_text (node_data node)) ≡ Some (node_data node)
+
+-- and so is the compact text of an event's line
+abbrev pub EventTextsReadBack : Type 0
+EventTextsReadBack = (n : ℕ) (line : TraceLine) → IsRecorded line → IsTagged n line → read (compact_text (event_data n line)) ≡ Some (event_data n line)

@@ -82,6 +82,7 @@ abbrev pub reading_in : Option ℕ → Data → Option (Option ℕ)
 reading_in None d = Some None
 reading_in (Some at) d = option_map Some (field moment_in (codes "reading") d)
 
+-- how many keys tell the reading
 abbrev pub reading_keys : Option ℕ → ℕ
 reading_keys None = 0
 reading_keys (Some at) = 1
@@ -106,6 +107,6 @@ traced_in d = do
   n ← field whole_in (codes "n") d
   if has_keys (line_keys line) d then Some (lines.Event n line) else None
 
--- the line that a value is; None where a key is missing, one is too many, or one's value isn't what is asked for
+-- the line that a value is, or None where keys are missing or too many, or a key's value isn't what is asked for
 abbrev pub transcript_line_of : Data → Option TranscriptLine
 transcript_line_of d = if is_some (get (codes "ev") d) then traced_in d else option_map lines.Node (node_spec_in d)

@@ -1,13 +1,20 @@
 //! Laws that follow from the definitions, each the contract of a function that does nothing: a caller
 //! that needs one in its proof calls it.
 
-ghost use Rattle.schedule_lines.specs.Recorded.{EventsReadBack, NodesReadBack, ReadsInRange};
+ghost use Rattle.schedule_lines.specs.Recorded.{NodesReadBack, EventsReadBack, NodeTextsReadBack, EventTextsReadBack, ReadsInRange};
 
 /// What is written of a node is read as that node, and what is written of an event as the number and
 /// what was recorded that it was written from, for all values that are within their ranges.
 pub fn written_lines_are_read()
     ensures nodes { NodesReadBack }
     ensures events { EventsReadBack }
+{}
+
+/// The compact text of a line, without its LF, is read by `serde_json` as the value that it was
+/// written from, for all values that are within their ranges and tags of 64 bits.
+pub fn written_texts_are_read()
+    ensures nodes { NodeTextsReadBack }
+    ensures events { EventTextsReadBack }
 {}
 
 /// Whatever is read is within its ranges: names are names, moments are below 2^48 s, texts of numbers

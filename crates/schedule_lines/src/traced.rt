@@ -25,10 +25,10 @@ pub enum TranscriptLine {
 }
 
 impl TranscriptLine {
-    /// The node, or the event with its number, that a line's value is: an object with key `ev` is an
-    /// event, and one without it and with `kind` a node. None for every other value, and where a key
-    /// of the form is missing, one is there that isn't of the form, or a key's value isn't what is
-    /// asked for. It takes no memory.
+    /// The node, or the event with its number, that a line's value is: with the key `ev` it is an
+    /// event, without it and with `kind` a node. None for every other value, and where a key is
+    /// missing, one is there that has no place, or a key's value isn't what is asked for. It takes no
+    /// memory.
     pub fn of(value: &Value) -> Option<TranscriptLine>
         ensures { result ≡ transcript_line_of (view value.now) }
     {
