@@ -16,8 +16,7 @@ import sys
 
 import inputs
 
-# A subcommand joins here once the program has it.
-SUBCOMMANDS = ['show', 'replay']
+SUBCOMMANDS = ['show', 'replay', 'check']
 
 INPUTS = 20_000
 SEED = 1588

@@ -40,6 +40,8 @@ mod tables;
 #[cfg(test)]
 mod traces;
 #[cfg(test)]
+mod transcripts;
+#[cfg(test)]
 mod units;
 #[cfg(test)]
 mod values;

@@ -98,6 +98,31 @@ fn replays_with_status_0_or_3(rt: HostRuntime) -> Result<(), Fail> {
     Ok(())
 }
 
+/// A slave that is said to have reported at a tick.
+const NO_REPORT: &[u8] =
+    b"{\"domain\":0,\"first\":0,\"id\":\"00aabbfffeccddee\",\"kind\":\"slave\",\
+\"log\":0,\"node\":\"S\",\"port\":1}\n{\"ev\":\"tick\",\"n\":0,\"node\":\"S\",\"offset2\":\"0\",\"out\":\"report\",\
+\"path2\":\"0\",\"tags\":[0,0,0,0]}\n";
+
+#[test]
+fn checks_with_status_0_or_1_or_3(rt: HostRuntime) -> Result<(), Fail> {
+    let cases: [(&[u8], u8, &[u8], &[u8]); 4] = [
+        (b"", 0, b"accepted 0\n", b""),
+        (CLOCK, 0, b"accepted 0\n", b""),
+        (NO_REPORT, 1, b"refused event 0: 701\n", b""),
+        (SCHEDULE, 3, b"", b"ptpx: fault 806 at line 2\n"),
+    ];
+    for (input, status, output, said) in cases {
+        for line in ["ptpx check", "ptpx check --"] {
+            let ended = run(rt.alloc(), line, input)?;
+            assert_eq!(rt; ended.status, status, "{input:?}");
+            assert_eq!(rt; ended.output.as_slice(), output, "{input:?}");
+            assert_eq!(rt; ended.errors.as_slice(), said, "{input:?}");
+        }
+    }
+    Ok(())
+}
+
 #[test]
 fn says_faults_with_status_3(rt: HostRuntime) -> Result<(), Fail> {
     let long = [b'0'; 4097];
@@ -266,7 +291,7 @@ fn says_in_help_what_is_read_and_written(rt: HostRuntime) -> Result<(), Fail> {
 const MISTAKES: [(&str, &str); 15] = [
     (
         "ptpx",
-        "'ptpx' requires a subcommand but one was not provided\n  [subcommands: show, replay, help]\n\nUsage: ptpx <COMMAND>\n",
+        "'ptpx' requires a subcommand but one was not provided\n  [subcommands: show, replay, check, help]\n\nUsage: ptpx <COMMAND>\n",
     ),
     ("ptpx --", "'ptpx' requires a subcommand"),
     (

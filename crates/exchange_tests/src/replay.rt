@@ -9,7 +9,7 @@ use std::process::Abort;
 use std::test::Fail;
 
 /// One exchange with a slave behind a clock.
-const SCHEDULE: [&str; 17] = [
+pub(crate) const SCHEDULE: [&str; 17] = [
     r#"{"domain":0,"first":0,"id":"001122fffe334455","kind":"master","log":0,"node":"M","port":1}"#,
     r#"{"domain":0,"first":0,"id":"00aabbfffeccddee","kind":"slave","log":0,"node":"S","port":1}"#,
     r#"{"kind":"clock","node":"T"}"#,
@@ -30,7 +30,7 @@ const SCHEDULE: [&str; 17] = [
 ];
 
 /// What comes of it.
-const TRANSCRIPT: [&str; 17] = [
+pub(crate) const TRANSCRIPT: [&str; 17] = [
     r#"{"domain":0,"first":0,"id":"001122fffe334455","kind":"master","log":0,"node":"M","port":1}"#,
     r#"{"domain":0,"first":0,"id":"00aabbfffeccddee","kind":"slave","log":0,"node":"S","port":1}"#,
     r#"{"kind":"clock","node":"T"}"#,
@@ -59,7 +59,7 @@ fn replayed(alloc: Global, input: &[u8]) -> (Result<u64, Fault>, Vec<u8>, &[u8])
 }
 
 /// Lines, each with its LF.
-fn joined(alloc: Global, lines: &[&str]) -> Result<String, Fail> {
+pub(crate) fn joined(alloc: Global, lines: &[&str]) -> Result<String, Fail> {
     let mut text = String::new(alloc);
     for line in lines {
         text.push_str(line)?;
