@@ -13,6 +13,10 @@ pub mod EventLines
 pub mod StageLines
 pub mod ReplayedLines
 pub mod WorkedSchedule
+pub mod BareCopies
+pub mod ToldOutcomes
+pub mod ToldReports
+pub mod ToldLines
 pub mod CheckedLines
 pub mod ErrorKinds
 pub mod FlagWords

@@ -10,4 +10,5 @@ pub mod Stage
 pub mod Words
 pub mod Program
 pub mod CheckText
+pub mod Accepted
 pub mod Progress
