@@ -16,6 +16,7 @@ pub mod WorkedSchedule
 pub mod BareCopies
 pub mod ToldOutcomes
 pub mod ToldReports
+pub mod ToldTags
 pub mod ToldLines
 pub mod CheckedLines
 pub mod ErrorKinds

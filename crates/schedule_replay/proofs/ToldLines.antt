@@ -19,6 +19,7 @@ use Rattle.network_model.specs.Outcome.{outcome_of, IsRun}
 use Rattle.network_model.specs.Premises.{Premise, exact_limits, IsAcceptedRun, IsFreshAndTicked, IsWithinTurn}
 use Rattle.network_model.specs.Reported.{Reports}
 use Rattle.network_model.specs.Exact.{IsMeasurement}
+use Rattle.network_model.specs.Headline.{EachReportIsExact}
 use Rattle.network_model.proofs.Journeys.{IsIn-last}
 use Rattle.network_model.proofs.Readings.{shown_reading}
 use Rattle.network_model.proofs.Reports.{each_of_one_sync, each_of_one_request, each_of_one_sync-one_turn, each_of_one_request-one_turn}
@@ -28,9 +29,10 @@ use Rattle.trace_model.specs.declared.line.TraceOut.{TraceOut}
 use Rattle.trace_model.specs.declared.line.TraceOut.TheVariants as outs
 use Rattle.trace_model.specs.Told.{TellsOctets, TellsMade, TellsOutcome, TellsEvent, heard_out}
 use Rattle.schedule_lines.specs.Recorded.{IsEvent, IsOut, IsRecorded}
-use Rattle.schedule_replay.specs.Accepted.{EachToldLineIsRecorded}
+use Rattle.schedule_replay.specs.Accepted.{EachToldLineIsRecorded, EachToldLineIsTagged}
 use Rattle.schedule_replay.proofs.BareCopies.{IsBare, bare_copy, few_octets}
 use Rattle.schedule_replay.proofs.ToldOutcomes.{IsCoded, coded_outcome, coded_reason}
+use Rattle.schedule_replay.proofs.ToldTags.{tagged_line}
 use Rattle.schedule_replay.proofs.ToldReports.{IsShortReport, reading_below, short_report}
 
 -- ---- the octets of a copy
@@ -124,24 +126,39 @@ told_line network event earlier line accepted measured ranges told =
           told.told.outcome;
     }
 
-pub fresh_lines : EachToldLineIsRecorded (IsFreshAndTicked exact_limits)
-fresh_lines network event earlier line premise ranges told =
-    let p : Place = place event earlier in
-    let accepted : IsAcceptedRun network (event ∷ earlier) = record { apart = premise.apart; accepted = premise.accepted } in
-    told_line network event earlier line accepted
-    (λ report reports.
-    let one_sync = each_of_one_sync network p report premise reports in
-    let one_request = each_of_one_request network p report premise reports in
-    record { one_sync = one_sync; one_request = one_request; exact = each_twice network p report accepted reports one_sync one_request })
-    ranges told
+-- what is said of each premise: it is of accepted runs, and their reports are exact
+pub record IsExact (premise : Premise) : Type 0 where
+  pub accepted : (network : Network) (run : Run) → premise network run → IsAcceptedRun network run
+  pub exact : EachReportIsExact premise
 
-pub turn_lines : EachToldLineIsRecorded IsWithinTurn
-turn_lines network event earlier line premise ranges told =
-    let p : Place = place event earlier in
-    let accepted : IsAcceptedRun network (event ∷ earlier) = record { apart = premise.apart; accepted = premise.accepted } in
-    told_line network event earlier line accepted
-    (λ report reports.
-    let one_sync = each_of_one_sync-one_turn network p report premise reports in
-    let one_request = each_of_one_request-one_turn network p report premise reports in
-    record { one_sync = one_sync; one_request = one_request; exact = each_twice network p report accepted reports one_sync one_request })
-    ranges told
+pub fresh : IsExact (IsFreshAndTicked exact_limits)
+fresh =
+    let accepted : (network : Network) (run : Run) → IsFreshAndTicked exact_limits network run → IsAcceptedRun network run =
+    λ network run premise. record { apart = premise.apart; accepted = premise.accepted } in
+    record {
+      accepted = accepted;
+      exact = λ network p report premise reports.
+          let one_sync = each_of_one_sync network p report premise reports in
+          let one_request = each_of_one_request network p report premise reports in
+          record { one_sync = one_sync; one_request = one_request; exact = each_twice network p report (accepted network (until p) premise) reports one_sync one_request };
+    }
+
+pub in_turn : IsExact IsWithinTurn
+in_turn =
+    let accepted : (network : Network) (run : Run) → IsWithinTurn network run → IsAcceptedRun network run =
+    λ network run premise. record { apart = premise.apart; accepted = premise.accepted } in
+    record {
+      accepted = accepted;
+      exact = λ network p report premise reports.
+          let one_sync = each_of_one_sync-one_turn network p report premise reports in
+          let one_request = each_of_one_request-one_turn network p report premise reports in
+          record { one_sync = one_sync; one_request = one_request; exact = each_twice network p report (accepted network (until p) premise) reports one_sync one_request };
+    }
+
+pub lines_recorded : (premise : Premise) → IsExact premise → EachToldLineIsRecorded premise
+lines_recorded premise is network event earlier line holds ranges told =
+    told_line network event earlier line (is.accepted network (event ∷ earlier) holds) (λ report reports. is.exact network (place event earlier) report holds reports) ranges told
+
+pub lines_tagged : (premise : Premise) → IsExact premise → EachToldLineIsTagged premise
+lines_tagged premise is network event earlier line holds small told =
+    tagged_line network event earlier line (is.accepted network (event ∷ earlier) holds) (λ report reports. is.exact network (place event earlier) report holds reports) small told

@@ -1,7 +1,7 @@
 //! What follows from the definitions alone, for any octets.
 ghost use Rattle.std.specs.Prelude.{◌≡◌, ℕ, List};
 ghost use Rattle.network_model.specs.Premises.{exact_limits, IsFreshAndTicked, IsWithinTurn};
-ghost use Rattle.schedule_replay.specs.Accepted.{EachToldLineIsRecorded};
+ghost use Rattle.schedule_replay.specs.Accepted.{EachToldLineIsRecorded, EachToldLineIsTagged};
 ghost use Rattle.schedule_replay.specs.Shown.{IsShownAs};
 
 use event_codec::decode;
@@ -20,8 +20,10 @@ pub fn shown_by_some_text(octets: &[u8])
 
 /// Each line that tells an event of a run is within its ranges, where the event is: its reading is a
 /// moment, it is there exactly where the event has a true moment, and what it has of the outcome can
-/// be written.
+/// be written. Its tags have 64 bits, where its number has.
 pub fn told_lines_are_recorded()
-    ensures fresh_and_ticked { EachToldLineIsRecorded (IsFreshAndTicked exact_limits) }
-    ensures within_turn { EachToldLineIsRecorded IsWithinTurn }
+    ensures recorded { EachToldLineIsRecorded (IsFreshAndTicked exact_limits) }
+    ensures recorded_within_turn { EachToldLineIsRecorded IsWithinTurn }
+    ensures tagged { EachToldLineIsTagged (IsFreshAndTicked exact_limits) }
+    ensures tagged_within_turn { EachToldLineIsTagged IsWithinTurn }
 {}

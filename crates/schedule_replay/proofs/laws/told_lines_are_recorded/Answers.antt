@@ -1,8 +1,15 @@
-use Rattle.schedule_replay.proofs.ToldLines.{fresh_lines, turn_lines}
+use Rattle.network_model.specs.Premises.{exact_limits, IsFreshAndTicked, IsWithinTurn}
+use Rattle.schedule_replay.proofs.ToldLines.{fresh, in_turn, lines_recorded, lines_tagged}
 use Rattle.schedule_replay.proofs.laws.told_lines_are_recorded.Goals as goal
 
-pub returns-clause-fresh_and_ticked : goal.returns-clause-fresh_and_ticked
-returns-clause-fresh_and_ticked c = fresh_lines
+pub returns-clause-recorded : goal.returns-clause-recorded
+returns-clause-recorded c = lines_recorded (IsFreshAndTicked exact_limits) fresh
 
-pub returns-clause-within_turn : goal.returns-clause-within_turn
-returns-clause-within_turn c = turn_lines
+pub returns-clause-recorded_within_turn : goal.returns-clause-recorded_within_turn
+returns-clause-recorded_within_turn c = lines_recorded IsWithinTurn in_turn
+
+pub returns-clause-tagged : goal.returns-clause-tagged
+returns-clause-tagged c = lines_tagged (IsFreshAndTicked exact_limits) fresh
+
+pub returns-clause-tagged_within_turn : goal.returns-clause-tagged_within_turn
+returns-clause-tagged_within_turn c = lines_tagged IsWithinTurn in_turn
