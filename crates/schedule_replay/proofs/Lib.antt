@@ -18,6 +18,8 @@ pub mod ToldOutcomes
 pub mod ToldReports
 pub mod ToldTags
 pub mod ToldLines
+pub mod ShownTexts
+pub mod LineTexts
 pub mod CheckedLines
 pub mod ErrorKinds
 pub mod FlagWords
