@@ -20,6 +20,7 @@ pub mod ToldTags
 pub mod ToldLines
 pub mod ShownTexts
 pub mod LineTexts
+pub mod Transcribed
 pub mod CheckedLines
 pub mod ErrorKinds
 pub mod FlagWords

@@ -21,6 +21,7 @@ use Rattle.network_model.specs.Reported.{Reports}
 use Rattle.network_model.specs.Exact.{IsMeasurement}
 use Rattle.network_model.specs.Headline.{EachReportIsExact}
 use Rattle.network_model.proofs.Journeys.{IsIn-last}
+use Rattle.network_model.proofs.Pairing.{fresh_ticked_shorter, within_turn_shorter}
 use Rattle.network_model.proofs.Readings.{shown_reading}
 use Rattle.network_model.proofs.Reports.{each_of_one_sync, each_of_one_request, each_of_one_sync-one_turn, each_of_one_request-one_turn}
 use Rattle.network_model.proofs.Twice.{each_twice}
@@ -126,9 +127,10 @@ told_line network event earlier line accepted measured ranges told =
           told.told.outcome;
     }
 
--- what is said of each premise: it is of accepted runs, and their reports are exact
+-- what is said of each premise: it is of accepted runs and of all that they begin with, and their reports are exact
 pub record IsExact (premise : Premise) : Type 0 where
   pub accepted : (network : Network) (run : Run) → premise network run → IsAcceptedRun network run
+  pub shorter : (network : Network) (event : Event) (earlier : Run) → premise network (event ∷ earlier) → premise network earlier
   pub exact : EachReportIsExact premise
 
 pub fresh : IsExact (IsFreshAndTicked exact_limits)
@@ -137,6 +139,7 @@ fresh =
     λ network run premise. record { apart = premise.apart; accepted = premise.accepted } in
     record {
       accepted = accepted;
+      shorter = fresh_ticked_shorter exact_limits;
       exact = λ network p report premise reports.
           let one_sync = each_of_one_sync network p report premise reports in
           let one_request = each_of_one_request network p report premise reports in
@@ -149,6 +152,7 @@ in_turn =
     λ network run premise. record { apart = premise.apart; accepted = premise.accepted } in
     record {
       accepted = accepted;
+      shorter = within_turn_shorter;
       exact = λ network p report premise reports.
           let one_sync = each_of_one_sync-one_turn network p report premise reports in
           let one_request = each_of_one_request-one_turn network p report premise reports in

@@ -1,12 +1,20 @@
--- What `replay` writes of runs, as `check_text` reads it. `laws::told_lines_are_recorded` promises it.
+-- What `replay` writes of runs, as `check_text` reads it. `laws::told_lines_are_recorded`, `laws::replayed_runs_are_transcripts`
+-- and `laws::replayed_runs_are_accepted` promise it.
+use Rattle.std.specs.Prelude.{◌≡◌, ℕ, ◌+◌, ◌^◌, ◌<◌, ◌≤◌, List, ◌∷◌, ◌++◌, length, All, Option}
 use Rattle.network_model.specs.declared.event.Event.{Event}
 use Rattle.network_model.specs.Network.{Network}
 use Rattle.network_model.specs.Run.{Run}
-use Rattle.network_model.specs.Premises.{Premise, exact_limits, IsFreshAndTicked, IsWithinTurn}
-use Rattle.std.specs.Prelude.{◌^◌, ◌<◌, ◌∷◌, length}
+use Rattle.network_model.specs.Premises.{Premise}
 use Rattle.trace_model.specs.declared.line.TraceLine.{TraceLine}
-use Rattle.trace_model.specs.Told.{TellsEvent}
-use Rattle.schedule_lines.specs.Recorded.{IsEvent, IsRecorded, IsTagged}
+use Rattle.trace_model.specs.declared.verdict.Verdict.{Verdict}
+use Rattle.trace_model.specs.declared.verdict.Verdict.TheVariants.{Accepted}
+use Rattle.trace_model.specs.Line.{Lines}
+use Rattle.trace_model.specs.Told.{TellsEvent, TellsRun}
+use Rattle.trace_model.specs.Complete.{reports_in}
+use Rattle.schedule_lines.specs.Recorded.{IsEvent, IsNode, IsRecorded, IsTagged}
+use Rattle.schedule_replay.specs.Lines.{lines_of, lines_limit}
+use Rattle.schedule_replay.specs.Replay.{nodes_text, WritesRun}
+use Rattle.schedule_replay.specs.CheckText.{AreRecorded, transcript_of, ChecksAll}
 
 -- Each line that tells an event within its ranges is within its own.
 abbrev pub EachToldLineIsRecorded : Premise → Type 0
@@ -19,3 +27,27 @@ abbrev pub EachToldLineIsTagged : Premise → Type 0
 EachToldLineIsTagged premise =
     (network : Network) (event : Event) (earlier : Run) (line : TraceLine) → premise network (event ∷ earlier) → length earlier < 2 ^ 64
     → TellsEvent network event earlier line → IsTagged (length earlier) line
+
+-- nodes and events whose values are within their ranges, and no more than lines are allowed
+pub record IsInRange (nodes : Network) (run : Run) : Type 0 where
+  pub each_node : All IsNode nodes
+  pub each_event : All IsEvent run
+  pub few : length nodes + length run ≤ lines_limit
+
+-- octets are a transcript of these nodes, and of lines that tell this run
+pub record IsTranscript (nodes : Network) (run : Run) (octets : List ℕ) : Type 0 where
+  pub lines : Lines
+  pub tells : TellsRun nodes run lines
+  pub recorded : AreRecorded 1 (lines_of octets) (transcript_of nodes lines)
+
+-- What is written of nodes and of a run of them is a transcript that tells the run.
+abbrev pub EachRunIsTranscribed : Premise → Type 0
+EachRunIsTranscribed premise =
+    (nodes : Network) (run : Run) (text : List ℕ) → premise nodes run → IsInRange nodes run → WritesRun nodes run text
+    → IsTranscript nodes run (nodes_text nodes ++ text)
+
+-- And whatever verdict is answered over it, that accepts it, with the number of the run's reports.
+abbrev pub EachRunIsAccepted : Premise → Type 0
+EachRunIsAccepted premise =
+    (nodes : Network) (run : Run) (text held : List ℕ) (left now : Option (List ℕ)) (answer : Verdict) → premise nodes run → IsInRange nodes run
+    → WritesRun nodes run text → ChecksAll (nodes_text nodes ++ text) held left now answer → answer ≡ Accepted (reports_in nodes run)

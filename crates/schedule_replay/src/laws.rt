@@ -1,7 +1,7 @@
 //! What follows from the definitions alone, for any octets.
 ghost use Rattle.std.specs.Prelude.{◌≡◌, ℕ, List};
 ghost use Rattle.network_model.specs.Premises.{exact_limits, IsFreshAndTicked, IsWithinTurn};
-ghost use Rattle.schedule_replay.specs.Accepted.{EachToldLineIsRecorded, EachToldLineIsTagged};
+ghost use Rattle.schedule_replay.specs.Accepted.{EachToldLineIsRecorded, EachToldLineIsTagged, EachRunIsTranscribed};
 ghost use Rattle.schedule_replay.specs.Shown.{IsShownAs};
 
 use event_codec::decode;
@@ -26,4 +26,13 @@ pub fn told_lines_are_recorded()
     ensures recorded_within_turn { EachToldLineIsRecorded IsWithinTurn }
     ensures tagged { EachToldLineIsTagged (IsFreshAndTicked exact_limits) }
     ensures tagged_within_turn { EachToldLineIsTagged IsWithinTurn }
+{}
+
+/// What is written of nodes and of a fresh and ticked run of them is a transcript that tells the run,
+/// where all values are within their ranges and there are no more lines than are allowed. So each
+/// line is within 4,096 octets and is read as it was written. The same within one turn of the
+/// sequence numbers.
+pub fn replayed_runs_are_transcripts()
+    ensures fresh_and_ticked { EachRunIsTranscribed (IsFreshAndTicked exact_limits) }
+    ensures within_turn { EachRunIsTranscribed IsWithinTurn }
 {}

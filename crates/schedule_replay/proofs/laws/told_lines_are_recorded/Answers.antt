@@ -1,6 +1,4 @@
 use Rattle.network_model.specs.Premises.{exact_limits, IsFreshAndTicked, IsWithinTurn}
-use Rattle.schedule_replay.proofs.LineTexts.{node_fits}
-use Rattle.schedule_replay.proofs.ShownTexts.{fits_object}
 use Rattle.schedule_replay.proofs.ToldLines.{fresh, in_turn, lines_recorded, lines_tagged}
 use Rattle.schedule_replay.proofs.laws.told_lines_are_recorded.Goals as goal
 
