@@ -21,6 +21,7 @@ pub mod ToldLines
 pub mod ShownTexts
 pub mod LineTexts
 pub mod Transcribed
+pub mod OneTranscript
 pub mod CheckedLines
 pub mod ErrorKinds
 pub mod FlagWords

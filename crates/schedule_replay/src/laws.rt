@@ -1,7 +1,7 @@
 //! What follows from the definitions alone, for any octets.
 ghost use Rattle.std.specs.Prelude.{◌≡◌, ℕ, List};
 ghost use Rattle.network_model.specs.Premises.{exact_limits, IsFreshAndTicked, IsWithinTurn};
-ghost use Rattle.schedule_replay.specs.Accepted.{EachToldLineIsRecorded, EachToldLineIsTagged, EachRunIsTranscribed};
+ghost use Rattle.schedule_replay.specs.Accepted.{EachToldLineIsRecorded, EachToldLineIsTagged, EachRunIsTranscribed, EachRunIsAccepted};
 ghost use Rattle.schedule_replay.specs.Shown.{IsShownAs};
 
 use event_codec::decode;
@@ -35,4 +35,12 @@ pub fn told_lines_are_recorded()
 pub fn replayed_runs_are_transcripts()
     ensures fresh_and_ticked { EachRunIsTranscribed (IsFreshAndTicked exact_limits) }
     ensures within_turn { EachRunIsTranscribed IsWithinTurn }
+{}
+
+/// Whatever verdict `check_text` answers over what `replay` writes of nodes and of a fresh and ticked
+/// run of them, it accepts it, with the number of the run's reports. The same within one turn of the
+/// sequence numbers.
+pub fn replayed_runs_are_accepted()
+    ensures fresh_and_ticked { EachRunIsAccepted (IsFreshAndTicked exact_limits) }
+    ensures within_turn { EachRunIsAccepted IsWithinTurn }
 {}
