@@ -22,6 +22,7 @@ pub mod ShownTexts
 pub mod LineTexts
 pub mod Transcribed
 pub mod OneTranscript
+pub mod NoMistakes
 pub mod CheckedLines
 pub mod ErrorKinds
 pub mod FlagWords

@@ -32,7 +32,7 @@ same_entries number (line ∷ lines) (e ∷ es) (f ∷ fs) h k =
 
 -- ---- the nodes and the lines of a transcript
 
-pub nodes_in : List TranscriptLine → Network
+unfoldable pub nodes_in : List TranscriptLine → Network
 nodes_in [] = []
 nodes_in (recorded.Node node ∷ es) = node ∷ nodes_in es
 nodes_in (recorded.Event number line ∷ es) = nodes_in es

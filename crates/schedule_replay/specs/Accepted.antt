@@ -1,9 +1,10 @@
 -- What `replay` writes of runs, as `check_text` reads it. `laws::told_lines_are_recorded`, `laws::replayed_runs_are_transcripts`
 -- and `laws::replayed_runs_are_accepted` promise it.
-use Rattle.std.specs.Prelude.{◌≡◌, ℕ, ◌+◌, ◌^◌, ◌<◌, ◌≤◌, List, ◌∷◌, ◌++◌, length, All, Option}
+use Rattle.std.specs.Prelude.{◌≡◌, ℕ, ◌+◌, ◌^◌, ◌<◌, ◌≤◌, List, ◌∷◌, ◌++◌, length, All, Option, None, ⊤}
 use Rattle.network_model.specs.declared.event.Event.{Event}
 use Rattle.network_model.specs.Network.{Network}
 use Rattle.network_model.specs.Run.{Run}
+use Rattle.network_model.specs.Clash.{first_clash}
 use Rattle.network_model.specs.Premises.{Premise}
 use Rattle.trace_model.specs.declared.line.TraceLine.{TraceLine}
 use Rattle.trace_model.specs.declared.verdict.Verdict.{Verdict}
@@ -12,9 +13,12 @@ use Rattle.trace_model.specs.Line.{Lines}
 use Rattle.trace_model.specs.Told.{TellsEvent, TellsRun}
 use Rattle.trace_model.specs.Complete.{reports_in}
 use Rattle.schedule_lines.specs.Recorded.{IsEvent, IsNode, IsRecorded, IsTagged}
+use Rattle.schedule_replay.specs.declared.fault.Fault.{Fault}
+use Rattle.schedule_replay.specs.declared.fault.FaultKind.{FaultKind}
+use Rattle.schedule_replay.specs.declared.fault.FaultKind.TheVariants.{Read, Write, LineTooLong, TooManyLines, Json, Field, World, Memory}
 use Rattle.schedule_replay.specs.Lines.{lines_of, lines_limit}
 use Rattle.schedule_replay.specs.Replay.{nodes_text, WritesRun}
-use Rattle.schedule_replay.specs.CheckText.{AreRecorded, transcript_of, ChecksAll}
+use Rattle.schedule_replay.specs.CheckText.{AreRecorded, transcript_of, ChecksAll, ChecksUntil}
 
 -- Each line that tells an event within its ranges is within its own.
 abbrev pub EachToldLineIsRecorded : Premise → Type 0
@@ -51,3 +55,20 @@ abbrev pub EachRunIsAccepted : Premise → Type 0
 EachRunIsAccepted premise =
     (nodes : Network) (run : Run) (text held : List ℕ) (left now : Option (List ℕ)) (answer : Verdict) → premise nodes run → IsInRange nodes run
     → WritesRun nodes run text → ChecksAll (nodes_text nodes ++ text) held left now answer → answer ≡ Accepted (reports_in nodes run)
+
+-- a fault that isn't in a text: of a device, or of memory
+abbrev pub IsOfDevice : FaultKind → Type 0
+IsOfDevice Read = ⊤
+IsOfDevice Write = ⊤
+IsOfDevice LineTooLong = ⊥
+IsOfDevice TooManyLines = ⊥
+IsOfDevice Json = ⊥
+IsOfDevice Field = ⊥
+IsOfDevice (World why) = ⊥
+IsOfDevice Memory = ⊤
+
+-- Where there is no verdict over it, a device failed or memory was refused.
+abbrev pub EachRunIsChecked : Premise → Type 0
+EachRunIsChecked premise =
+    (nodes : Network) (run : Run) (text held : List ℕ) (left now : Option (List ℕ)) (stop : Fault) → first_clash nodes ≡ None → premise nodes run
+    → IsInRange nodes run → WritesRun nodes run text → ChecksUntil (nodes_text nodes ++ text) held left now stop → IsOfDevice stop.what
