@@ -23,6 +23,7 @@ pub mod LineTexts
 pub mod Transcribed
 pub mod OneTranscript
 pub mod NoMistakes
+pub mod ReplayedRanges
 pub mod CheckedLines
 pub mod ErrorKinds
 pub mod FlagWords

@@ -1,6 +1,6 @@
--- What `replay` writes of runs, as `check_text` reads it. `laws::told_lines_are_recorded`, `laws::replayed_runs_are_transcripts`
--- and `laws::replayed_runs_are_accepted` promise it.
-use Rattle.std.specs.Prelude.{◌≡◌, ℕ, ◌+◌, ◌^◌, ◌<◌, ◌≤◌, List, ◌∷◌, ◌++◌, length, All, Option, None, ⊤}
+-- What `replay` writes of runs, as `check_text` reads it. `laws::told_lines_are_recorded`, `laws::replayed_runs_are_transcripts`,
+-- `laws::replayed_runs_are_accepted` and `laws::replays_are_accepted` promise it.
+use Rattle.std.specs.Prelude.{◌≡◌, ℕ, ◌+◌, ◌^◌, ◌<◌, ◌≤◌, List, ◌∷◌, ◌++◌, length, All, Option, None, Result, MatchResult, ⊤}
 use Rattle.network_model.specs.declared.event.Event.{Event}
 use Rattle.network_model.specs.Network.{Network}
 use Rattle.network_model.specs.Run.{Run}
@@ -17,7 +17,7 @@ use Rattle.schedule_replay.specs.declared.fault.Fault.{Fault}
 use Rattle.schedule_replay.specs.declared.fault.FaultKind.{FaultKind}
 use Rattle.schedule_replay.specs.declared.fault.FaultKind.TheVariants.{Read, Write, LineTooLong, TooManyLines, Json, Field, World, Memory}
 use Rattle.schedule_replay.specs.Lines.{lines_of, lines_limit}
-use Rattle.schedule_replay.specs.Replay.{nodes_text, WritesRun}
+use Rattle.schedule_replay.specs.Replay.{nodes_text, WritesRun, ReplaysAll}
 use Rattle.schedule_replay.specs.CheckText.{AreRecorded, transcript_of, ChecksAll, ChecksUntil}
 
 -- Each line that tells an event within its ranges is within its own.
@@ -72,3 +72,16 @@ abbrev pub EachRunIsChecked : Premise → Type 0
 EachRunIsChecked premise =
     (nodes : Network) (run : Run) (text held : List ℕ) (left now : Option (List ℕ)) (stop : Fault) → first_clash nodes ≡ None → premise nodes run
     → IsInRange nodes run → WritesRun nodes run text → ChecksUntil (nodes_text nodes ++ text) held left now stop → IsOfDevice stop.what
+
+-- an answer of `check_text`: it accepts, with so many reports, or a device failed or memory was refused
+abbrev pub AnswersAcceptance : ℕ → Result Verdict Fault → Type 0
+AnswersAcceptance reports answer = MatchResult answer (λ verdict. verdict ≡ Accepted reports) (λ stop. IsOfDevice stop.what)
+
+-- So of what was replayed on Ok, whatever octets the schedule was.
+abbrev pub EachReplayIsAccepted : Premise → Type 0
+EachReplayIsAccepted premise =
+    (octets held : List ℕ) (left now : Option (List ℕ)) (events : ℕ) (replayed : ReplaysAll octets held left now events)
+    → premise replayed.nodes replayed.run → (held' : List ℕ) (left' now' : Option (List ℕ)) (answer : Result Verdict Fault)
+    → MatchResult answer (ChecksAll (nodes_text replayed.nodes ++ replayed.text) held' left' now')
+      (ChecksUntil (nodes_text replayed.nodes ++ replayed.text) held' left' now')
+    → AnswersAcceptance (reports_in replayed.nodes replayed.run) answer

@@ -1,7 +1,7 @@
 //! What follows from the definitions alone, for any octets.
 ghost use Rattle.std.specs.Prelude.{◌≡◌, ℕ, List};
 ghost use Rattle.network_model.specs.Premises.{exact_limits, IsFreshAndTicked, IsWithinTurn};
-ghost use Rattle.schedule_replay.specs.Accepted.{EachToldLineIsRecorded, EachToldLineIsTagged, EachRunIsTranscribed, EachRunIsAccepted, EachRunIsChecked};
+ghost use Rattle.schedule_replay.specs.Accepted.{EachToldLineIsRecorded, EachToldLineIsTagged, EachRunIsTranscribed, EachRunIsAccepted, EachRunIsChecked, EachReplayIsAccepted};
 ghost use Rattle.schedule_replay.specs.Shown.{IsShownAs};
 
 use event_codec::decode;
@@ -46,4 +46,13 @@ pub fn replayed_runs_are_accepted()
     ensures accepted_within_turn { EachRunIsAccepted IsWithinTurn }
     ensures checked { EachRunIsChecked (IsFreshAndTicked exact_limits) }
     ensures checked_within_turn { EachRunIsChecked IsWithinTurn }
+{}
+
+/// On Ok `replay` has written what `check_text` accepts: whatever octets the schedule was, if its run
+/// is fresh and ticked, then over what was written `check_text` answers that it accepts, with the
+/// number of the run's reports, unless a device failed or memory was refused. The same within one
+/// turn of the sequence numbers.
+pub fn replays_are_accepted()
+    ensures fresh_and_ticked { EachReplayIsAccepted (IsFreshAndTicked exact_limits) }
+    ensures within_turn { EachReplayIsAccepted IsWithinTurn }
 {}

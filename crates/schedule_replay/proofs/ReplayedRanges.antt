@@ -1,0 +1,108 @@
+-- All that `replay` reads is within its ranges, so what it writes is accepted.
+use Rattle.std.proofs.Common.{◌≡◌, ◌∙◌, ℕ, suc, ◌+◌, ◌<◌, ◌≤◌, Bool, true, false, nat_lt, List, [], ◌∷◌, ◌++◌, length, Option, Some, None, IfSome, Result, Ok, Err, refl, sym, ap, subst, arith, map, All, length-append, if◌then◌else◌}
+use Rattle.std.specs.Prelude.{ok_or, reverse, MatchResult}
+use Rattle.std.proofs.lemmas.Bool.Decides.{nat_tests}
+use Rattle.std.proofs.lemmas.List.{length-map, length-reverse, map-append, reverse-append}
+use Rattle.std.proofs.lemmas.List.Elements.{All-nil, All-cons, All-head, All-tail}
+use Rattle.serde_json.specs.Data.{Data}
+use Rattle.network_model.specs.declared.event.Event.{Event}
+use Rattle.network_model.specs.declared.node.NodeSpec.{NodeSpec}
+use Rattle.network_model.specs.Network.{Network}
+use Rattle.network_model.specs.Run.{Run}
+use Rattle.network_model.specs.Premises.{Premise}
+use Rattle.trace_model.specs.declared.verdict.Verdict.{Verdict}
+use Rattle.trace_model.specs.Complete.{MissesNothing}
+use Rattle.schedule_lines.specs.declared.schedule.Line.{Line}
+use Rattle.schedule_lines.specs.declared.schedule.Line.TheVariants as entries
+use Rattle.schedule_lines.specs.Line.{line_of}
+use Rattle.schedule_lines.specs.Recorded.{IsNode, IsEvent, IsLine}
+use Rattle.schedule_lines.proofs.Ranges.{reads_in_range}
+use Rattle.schedule_replay.specs.declared.fault.Fault.{Fault}
+use Rattle.schedule_replay.specs.declared.fault.FaultKind.{FaultKind}
+use Rattle.schedule_replay.specs.declared.fault.FaultKind.TheVariants.{Field, TooManyLines, LineTooLong}
+use Rattle.schedule_replay.specs.Lines.{lines_of, lines_limit, line_limit, reading_fault, without_cr}
+use Rattle.schedule_replay.specs.Schedule.{value_in, entry_of_value, entry_in, AreEntries, schedule_of}
+use Rattle.schedule_replay.specs.Replay.{nodes_text, ReplaysAll}
+use Rattle.schedule_replay.specs.CheckText.{ChecksAll, ChecksUntil}
+use Rattle.schedule_replay.specs.Accepted.{IsInRange, AnswersAcceptance, EachReplayIsAccepted}
+use Rattle.schedule_replay.proofs.ToldLines.{IsExact}
+use Rattle.schedule_replay.proofs.OneTranscript.{accepted_by}
+use Rattle.schedule_replay.proofs.NoMistakes.{checked_by}
+
+-- ---- what was read
+
+line_ranged : (o : Option Line) (entry : Line) → ok_or {E = FaultKind} o Field ≡ Ok entry → IfSome o IsLine → IsLine entry
+line_ranged None entry is h = absurd cc
+line_ranged (Some line) entry is h = let same : line ≡ entry = cc in subst IsLine same h
+
+value_ranged : (value : Option Data) (entry : Line) → entry_of_value value ≡ Ok entry → IsLine entry
+value_ranged None entry is = absurd cc
+value_ranged (Some value) entry is = line_ranged (line_of value) entry is (reads_in_range value).0
+
+entries_ranged : (number : ℕ) (lines : List (List ℕ)) (es : List Line) → AreEntries number lines es → All IsLine es
+entries_ranged number [] [] h = All-nil IsLine
+entries_ranged number [] (e ∷ es) h = absurd h
+entries_ranged number (line ∷ lines) [] h = absurd h
+entries_ranged number (line ∷ lines) (e ∷ es) h =
+    All-cons IsLine e es (value_ranged (value_in (without_cr line)) e h.1) (entries_ranged (number + 1) lines es h.2)
+
+-- ---- how many lines there are
+
+fault_if : (over : Bool) (number : ℕ) (line : List ℕ) → nat_lt lines_limit number ≡ over
+    → (if over then Some TooManyLines else if nat_lt line_limit (length line) then Some LineTooLong else None) ≡ None → number ≤ lines_limit
+fault_if true number line is none = absurd cc
+fault_if false number line is none = grind (arith, nat_tests, is)
+
+few_entries : (number : ℕ) (lines : List (List ℕ)) (es : List Line) → AreEntries number lines es → number ≤ lines_limit + 1 → number + length es ≤ lines_limit + 1
+few_entries number [] [] h few = omega (arith, few)
+few_entries number [] (e ∷ es) h few = absurd h
+few_entries number (line ∷ lines) [] h few = absurd h
+few_entries number (line ∷ lines) (e ∷ es) h few =
+    let within : number ≤ lines_limit = fault_if (nat_lt lines_limit number) number line refl h.0 in
+    omega (arith, few_entries (number + 1) lines es h.2 (omega (arith, within)))
+
+-- ---- the nodes and the events
+
+front : (xs ys : List Line) → All IsLine (xs ++ ys) → All IsLine xs
+front [] ys h = All-nil IsLine
+front (x ∷ xs) ys h = All-cons IsLine x xs (All-head IsLine x (xs ++ ys) h) (front xs ys (All-tail IsLine x (xs ++ ys) h))
+
+back : (xs ys : List Line) → All IsLine (xs ++ ys) → All IsLine ys
+back [] ys h = h
+back (x ∷ xs) ys h = back xs ys (All-tail IsLine x (xs ++ ys) h)
+
+each_node : (nodes : Network) → All IsLine (map entries.Node nodes) → All IsNode nodes
+each_node [] h = All-nil IsNode
+each_node (node ∷ nodes) h =
+    All-cons IsNode node nodes (All-head IsLine (entries.Node node) (map entries.Node nodes) h) (each_node nodes (All-tail IsLine (entries.Node node) (map entries.Node nodes) h))
+
+each_event : (run : Run) → All IsLine (map entries.Event (reverse run)) → All IsEvent run
+each_event [] h = All-nil IsEvent
+each_event (event ∷ earlier) h =
+    let turned : map entries.Event (reverse (event ∷ earlier)) ≡ map entries.Event (reverse earlier) ++ entries.Event event ∷ [] =
+    ap (map entries.Event) (reverse-append (event ∷ []) earlier) ∙ map-append entries.Event (reverse earlier) (event ∷ []) in
+    let parts = subst (λ (es : List Line). All IsLine es) turned h in
+    All-cons IsEvent event earlier
+    (All-head IsLine (entries.Event event) [] (back (map entries.Event (reverse earlier)) (entries.Event event ∷ []) parts))
+    (each_event earlier (front (map entries.Event (reverse earlier)) (entries.Event event ∷ []) parts))
+
+scheduled : (nodes : Network) (run : Run) → length (schedule_of nodes run) ≡ length nodes + length run
+scheduled nodes run =
+    omega (arith, length-append (map entries.Node nodes) (map entries.Event (reverse run)), length-map nodes entries.Node, length-map (reverse run) entries.Event, length-reverse run)
+
+-- the nodes and the run of a schedule that was read
+pub ranged : (octets : List ℕ) (nodes : Network) (run : Run) → AreEntries 1 (lines_of octets) (schedule_of nodes run) → IsInRange nodes run
+ranged octets nodes run h =
+    let all = entries_ranged 1 (lines_of octets) (schedule_of nodes run) h in
+    record {
+      each_node = each_node nodes (front (map entries.Node nodes) (map entries.Event (reverse run)) all);
+      each_event = each_event run (back (map entries.Node nodes) (map entries.Event (reverse run)) all);
+      few = omega (arith, few_entries 1 (lines_of octets) (schedule_of nodes run) h (omega arith), scheduled nodes run);
+    }
+
+-- what was replayed is accepted
+pub replay_accepted : (premise : Premise) → IsExact premise → MissesNothing premise → EachReplayIsAccepted premise
+replay_accepted premise exact misses octets held left now events r holds held' left' now' (Ok answer) checks =
+    accepted_by premise exact misses r.nodes r.run r.text held' left' now' answer holds (ranged octets r.nodes r.run r.schedule) r.transcript checks
+replay_accepted premise exact misses octets held left now events r holds held' left' now' (Err stop) checks =
+    checked_by premise exact r.nodes r.run r.text held' left' now' stop r.network holds (ranged octets r.nodes r.run r.schedule) r.transcript checks
