@@ -1,5 +1,5 @@
 -- No message of a run has a suffix, so its octets are 54 at the most.
-use Rattle.std.proofs.Common.{◌≡◌, ◌∙◌, ℕ, ℤ, ◌<◌, ◌≤◌, Bool, true, false, ◌==◌, List, [], ◌∷◌, length, drop, int_lt, Option, Some, None, IfSome, Result, Ok, Err, refl, sym, ap, arith, length-drop, option_map, option_and_then, if◌then◌else◌}
+use Rattle.std.proofs.Common.{◌≡◌, ℕ, ◌≤◌, Bool, true, false, ◌==◌, List, [], ◌∷◌, length, int_lt, Option, Some, None, IfSome, Ok, Err, refl, ap, arith, length-drop, option_map, option_and_then, if◌then◌else◌}
 use Rattle.std.specs.Result.{result_ok}
 use Rattle.ptp_units.specs.Interval.{less_fraction, least}
 use Rattle.ptp_units.specs.Moment.{fraction_of}
@@ -10,15 +10,14 @@ use Rattle.event_codec.specs.declared.message.Header.{Header}
 use Rattle.event_codec.specs.declared.port.PortConfig.{PortConfig}
 use Rattle.event_codec.specs.Layout.{type_of, fields_length}
 use Rattle.event_codec.specs.Packet.{Contents, Packet}
-use Rattle.master_port.specs.declared.refusal.MasterRefusal.{MasterRefusal}
 use Rattle.master_port.specs.declared.refusal.MasterRefusal.TheVariants.{OtherDomain, CorrectionTooLow}
-use Rattle.master_port.specs.Written.{sync, one_step_sync, delay_resp, answer, answer_to, answer_to_request}
+use Rattle.master_port.specs.Written.{sync, one_step_sync, delay_resp, answer_to}
 use Rattle.slave_port.specs.Written.{delay_req}
 use Rattle.transparent_clock.specs.Forwarding.{resided}
 use Rattle.network_model.specs.declared.event.Event.{Event}
 use Rattle.network_model.specs.declared.event.Event.TheVariants.{Sync, SyncOne, Follow, Enter, Leave, Arrive, Hear, Request, Stamped, Tick, SetMaster, StepClock}
 use Rattle.network_model.specs.Network.{Network, PortSetup}
-use Rattle.network_model.specs.Run.{Run, Place, place}
+use Rattle.network_model.specs.Run.{Run, place}
 use Rattle.network_model.specs.Clock.{reading}
 use Rattle.network_model.specs.Journey.{Journey, residence, journey_made, journey_of}
 use Rattle.network_model.specs.Numbering.{number_of, waiting_sync}

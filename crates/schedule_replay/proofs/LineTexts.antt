@@ -1,13 +1,12 @@
 -- The text of each line is shown and has 4,096 octets at the most.
-use Rattle.std.proofs.Common.{◌≡◌, ◌∙◌, ℕ, zero, suc, ℤ, pos, negsuc, ◌+◌, ◌*◌, ◌/◌, ◌%◌, ◌^◌, ◌<◌, ◌≤◌, ◌≤ℤ◌, ◌==◌, Bool, true, false, ◌&&◌, nat_lt, List, [], ◌∷◌, ◌++◌, length, codes, Option, Some, None, IfSome, refl, sym, ap, arith, option_map, if◌then◌else◌}
+use Rattle.std.proofs.Common.{◌≡◌, ℕ, suc, ℤ, pos, negsuc, ◌^◌, ◌<◌, ◌≤◌, ◌≤ℤ◌, true, ◌&&◌, nat_lt, List, [], ◌∷◌, length, codes, Option, Some, None, IfSome, refl, arith}
 use Rattle.std.specs.List.{list_all}
 use Rattle.std.proofs.lemmas.Bool.{and_parts}
 use Rattle.std.proofs.lemmas.Bool.Decides.{nat_tests}
 use Rattle.std.proofs.lemmas.Int.{ints}
 use Rattle.std.proofs.lemmas.List.Sums.{list_all-from_AllPass}
 use Rattle.hex.specs.Hex.{IsBytes}
-use Rattle.serde_json.specs.Data.{Data, null, number, string, object, Members}
-use Rattle.serde_json.specs.Events.{members_len}
+use Rattle.serde_json.specs.Data.{Data, number, string}
 use Rattle.serde_json.specs.Find.{of_integer}
 use Rattle.serde_json.specs.Written.{compact_text}
 use Rattle.event_codec.specs.declared.port.PortConfig.{PortConfig}
@@ -15,7 +14,7 @@ use Rattle.ptp_units.specs.declared.sequence.Seq.{Seq}
 use Rattle.ptp_units.specs.Moment.{bound, stamp_of, fraction_of}
 use Rattle.slave_port.specs.declared.heard.Report.{Report}
 use Rattle.network_model.specs.Name.{IsName, is_name_octet}
-use Rattle.network_model.specs.Run.{site_of, true_moment}
+use Rattle.network_model.specs.Run.{true_moment}
 use Rattle.network_model.specs.Kinds.{named_master, step_of, spent_transit}
 use Rattle.network_model.specs.declared.event.Event.{Event}
 use Rattle.network_model.specs.declared.event.Event.TheVariants.{Sync, SyncOne, Follow, Enter, Leave, Arrive, Hear, Request, Stamped, Tick, SetMaster, StepClock}
@@ -29,8 +28,8 @@ use Rattle.schedule_lines.specs.Transcript.{whole, moment_data, difference_data,
 use Rattle.schedule_lines.specs.Recorded.{IsShort, IsOut, IsConfig, IsKind, IsNode, IsTag, HasTags, IsTagged, IsRecorded}
 use Rattle.schedule_lines.proofs.Keys.{Field, members_of, line_fields}
 use Rattle.schedule_lines.proofs.Lookup.{one_if, count, members_len-members_of}
-use Rattle.schedule_lines.proofs.Recorded.{always, code_out}
-use Rattle.schedule_replay.proofs.ShownTexts.{is_shown, Fits, fits_more, fits_quoted, fits_whole, fits_signed, fits_hex, fits_three, fits_four, fits_object, IsShownValue, AreShown, AreShownFields, field_shown, is_key, members_shown}
+use Rattle.schedule_lines.proofs.Recorded.{code_out}
+use Rattle.schedule_replay.proofs.ShownTexts.{is_shown, Fits, fits_more, fits_quoted, fits_whole, fits_signed, fits_hex, fits_three, fits_four, fits_object, IsShownValue, AreShownFields, field_shown, members_shown}
 
 -- ---- values
 

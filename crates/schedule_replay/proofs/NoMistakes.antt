@@ -1,12 +1,10 @@
 -- Over what is written of a run, no line is a mistake: a fault is of a device or of memory.
-use Rattle.std.proofs.Common.{◌≡◌, ◌∙◌, ◌⊎◌, inl, inr, ℕ, zero, suc, ◌+◌, List, [], ◌∷◌, ◌++◌, length, take, Option, Some, None, Ok, Err, refl, sym, ap, subst, arith, append_assoc, append-nil, map}
+use Rattle.std.proofs.Common.{◌≡◌, ◌∙◌, inl, inr, ℕ, zero, suc, ◌+◌, List, [], ◌∷◌, ◌++◌, length, take, Option, Some, None, Ok, refl, sym, ap, subst, arith, append_assoc, append-nil, map}
 use Rattle.std.specs.Prelude.{slice_get}
-use Rattle.network_model.specs.declared.node.NodeSpec.{NodeSpec}
 use Rattle.network_model.specs.declared.refusal.WorldRefusal.{WorldRefusal}
 use Rattle.network_model.specs.Network.{Network}
 use Rattle.network_model.specs.Clash.{first_clash}
 use Rattle.network_model.specs.Premises.{Premise}
-use Rattle.trace_model.specs.declared.line.TraceLine.{TraceLine}
 use Rattle.trace_model.specs.Line.{Lines}
 use Rattle.schedule_lines.specs.declared.traced.TranscriptLine.{TranscriptLine}
 use Rattle.schedule_lines.specs.declared.traced.TranscriptLine.TheVariants as recorded
@@ -18,7 +16,7 @@ use Rattle.schedule_replay.specs.CheckText.{recorded_in, AreRecorded, numbered, 
 use Rattle.schedule_replay.specs.Accepted.{IsOfDevice, EachRunIsChecked}
 use Rattle.schedule_replay.proofs.ToldLines.{IsExact}
 use Rattle.schedule_replay.proofs.Transcribed.{transcribed}
-use Rattle.schedule_replay.proofs.OneTranscript.{same_entries, nodes_in, nodes_in-nodes, nodes_in-numbered, nodes_of_transcript}
+use Rattle.schedule_replay.proofs.OneTranscript.{same_entries, nodes_in, nodes_in-nodes, nodes_of_transcript}
 
 -- ---- what stands in its place
 

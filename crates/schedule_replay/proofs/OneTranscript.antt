@@ -1,9 +1,7 @@
 -- Lines are one transcript at the most, and the verdict over what is written of a run accepts it.
-use Rattle.std.proofs.Common.{◌≡◌, ◌∙◌, ℕ, ◌+◌, List, [], ◌∷◌, ◌++◌, length, Option, Some, None, Ok, refl, sym, ap, append_assoc, append-nil, map}
-use Rattle.network_model.specs.declared.node.NodeSpec.{NodeSpec}
+use Rattle.std.proofs.Common.{◌≡◌, ◌∙◌, ℕ, ◌+◌, List, [], ◌∷◌, ◌++◌, length, refl, sym, ap, append_assoc, append-nil, map}
 use Rattle.network_model.specs.Network.{Network}
 use Rattle.network_model.specs.Premises.{Premise}
-use Rattle.trace_model.specs.declared.line.TraceLine.{TraceLine}
 use Rattle.trace_model.specs.Line.{Lines}
 use Rattle.trace_model.specs.Verdict.{verdict}
 use Rattle.trace_model.specs.Complete.{MissesNothing}

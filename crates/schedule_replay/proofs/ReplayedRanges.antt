@@ -1,30 +1,24 @@
 -- All that `replay` reads is within its ranges, so what it writes is accepted.
-use Rattle.std.proofs.Common.{◌≡◌, ◌∙◌, ℕ, suc, ◌+◌, ◌<◌, ◌≤◌, Bool, true, false, nat_lt, List, [], ◌∷◌, ◌++◌, length, Option, Some, None, IfSome, Result, Ok, Err, refl, sym, ap, subst, arith, map, All, length-append, if◌then◌else◌}
-use Rattle.std.specs.Prelude.{ok_or, reverse, MatchResult}
+use Rattle.std.proofs.Common.{◌≡◌, ◌∙◌, ℕ, ◌+◌, ◌≤◌, Bool, true, false, nat_lt, List, [], ◌∷◌, ◌++◌, length, Option, Some, None, IfSome, Ok, Err, refl, ap, subst, arith, map, All, length-append, if◌then◌else◌}
+use Rattle.std.specs.Prelude.{ok_or, reverse}
 use Rattle.std.proofs.lemmas.Bool.Decides.{nat_tests}
 use Rattle.std.proofs.lemmas.List.{length-map, length-reverse, map-append, reverse-append}
 use Rattle.std.proofs.lemmas.List.Elements.{All-nil, All-cons, All-head, All-tail}
 use Rattle.serde_json.specs.Data.{Data}
-use Rattle.network_model.specs.declared.event.Event.{Event}
-use Rattle.network_model.specs.declared.node.NodeSpec.{NodeSpec}
 use Rattle.network_model.specs.Network.{Network}
 use Rattle.network_model.specs.Run.{Run}
 use Rattle.network_model.specs.Premises.{Premise}
-use Rattle.trace_model.specs.declared.verdict.Verdict.{Verdict}
 use Rattle.trace_model.specs.Complete.{MissesNothing}
 use Rattle.schedule_lines.specs.declared.schedule.Line.{Line}
 use Rattle.schedule_lines.specs.declared.schedule.Line.TheVariants as entries
 use Rattle.schedule_lines.specs.Line.{line_of}
 use Rattle.schedule_lines.specs.Recorded.{IsNode, IsEvent, IsLine}
 use Rattle.schedule_lines.proofs.Ranges.{reads_in_range}
-use Rattle.schedule_replay.specs.declared.fault.Fault.{Fault}
 use Rattle.schedule_replay.specs.declared.fault.FaultKind.{FaultKind}
 use Rattle.schedule_replay.specs.declared.fault.FaultKind.TheVariants.{Field, TooManyLines, LineTooLong}
-use Rattle.schedule_replay.specs.Lines.{lines_of, lines_limit, line_limit, reading_fault, without_cr}
-use Rattle.schedule_replay.specs.Schedule.{value_in, entry_of_value, entry_in, AreEntries, schedule_of}
-use Rattle.schedule_replay.specs.Replay.{nodes_text, ReplaysAll}
-use Rattle.schedule_replay.specs.CheckText.{ChecksAll, ChecksUntil}
-use Rattle.schedule_replay.specs.Accepted.{IsInRange, AnswersAcceptance, EachReplayIsAccepted}
+use Rattle.schedule_replay.specs.Lines.{lines_of, lines_limit, line_limit, without_cr}
+use Rattle.schedule_replay.specs.Schedule.{value_in, entry_of_value, AreEntries, schedule_of}
+use Rattle.schedule_replay.specs.Accepted.{IsInRange, EachReplayIsAccepted}
 use Rattle.schedule_replay.proofs.ToldLines.{IsExact}
 use Rattle.schedule_replay.proofs.OneTranscript.{accepted_by}
 use Rattle.schedule_replay.proofs.NoMistakes.{checked_by}

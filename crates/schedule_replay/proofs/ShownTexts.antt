@@ -1,5 +1,5 @@
 -- The texts of lines: octets that are shown, of ASCII, and how many there are at the most.
-use Rattle.std.proofs.Common.{◌≡◌, ◌∙◌, ℕ, zero, suc, ℤ, pos, negsuc, ◌+◌, ◌*◌, ◌/◌, ◌%◌, ◌^◌, ◌<◌, ◌≤◌, ◌==◌, Bool, true, false, ◌&&◌, ◌||◌, cond, nat_lt, List, [], ◌∷◌, ◌++◌, length, slice_index, codes, Option, Some, None, IfSome, Ordering, Less, Equal, Greater, nat_cmp, refl, sym, ap, subst, arith, length-append, option_map}
+use Rattle.std.proofs.Common.{◌≡◌, ◌∙◌, ℕ, zero, suc, ℤ, pos, negsuc, ◌+◌, ◌*◌, ◌/◌, ◌%◌, ◌^◌, ◌<◌, ◌≤◌, ◌==◌, Bool, true, false, ◌&&◌, ◌||◌, cond, nat_lt, List, [], ◌∷◌, ◌++◌, length, slice_index, Option, Some, None, IfSome, Ordering, Less, Equal, Greater, nat_cmp, refl, sym, subst, arith, length-append, option_map}
 use Rattle.std.specs.Fmt.{decimal, signed_decimal}
 use Rattle.std.specs.List.{list_all}
 use Rattle.std.specs.Cmp.Lexicographic.{slice_cmp}
@@ -10,8 +10,8 @@ use Rattle.std.proofs.lemmas.Fmt.{decimal_by_steps_wide, length-decimal-le_wide}
 use Rattle.std.proofs.lemmas.List.Concat.{flat_map-cons}
 use Rattle.std.proofs.lemmas.List.Folds.{list_all-append}
 use Rattle.hex.specs.Hex.{IsBytes, encode_lower, encode_with, lower_digits}
-use Rattle.json.specs.Print.{escape_byte, escape_letter, escape, quoted}
-use Rattle.serde_json.specs.Data.{Data, null, string, array, object, item, no_items, Members, member, no_members, put}
+use Rattle.json.specs.Print.{escape_byte, escape, quoted}
+use Rattle.serde_json.specs.Data.{Data, array, object, item, no_items, Members, member, no_members, put}
 use Rattle.serde_json.specs.Events.{members_len}
 use Rattle.serde_json.specs.Written.{compact_text, members_text}
 use Rattle.schedule_lines.specs.Transcript.{whole, with_some}

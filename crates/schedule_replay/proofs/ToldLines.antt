@@ -1,21 +1,20 @@
 -- Each line that tells an event of a run is within its ranges.
-use Rattle.std.proofs.Common.{◌≡◌, ◌∙◌, ℕ, zero, suc, ℤ, pos, negsuc, ◌<◌, ◌≤◌, Bool, true, false, nat_lt, List, [], ◌∷◌, length, slice_index, Option, Some, None, IfSome, Result, Ok, Err, IsOk, refl, sym, ap, subst, arith, option_map, option_and_then, if◌then◌else◌}
+use Rattle.std.proofs.Common.{◌≡◌, ◌∙◌, ℕ, zero, suc, ℤ, pos, negsuc, ◌<◌, ◌≤◌, Bool, true, false, nat_lt, List, [], ◌∷◌, length, slice_index, Option, Some, None, IfSome, Ok, refl, sym, ap, subst, arith, option_map, option_and_then, if◌then◌else◌}
 use Rattle.std.specs.Prelude.{EachIndex, is_some, unwrap_or}
 use Rattle.hex.specs.Hex.{IsBytes}
 use Rattle.ptp_units.specs.Moment.{bound, moment_of}
-use Rattle.event_codec.specs.Packet.{Contents, Packet}
+use Rattle.event_codec.specs.Packet.{Contents}
 use Rattle.slave_port.specs.declared.heard.Heard.{Heard}
 use Rattle.slave_port.specs.declared.heard.Heard.TheVariants as answers
 use Rattle.slave_port.specs.declared.heard.Report.{Report}
 use Rattle.network_model.specs.declared.event.Event.{Event}
 use Rattle.network_model.specs.declared.stepped.Outcome.{Outcome}
 use Rattle.network_model.specs.declared.stepped.Outcome.TheVariants as outcomes
-use Rattle.network_model.specs.declared.stepped.Stepped.{Stepped}
 use Rattle.network_model.specs.Network.{Network}
-use Rattle.network_model.specs.Run.{Run, Place, place, until, site_of, true_moment}
-use Rattle.network_model.specs.Clock.{clock_shows, shown_at, reading_of, reading}
+use Rattle.network_model.specs.Run.{Run, place, until, site_of, true_moment}
+use Rattle.network_model.specs.Clock.{clock_shows, shown_at, reading_of}
 use Rattle.network_model.specs.Truth.{copy_of}
-use Rattle.network_model.specs.Outcome.{outcome_of, IsRun}
+use Rattle.network_model.specs.Outcome.{IsRun}
 use Rattle.network_model.specs.Premises.{Premise, exact_limits, IsAcceptedRun, IsFreshAndTicked, IsWithinTurn}
 use Rattle.network_model.specs.Reported.{Reports}
 use Rattle.network_model.specs.Exact.{IsMeasurement}

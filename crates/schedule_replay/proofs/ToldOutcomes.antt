@@ -1,5 +1,5 @@
 -- The numbers of refusals and reasons in outcomes have 16 bits.
-use Rattle.std.proofs.Common.{◌≡◌, ℕ, ℤ, ◌<◌, Bool, true, false, Option, Some, None, Result, Ok, Err, refl, arith, nat_lt, option_and_then, if◌then◌else◌}
+use Rattle.std.proofs.Common.{ℕ, ◌<◌, Bool, true, false, Result, Ok, Err, arith, nat_lt, option_and_then, if◌then◌else◌}
 use Rattle.std.specs.Prelude.{ok_or, unsigned_abs}
 use Rattle.ptp_units.specs.Moment.{bound}
 use Rattle.event_codec.specs.Packet.{Contents}
@@ -16,8 +16,6 @@ use Rattle.slave_port.specs.declared.reason.Reason.TheVariants.{Decode, WrongTyp
 use Rattle.slave_port.specs.declared.reason.SlaveRefusal.TheVariants.{NotHeld}
 use Rattle.slave_port.specs.Refusal.{code_of_reason, code_of as slave_code}
 use Rattle.slave_port.specs.Requests.{is_held}
-use Rattle.slave_port.specs.History as calls
-use Rattle.slave_port.specs.declared.heard.Heard.{Heard}
 use Rattle.network_model.specs.declared.event.Event.{Event}
 use Rattle.network_model.specs.declared.event.Event.TheVariants.{Sync, SyncOne, Follow, Enter, Leave, Arrive, Hear, Request, Stamped, Tick, SetMaster, StepClock}
 use Rattle.network_model.specs.declared.node.NodeKind.{NodeKind}
@@ -26,13 +24,13 @@ use Rattle.network_model.specs.declared.stepped.Outcome.{Outcome}
 use Rattle.network_model.specs.declared.stepped.Outcome.TheVariants as outcomes
 use Rattle.network_model.specs.declared.refusal.WorldRefusal.{WorldRefusal}
 use Rattle.network_model.specs.declared.refusal.WorldRefusal.TheVariants.{NoNode, WrongKind, NoCopy, NoTransit, ReadingOutOfRange, NothingWaiting}
-use Rattle.network_model.specs.Network.{Network, NodeName, PortSetup, kind_of, master_port, slave_port}
-use Rattle.network_model.specs.Run.{Run, Place, place, place_at}
+use Rattle.network_model.specs.Network.{Network, NodeName, kind_of, master_port, slave_port}
+use Rattle.network_model.specs.Run.{Run, place_at}
 use Rattle.network_model.specs.Clock.{reading}
 use Rattle.network_model.specs.Numbering.{waiting_sync, waiting_request}
 use Rattle.network_model.specs.Truth.{copy_of}
 use Rattle.network_model.specs.SlaveHistory.{slave_setup, history_of, request_sequence}
-use Rattle.network_model.specs.Outcome.{◌>>=◌, node_as, clock_of, port_of, reads, open_transit, copy_in, left_outcome, answered_outcome, arrived_outcome, stamped_outcome, outcome_of}
+use Rattle.network_model.specs.Outcome.{◌>>=◌, node_as, clock_of, port_of, reads, open_transit, copy_in, left_outcome, answered_outcome, arrived_outcome, outcome_of}
 
 -- the number of a refusal, where an outcome is one
 abbrev pub IsCoded : Result Outcome WorldRefusal → Type 0

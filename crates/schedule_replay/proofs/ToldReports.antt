@@ -1,5 +1,5 @@
 -- A report of a run can be written: readings are moments, and residences are below 2^63.
-use Rattle.std.proofs.Common.{◌≡◌, ◌∙◌, ℕ, zero, suc, ℤ, pos, negsuc, ◌^◌, ◌<◌, ◌-ℤ◌, ◌+ℤ◌, Bool, true, false, nat_lt, int_lt, Option, Some, None, IfSome, refl, sym, ap, arith, option_map, option_and_then, if◌then◌else◌}
+use Rattle.std.proofs.Common.{◌≡◌, ◌∙◌, ℕ, ℤ, pos, negsuc, ◌^◌, ◌<◌, ◌-ℤ◌, Bool, true, false, nat_lt, int_lt, Option, Some, None, IfSome, refl, sym, ap, arith, option_map, option_and_then, if◌then◌else◌}
 use Rattle.std.specs.Prelude.{is_some, unwrap_or}
 use Rattle.std.proofs.lemmas.Bool.Decides.{nat_tests}
 use Rattle.std.proofs.lemmas.Int.{ints}
@@ -15,9 +15,9 @@ use Rattle.slave_port.proofs.Uses.{some_image}
 use Rattle.transparent_clock.specs.Forwarding.{resided}
 use Rattle.network_model.specs.declared.event.Event.{Event}
 use Rattle.network_model.specs.declared.event.Event.TheVariants.{Sync, SyncOne, Follow, Enter, Leave, Arrive, Hear, Request, Stamped, Tick, SetMaster, StepClock}
-use Rattle.network_model.specs.Network.{Network, NodeName, PortSetup}
+use Rattle.network_model.specs.Network.{Network, PortSetup}
 use Rattle.network_model.specs.Run.{Run, Place, place, until, site_of, IsIn, true_moment}
-use Rattle.network_model.specs.Kinds.{is_at, draws_sync, is_request}
+use Rattle.network_model.specs.Kinds.{draws_sync, is_request}
 use Rattle.network_model.specs.Clock.{shown_at, reading_of, reading}
 use Rattle.network_model.specs.Journey.{Journey, residence}
 use Rattle.network_model.specs.Numbering.{number_of}
@@ -26,7 +26,7 @@ use Rattle.network_model.specs.Outcome.{IsRun}
 use Rattle.network_model.specs.Premises.{IsAcceptedRun}
 use Rattle.network_model.specs.Reported.{Reports}
 use Rattle.network_model.specs.Exact.{IsBracketOf, IsMeasurement}
-use Rattle.network_model.specs.Evidence.{IsRepresented, HasEvidence}
+use Rattle.network_model.specs.Evidence.{IsRepresented}
 use Rattle.network_model.proofs.Evidence.{each_has_evidence}
 use Rattle.network_model.proofs.Journeys.{IsIn-origin}
 use Rattle.network_model.proofs.Places.{IsIn-place_at, IsIn-within}

@@ -1,5 +1,5 @@
 -- The tags of a line that tells an event of a run: its own, and those of earlier events.
-use Rattle.std.proofs.Common.{◌≡◌, ◌∙◌, ℕ, ◌^◌, ◌<◌, ◌≤◌, Bool, true, false, nat_lt, List, [], ◌∷◌, length, Option, Some, None, IfSome, Result, Ok, Err, IsOk, refl, sym, ap, subst, arith, option_and_then}
+use Rattle.std.proofs.Common.{◌≡◌, ◌∙◌, ℕ, ◌^◌, ◌<◌, ◌≤◌, Bool, true, false, nat_lt, ◌∷◌, length, Option, Some, None, IfSome, Result, Ok, Err, IsOk, refl, sym, ap, subst, arith, option_and_then}
 use Rattle.std.specs.Prelude.{ok_or}
 use Rattle.std.proofs.lemmas.Bool.Decides.{nat_tests}
 use Rattle.event_codec.specs.Packet.{Contents}
@@ -14,7 +14,7 @@ use Rattle.network_model.specs.declared.stepped.Outcome.TheVariants as outcomes
 use Rattle.network_model.specs.declared.refusal.WorldRefusal.{WorldRefusal}
 use Rattle.network_model.specs.declared.refusal.WorldRefusal.TheVariants.{NoCopy, NoTransit}
 use Rattle.network_model.specs.Network.{Network, slave_port}
-use Rattle.network_model.specs.Run.{Run, Place, place, place_at, tag_of, until, site_of}
+use Rattle.network_model.specs.Run.{Run, place, place_at, site_of}
 use Rattle.network_model.specs.Kinds.{spent_transit}
 use Rattle.network_model.specs.Truth.{copy_of}
 use Rattle.network_model.specs.Outcome.{◌>>=◌, node_as, clock_of, port_of, open_transit, outcome_of}

@@ -1,5 +1,5 @@
 -- What is written of nodes and of a run is a transcript that tells the run.
-use Rattle.std.proofs.Common.{◌≡◌, ◌≢◌, ◌∙◌, ℕ, zero, suc, ◌+◌, ◌-◌, ◌^◌, ◌<◌, ◌≤◌, ◌==◌, Bool, true, false, ◌&&◌, nat_lt, List, [], ◌∷◌, ◌++◌, length, slice_index, Option, Some, None, Result, Ok, Err, refl, sym, ap, subst, arith, append_assoc, append-nil, map, All, if◌then◌else◌}
+use Rattle.std.proofs.Common.{◌≡◌, ◌≢◌, ◌∙◌, ℕ, zero, suc, ◌+◌, ◌-◌, ◌^◌, ◌<◌, ◌≤◌, ◌==◌, Bool, true, false, ◌&&◌, nat_lt, List, [], ◌∷◌, ◌++◌, length, slice_index, Option, Some, None, Ok, refl, sym, ap, subst, arith, append_assoc, append-nil, map, All, if◌then◌else◌}
 use Rattle.std.specs.Prelude.{ok_or, take}
 use Rattle.std.specs.List.{list_all}
 use Rattle.std.specs.Str.{IsAscii}
@@ -11,8 +11,6 @@ use Rattle.std.proofs.lemmas.Str.{IsUtf8-from_ascii}
 use Rattle.serde_json.specs.Data.{Data}
 use Rattle.serde_json.specs.Read.{read}
 use Rattle.serde_json.specs.Written.{compact_text}
-use Rattle.network_model.specs.declared.event.Event.{Event}
-use Rattle.network_model.specs.declared.node.NodeSpec.{NodeSpec}
 use Rattle.network_model.specs.Network.{Network}
 use Rattle.network_model.specs.Run.{Run}
 use Rattle.network_model.specs.Premises.{Premise}
@@ -23,17 +21,16 @@ use Rattle.schedule_lines.specs.declared.traced.TranscriptLine.{TranscriptLine}
 use Rattle.schedule_lines.specs.declared.traced.TranscriptLine.TheVariants as recorded
 use Rattle.schedule_lines.specs.Traced.{transcript_line_of}
 use Rattle.schedule_lines.specs.Transcript.{node_data, event_data, line_text}
-use Rattle.schedule_lines.specs.Recorded.{IsNode, IsEvent, IsRecorded, IsTagged, NodesReadBack, EventsReadBack, NodeTextsReadBack, EventTextsReadBack}
+use Rattle.schedule_lines.specs.Recorded.{IsNode, IsEvent, IsRecorded, IsTagged}
 use Rattle.schedule_lines.proofs.Nodes.{nodes_back}
 use Rattle.schedule_lines.proofs.Printed.{event_texts_back, node_texts_back}
 use Rattle.schedule_lines.proofs.Recorded.{reads_back}
 use Rattle.schedule_replay.specs.declared.fault.FaultKind.{FaultKind}
 use Rattle.schedule_replay.specs.declared.fault.FaultKind.TheVariants.{Field}
 use Rattle.schedule_replay.specs.Lines.{lines_of, without_cr, lines_limit, line_limit, reading_fault}
-use Rattle.schedule_replay.specs.Schedule.{value_in}
 use Rattle.schedule_replay.specs.Replay.{nodes_text, WritesRun}
-use Rattle.schedule_replay.specs.CheckText.{recorded_of_value, recorded_in, AreRecorded, numbered, transcript_of}
-use Rattle.schedule_replay.specs.Accepted.{IsInRange, IsTranscript, EachRunIsTranscribed}
+use Rattle.schedule_replay.specs.CheckText.{recorded_of_value, recorded_in, AreRecorded, numbered}
+use Rattle.schedule_replay.specs.Accepted.{EachRunIsTranscribed}
 use Rattle.schedule_replay.proofs.Cutting.{IsUnended, lines_of-ended}
 use Rattle.schedule_replay.proofs.Entries.{value_read}
 use Rattle.schedule_replay.proofs.ShownTexts.{is_shown, Fits}
