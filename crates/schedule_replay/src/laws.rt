@@ -1,4 +1,4 @@
-//! What follows from the definitions alone, for any octets.
+//! What follows from the definitions alone, for any octets and for what is written of any run.
 ghost use Rattle.std.specs.Prelude.{◌≡◌, ℕ, List};
 ghost use Rattle.network_model.specs.Premises.{exact_limits, IsFreshAndTicked, IsWithinTurn};
 ghost use Rattle.schedule_replay.specs.Accepted.{EachToldLineIsRecorded, EachToldLineIsTagged, EachRunIsTranscribed, EachRunIsAccepted, EachRunIsChecked, EachReplayIsAccepted};
