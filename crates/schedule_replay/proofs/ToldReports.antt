@@ -154,8 +154,7 @@ short_report network answered report accepted reports measured =
     let offset : report.offset2 ≡ offset2 (bracket_by (reading os.arrival) (reading os.journey.origin) (residence os.journey)) (bracket_by (reading or.arrival) (reading or.journey.origin) (residence or.journey)) =
     measured.exact.offset ∙ (λ i. offset2 (a i) (b i)) in
     let path : report.path2 ≡ path2 (bracket_by (reading os.arrival) (reading os.journey.origin) (residence os.journey)) (bracket_by (reading or.arrival) (reading or.journey.origin) (residence or.journey)) =
-    measured.exact.path ∙ (λ i. path2 (a i) (b i)) in
-    (
+    measured.exact.path ∙ (λ i. path2 (a i) (b i)) in (
       short_offset report.offset2 _ _ _ _ _ _ (number_below os.arrival) (number_below os.journey.origin) sync_small (number_below or.arrival) (number_below or.journey.origin) request_small offset,
       short_path report.path2 _ _ _ _ _ _ (number_below os.arrival) (number_below os.journey.origin) sync_small (number_below or.arrival) (number_below or.journey.origin) request_small path,
     )

@@ -83,5 +83,5 @@ EachReplayIsAccepted premise =
     (octets held : List ℕ) (left now : Option (List ℕ)) (events : ℕ) (replayed : ReplaysAll octets held left now events)
     → premise replayed.nodes replayed.run → (held' : List ℕ) (left' now' : Option (List ℕ)) (answer : Result Verdict Fault)
     → MatchResult answer (ChecksAll (nodes_text replayed.nodes ++ replayed.text) held' left' now')
-      (ChecksUntil (nodes_text replayed.nodes ++ replayed.text) held' left' now')
+    (ChecksUntil (nodes_text replayed.nodes ++ replayed.text) held' left' now')
     → AnswersAcceptance (reports_in replayed.nodes replayed.run) answer
