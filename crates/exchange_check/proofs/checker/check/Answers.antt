@@ -13,5 +13,9 @@ loop-line-preserved c =
 pub returns : goal.returns
 returns c =
     let kept = verdict-kept-all c.args.nodes.now c.args.lines.now c.loop-line.kept _ c.loop-line.line-index c.loop-line-test.false c.loop-line.invariant in
-    record { verdict = kept; sound = TellsSoundness-of c.args.nodes.now (reverse c.args.lines.now) _ kept; complete = AcceptsTruth-of c.args.nodes.now (reverse c.args.lines.now) _ kept;
-      complete_within_one_turn = AcceptsTruth-within_one_turn c.args.nodes.now (reverse c.args.lines.now) _ kept }
+    record {
+      verdict = kept;
+      sound = TellsSoundness-of c.args.nodes.now (reverse c.args.lines.now) _ kept;
+      complete = AcceptsTruth-of c.args.nodes.now (reverse c.args.lines.now) _ kept;
+      complete_within_one_turn = AcceptsTruth-within_one_turn c.args.nodes.now (reverse c.args.lines.now) _ kept;
+    }

@@ -10,5 +10,9 @@ returns c =
     let inside = c.self.inside in
     let kept = verdict-kept inside.nodes inside.lines.items inside.kept (length inside.lines.items) c.self.invariant
     ∙ ap (λ (t : Transcript). verdict t.network (reverse t.lines)) c.self.view_is in
-    record { verdict = kept; sound = TellsSoundness-of c.args.self.now.network (reverse c.args.self.now.lines) _ kept; complete = AcceptsTruth-of c.args.self.now.network (reverse c.args.self.now.lines) _ kept;
-      complete_within_one_turn = AcceptsTruth-within_one_turn c.args.self.now.network (reverse c.args.self.now.lines) _ kept }
+    record {
+      verdict = kept;
+      sound = TellsSoundness-of c.args.self.now.network (reverse c.args.self.now.lines) _ kept;
+      complete = AcceptsTruth-of c.args.self.now.network (reverse c.args.self.now.lines) _ kept;
+      complete_within_one_turn = AcceptsTruth-within_one_turn c.args.self.now.network (reverse c.args.self.now.lines) _ kept;
+    }
