@@ -68,7 +68,7 @@ fn accepts_where_nothing_is_reported(rt: HostRuntime) -> Result<(), Fail> {
 
 #[test]
 fn refuses_what_was_changed(rt: HostRuntime) -> Result<(), Fail> {
-    let cases: [(usize, &str, Why, &[u8]); 5] = [
+    let cases: [(usize, &str, Why, &[u8]); 6] = [
         (
             6,
             r#"{"at":[1,500,0],"copy":4,"ev":"enter","n":3,"node":"T","out":"entered","reading":[1,500,0]}"#,
@@ -86,6 +86,12 @@ fn refuses_what_was_changed(rt: HostRuntime) -> Result<(), Fail> {
             r#"{"ev":"follow","hex":"0812002c00000000000000000000000000000000001122fffe33445500010000020000000000000200000000","n":6,"node":"M","out":"made"}"#,
             Why::Bytes,
             b"refused event 13: 708\n",
+        ),
+        (
+            13,
+            r#"{"at":[2,4000,16384],"ev":"leave","hex":"0112002c00000000000000000dac40000000000000aabbfffeccddee00010000017f00000000000000000000","n":10,"node":"T","out":"made","reading":[2,4000,16384],"transit":3}"#,
+            Why::BrokenJourney,
+            b"refused event 13: 704\n",
         ),
         (
             16,
@@ -139,6 +145,16 @@ fn stops_at_ill_formed_lines(rt: HostRuntime) -> Result<(), Fail> {
         assert_eq!(rt; answer, fault(line, what), "{other}");
         assert_eq!(rt; written.len(), 0, "{other}");
     }
+    Ok(())
+}
+
+#[test]
+fn refuses_deep_nesting(rt: HostRuntime) -> Result<(), Fail> {
+    let mut line = vec![in rt.alloc(); b'['; 200]?;
+    line.extend_from_slice(vec![in rt.alloc(); b']'; 200]?.as_slice())?;
+    let (answer, written) = checked(rt.alloc(), line.as_slice());
+    assert_eq!(rt; answer, fault(1, FaultKind::Json));
+    assert_eq!(rt; written.len(), 0);
     Ok(())
 }
 
