@@ -38,6 +38,15 @@ fn tell_script(world: &mut World, script: &str, lines: &mut Vec<TraceLine>) -> R
     Ok(reports)
 }
 
+/// Lets a master draw so many Syncs, and tells them.
+fn tell_syncs(world: &mut World, count: u32, lines: &mut Vec<TraceLine>) -> Result<(), Fail> {
+    let row = read_row("7 sync M [2,0,0]")?;
+    for _ in 0..count {
+        tell(world, &row.event, lines)?;
+    }
+    Ok(())
+}
+
 /// The verdict on these lines, at once and where they are fed one by one.
 fn assert_verdict(
     rt: &(impl Abort + AllocGlobal),
@@ -79,10 +88,7 @@ fn numbers_that_came_round_are_refused(rt: HostRuntime) -> Result<(), Fail> {
     let mut world = World::new(rt.alloc(), network(rt.alloc(), PAIR)?)?;
     let mut lines = Vec::new(rt.alloc());
     tell_script(&mut world, TURN_BEGINS, &mut lines)?;
-    let sync = read_row("7 sync M [2,0,0]")?.event;
-    for _ in 0..65_535 {
-        tell(&mut world, &sync, &mut lines)?;
-    }
+    tell_syncs(&mut world, 65_535, &mut lines)?;
     tell_script(&mut world, TURN_ENDS, &mut lines)?;
     let refused = Verdict::Refused {
         line: 65_544,
