@@ -1,10 +1,15 @@
-pub mod Once
+pub mod Runs
+pub mod Branches
+pub mod Cutting
+pub mod Links
+pub mod Passing
 pub mod Keeping
 pub mod Reversed
 pub mod Noted
 pub mod Told
 pub mod Messages
 pub mod FactLines
-pub mod Stays
+pub mod Following
 pub mod Exchanges
+pub mod Bounds
 pub mod Standing

@@ -1,5 +1,5 @@
 -- What is kept after lines is what the lines say, and so is the verdict.
-use Rattle.std.proofs.Common.{◌≡◌, ◌∙◌, ℕ, ◌+◌, ◌<◌, pos, ◌-ℤ◌, Bool, true, false, ◌&&◌, not, cond, eqb, min, [], ◌∷◌, length, Option, Some, None, refl, sym, ap, arith}
+use Rattle.std.proofs.Common.{◌≡◌, ◌∙◌, ℕ, suc, ◌+◌, ◌<◌, ◌≤◌, pos, ◌-ℤ◌, Bool, true, false, ◌&&◌, not, cond, eqb, min, [], ◌∷◌, length, Option, Some, None, refl, sym, ap, arith}
 use Rattle.std.specs.Prelude.{option_map, option_and_then, nat_lt}
 use Rattle.std.specs.Option.{option_map_or}
 use Rattle.std.specs.Ordering.{int_eq}
@@ -20,19 +20,22 @@ use Rattle.trace_model.specs.Record.{LinePlace, line_place, line_number, event_o
 use Rattle.trace_model.specs.Octets.{writes_right}
 use Rattle.trace_model.specs.Journey.{Journey, journey_of, residence, left_once}
 use Rattle.trace_model.specs.Sound.{journey_writes_right, where_passes, below, Exchange, line_of, sync_line, follow_lines, arrival_line, is_of_line, is_stamped_between, unbroken, is_followed, are_paired, are_later, is_domain, is_of_master, are_readings, fraction_sent, fits, bracket, are_results, are_octets, journeys_reason, exchange_reason, reason}
-use Rattle.exchange_check.specs.Kept.{Facts, Leaves, longest}
-use Rattle.exchange_check.specs.Judged.{found_by, way_at, once_by, way_from, way_to, paired_by, is_told, of_master_by, fits_by, bracket_by, results_by, octets_by, both_ways, found_reason, reason_by}
+use Rattle.exchange_check.specs.Kept.{Facts, longest}
+use Rattle.exchange_check.specs.Judged.{found_by, way_at, way_from, way_to, paired_by, is_told, of_master_by, fits_by, bracket_by, results_by, octets_by, both_ways, found_reason, reason_by}
 use Rattle.exchange_check.proofs.Noted.{site_at, leaves_at, stamps_at, told_master}
 use Rattle.exchange_check.proofs.Told.{fact_of, facts_at}
-use Rattle.exchange_check.proofs.Stays.{once_is, followed_is}
+use Rattle.exchange_check.proofs.Following.{once_is, followed_is}
 use Rattle.trace_model.specs.declared.verdict.Verdict.{Verdict}
 use Rattle.trace_model.specs.declared.verdict.Verdict.TheVariants.{Accepted, Refused}
 use Rattle.exchange_check.specs.Judged.{is_followed_by}
+use Rattle.exchange_check.specs.Stays.{Once, last_stays, once_of}
 use Rattle.exchange_check.specs.Kept.{fact_by}
 use Rattle.exchange_check.specs.Machine.{Machine, machine, with_fact, sites_told, leaves_told, stamps_told, judged}
 use Rattle.trace_model.specs.Verdict.{verdict, with_line, one_more, report_in}
 use Rattle.exchange_check.proofs.Noted.{sites-line, leaves-line, stamps-line}
 use Rattle.exchange_check.proofs.FactLines.{fact_by-is, facts-line}
+use Rattle.exchange_check.proofs.Bounds.{sync_within, arrival_within, chain_parts}
+use Rattle.std.proofs.lemmas.Option.{none-some}
 use Rattle.exchange_check.proofs.Exchanges.{found_of, way_of, line_of_is, sync_is, follows_is, arrival_is, chain, line_chain, chained, if_found, way_is}
 
 last_number : (o : Option LinePlace) (n : ℕ) → option_map_or (λ last. eqb last n) (option_map line_number o) false ≡ option_map_or (λ last. eqb (line_number last) n) o false
@@ -78,8 +81,8 @@ module _ (network : Network) (line : TraceLine) (earlier : Lines) where
   abbrev facts : Facts
   facts = facts_at network (line ∷ earlier)
 
-  abbrev leaves : Leaves
-  leaves = leaves_at network earlier
+  abbrev once : Once
+  once = once_of (last_stays (facts_at network earlier)) (leaves_at network earlier)
 
   abbrev slave : NodeName
   slave = site_of line.event
@@ -93,30 +96,34 @@ module _ (network : Network) (line : TraceLine) (earlier : Lines) where
   two_tests true j = if_way (left_once (events network earlier) j) j
   two_tests false j = refl
 
-  way_found : (kind : Event → Bool) (limit copy : ℕ) (o : Option Journey) → copy < limit → journey_of network (line ∷ earlier) copy ≡ o
-      → where_passes (λ way. kind way.origin.event && once_by facts leaves limit copy) (option_map (way_of network) o)
+  way_found : (kind : Event → Bool) (copy : ℕ) (o : Option Journey) → journey_of network earlier copy ≡ o
+      → where_passes (λ way. kind way.origin.event && once copy) (option_map (way_of network) o)
       ≡ option_map (way_of network) (where_passes (left_once (events network earlier)) (where_passes (λ journey. kind (event_of journey.origin)) o))
-  way_found kind limit copy None within h = refl
-  way_found kind limit copy (Some j) within h =
-      let followed = followed_is network facts leaves (events network earlier) (once_is network earlier) (line ∷ earlier) copy j (λ n x there. ap (λ (o : Option LinePlace). option_map (fact_of network) o) there) h limit within in
+  way_found kind copy None h = refl
+  way_found kind copy (Some j) h =
+      let followed = followed_is network (facts_at network earlier) (leaves_at network earlier) (events network earlier) (once_is network earlier) earlier copy j
+      (λ n x there. ap (λ (o : Option LinePlace). option_map (fact_of network) o) there) h (suc copy) (omega arith) in
       (λ i. cond (kind (event_of j.origin) && followed i) (Some (way_of network j)) None)
       ∙ two_tests (kind (event_of j.origin)) j
 
-  way_below : (kind : Event → Bool) (limit copy : ℕ) (b : Bool) → nat_lt copy limit ≡ b
-      → cond b (where_passes (λ way. kind way.origin.event && once_by facts leaves limit copy) (way_at facts copy)) None
+  before_here : (copy limit : ℕ) → copy < limit → limit ≤ length earlier → journey_of network earlier copy ≡ journey_of network (line ∷ earlier) copy
+  before_here copy limit within fits = grind (arith, nat_tests)
+
+  way_below : (kind : Event → Bool) (limit copy : ℕ) (b : Bool) → limit ≤ length earlier → nat_lt copy limit ≡ b
+      → cond b (where_passes (λ way. kind way.origin.event && once copy) (way_at facts copy)) None
       ≡ option_map (way_of network) (where_passes (left_once (events network earlier)) (where_passes (λ journey. kind (event_of journey.origin)) (cond b (journey_of network (line ∷ earlier) copy) None)))
-  way_below kind limit copy true h =
-      ap (where_passes (λ way. kind way.origin.event && once_by facts leaves limit copy)) (way_is network (line ∷ earlier) copy)
-      ∙ way_found kind limit copy (journey_of network (line ∷ earlier) copy) (ltb-true copy limit h) refl
-  way_below kind limit copy false h = refl
+  way_below kind limit copy true fits h =
+      ap (where_passes (λ way. kind way.origin.event && once copy)) (way_is network (line ∷ earlier) copy)
+      ∙ way_found kind copy (journey_of network (line ∷ earlier) copy) (before_here copy limit (ltb-true copy limit h) fits)
+  way_below kind limit copy false fits h = refl
 
-  way_heard : (kind : Event → Bool) (limit : ℕ) (o : Option ℕ) → option_and_then (way_from facts leaves kind limit) o
+  way_heard : (kind : Event → Bool) (limit : ℕ) (o : Option ℕ) → limit ≤ length earlier → option_and_then (way_from facts once kind limit) o
       ≡ option_map (way_of network) (where_passes (left_once (events network earlier)) (where_passes (λ journey. kind (event_of journey.origin)) (option_and_then (below (journey_of network (line ∷ earlier)) limit) o)))
-  way_heard kind limit None = refl
-  way_heard kind limit (Some copy) = way_below kind limit copy (nat_lt copy limit) refl
+  way_heard kind limit None fits = refl
+  way_heard kind limit (Some copy) fits = way_below kind limit copy (nat_lt copy limit) fits refl
 
-  way_to_is : (kind : Event → Bool) (x : LinePlace) → way_to facts leaves kind (fact_of network x) ≡ option_map (way_of network) (unbroken network e kind x)
-  way_to_is kind x = way_heard kind (line_number x) (heard_copy (event_of x))
+  way_to_is : (kind : Event → Bool) (x : LinePlace) → line_number x ≤ length earlier → way_to facts once kind (fact_of network x) ≡ option_map (way_of network) (unbroken network e kind x)
+  way_to_is kind x fits = way_heard kind (line_number x) (heard_copy (event_of x)) fits
 
   bracket_is : (x : LinePlace) (j : Journey) → fits j ≡ true → bracket_by (fact_of network x) (way_of network j) ≡ bracket x j
   bracket_is x j h = λ i. (pos (reading x) -ℤ pos (reading j.origin)) -ℤ pos (whole_residence (fraction_sent j.origin) (residence j) h i)
@@ -145,10 +152,12 @@ module _ (network : Network) (line : TraceLine) (earlier : Lines) where
         (results_are x s r)
         (λ i. journey_writes_right network s && follow_octets network x.follow i && journey_writes_right network r && writes_right network x.arrival)
 
-    found_are : (x : Option Exchange) → found_reason network facts leaves (site_at network earlier slave) slave report (option_map (found_of network) x) ≡ exchange_reason network e report x
-    found_are None = refl
-    found_are (Some x) =
-        (λ i. both_ways network (site_at network earlier slave) slave report (found_of network x) (way_to_is draws_sync x.sync i) (way_to_is is_request x.arrival i))
+    found_are : (x : Option Exchange) → ((y : Exchange) → x ≡ Some y → (line_number y.sync ≤ length earlier) × (line_number y.arrival ≤ length earlier))
+        → found_reason network facts once (site_at network earlier slave) slave report (option_map (found_of network) x) ≡ exchange_reason network e report x
+    found_are None within = refl
+    found_are (Some x) within =
+        let fits = within x refl in
+        (λ i. both_ways network (site_at network earlier slave) slave report (found_of network x) (way_to_is draws_sync x.sync fits.0 i) (way_to_is is_request x.arrival fits.1 i))
         ∙ ways_are x (unbroken network e draws_sync x.sync) (unbroken network e is_request x.arrival)
 
     abbrev here : Bool
@@ -169,15 +178,24 @@ module _ (network : Network) (line : TraceLine) (earlier : Lines) where
         (line_of network (line ∷ earlier) is_request slave report.request_tag) (arrival_line network (line ∷ earlier) slave report.response_tag) i) None)
         ∙ if_found network (line ∷ earlier) (here && learned) all_lines
 
+    either_within : (b : Bool) (y : Exchange) → cond b all_lines None ≡ Some y → (line_number y.sync ≤ length earlier) × (line_number y.arrival ≤ length earlier)
+    either_within true y h =
+        let parts = chain_parts network (line ∷ earlier) (sync_line network (line ∷ earlier) slave report) (follow_lines network (line ∷ earlier) slave report.follow_tag)
+        (line_of network (line ∷ earlier) is_request slave report.request_tag) (arrival_line network (line ∷ earlier) slave report.response_tag) y h in
+        let sync : line_number y.sync < length (line ∷ earlier) = sync_within network (line ∷ earlier) slave report y.sync parts.0 in
+        let arrival : line_number y.arrival < length (line ∷ earlier) = arrival_within network (line ∷ earlier) slave report.response_tag y.arrival parts.1 in
+        (grind (arith, sync), grind (arith, arrival))
+    either_within false y h = absurd (none-some y h)
+
     reason_is : (b : Bool) → counts network line ≡ b
-        → reason_by network facts leaves (stamps_at network earlier) (site_at network earlier) (cond b (Some (fact_of network e)) None) report ≡ reason network e report
+        → reason_by network facts once (stamps_at network earlier) (site_at network earlier) (cond b (Some (fact_of network e)) None) report ≡ reason network e report
     reason_is true h =
-        ap (found_reason network facts leaves (site_at network earlier slave) slave report) found_is
-        ∙ found_are (cond (here && learned) all_lines None)
+        ap (found_reason network facts once (site_at network earlier slave) slave report) found_is
+        ∙ found_are (cond (here && learned) all_lines None) (either_within (here && learned))
         ∙ sym (λ i. exchange_reason network e report (cond (h i && here && learned) all_lines None))
     reason_is false h = sym (λ i. exchange_reason network e report (cond (h i && here && learned) all_lines None))
 
-  judged_is : (v : Verdict) → judged network facts leaves (stamps_at network earlier) (site_at network earlier) (cond (counts network line) (Some (fact_of network e)) None) line.out (length earlier) v
+  judged_is : (v : Verdict) → judged network facts once (stamps_at network earlier) (site_at network earlier) (cond (counts network line) (Some (fact_of network e)) None) line.out (length earlier) v
       ≡ with_line network e v
   judged_is (Accepted count) = λ i. one_more count (length earlier) (option_map (λ report. reason_is report (counts network line) refl i) (report_in line.out))
   judged_is (Refused number why) = refl
@@ -206,7 +224,7 @@ stands network (line ∷ earlier) =
       sites = (λ i. sites_told (fact i) n (h.sites i)) ∙ sites-line network line earlier (fact_of network e) (counts network line) refl refl;
       leaves = (λ i. leaves_told (fact i) (h.leaves i)) ∙ leaves-line network line earlier (fact_of network e) (counts network line) refl refl;
       stamps = (λ i. stamps_told (fact i) n (h.sites i) (h.stamps i)) ∙ stamps-line network line earlier (fact_of network e) (counts network line) refl refl;
-      verdict = (λ i. judged network (facts i) (h.leaves i) (h.stamps i) (h.sites i) (fact i) line.out n (h.verdict i)) ∙ judged_is network line earlier (verdict network earlier);
+      verdict = (λ i. judged network (facts i) (once_of (last_stays (h.facts i)) (h.leaves i)) (h.stamps i) (h.sites i) (fact i) line.out n (h.verdict i)) ∙ judged_is network line earlier (verdict network earlier);
     }
 
 -- the verdict that is kept is the verdict on the lines

@@ -1,6 +1,6 @@
 -- How the checker judges a report by what it keeps. Its own functions cite these; what its callers are told is said by the
 -- lines alone.
-use Rattle.std.specs.Prelude.{ℕ, zero, suc, ◌+◌, ℤ, pos, ◌-ℤ◌, Bool, true, false, ◌&&◌, ◌||◌, not, nat_lt, ◌==◌, is_some, if◌then◌else◌, Option, Some, None, option_map, option_and_then}
+use Rattle.std.specs.Prelude.{ℕ, ◌+◌, ℤ, pos, ◌-ℤ◌, Bool, true, false, ◌&&◌, ◌||◌, not, nat_lt, ◌==◌, is_some, if◌then◌else◌, Option, Some, None, option_map, option_and_then}
 use Rattle.std.specs.Option.{option_map_or}
 use Rattle.std.specs.Ordering.{int_eq}
 use Rattle.ptp_units.specs.Exchange.{offset2, path2}
@@ -9,7 +9,7 @@ use Rattle.slave_port.specs.declared.heard.Report.{Report}
 use Rattle.network_model.specs.declared.event.Event.{Event}
 use Rattle.network_model.specs.Network.{Network, NodeName, is_named}
 use Rattle.network_model.specs.Run.{site_of}
-use Rattle.network_model.specs.Kinds.{is_at, is_one_step_sync, draws_sync, is_follow, is_request, entered_copy, heard_copy, spent_transit}
+use Rattle.network_model.specs.Kinds.{is_at, is_one_step_sync, draws_sync, is_follow, is_request, heard_copy}
 use Rattle.network_model.specs.Truth.{master_at, slave_at}
 use Rattle.exchange_check.specs.declared.facts.Fact.{Fact}
 use Rattle.exchange_check.specs.declared.facts.Found.{Found}
@@ -19,7 +19,8 @@ use Rattle.trace_model.specs.declared.verdict.Why.{Why}
 use Rattle.trace_model.specs.declared.verdict.Why.TheVariants.{NoSuchLine, OtherNumber, OtherMaster, BrokenJourney, WrongReading, WrongValue, TooBig, Bytes}
 use Rattle.trace_model.specs.Line.{is_arrival, is_hearing}
 use Rattle.trace_model.specs.Sound.{where_passes, below, are_later, is_domain, is_of_line}
-use Rattle.exchange_check.specs.Kept.{Facts, Leaves, Stamps, Sites, travel_at, longest}
+use Rattle.exchange_check.specs.Kept.{Facts, Stamps, Sites, travel_at, longest}
+use Rattle.exchange_check.specs.Stays.{Once}
 
 -- an event of a wanted kind, where it is at this node
 abbrev pub is_here : Bool → Event → NodeName → Bool
@@ -75,35 +76,14 @@ way_at facts copy = option_and_then
     (λ travel. option_map (λ origin. record { travel = travel; origin = origin }) (facts travel.origin))
     (travel_at facts copy)
 
--- the last stay of a copy: the number of its Enter line, and the copy that entered there
-abbrev pub entered_by : Facts → ℕ → Option (ℕ × ℕ)
-entered_by facts transit = option_and_then (λ entered. option_map (λ copy. (transit, copy)) (entered_copy entered.event)) (facts transit)
-
-abbrev pub stay_before : Facts → ℕ → Option (ℕ × ℕ)
-stay_before facts copy =
-    option_and_then (λ fact. option_and_then (entered_by facts) (spent_transit fact.event)) (facts copy)
-
--- a stay was ended, and not again
-abbrev pub is_once : Option Bool → Bool
-is_once None = false
-is_once (Some again) = not again
-
--- whether each stay on the way of a copy was ended once, among so many last ones
-abbrev pub once_by : Facts → Leaves → (count : ℕ) → (copy : ℕ) → Bool
-once_by facts leaves zero copy = true
-once_by facts leaves (suc count) copy =
-    option_map_or (λ stay. is_once (leaves stay.0) && once_by facts leaves count stay.1) (stay_before facts copy) true
-
-abbrev pub way_from : Facts → Leaves → (Event → Bool) → (limit copy : ℕ) → Option Way
-way_from facts leaves kind limit copy =
-    if nat_lt copy limit
-    then where_passes (λ way. kind way.origin.event && once_by facts leaves limit copy) (way_at facts copy)
-    else None
+abbrev pub way_from : Facts → Once → (Event → Bool) → (limit copy : ℕ) → Option Way
+way_from facts once kind limit copy =
+    if nat_lt copy limit then where_passes (λ way. kind way.origin.event && once copy) (way_at facts copy) else None
 
 -- the journey of the copy that arrives at a line, where it begins at a line of this kind and no stay was ended twice
-abbrev pub way_to : Facts → Leaves → (Event → Bool) → Fact → Option Way
-way_to facts leaves kind arrival =
-    option_and_then (way_from facts leaves kind arrival.line) (heard_copy arrival.event)
+abbrev pub way_to : Facts → Once → (Event → Bool) → Fact → Option Way
+way_to facts once kind arrival =
+    option_and_then (way_from facts once kind arrival.line) (heard_copy arrival.event)
 
 abbrev pub is_followed_by : Option Fact → Fact → Bool
 is_followed_by None origin = is_one_step_sync origin.event
@@ -160,20 +140,20 @@ both_ways network site slave report found None request = Some BrokenJourney
 both_ways network site slave report found (Some sync) None = Some BrokenJourney
 both_ways network site slave report found (Some sync) (Some request) = ways_reason network site slave report found sync request
 
-abbrev pub found_reason : Network → Facts → Leaves → Site → NodeName → Report → Option Found → Option Why
-found_reason network facts leaves site slave report None = Some NoSuchLine
-found_reason network facts leaves site slave report (Some found) =
+abbrev pub found_reason : Network → Facts → Once → Site → NodeName → Report → Option Found → Option Why
+found_reason network facts once site slave report None = Some NoSuchLine
+found_reason network facts once site slave report (Some found) =
     both_ways network site slave report found
-    (way_to facts leaves draws_sync found.sync)
-    (way_to facts leaves is_request found.arrival)
+    (way_to facts once draws_sync found.sync)
+    (way_to facts once is_request found.arrival)
 
 -- why a report at a line that tells of something done isn't sound, or nothing where it is
-abbrev pub fact_reason : Network → Facts → Leaves → Stamps → Sites → Fact → Report → Option Why
-fact_reason network facts leaves stamps sites fact report =
-    found_reason network facts leaves (sites (site_of fact.event)) (site_of fact.event) report
+abbrev pub fact_reason : Network → Facts → Once → Stamps → Sites → Fact → Report → Option Why
+fact_reason network facts once stamps sites fact report =
+    found_reason network facts once (sites (site_of fact.event)) (site_of fact.event) report
     (found_by facts stamps (site_of fact.event) fact.line report)
 
 -- the same at any line
-abbrev pub reason_by : Network → Facts → Leaves → Stamps → Sites → Option Fact → Report → Option Why
-reason_by network facts leaves stamps sites None report = Some NoSuchLine
-reason_by network facts leaves stamps sites (Some fact) report = fact_reason network facts leaves stamps sites fact report
+abbrev pub reason_by : Network → Facts → Once → Stamps → Sites → Option Fact → Report → Option Why
+reason_by network facts once stamps sites None report = Some NoSuchLine
+reason_by network facts once stamps sites (Some fact) report = fact_reason network facts once stamps sites fact report

@@ -1,5 +1,6 @@
 pub mod Refusal
 pub mod Transcript
 pub mod Kept
+pub mod Stays
 pub mod Judged
 pub mod Machine

@@ -12,6 +12,7 @@ use Rattle.trace_model.specs.declared.verdict.Verdict.TheVariants.{Accepted, Ref
 use Rattle.trace_model.specs.Line.{Lines}
 use Rattle.trace_model.specs.Verdict.{report_in, one_more, accepted_count}
 use Rattle.exchange_check.specs.Kept.{Facts, Sites, Leaves, Stamps, new_site, fact_in, site_in, fact_by, sites_after, leaves_after, stamps_after}
+use Rattle.exchange_check.specs.Stays.{Once, last_stays, once_of, AreStays}
 use Rattle.exchange_check.specs.Judged.{reason_by}
 
 -- what is kept
@@ -46,10 +47,10 @@ stamps_told None n sites stamps = stamps
 stamps_told (Some fact) n sites stamps = stamps_after fact.event n sites stamps
 
 -- the verdict after one more line
-abbrev pub judged : Network → Facts → Leaves → Stamps → Sites → Option Fact → TraceOut → ℕ → Verdict → Verdict
-judged network facts leaves stamps sites fact out n (Accepted count) =
-    one_more count n (option_map (reason_by network facts leaves stamps sites fact) (report_in out))
-judged network facts leaves stamps sites fact out n (Refused line why) = Refused line why
+abbrev pub judged : Network → Facts → Once → Stamps → Sites → Option Fact → TraceOut → ℕ → Verdict → Verdict
+judged network facts once stamps sites fact out n (Accepted count) =
+    one_more count n (option_map (reason_by network facts once stamps sites fact) (report_in out))
+judged network facts once stamps sites fact out n (Refused line why) = Refused line why
 
 -- after a line with this fact
 abbrev pub with_line_told : Network → TraceOut → ℕ → Machine → Option Fact → Machine
@@ -58,7 +59,7 @@ with_line_told network out n m fact = record {
   sites = sites_told fact n m.sites;
   leaves = leaves_told fact m.leaves;
   stamps = stamps_told fact n m.sites m.stamps;
-  verdict = judged network (with_fact m.facts n fact) m.leaves m.stamps m.sites fact out n m.verdict;
+  verdict = judged network (with_fact m.facts n fact) (once_of (last_stays m.facts) m.leaves) m.stamps m.sites fact out n m.verdict;
 }
 
 -- after one more line, before which there were so many
@@ -75,7 +76,7 @@ pub record IsKept (kept : Kept) (count : ℕ) (m : Machine) : Type 0 where
   pub count_is : length kept.facts.items ≡ count
   pub facts : fact_in kept.facts.items ≡ m.facts
   pub sites : site_in kept.sites ≡ m.sites
-  pub leaves : get nat_eq kept.leaves ≡ m.leaves
+  pub stays : AreStays kept.stays (last_stays m.facts) m.leaves count
   pub stamps : get nat_eq kept.stamps ≡ m.stamps
   pub verdict : kept.verdict ≡ m.verdict
   pub within : accepted_count m.verdict ≤ count

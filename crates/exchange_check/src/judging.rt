@@ -6,16 +6,16 @@ ghost use Rattle.std.specs.HashMap.{get};
 ghost use Rattle.ptp_units.specs.Exchange.{IsBracket, offset2, path2};
 ghost use Rattle.std.specs.Ordering.{int_eq};
 ghost use Rattle.ptp_units.specs.Moment.{bound};
-ghost use Rattle.network_model.specs.Kinds.{draws_sync, is_request, spent_transit};
+ghost use Rattle.network_model.specs.Kinds.{draws_sync, is_request};
 ghost use Rattle.network_model.specs.Run.{site_of};
 ghost use Rattle.trace_model.specs.Line.{is_arrival, is_hearing};
 ghost use Rattle.trace_model.specs.Sound.{is_of_line, is_domain, are_later, below};
 ghost use Rattle.exchange_check.specs.Kept.{fact_in, site_in, port_setup};
-ghost use Rattle.exchange_check.specs.Judged.{line_of_by, sender_by, sync_by, follow_by, follows_by, arrival_by, completion_by, is_here, is_stamped_by, found_by, way_at, entered_by, stay_before, is_once, once_by, way_from, way_to, is_followed_by, paired_by, is_told, of_master_by, readings_by, fraction_by, fits_by, bracket_by, results_by, octets_by, ways_reason, both_ways, found_reason, fact_reason, reason_by};
+ghost use Rattle.exchange_check.specs.Stays.{once_in};
+ghost use Rattle.exchange_check.specs.Judged.{line_of_by, sender_by, sync_by, follow_by, follows_by, arrival_by, completion_by, is_here, is_stamped_by, found_by, way_at, way_from, way_to, is_followed_by, paired_by, is_told, of_master_by, readings_by, fraction_by, fits_by, bracket_by, results_by, octets_by, ways_reason, both_ways, found_reason, fact_reason, reason_by};
 
 use crate::events::{
-    draws_sync, entered_copy, heard_copy, is_arrival, is_follow, is_hearing, is_one_step_sync,
-    is_request,
+    draws_sync, heard_copy, is_arrival, is_follow, is_hearing, is_one_step_sync, is_request,
 };
 use crate::facts::{Fact, Found, Site, Way};
 use crate::kept::Kept;
@@ -26,16 +26,6 @@ use trace_model::Why;
 
 /// The longest residence that is counted exactly is below this, in units of 2^-16 ns.
 const LONGEST: u64 = (1 << 63) - 1;
-
-/// The stay that an event ends, by the number of its Enter line.
-fn spent_transit(event: &Event) -> Option<u64>
-    ensures { result ≡ spent_transit event.now }
-{
-    match event {
-        Event::Leave { transit, .. } => Some(*transit),
-        _ => None,
-    }
-}
 
 /// Whether a report is of the line of this number.
 fn is_of_line(number: u64, report: &Report) -> bool
@@ -395,82 +385,30 @@ impl Kept {
         }
     }
 
-    /// A stay: the number of its Enter line, and the copy that entered there.
-    fn entered(&self, transit: u64) -> Option<(u64, u64)>
-        ensures { result ≡ entered_by (fact_in self.now.facts.items) transit }
-    {
-        match self.at(transit) {
-            Some(fact) => Some((transit, entered_copy(&fact.event)?)),
-            None => None,
-        }
-    }
-
-    /// The last stay of a copy.
-    fn stay_before(&self, copy: u64) -> Option<(u64, u64)>
-        ensures { result ≡ stay_before (fact_in self.now.facts.items) copy }
-    {
-        match self.at(copy) {
-            Some(fact) => self.entered(spent_transit(&fact.event)?),
-            None => None,
-        }
-    }
-
-    /// Whether a stay was ended, and not again.
-    fn is_once(&self, transit: u64) -> bool
-        ensures { result ≡ is_once (get nat_eq self.now.leaves transit) }
-    {
-        match self.leaves.get(&transit) {
-            Some(again) => !*again,
-            None => false,
-        }
-    }
-
-    /// Whether each stay on the way of a copy was ended once, among so many last ones.
-    #[tactic(auto, using(crate::proofs::Once::once_steps))]
-    fn once(&self, count: u64, copy: u64) -> bool
-        ensures { result ≡ once_by (fact_in self.now.facts.items) (get nat_eq self.now.leaves) count copy }
-    {
-        let mut copy = copy;
-        for _turn in 0..count {
-            let Some((transit, entered)) = self.stay_before(copy) else {
-                return true;
-            };
-            if !self.is_once(transit) {
-                return false;
-            }
-            copy = entered;
-        }
-        true
-    }
-
     /// The journey of a Sync that arrives at a line.
     fn sync_way(&self, arrival: &Fact) -> Option<Way>
-        ensures { result ≡ way_to (fact_in self.now.facts.items) (get nat_eq self.now.leaves) draws_sync arrival.now }
+        ensures { result ≡ way_to (fact_in self.now.facts.items) (once_in self.now.stays) draws_sync arrival.now }
     {
         let copy = heard_copy(&arrival.event)?;
         if copy >= arrival.line {
             return None;
         }
         match self.way_at(copy) {
-            Some(way) if draws_sync(&way.origin.event) && self.once(arrival.line, copy) => Some(
-                way,
-            ),
+            Some(way) if draws_sync(&way.origin.event) && self.stays.once(copy) => Some(way),
             _ => None,
         }
     }
 
     /// The journey of a Delay_Req that arrives at a line.
     fn request_way(&self, arrival: &Fact) -> Option<Way>
-        ensures { result ≡ way_to (fact_in self.now.facts.items) (get nat_eq self.now.leaves) is_request arrival.now }
+        ensures { result ≡ way_to (fact_in self.now.facts.items) (once_in self.now.stays) is_request arrival.now }
     {
         let copy = heard_copy(&arrival.event)?;
         if copy >= arrival.line {
             return None;
         }
         match self.way_at(copy) {
-            Some(way) if is_request(&way.origin.event) && self.once(arrival.line, copy) => Some(
-                way,
-            ),
+            Some(way) if is_request(&way.origin.event) && self.stays.once(copy) => Some(way),
             _ => None,
         }
     }
@@ -483,7 +421,7 @@ impl Kept {
         report: &Report,
         found: Option<Found>,
     ) -> Option<Why>
-        ensures { result ≡ found_reason nodes.now (fact_in self.now.facts.items) (get nat_eq self.now.leaves) (site_in self.now.sites slave.now) slave.now report.now found }
+        ensures { result ≡ found_reason nodes.now (fact_in self.now.facts.items) (once_in self.now.stays) (site_in self.now.sites slave.now) slave.now report.now found }
     {
         let Some(found) = found else {
             return Some(Why::NoSuchLine);
@@ -500,7 +438,7 @@ impl Kept {
 
     /// Why a report at a line isn't sound, or nothing where it is.
     pub(crate) fn reason(&self, nodes: &Nodes, fact: &Option<Fact>, report: &Report) -> Option<Why>
-        ensures { result ≡ reason_by nodes.now (fact_in self.now.facts.items) (get nat_eq self.now.leaves) (get nat_eq self.now.stamps) (site_in self.now.sites) fact.now report.now }
+        ensures { result ≡ reason_by nodes.now (fact_in self.now.facts.items) (once_in self.now.stays) (get nat_eq self.now.stamps) (site_in self.now.sites) fact.now report.now }
     {
         let Some(fact) = fact else {
             return Some(Why::NoSuchLine);

@@ -1,14 +1,16 @@
 //! What is kept of the lines so far, and what one more line adds to it.
 
-ghost use Rattle.std.specs.Prelude.{◌≡◌, ◌≤ℤ◌, ◌+ℤ◌, ◌+◌, pos, option_map, unwrap_or, IfSome};
+ghost use Rattle.std.specs.Prelude.{◌≡◌, ◌≤ℤ◌, ◌+ℤ◌, ◌+◌, pos, option_map, option_and_then, unwrap_or, IfSome};
 ghost use Rattle.std.specs.Prelude.{ℕ, ◌==◌, nat_eq, is_some, if◌then◌else◌, Some, None, OnOk, OnErr};
 ghost use Rattle.std.specs.Prelude.{◌<◌, MatchResult};
 ghost use Rattle.std.specs.HashMap.{get};
 ghost use Rattle.trace_model.specs.Verdict.{accepted_count};
 ghost use Rattle.exchange_check.specs.Machine.{Machine, IsKept, start, judged, after_line, sites_told, leaves_told, stamps_told};
+ghost use Rattle.exchange_check.specs.Stays.{LastStays, stay_of, with_stay, AreStays, once_in};
+ghost use Rattle.network_model.specs.Kinds.{spent_transit};
 ghost use Rattle.std.specs.Option.{option_map_or, option_or};
 ghost use Rattle.network_model.specs.Network.{NodeName};
-ghost use Rattle.exchange_check.specs.Kept.{moved, moved_at, left_again, stamped, sites_after, leaves_after, stamps_after};
+ghost use Rattle.exchange_check.specs.Kept.{Leaves, moved, moved_at, stamped, sites_after, leaves_after, stamps_after};
 ghost use Rattle.ptp_units.specs.Sequence.{of_count};
 ghost use Rattle.exchange_check.specs.Kept.{fact_in, site_in, travel_at, copy_entered_by, stayed, begun_by, travel_by, travelled_by, followed_by, answered_by, message_by, known_by, number_by, fact_known, fact_by, travel_left, written_travel, port_setup, contents_of};
 ghost use Rattle.trace_model.specs.Record.{is_reading};
@@ -20,6 +22,7 @@ use crate::octets::{
     Port, Written, delay_resp, follow_up, is_written, master_at, resided, sent, slave_at,
 };
 use crate::refusal::CheckFault;
+use crate::stays::Stays;
 use network_model::{Event, Name, Nodes};
 use ptp_units::{ScaledTime, Seq};
 use std::alloc::Global;
@@ -36,8 +39,8 @@ pub(crate) struct Kept {
     pub(crate) facts: Vec<Option<Fact>>,
     /// Of each node.
     pub(crate) sites: HashMap<Name, Site>,
-    /// Of each Enter line that a Leave line names: whether another one names it too.
-    pub(crate) leaves: HashMap<u64, bool>,
+    /// Of stays, and of the copies that left them.
+    pub(crate) stays: Stays,
     /// Of each request: the number of the line at which its departure was learned.
     pub(crate) stamps: HashMap<u64, u64>,
     /// The verdict so far.
@@ -126,7 +129,7 @@ impl Kept {
         Kept {
             facts: Vec::new(alloc),
             sites: HashMap::new(alloc),
-            leaves: HashMap::new(alloc),
+            stays: Stays::new(alloc),
             stamps: HashMap::new(alloc),
             verdict: Verdict::Accepted(0),
         }
@@ -311,24 +314,44 @@ impl Kept {
         Some(self.told(nodes, line, &self.known(nodes, line, number)))
     }
 
-    /// Notes an event at the line of this number, of which a fact was kept.
-    fn note(&mut self, event: &Event, number: u64) -> Result<(), CheckFault>
-        ensures sites { OnOk result (site_in self.new.sites ≡ sites_after event.now number (site_in self.old.sites)) }
-        ensures leaves { OnOk result (get nat_eq self.new.leaves ≡ leaves_after event.now (get nat_eq self.old.leaves)) }
-        ensures stamps { OnOk result (get nat_eq self.new.stamps ≡ stamps_after event.now number (site_in self.old.sites) (get nat_eq self.old.stamps)) }
+    /// The copy that entered the clock which the copy of a line left, where its journey is known.
+    fn entered(&self, fact: &Fact, transit: u64, number: u64) -> Option<u64>
+        ensures stay { spent_transit fact.now.event ≡ Some transit
+            → option_map (λ copy. (transit, copy)) result ≡ stay_of (fact_in self.now.facts.items) number fact.now }
+        ensures below { IfSome result (λ copy. copy < number) }
+    {
+        if fact.travel.is_none() || transit >= number {
+            return None;
+        }
+        let copy = match self.at(transit) {
+            Some(entered) => entered_copy(&entered.event)?,
+            None => return None,
+        };
+        if copy < number { Some(copy) } else { None }
+    }
+
+    /// Notes the line of this number, of which this fact was kept.
+    fn note(&mut self, fact: &Fact, number: u64) -> Result<(), CheckFault>
+        ensures sites { OnOk result (site_in self.new.sites ≡ sites_after fact.now.event number (site_in self.old.sites)) }
+        ensures stays { (stays : LastStays) (leaves : Leaves) → AreStays self.old.stays stays leaves number → MatchResult result
+            (λ _. AreStays self.new.stays (with_stay number (stay_of (fact_in self.old.facts.items) number fact.now) stays) (leaves_after fact.now.event leaves) (number + 1))
+            (λ _. AreStays self.new.stays stays leaves number) }
+        ensures stamps { OnOk result (get nat_eq self.new.stamps ≡ stamps_after fact.now.event number (site_in self.old.sites) (get nat_eq self.old.stamps)) }
         ensures facts { self.new.facts.items ≡ self.old.facts.items }
         ensures verdict { self.new.verdict ≡ self.old.verdict }
         ensures same_sites { OnErr result (site_in self.new.sites ≡ site_in self.old.sites) }
-        ensures same_leaves { OnErr result (get nat_eq self.new.leaves ≡ get nat_eq self.old.leaves) }
         ensures same_stamps { OnErr result (get nat_eq self.new.stamps ≡ get nat_eq self.old.stamps) }
     {
-        match event {
+        match &fact.event {
             Event::Sync { .. }
             | Event::SyncOne { .. }
             | Event::Request { .. }
             | Event::SetMaster { .. }
-            | Event::StepClock { .. } => move_site(&mut self.sites, event, number),
-            Event::Leave { transit, .. } => leave(&mut self.leaves, *transit),
+            | Event::StepClock { .. } => move_site(&mut self.sites, &fact.event, number),
+            Event::Leave { transit, .. } => {
+                let from = self.entered(fact, *transit, number);
+                self.stays.leave(number, *transit, from)
+            }
             Event::Stamped { node } => {
                 let last = self.site(node).last_request;
                 stamp(&mut self.stamps, last, number)
@@ -337,19 +360,20 @@ impl Kept {
         }
     }
 
-    /// Notes the event of a line with this fact.
+    /// Notes the line of this number, with this fact.
     fn tell(&mut self, fact: &Option<Fact>, number: u64) -> Result<(), CheckFault>
         ensures sites { OnOk result (site_in self.new.sites ≡ sites_told fact.now number (site_in self.old.sites)) }
-        ensures leaves { OnOk result (get nat_eq self.new.leaves ≡ leaves_told fact.now (get nat_eq self.old.leaves)) }
+        ensures stays { (stays : LastStays) (leaves : Leaves) → AreStays self.old.stays stays leaves number → MatchResult result
+            (λ _. AreStays self.new.stays (with_stay number (option_and_then (stay_of (fact_in self.old.facts.items) number) fact.now) stays) (leaves_told fact.now leaves) (number + 1))
+            (λ _. AreStays self.new.stays stays leaves number) }
         ensures stamps { OnOk result (get nat_eq self.new.stamps ≡ stamps_told fact.now number (site_in self.old.sites) (get nat_eq self.old.stamps)) }
         ensures facts { self.new.facts.items ≡ self.old.facts.items }
         ensures verdict { self.new.verdict ≡ self.old.verdict }
         ensures same_sites { OnErr result (site_in self.new.sites ≡ site_in self.old.sites) }
-        ensures same_leaves { OnErr result (get nat_eq self.new.leaves ≡ get nat_eq self.old.leaves) }
         ensures same_stamps { OnErr result (get nat_eq self.new.stamps ≡ get nat_eq self.old.stamps) }
     {
         match fact {
-            Some(told) => self.note(&told.event, number),
+            Some(told) => self.note(told, number),
             None => Ok(()),
         }
     }
@@ -357,7 +381,7 @@ impl Kept {
     /// The verdict after a line of this number with this fact, which is kept already.
     fn judged(&self, nodes: &Nodes, fact: &Option<Fact>, out: &TraceOut, number: u64) -> Verdict
         ensures { accepted_count self.now.verdict < 18446744073709551615 → result ≡ judged nodes.now (fact_in self.now.facts.items)
-            (get nat_eq self.now.leaves) (get nat_eq self.now.stamps) (site_in self.now.sites) fact.now out.now number self.now.verdict }
+            (once_in self.now.stays) (get nat_eq self.now.stamps) (site_in self.now.sites) fact.now out.now number self.now.verdict }
     {
         let (Verdict::Accepted(count), TraceOut::Report(report)) = (self.verdict, out) else {
             return self.verdict;
@@ -439,18 +463,6 @@ fn move_site(sites: &mut HashMap<Name, Site>, event: &Event, number: u64) -> Res
     let name = event.node();
     let after = moved(event, number, site_in(sites, &name));
     match sites.insert(name, after) {
-        Ok(_) => Ok(()),
-        Err(_) => Err(CheckFault::Memory),
-    }
-}
-
-/// A Leave line that names an Enter line.
-fn leave(leaves: &mut HashMap<u64, bool>, transit: u64) -> Result<(), CheckFault>
-    ensures left { OnOk result (get nat_eq leaves.new ≡ left_again transit (get nat_eq leaves.old)) }
-    ensures unchanged { OnErr result (get nat_eq leaves.new ≡ get nat_eq leaves.old) }
-{
-    let again = leaves.contains_key(&transit);
-    match leaves.insert(transit, again) {
         Ok(_) => Ok(()),
         Err(_) => Err(CheckFault::Memory),
     }

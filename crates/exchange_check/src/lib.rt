@@ -10,6 +10,7 @@ mod judging;
 mod kept;
 mod octets;
 mod refusal;
+mod stays;
 
 pub use checker::{Checker, check};
 pub use refusal::CheckFault;

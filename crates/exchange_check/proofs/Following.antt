@@ -16,9 +16,10 @@ use Rattle.trace_model.specs.Line.{Lines, counts}
 use Rattle.trace_model.specs.Record.{LinePlace, line_place, line_number, event_of, site, line_at, events}
 use Rattle.trace_model.specs.Journey.{Journey, begun, with_stay, copy_entered, left_from, journey_made, journey_of, left_once}
 use Rattle.exchange_check.specs.Kept.{Facts, Leaves, leaves_after}
-use Rattle.exchange_check.specs.Judged.{once_by, stay_before, entered_by, is_once}
+use Rattle.exchange_check.specs.Stays.{stay_below, stay_of, last_stays, is_once, once_by}
 use Rattle.exchange_check.proofs.Noted.{leaves_at, count_more, events_more}
-use Rattle.exchange_check.proofs.Told.{fact_of}
+use Rattle.exchange_check.proofs.Told.{fact_of, travel_of}
+use Rattle.trace_model.specs.Sound.{where_passes}
 use Rattle.exchange_check.proofs.Messages.{line_at-bound, line_at-later, line_at-here}
 
 -- how often a stay was ended, as it is kept
@@ -75,7 +76,7 @@ either_number network line earlier n e true true p before h = ap line_number (sy
 either_number network line earlier n e true false p before h = absurd (none-some e h)
 either_number network line earlier n e false counted p before h = before h
 
-line_at-number : (network : Network) (lines : Lines) (n : ℕ) (e : LinePlace) → line_at network lines n ≡ Some e → line_number e ≡ n
+pub line_at-number : (network : Network) (lines : Lines) (n : ℕ) (e : LinePlace) → line_at network lines n ≡ Some e → line_number e ≡ n
 line_at-number network [] n e h = absurd (none-some e h)
 line_at-number network (line ∷ earlier) n e h = either_number network line earlier n e (eqb (length earlier) n) (counts network line) refl (line_at-number network earlier n e) h
 
@@ -95,31 +96,41 @@ module _ (network : Network) (facts : Facts) (leaves : Leaves) (run : Run) (ends
   Keeps lines = (n : ℕ) (e : LinePlace) → line_at network lines n ≡ Some e → facts n ≡ Some (fact_of network e)
 
   abbrev IsFollowed : ℕ → Journey → Type 0
-  IsFollowed copy j = (count : ℕ) → copy < count → once_by facts leaves count copy ≡ left_once run j
+  IsFollowed copy j = (count : ℕ) → copy < count → once_by (last_stays facts) leaves count copy ≡ left_once run j
 
-  stay_found : (copy transit c : ℕ) (fact en : Fact) → facts copy ≡ Some fact → spent_transit fact.event ≡ Some transit → facts transit ≡ Some en → entered_copy en.event ≡ Some c → stay_before facts copy ≡ Some (transit, c)
-  stay_found copy transit c fact en a b d f =
-      ap (λ (o : Option Fact). option_and_then (λ x. option_and_then (entered_by facts) (spent_transit x.event)) o) a
-      ∙ ap (λ (o : Option ℕ). option_and_then (entered_by facts) o) b
-      ∙ ap (λ (o : Option Fact). option_and_then (λ x. option_map (λ k. (transit, k)) (entered_copy x.event)) o) d
-      ∙ ap (λ (o : Option ℕ). option_map (λ k. (transit, k)) o) f
+  below_found : (copy transit : ℕ) → transit < copy → nat_lt transit copy ≡ true
+  below_found copy transit h = grind (arith, nat_tests)
 
-  no_stay : (copy : ℕ) (fact : Fact) → facts copy ≡ Some fact → spent_transit fact.event ≡ None → stay_before facts copy ≡ None
+  stay_found : (copy transit c : ℕ) (fact en : Fact) → facts copy ≡ Some fact → is_some fact.travel ≡ true → spent_transit fact.event ≡ Some transit → transit < copy → facts transit ≡ Some en
+      → entered_copy en.event ≡ Some c → c < copy → last_stays facts copy ≡ Some (transit, c)
+  stay_found copy transit c fact en a travels b in_transit d f in_copy =
+      ap (λ (o : Option Fact). option_and_then (stay_of facts copy) o) a
+      ∙ (λ i. cond (travels i) (option_and_then (stay_below facts copy) (b i)) None)
+      ∙ (λ i. option_and_then (λ (x : Fact). option_map (λ k. (transit, k)) (where_passes (λ k. nat_lt k copy) (entered_copy x.event))) (cond (below_found copy transit in_transit i) (d i) None))
+      ∙ ap (λ (o : Option ℕ). option_map (λ k. (transit, k)) (where_passes (λ k. nat_lt k copy) o)) f
+      ∙ (λ i. option_map (λ k. (transit, k)) (cond (below_found copy c in_copy i) (Some c) None))
+
+  no_stay : (copy : ℕ) (fact : Fact) → facts copy ≡ Some fact → spent_transit fact.event ≡ None → last_stays facts copy ≡ None
   no_stay copy fact a b =
-      ap (λ (o : Option Fact). option_and_then (λ x. option_and_then (entered_by facts) (spent_transit x.event)) o) a
-      ∙ ap (λ (o : Option ℕ). option_and_then (entered_by facts) o) b
+      ap (λ (o : Option Fact). option_and_then (stay_of facts copy) o) a
+      ∙ (λ i. cond (is_some fact.travel) (option_and_then (stay_below facts copy) (b i)) None)
+      ∙ either (is_some fact.travel)
+    where
+      either : (b : Bool) → cond {A = Option (ℕ × ℕ)} b None None ≡ None
+      either true = refl
+      either false = refl
 
-  follow_one : (copy transit c : ℕ) (rest : Bool) → stay_before facts copy ≡ Some (transit, c) → c < copy → ((count : ℕ) → c < count → once_by facts leaves count c ≡ rest)
-      → (count : ℕ) → copy < count → once_by facts leaves count copy ≡ (eqb (count_by (spends transit) run) 1 && rest)
+  follow_one : (copy transit c : ℕ) (rest : Bool) → last_stays facts copy ≡ Some (transit, c) → c < copy → ((count : ℕ) → c < count → once_by (last_stays facts) leaves count c ≡ rest)
+      → (count : ℕ) → copy < count → once_by (last_stays facts) leaves count copy ≡ (eqb (count_by (spends transit) run) 1 && rest)
   follow_one copy transit c rest found below known zero within = absurd (omega arith)
   follow_one copy transit c rest found below known (suc n) within =
       let fits : c < n = omega arith in
-      ap (λ (o : Option (ℕ × ℕ)). option_map_or (λ s. is_once (leaves s.0) && once_by facts leaves n s.1) o true) found
+      ap (λ (o : Option (ℕ × ℕ)). option_map_or (λ s. is_once (leaves s.0) && once_by (last_stays facts) leaves n s.1) o true) found
       ∙ (λ i. ends transit i && known n fits i)
 
-  follow_none : (copy : ℕ) → stay_before facts copy ≡ None → (count : ℕ) → copy < count → once_by facts leaves count copy ≡ true
+  follow_none : (copy : ℕ) → last_stays facts copy ≡ None → (count : ℕ) → copy < count → once_by (last_stays facts) leaves count copy ≡ true
   follow_none copy found zero within = absurd (omega arith)
-  follow_none copy found (suc n) within = ap (λ (o : Option (ℕ × ℕ)). option_map_or (λ s. is_once (leaves s.0) && once_by facts leaves n s.1) o true) found
+  follow_none copy found (suc n) within = ap (λ (o : Option (ℕ × ℕ)). option_map_or (λ s. is_once (leaves s.0) && once_by (last_stays facts) leaves n s.1) o true) found
 
   module _ (line : TraceLine) (earlier : Lines) (counted : counts network line ≡ true) (keeps : Keeps (line ∷ earlier))
       (before : (n : ℕ) (j : Journey) → journey_of network earlier n ≡ Some j → IsFollowed n j) where
@@ -131,28 +142,36 @@ module _ (network : Network) (facts : Facts) (leaves : Leaves) (run : Run) (ends
         let P : Journey → Type 0 = λ x. IsFollowed (length earlier) x in
         subst P (same_Some _ _ h) (follow_none (length earlier) (no_stay (length earlier) (fact_of network (line_place line earlier)) at_line none))
 
-    stay_followed : (transit : ℕ) (entered : LinePlace) (c : ℕ) (o : Option Journey) (j : Journey) → spent_transit line.event ≡ Some transit → line_at network earlier transit ≡ Some entered
+    abbrev Travels : Type 0
+    Travels = is_some (fact_of network (line_place line earlier)).travel ≡ true
+
+    travels_with : (event : Event) (j : Journey) → event ≡ line.event → journey_made network event (line_place line earlier) (journey_of network earlier) ≡ Some j → Travels
+    travels_with event j same h =
+        ap (λ (o : Option Journey). is_some (option_map (travel_of network) o)) (sym (ap (λ (x : Event). journey_made network x (line_place line earlier) (journey_of network earlier)) same) ∙ h)
+
+    stay_followed : Travels → (transit : ℕ) (entered : LinePlace) (c : ℕ) (o : Option Journey) (j : Journey) → spent_transit line.event ≡ Some transit → line_at network earlier transit ≡ Some entered
         → (entered_copy (event_of entered) ≡ Some c) × (c < line_number entered) → journey_of network earlier c ≡ o → option_map (with_stay (line_place line earlier) entered) o ≡ Some j → IsFollowed (length earlier) j
-    stay_followed transit entered c None j spent there copied journey h = grind arith
-    stay_followed transit entered c (Some k) j spent there copied journey h =
+    stay_followed travels transit entered c None j spent there copied journey h = grind arith
+    stay_followed travels transit entered c (Some k) j spent there copied journey h =
         let number : line_number entered ≡ transit = line_at-number network earlier transit entered there in
         let inside : transit < length earlier = line_at-bound network earlier transit entered there in
         let below : c < length earlier = omega (arith, copied.1) in
-        let found = stay_found (length earlier) transit c (fact_of network (line_place line earlier)) (fact_of network entered) at_line spent (keeps transit entered (line_at-later network line earlier transit entered there)) copied.0 in
+        let found = stay_found (length earlier) transit c (fact_of network (line_place line earlier)) (fact_of network entered) at_line travels spent inside
+        (keeps transit entered (line_at-later network line earlier transit entered there)) copied.0 below in
         let P : Journey → Type 0 = λ x. IsFollowed (length earlier) x in
         subst P (same_Some _ _ h) (λ count within. follow_one (length earlier) transit c (left_once run k) found below (before c k journey) count within
         ∙ (λ i. eqb (count_by (spends (sym number i)) run) 1 && left_once run k))
 
-    copy_followed : (node : NodeName) (transit : ℕ) (entered : LinePlace) (o : Option ℕ) (j : Journey) → spent_transit line.event ≡ Some transit → line_at network earlier transit ≡ Some entered
+    copy_followed : Travels → (node : NodeName) (transit : ℕ) (entered : LinePlace) (o : Option ℕ) (j : Journey) → spent_transit line.event ≡ Some transit → line_at network earlier transit ≡ Some entered
         → copy_entered node entered ≡ o → option_and_then (λ copy. option_map (with_stay (line_place line earlier) entered) (journey_of network earlier copy)) o ≡ Some j → IsFollowed (length earlier) j
-    copy_followed node transit entered None j spent there copied h = grind arith
-    copy_followed node transit entered (Some c) j spent there copied h =
-        stay_followed transit entered c (journey_of network earlier c) j spent there (entered_is node entered (entered_copy (event_of entered)) c refl copied) refl h
+    copy_followed travels node transit entered None j spent there copied h = grind arith
+    copy_followed travels node transit entered (Some c) j spent there copied h =
+        stay_followed travels transit entered c (journey_of network earlier c) j spent there (entered_is node entered (entered_copy (event_of entered)) c refl copied) refl h
 
-    left_followed : (node : NodeName) (transit : ℕ) (o : Option LinePlace) (j : Journey) → spent_transit line.event ≡ Some transit → line_at network earlier transit ≡ o
+    left_followed : Travels → (node : NodeName) (transit : ℕ) (o : Option LinePlace) (j : Journey) → spent_transit line.event ≡ Some transit → line_at network earlier transit ≡ o
         → option_and_then (left_from node (line_place line earlier) (journey_of network earlier)) o ≡ Some j → IsFollowed (length earlier) j
-    left_followed node transit None j spent there h = grind arith
-    left_followed node transit (Some entered) j spent there h = copy_followed node transit entered (copy_entered node entered) j spent there refl h
+    left_followed travels node transit None j spent there h = grind arith
+    left_followed travels node transit (Some entered) j spent there h = copy_followed travels node transit entered (copy_entered node entered) j spent there refl h
 
     nothing_followed : (j : Journey) → None ≡ Some j → IsFollowed (length earlier) j
     nothing_followed j h = absurd (none-some j h)
@@ -162,7 +181,7 @@ module _ (network : Network) (facts : Facts) (leaves : Leaves) (run : Run) (ends
     made_followed (SyncOne node at) j same h = begun_followed j (sym (ap spent_transit same)) h
     made_followed (Follow node) j same h = nothing_followed j h
     made_followed (Enter node copy at) j same h = nothing_followed j h
-    made_followed (Leave node transit at) j same h = left_followed node transit (line_at network earlier transit) j (sym (ap spent_transit same)) refl h
+    made_followed (Leave node transit at) j same h = left_followed (travels_with (Leave node transit at) j same h) node transit (line_at network earlier transit) j (sym (ap spent_transit same)) refl h
     made_followed (Arrive node copy at) j same h = nothing_followed j h
     made_followed (Hear node copy) j same h = nothing_followed j h
     made_followed (Request node at) j same h = begun_followed j (sym (ap spent_transit same)) h
@@ -181,7 +200,7 @@ module _ (network : Network) (facts : Facts) (leaves : Leaves) (run : Run) (ends
   either_followed line earlier n j false counted p c keeps before h = before n j h
 
   -- following the stays finds whether each was ended once
-  pub followed_is : (lines : Lines) (n : ℕ) (j : Journey) → Keeps lines → journey_of network lines n ≡ Some j → (count : ℕ) → n < count → once_by facts leaves count n ≡ left_once run j
+  pub followed_is : (lines : Lines) (n : ℕ) (j : Journey) → Keeps lines → journey_of network lines n ≡ Some j → (count : ℕ) → n < count → once_by (last_stays facts) leaves count n ≡ left_once run j
   followed_is [] n j keeps h = absurd (none-some j h)
   followed_is (line ∷ earlier) n j keeps h =
       either_followed line earlier n j (eqb (length earlier) n) (counts network line) refl refl keeps

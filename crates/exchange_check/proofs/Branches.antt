@@ -1,0 +1,491 @@
+-- What is kept of copies, after one more copy and after a stay was ended again.
+use Rattle.std.proofs.Common.{◌≡◌, ◌∙◌, ℕ, ◌+◌, ◌<◌, ◌≤◌, Bool, true, false, ◌&&◌, cond, eqb, List, [], ◌∷◌, Option, Some, None, ◌⊎◌, inl, inr, refl, sym, ap, subst, arith}
+use Rattle.std.specs.Prelude.{is_some, option_map, IfSome}
+use Rattle.std.proofs.lemmas.Bool.{eqb-true, eq-eqb}
+use Rattle.std.proofs.lemmas.Bool.Decides.{nat_tests}
+use Rattle.std.proofs.lemmas.Option.{same_Some, none-some}
+use Rattle.exchange_check.specs.declared.stays.Branch.{Branch}
+use Rattle.exchange_check.specs.Kept.{Leaves, left_again}
+use Rattle.exchange_check.specs.Stays.{LastStays, with_stay, is_once, Branches, root, with_branch, IsRun, Run, depths, nexts, Firsts, with_first, IsOrdered, is_whole, AreBranches}
+use Rattle.exchange_check.proofs.Runs.{run_past, grown_run}
+
+pub less-apart : (x n : ℕ) → x < n → eqb n x ≡ false
+less-apart x n h = grind (arith, nat_tests)
+
+itself : (n : ℕ) → eqb n n ≡ true
+itself n = eq-eqb n n refl
+
+-- what is kept of a copy, and of the others
+pub with_branch-here : (branches : Branches) (n : ℕ) (branch : Branch) → with_branch n branch branches n ≡ branch
+with_branch-here branches n branch = λ i. cond (itself n i) branch (branches n)
+
+pub with_branch-there : (branches : Branches) (n : ℕ) (branch : Branch) (x : ℕ) → eqb n x ≡ false → with_branch n branch branches x ≡ branches x
+with_branch-there branches n branch x e = λ i. cond (e i) branch (branches x)
+
+made : (number : ℕ) (stay : Option (ℕ × ℕ)) (stays : LastStays) (n : ℕ) (s : ℕ × ℕ) → with_stay number stay stays n ≡ Some s
+    → ((number ≡ n) × (stay ≡ Some s)) ⊎ ((eqb number n ≡ false) × (stays n ≡ Some s))
+made number stay stays n s h = by (eqb number n) refl h
+  where
+    by : (b : Bool) → eqb number n ≡ b → cond b stay (stays n) ≡ Some s → ((number ≡ n) × (stay ≡ Some s)) ⊎ ((eqb number n ≡ false) × (stays n ≡ Some s))
+    by true e g = inl (eqb-true number n e, g)
+    by false e g = inr (e, g)
+
+-- a copy without a stay changes nothing
+pub with_none : (number : ℕ) (stays : LastStays) → stays number ≡ None → with_stay number None stays ≡ stays
+with_none number stays none = λ i n. at n (eqb number n) refl i
+  where
+    at : (n : ℕ) (b : Bool) → eqb number n ≡ b → cond b None (stays n) ≡ stays n
+    at n true e = sym none ∙ ap stays (eqb-true number n e)
+    at n false e = refl
+
+-- numbers that aren't used yet don't matter
+pub ordered_later : (branches : Branches) (firsts : Firsts) (stays : LastStays) (leaves : Leaves) (number limit : ℕ) → number ≤ limit
+    → IsOrdered branches firsts stays leaves number → IsOrdered branches firsts stays leaves limit
+ordered_later branches firsts stays leaves number limit fits h = record {
+  within = λ n t c s. let w = h.within n t c s in let b : n < number = w.1 in (w.0, omega (arith, b, fits));
+  ended = h.ended;
+  known = h.known;
+  earlier = λ t f s. let b : f < number = h.earlier t f s in omega (arith, b, fits);
+  of_first = h.of_first;
+  first = h.first;
+  flat = h.flat;
+  low = h.low;
+  deeper = h.deeper;
+  runs = h.runs;
+  one_before = h.one_before;
+  below_root = h.below_root;
+}
+
+pub later : (branches : Branches) (firsts : Firsts) (stays : LastStays) (leaves : Leaves) (number limit : ℕ) → number ≤ limit
+    → AreBranches branches firsts stays leaves number → AreBranches branches firsts stays leaves limit
+later branches firsts stays leaves number limit fits h = record { ordered = ordered_later branches firsts stays leaves number limit fits h.ordered; once = h.once }
+
+-- no stay of a number that isn't used yet
+pub unused : (branches : Branches) (firsts : Firsts) (stays : LastStays) (leaves : Leaves) (number : ℕ) → AreBranches branches firsts stays leaves number → stays number ≡ None
+unused branches firsts stays leaves number h = by (stays number) refl
+  where
+    by : (o : Option (ℕ × ℕ)) → stays number ≡ o → o ≡ None
+    by None e = refl
+    by (Some s) e =
+        let b : number < number = (h.ordered.within number s.0 s.1 e).1 in
+        absurd (omega (arith, b))
+
+pub same_branches : (branches after : Branches) (firsts named : Firsts) (stays : LastStays) (leaves : Leaves) (number : ℕ) → after ≡ branches → named ≡ firsts
+    → AreBranches branches firsts stays leaves number → AreBranches after named stays leaves number
+same_branches branches after firsts named stays leaves number b f h =
+    subst (λ (x : Branches). AreBranches x named stays leaves number) (sym b) (subst (λ (x : Firsts). AreBranches branches x stays leaves number) (sym f) h)
+
+-- one more copy without a stay
+pub one_more : (branches : Branches) (firsts : Firsts) (stays : LastStays) (leaves : Leaves) (number : ℕ)
+    → AreBranches branches firsts stays leaves number → AreBranches branches firsts (with_stay number None stays) leaves (number + 1)
+one_more branches firsts stays leaves number h =
+    subst (λ (s : LastStays). AreBranches branches firsts s leaves (number + 1)) (sym (with_none number stays (unused branches firsts stays leaves number h)))
+    (later branches firsts stays leaves number (number + 1) (omega arith) h)
+
+-- the first Leave line of a stay
+module _ (branches : Branches) (firsts : Firsts) (stays : LastStays) (leaves : Leaves) (number transit : ℕ)
+    (h : AreBranches branches firsts stays leaves number) (none : firsts transit ≡ None) where
+  abbrev named : Firsts
+  named = with_first transit number firsts
+
+  other_stay : (n t c : ℕ) → stays n ≡ Some (t, c) → eqb transit t ≡ false
+  other_stay n t c s = by (eqb transit t) refl
+    where
+      by : (b : Bool) → eqb transit t ≡ b → b ≡ false
+      by true e =
+          let one : firsts t ≡ None = ap firsts (sym (eqb-true transit t e)) ∙ none in
+          let some : is_some (firsts t) ≡ true = h.ordered.ended n t c s in
+          sym some ∙ ap (λ (o : Option ℕ). is_some o) one
+      by false e = refl
+
+  named-other : (t : ℕ) → eqb transit t ≡ false → named t ≡ firsts t
+  named-other t e = λ i. cond (e i) (Some number) (firsts t)
+
+  named-either : (t f : ℕ) → named t ≡ Some f → ((transit ≡ t) × (number ≡ f)) ⊎ (firsts t ≡ Some f)
+  named-either t f e = by (eqb transit t) refl e
+    where
+      by : (b : Bool) → eqb transit t ≡ b → cond b (Some number) (firsts t) ≡ Some f → ((transit ≡ t) × (number ≡ f)) ⊎ (firsts t ≡ Some f)
+      by true s g = inl (eqb-true transit t s, same_Some number f g)
+      by false s g = inr g
+
+  named-known : (t : ℕ) → is_some (named t) ≡ is_some (left_again transit leaves t)
+  named-known t = by (eqb transit t)
+    where
+      by : (b : Bool) → is_some (cond b (Some number) (firsts t)) ≡ is_some (cond b (Some (is_some (leaves t))) (leaves t))
+      by true = refl
+      by false = h.ordered.known t
+
+  whole-before : (o : Option (ℕ × ℕ)) → ((s : ℕ × ℕ) → o ≡ Some s → eqb transit s.0 ≡ false) → is_whole branches leaves o ≡ is_whole branches (left_again transit leaves) o
+  whole-before None other = refl
+  whole-before (Some s) other = sym (λ i. is_once (cond (other s refl i) (Some (is_some (leaves s.0))) (leaves s.0)) && (branches s.1).once)
+
+  pub first_named : AreBranches branches named stays (left_again transit leaves) (number + 1)
+  first_named = record {
+    ordered = record {
+      within = λ n t c s. let w = h.ordered.within n t c s in let b : n < number = w.1 in (w.0, omega (arith, b));
+      ended = λ n t c s. ap (λ (o : Option ℕ). is_some o) (named-other t (other_stay n t c s)) ∙ h.ordered.ended n t c s;
+      known = named-known;
+      earlier = λ t f s. elim (named-either t f s) [
+        | inl p ↦ let e : number ≡ f = p.1 in omega (arith, e)
+        | inr p ↦ let b : f < number = h.ordered.earlier t f p in omega (arith, b)
+      ];
+      of_first = λ t f other c n s. elim (named-either t f n) [
+        | inl p ↦ let b : f < number = (h.ordered.within f other c s).1 in let e : number ≡ f = p.1 in absurd (omega (arith, b, e))
+        | inr p ↦ h.ordered.of_first t f other c p s
+      ];
+      first = λ n t c s alive. named-other t (other_stay n t c s) ∙ h.ordered.first n t c s alive;
+      flat = h.ordered.flat;
+      low = h.ordered.low;
+      deeper = h.ordered.deeper;
+      runs = h.ordered.runs;
+      one_before = h.ordered.one_before;
+      below_root = h.ordered.below_root;
+    };
+    once = λ n. h.once n ∙ whole-before (stays n) (λ s e. other_stay n s.0 s.1 e);
+  }
+
+-- one more copy, which left its clock after a stay
+module _ (branches after : Branches) (firsts : Firsts) (stays : LastStays) (leaves : Leaves) (n transit p : ℕ)
+    (h : AreBranches branches firsts stays leaves (n + 1)) (fresh : stays n ≡ None) (below : p < n)
+    (is_named : is_some (firsts transit) ≡ true) (its : (t : ℕ) → firsts t ≡ Some n → t ≡ transit) where
+  abbrev more : LastStays
+  more = with_stay n (Some (transit, p)) stays
+
+  flat_n : (branches n).depth ≡ 0
+  flat_n = h.ordered.flat n fresh
+
+  pair : (s : ℕ × ℕ) → Some (transit, p) ≡ Some s → (transit ≡ s.0) × (p ≡ s.1)
+  pair s e = (ap (λ (x : ℕ × ℕ). x.0) (same_Some _ _ e), ap (λ (x : ℕ × ℕ). x.1) (same_Some _ _ e))
+
+  more_within : (m t c : ℕ) → more m ≡ Some (t, c) → (c < m) × (m < n + 1)
+  more_within m t c s = elim (made n (Some (transit, p)) stays m (t, c) s) [
+    | inl q ↦
+        let e : n ≡ m = q.0 in
+        let g : p ≡ c = (pair (t, c) q.1).1 in
+        (omega (arith, e, g, below), omega (arith, e))
+    | inr q ↦ h.ordered.within m t c q.1
+  ]
+
+  more_ended : (m t c : ℕ) → more m ≡ Some (t, c) → is_some (firsts t) ≡ true
+  more_ended m t c s = elim (made n (Some (transit, p)) stays m (t, c) s) [
+    | inl q ↦ subst (λ (x : ℕ). is_some (firsts x) ≡ true) (pair (t, c) q.1).0 is_named
+    | inr q ↦ h.ordered.ended m t c q.1
+  ]
+
+  more_of_first : (t f other c : ℕ) → firsts t ≡ Some f → more f ≡ Some (other, c) → other ≡ t
+  more_of_first t f other c first s = elim (made n (Some (transit, p)) stays f (other, c) s) [
+    | inl q ↦ sym (pair (other, c) q.1).0 ∙ sym (its t (first ∙ ap Some (sym q.0)))
+    | inr q ↦ h.ordered.of_first t f other c first q.1
+  ]
+
+  more_flat : (m : ℕ) → more m ≡ None → (eqb n m ≡ false) × (stays m ≡ None)
+  more_flat m s = by (eqb n m) refl s
+    where
+      by : (b : Bool) → eqb n m ≡ b → cond b (Some (transit, p)) (stays m) ≡ None → (eqb n m ≡ false) × (stays m ≡ None)
+      by true e g = absurd (none-some (transit, p) (sym g))
+      by false e g = (e, g)
+
+  -- the copy of an older copy's last stay isn't the new one
+  from_before : (m t c : ℕ) → stays m ≡ Some (t, c) → eqb n c ≡ false
+  from_before m t c s =
+      let w = h.ordered.within m t c s in
+      let a : c < m = w.0 in
+      let b : m < n + 1 = w.1 in
+      less-apart c n (omega (arith, a, b))
+
+  module _ (at_p : after p ≡ record (branches p) { next = Some n })
+      (at_n : after n ≡ record { once = true; depth = (branches p).depth + 1; next = (branches p).next })
+      (others : (x : ℕ) → eqb p x ≡ false → eqb n x ≡ false → after x ≡ branches x)
+      (alive : (branches p).once ≡ true) (once : is_once (leaves transit) ≡ true) (first : firsts transit ≡ Some n) where
+    grown-old : (x : ℕ) → eqb n x ≡ false → ((after x).once ≡ (branches x).once) × ((after x).depth ≡ (branches x).depth)
+    grown-old x apart = by (eqb p x) refl
+      where
+        by : (b : Bool) → eqb p x ≡ b → ((after x).once ≡ (branches x).once) × ((after x).depth ≡ (branches x).depth)
+        by true e =
+            let Q : ℕ → Type 0 = λ y. ((after y).once ≡ (branches y).once) × ((after y).depth ≡ (branches y).depth) in
+            subst Q (eqb-true p x e) (ap (λ (b : Branch). b.once) at_p, ap (λ (b : Branch). b.depth) at_p)
+        by false e = let o = others x e apart in (ap (λ (b : Branch). b.once) o, ap (λ (b : Branch). b.depth) o)
+
+    depth_p : (after p).depth ≡ (branches p).depth
+    depth_p = ap (λ (b : Branch). b.depth) at_p
+
+    depth_n : (after n).depth ≡ (branches p).depth + 1
+    depth_n = ap (λ (b : Branch). b.depth) at_n
+
+    next_p : (after p).next ≡ Some n
+    next_p = ap (λ (b : Branch). b.next) at_p
+
+    next_n : (after n).next ≡ (branches p).next
+    next_n = ap (λ (b : Branch). b.next) at_n
+
+    grown-deeper : (m t c : ℕ) → more m ≡ Some (t, c) → (after m).once ≡ true → (after m).depth ≡ (after c).depth + 1
+    grown-deeper m t c s on = elim (made n (Some (transit, p)) stays m (t, c) s) [
+      | inl q ↦
+          let g : p ≡ c = (pair (t, c) q.1).1 in
+          ap (λ (x : ℕ). (after x).depth) (sym q.0) ∙ depth_n ∙ ap (λ (d : ℕ). d + 1) (sym depth_p ∙ ap (λ (x : ℕ). (after x).depth) g)
+      | inr q ↦
+          let o = grown-old m q.0 in
+          o.1 ∙ h.ordered.deeper m t c q.1 (sym o.0 ∙ on) ∙ ap (λ (d : ℕ). d + 1) (sym (grown-old c (from_before m t c q.1)).1)
+    ]
+
+    run_on : (above : ℕ) (l : List ℕ) (from : Option ℕ) (to : ℕ) → IsRun (depths branches) (nexts branches) above from l to → Run (depths after) (nexts after) above from to
+    run_on = grown_run (depths branches) (depths after) (nexts branches) (nexts after) p n flat_n depth_p depth_n next_p next_n
+        (λ x at at_new. let o = others x at at_new in (ap (λ (b : Branch). b.depth) o, ap (λ (b : Branch). b.next) o))
+
+    -- a run that begins after a copy
+    run_from : (c m : ℕ) → eqb n c ≡ false → Run (depths branches) (nexts branches) (branches c).depth (branches c).next m → Run (depths after) (nexts after) (after c).depth (after c).next m
+    run_from c m apart run = by (eqb p c) refl
+      where
+        same : (after c).depth ≡ (branches c).depth
+        same = (grown-old c apart).1
+
+        old : Run (depths after) (nexts after) (branches c).depth (branches c).next m
+        old = run_on (branches c).depth run.through (branches c).next m run.leads
+
+        by : (b : Bool) → eqb p c ≡ b → Run (depths after) (nexts after) (after c).depth (after c).next m
+        by true e =
+            let g : p ≡ c = eqb-true p c e in
+            let d : (branches p).depth ≡ (branches c).depth = ap (λ (x : ℕ). (branches x).depth) g in
+            let link : (after n).next ≡ (branches c).next = next_n ∙ ap (λ (x : ℕ). (branches x).next) g in
+            subst (λ (a : ℕ). Run (depths after) (nexts after) a (after c).next m) (sym same) (record {
+              through = n ∷ old.through;
+              leads = (
+                ap (λ (x : ℕ). (after x).next) (sym g) ∙ next_p,
+                omega (arith, d, depth_n),
+                subst (λ (o : Option ℕ). IsRun (depths after) (nexts after) (branches c).depth o old.through m) (sym link) old.leads,
+              );
+            })
+        by false e =
+            subst (λ (a : ℕ). Run (depths after) (nexts after) a (after c).next m) (sym same)
+            (subst (λ (o : Option ℕ). Run (depths after) (nexts after) (branches c).depth o m) (sym (ap (λ (b : Branch). b.next) (others c e apart))) old)
+
+    grown-runs : (m t c : ℕ) → more m ≡ Some (t, c) → (after m).once ≡ true → (after c).once ≡ true → Run (depths after) (nexts after) (after c).depth (after c).next m
+    grown-runs m t c s on from_on = elim (made n (Some (transit, p)) stays m (t, c) s) [
+      | inl q ↦
+          let g : p ≡ c = (pair (t, c) q.1).1 in
+          record { through = []; leads = ap (λ (x : ℕ). (after x).next) (sym g) ∙ next_p ∙ ap Some q.0 }
+      | inr q ↦
+          let apart = from_before m t c q.1 in
+          run_from c m apart (h.ordered.runs m t c q.1 (sym (grown-old m q.0).0 ∙ on) (sym (grown-old c apart).0 ∙ from_on))
+    ]
+
+    abbrev Back : ℕ → ℕ → Type 0
+    Back x m = ((m ≡ n) × (x ≡ p)) ⊎ ((y : ℕ) × ((branches y).next ≡ Some m) × (x ≡ cond (eqb p y) n y))
+
+    back : (x m : ℕ) → (after x).next ≡ Some m → Back x m
+    back x m e = by (eqb p x) (eqb n x) refl refl
+      where
+        by : (a b : Bool) → eqb p x ≡ a → eqb n x ≡ b → Back x m
+        by true b g k =
+            let same : p ≡ x = eqb-true p x g in
+            inl (same_Some m n (sym e ∙ ap (λ (y : ℕ). (after y).next) (sym same) ∙ next_p), sym same)
+        by false true g k =
+            let same : n ≡ x = eqb-true n x k in
+            inr (p, sym next_n ∙ ap (λ (y : ℕ). (after y).next) same ∙ e, sym same ∙ sym (λ i. cond (itself p i) n p))
+        by false false g k = inr (x, sym (ap (λ (b : Branch). b.next) (others x g k)) ∙ e, sym (λ i. cond (g i) n x))
+
+    no_way : (y : ℕ) → (branches y).next ≡ Some n → ⊥
+    no_way y e =
+        let deep : 0 < (branches n).depth = h.ordered.below_root y n e in
+        absurd (omega (arith, deep, flat_n))
+
+    grown-one : (one other m : ℕ) → (after one).next ≡ Some m → (after other).next ≡ Some m → one ≡ other
+    grown-one one other m e g = by (back one m e) (back other m g)
+      where
+        by : Back one m → Back other m → one ≡ other
+        by (inl a) (inl b) = a.1 ∙ sym b.1
+        by (inl a) (inr b) = absurd (no_way b.0 (b.1 ∙ ap Some a.0))
+        by (inr a) (inl b) = absurd (no_way a.0 (a.1 ∙ ap Some b.0))
+        by (inr a) (inr b) = a.2 ∙ ap (λ (y : ℕ). cond (eqb p y) n y) (h.ordered.one_before a.0 b.0 m a.1 b.1) ∙ sym b.2
+
+    grown-below : (x m : ℕ) → (after x).next ≡ Some m → 0 < (after m).depth
+    grown-below x m e = by (back x m e)
+      where
+        by : Back x m → 0 < (after m).depth
+        by (inl a) =
+            let d : (after m).depth ≡ (branches p).depth + 1 = ap (λ (y : ℕ). (after y).depth) a.0 ∙ depth_n in
+            omega (arith, d)
+        by (inr a) = new (eqb n m) refl
+          where
+            new : (b : Bool) → eqb n m ≡ b → 0 < (after m).depth
+            new true k = absurd (no_way a.0 (a.1 ∙ ap Some (sym (eqb-true n m k))))
+            new false k =
+                let deep : 0 < (branches m).depth = h.ordered.below_root a.0 m a.1 in
+                let d : (after m).depth ≡ (branches m).depth = (grown-old m k).1 in
+                omega (arith, deep, d)
+
+    grown-first : (m t c : ℕ) → more m ≡ Some (t, c) → (after m).once ≡ true → firsts t ≡ Some m
+    grown-first m t c s on = elim (made n (Some (transit, p)) stays m (t, c) s) [
+      | inl q ↦ ap firsts (sym (pair (t, c) q.1).0) ∙ first ∙ ap Some q.0
+      | inr q ↦ h.ordered.first m t c q.1 (sym (grown-old m q.0).0 ∙ on)
+    ]
+
+    grown-low : (m : ℕ) → (after m).depth ≤ m
+    grown-low m = by (eqb n m) refl
+      where
+        by : (b : Bool) → eqb n m ≡ b → (after m).depth ≤ m
+        by true e =
+            let same : n ≡ m = eqb-true n m e in
+            let d : (after m).depth ≡ (branches p).depth + 1 = ap (λ (y : ℕ). (after y).depth) (sym same) ∙ depth_n in
+            let l : (branches p).depth ≤ p = h.ordered.low p in
+            omega (arith, same, d, l, below)
+        by false e =
+            let d : (after m).depth ≡ (branches m).depth = (grown-old m e).1 in
+            let l : (branches m).depth ≤ m = h.ordered.low m in
+            omega (arith, d, l)
+
+    grown-whole : (m : ℕ) (o : Option (ℕ × ℕ)) → stays m ≡ o → is_whole branches leaves o ≡ is_whole after leaves o
+    grown-whole m None e = refl
+    grown-whole m (Some s) e = sym (ap (λ (b : Bool). is_once (leaves s.0) && b) (grown-old s.1 (from_before m s.0 s.1 e)).0)
+
+    grown-once : (m : ℕ) → (after m).once ≡ is_whole after leaves (more m)
+    grown-once m = by (eqb n m) refl
+      where
+        by : (b : Bool) → eqb n m ≡ b → (after m).once ≡ is_whole after leaves (cond b (Some (transit, p)) (stays m))
+        by true e =
+            ap (λ (y : ℕ). (after y).once) (sym (eqb-true n m e)) ∙ ap (λ (b : Branch). b.once) at_n
+            ∙ sym (λ i. once i && (ap (λ (b : Branch). b.once) at_p ∙ alive) i)
+        by false e = (grown-old m e).0 ∙ h.once m ∙ grown-whole m (stays m) refl
+
+    -- the copy grew from one that no stay was ended twice of
+    pub grown : AreBranches after firsts more leaves (n + 1)
+    grown = record {
+      ordered = record {
+        within = more_within;
+        ended = more_ended;
+        known = h.ordered.known;
+        earlier = h.ordered.earlier;
+        of_first = more_of_first;
+        first = grown-first;
+        flat = λ m s. let f = more_flat m s in (grown-old m f.0).1 ∙ h.ordered.flat m f.1;
+        low = grown-low;
+        deeper = grown-deeper;
+        runs = grown-runs;
+        one_before = grown-one;
+        below_root = grown-below;
+      };
+      once = grown-once;
+    }
+
+  module _ (at_n : after n ≡ record root { once = false }) (others : (x : ℕ) → eqb n x ≡ false → after x ≡ branches x)
+      (twice : (is_once (leaves transit) && (branches p).once) ≡ false) where
+    off_n : (after n).once ≡ true → ⊥
+    off_n on = true-false (sym on ∙ ap (λ (b : Branch). b.once) at_n)
+      where
+        true-false : true ≡ false → ⊥
+        true-false e = grind (arith, e)
+
+    dead-new : (m : ℕ) (s : ℕ × ℕ) → more m ≡ Some s → (after m).once ≡ true → (eqb n m ≡ false) × (stays m ≡ Some s)
+    dead-new m s e on = elim (made n (Some (transit, p)) stays m s e) [
+      | inl q ↦ absurd (off_n (ap (λ (y : ℕ). (after y).once) q.0 ∙ on))
+      | inr q ↦ q
+    ]
+
+    dead-depths : depths branches ≡ depths after
+    dead-depths = λ i x. at x (eqb n x) refl i
+      where
+        at : (x : ℕ) (b : Bool) → eqb n x ≡ b → (branches x).depth ≡ (after x).depth
+        at x true e =
+            let same : n ≡ x = eqb-true n x e in
+            ap (λ (y : ℕ). (branches y).depth) (sym same) ∙ flat_n ∙ sym (ap (λ (b : Branch). b.depth) at_n) ∙ ap (λ (y : ℕ). (after y).depth) same
+        at x false e = sym (ap (λ (b : Branch). b.depth) (others x e))
+
+    dead-depth : (x : ℕ) → (after x).depth ≡ (branches x).depth
+    dead-depth x = λ i. (sym dead-depths) i x
+
+    dead-run : (c m : ℕ) → eqb n c ≡ false → Run (depths branches) (nexts branches) (branches c).depth (branches c).next m → Run (depths after) (nexts after) (after c).depth (after c).next m
+    dead-run c m apart run =
+        let past = run_past (depths branches) (nexts branches) (nexts after) n flat_n (λ x e. ap (λ (b : Branch). b.next) (others x e)) (branches c).depth run.through (branches c).next m run.leads in
+        let deep : IsRun (depths after) (nexts after) (branches c).depth (branches c).next run.through m =
+        subst (λ (d : ℕ → ℕ). IsRun d (nexts after) (branches c).depth (branches c).next run.through m) dead-depths past in
+        record {
+          through = run.through;
+          leads = subst (λ (b : Branch). IsRun (depths after) (nexts after) b.depth b.next run.through m) (sym (others c apart)) deep;
+        }
+
+    dead-next : (x m : ℕ) → (after x).next ≡ Some m → (branches x).next ≡ Some m
+    dead-next x m e = by (eqb n x) refl
+      where
+        by : (b : Bool) → eqb n x ≡ b → (branches x).next ≡ Some m
+        by true g = absurd (none-some m (sym (ap (λ (b : Branch). b.next) at_n) ∙ ap (λ (y : ℕ). (after y).next) (eqb-true n x g) ∙ e))
+        by false g = sym (ap (λ (b : Branch). b.next) (others x g)) ∙ e
+
+    dead-whole : (m : ℕ) (o : Option (ℕ × ℕ)) → stays m ≡ o → is_whole branches leaves o ≡ is_whole after leaves o
+    dead-whole m None e = refl
+    dead-whole m (Some s) e = sym (ap (λ (b : Branch). is_once (leaves s.0) && b.once) (others s.1 (from_before m s.0 s.1 e)))
+
+    dead-once : (m : ℕ) → (after m).once ≡ is_whole after leaves (more m)
+    dead-once m = by (eqb n m) refl
+      where
+        by : (b : Bool) → eqb n m ≡ b → (after m).once ≡ is_whole after leaves (cond b (Some (transit, p)) (stays m))
+        by true e =
+            ap (λ (y : ℕ). (after y).once) (sym (eqb-true n m e)) ∙ ap (λ (b : Branch). b.once) at_n
+            ∙ sym twice ∙ sym (ap (λ (b : Branch). is_once (leaves transit) && b.once) (others p (less-apart p n below)))
+        by false e = ap (λ (b : Branch). b.once) (others m e) ∙ h.once m ∙ dead-whole m (stays m) refl
+
+    -- the copy's journey has a stay that was ended twice
+    pub dead : AreBranches after firsts more leaves (n + 1)
+    dead = record {
+      ordered = record {
+        within = more_within;
+        ended = more_ended;
+        known = h.ordered.known;
+        earlier = h.ordered.earlier;
+        of_first = more_of_first;
+        first = λ m t c s on. let q = dead-new m (t, c) s on in h.ordered.first m t c q.1 (sym (ap (λ (b : Branch). b.once) (others m q.0)) ∙ on);
+        flat = λ m s. let f = more_flat m s in dead-depth m ∙ h.ordered.flat m f.1;
+        low = λ m. let l : (branches m).depth ≤ m = h.ordered.low m in let d : (after m).depth ≡ (branches m).depth = dead-depth m in omega (arith, l, d);
+        deeper = λ m t c s on.
+            let q = dead-new m (t, c) s on in
+            dead-depth m ∙ h.ordered.deeper m t c q.1 (sym (ap (λ (b : Branch). b.once) (others m q.0)) ∙ on) ∙ ap (λ (d : ℕ). d + 1) (sym (dead-depth c));
+        runs = λ m t c s on from_on.
+            let q = dead-new m (t, c) s on in
+            let apart = from_before m t c q.1 in
+            dead-run c m apart (h.ordered.runs m t c q.1 (sym (ap (λ (b : Branch). b.once) (others m q.0)) ∙ on) (sym (ap (λ (b : Branch). b.once) (others c apart)) ∙ from_on));
+        one_before = λ one other m e g. h.ordered.one_before one other m (dead-next one m e) (dead-next other m g);
+        below_root = λ x m e. let deep : 0 < (branches m).depth = h.ordered.below_root x m (dead-next x m e) in let d : (after m).depth ≡ (branches m).depth = dead-depth m in omega (arith, deep, d);
+      };
+      once = dead-once;
+    }
+
+-- a Leave line of a stay that none named before
+module _ (branches : Branches) (firsts : Firsts) (stays : LastStays) (leaves : Leaves) (number transit : ℕ)
+    (h : AreBranches branches firsts stays leaves number) (none : firsts transit ≡ None) where
+  pub named_here : with_first transit number firsts transit ≡ Some number
+  named_here = λ i. cond (itself transit i) (Some number) (firsts transit)
+
+  pub named_alone : (other : ℕ) → with_first transit number firsts other ≡ Some number → other ≡ transit
+  named_alone other e = by (eqb transit other) refl e
+    where
+      by : (b : Bool) → eqb transit other ≡ b → cond b (Some number) (firsts other) ≡ Some number → other ≡ transit
+      by true s g = sym (eqb-true transit other s)
+      by false s g =
+          let below : number < number = h.ordered.earlier other number g in
+          absurd (omega (arith, below))
+
+  pub ended_once : is_once (left_again transit leaves transit) ≡ true
+  ended_once =
+      let some : is_some (leaves transit) ≡ false = sym (h.ordered.known transit) ∙ ap (λ (o : Option ℕ). is_some o) none in
+      (λ i. is_once (cond (itself transit i) (Some (some i)) (leaves transit)))
+
+-- a Leave line of a stay that one named before
+module _ (branches cut after : Branches) (firsts : Firsts) (stays : LastStays) (leaves : Leaves) (number transit f : ℕ)
+    (before : AreBranches branches firsts stays leaves number) (first : firsts transit ≡ Some f) (h : AreBranches cut firsts stays (left_again transit leaves) number)
+    (at_n : after number ≡ record root { once = false }) (others : (x : ℕ) → eqb number x ≡ false → after x ≡ cut x) where
+  ended_twice : is_once (left_again transit leaves transit) ≡ false
+  ended_twice =
+      let some : is_some (leaves transit) ≡ true = sym (before.ordered.known transit) ∙ ap (λ (o : Option ℕ). is_some o) first in
+      (λ i. is_once (cond (itself transit i) (Some (some i)) (leaves transit)))
+
+  left_twice : (p : ℕ) → p < number → AreBranches after firsts (with_stay number (Some (transit, p)) stays) (left_again transit leaves) (number + 1)
+  left_twice p below =
+      dead cut after firsts stays (left_again transit leaves) number transit p
+      (later cut firsts stays (left_again transit leaves) number (number + 1) (omega arith) h)
+      (unused cut firsts stays (left_again transit leaves) number h) below (ap (λ (o : Option ℕ). is_some o) first)
+      (λ t e. let past : number < number = before.ordered.earlier t number e in absurd (omega (arith, past)))
+      at_n others (ap (λ (a : Bool). a && (cut p).once) ended_twice)
+
+  pub left_again_of : (from : Option ℕ) → is_some from ≡ true → IfSome from (λ copy. copy < number)
+      → AreBranches after firsts (with_stay number (option_map (λ copy. (transit, copy)) from) stays) (left_again transit leaves) (number + 1)
+  left_again_of None some below = grind (arith, some)
+  left_again_of (Some p) some below = left_twice p below

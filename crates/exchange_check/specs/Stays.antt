@@ -1,0 +1,130 @@
+-- The stays that journeys have, and which of them were ended twice.
+use Rattle.std.specs.Prelude.{◌≡◌, ℕ, zero, suc, ◌+◌, ◌<◌, ◌≤◌, Bool, true, false, ◌&&◌, not, List, [], ◌∷◌, nat_eq, nat_lt, slice_get, unwrap_or, ◌==◌, is_some, if◌then◌else◌, Option, Some, None, option_map, option_and_then}
+use Rattle.std.specs.HashMap.{get}
+use Rattle.std.specs.Option.{option_map_or}
+use Rattle.network_model.specs.Kinds.{entered_copy, spent_transit}
+use Rattle.trace_model.specs.Sound.{where_passes, below}
+use Rattle.exchange_check.specs.declared.facts.Fact.{Fact}
+use Rattle.exchange_check.specs.declared.stays.Branch.{Branch}
+use Rattle.exchange_check.specs.declared.stays.Stays.{Stays}
+use Rattle.exchange_check.specs.Kept.{Facts, Leaves}
+
+-- the last stay of each copy whose journey is known: the number of its Enter line, and the copy that entered there
+abbrev pub LastStays : Type 0
+LastStays = ℕ → Option (ℕ × ℕ)
+
+-- the stay that began at the line of this number, where that line and the copy that entered there are below a limit
+abbrev pub stay_below : Facts → (limit transit : ℕ) → Option (ℕ × ℕ)
+stay_below facts limit transit = option_and_then
+    (λ entered. option_map (λ copy. (transit, copy)) (where_passes (λ copy. nat_lt copy limit) (entered_copy entered.event)))
+    (below facts limit transit)
+
+-- the last stay of the copy that a line made
+abbrev pub stay_of : Facts → (number : ℕ) → Fact → Option (ℕ × ℕ)
+stay_of facts number fact =
+    if is_some fact.travel then option_and_then (stay_below facts number) (spent_transit fact.event) else None
+
+abbrev pub last_stays : Facts → LastStays
+last_stays facts copy = option_and_then (stay_of facts copy) (facts copy)
+
+-- with that of the copy of one more line
+abbrev pub with_stay : ℕ → Option (ℕ × ℕ) → LastStays → LastStays
+with_stay number stay stays copy = if number == copy then stay else stays copy
+
+-- a stay was ended, and not again
+abbrev pub is_once : Option Bool → Bool
+is_once None = false
+is_once (Some again) = not again
+
+-- whether each stay of a copy's journey was ended once, among so many last ones
+abbrev pub once_by : LastStays → Leaves → (count : ℕ) → (copy : ℕ) → Bool
+once_by stays leaves zero copy = true
+once_by stays leaves (suc count) copy =
+    option_map_or (λ stay. is_once (leaves stay.0) && once_by stays leaves count stay.1) (stays copy) true
+
+-- whether each stay of the journey of the copy of each number was ended once
+abbrev pub Once : Type 0
+Once = ℕ → Bool
+
+abbrev pub once_of : LastStays → Leaves → Once
+once_of stays leaves copy = once_by stays leaves (suc copy) copy
+
+-- what is kept of each copy
+abbrev pub Branches : Type 0
+Branches = ℕ → Branch
+
+-- a copy of which nothing is kept
+abbrev pub root : Branch
+root = record { once = true; depth = 0; next = None }
+
+abbrev pub branch_in : List Branch → Branches
+branch_in branches copy = unwrap_or (slice_get branches copy) root
+
+-- with what is kept of one of them
+abbrev pub with_branch : ℕ → Branch → Branches → Branches
+with_branch number branch branches copy = if number == copy then branch else branches copy
+
+-- the copies through which the order leads from a link to a copy, each deeper than this
+abbrev pub IsRun : (depth : ℕ → ℕ) → (next : ℕ → Option ℕ) → (above : ℕ) → Option ℕ → List ℕ → ℕ → Type 0
+IsRun depth next above from [] to = from ≡ Some to
+IsRun depth next above from (copy ∷ later) to = (from ≡ Some copy) × (above < depth copy) × IsRun depth next above (next copy) later to
+
+pub record Run (depth : ℕ → ℕ) (next : ℕ → Option ℕ) (above : ℕ) (from : Option ℕ) (to : ℕ) : Type 0 where
+  pub through : List ℕ
+  pub leads : IsRun depth next above from through to
+
+abbrev pub depths : Branches → ℕ → ℕ
+depths branches copy = (branches copy).depth
+
+abbrev pub nexts : Branches → ℕ → Option ℕ
+nexts branches copy = (branches copy).next
+
+-- the first Leave line of each stay
+abbrev pub Firsts : Type 0
+Firsts = ℕ → Option ℕ
+
+-- with that of one more stay
+abbrev pub with_first : (transit number : ℕ) → Firsts → Firsts
+with_first transit number firsts stay = if transit == stay then Some number else firsts stay
+
+-- The order of the copies below a number has what grew from a copy after it, each deeper than it, up to the first that isn't.
+-- Copies with a stay that was ended twice aren't looked for in it.
+pub record IsOrdered (branches : Branches) (firsts : Firsts) (stays : LastStays) (leaves : Leaves) (number : ℕ) : Type 0 where
+  pub within : (n transit copy : ℕ) → stays n ≡ Some (transit, copy) → (copy < n) × (n < number)
+  pub ended : (n transit copy : ℕ) → stays n ≡ Some (transit, copy) → is_some (firsts transit) ≡ true
+  pub known : (transit : ℕ) → is_some (firsts transit) ≡ is_some (leaves transit)
+  pub earlier : (transit first : ℕ) → firsts transit ≡ Some first → first < number
+  pub of_first : (transit first other copy : ℕ) → firsts transit ≡ Some first → stays first ≡ Some (other, copy) → other ≡ transit
+  pub first : (n transit copy : ℕ) → stays n ≡ Some (transit, copy) → (branches n).once ≡ true → firsts transit ≡ Some n
+  pub flat : (n : ℕ) → stays n ≡ None → (branches n).depth ≡ 0
+  pub low : (n : ℕ) → (branches n).depth ≤ n
+  pub deeper : (n transit copy : ℕ) → stays n ≡ Some (transit, copy) → (branches n).once ≡ true → (branches n).depth ≡ (branches copy).depth + 1
+  pub runs : (n transit copy : ℕ) → stays n ≡ Some (transit, copy) → (branches n).once ≡ true → (branches copy).once ≡ true
+      → Run (depths branches) (nexts branches) (branches copy).depth (branches copy).next n
+  pub one_before : (one other n : ℕ) → (branches one).next ≡ Some n → (branches other).next ≡ Some n → one ≡ other
+  pub below_root : (n after : ℕ) → (branches n).next ≡ Some after → 0 < (branches after).depth
+
+-- whether a copy's last stay was ended once, and those before it too
+abbrev pub is_whole : Branches → Leaves → Option (ℕ × ℕ) → Bool
+is_whole branches leaves stay = option_map_or (λ s. is_once (leaves s.0) && (branches s.1).once) stay true
+
+-- what is kept of each copy below a number, with these last stays
+pub record AreBranches (branches : Branches) (firsts : Firsts) (stays : LastStays) (leaves : Leaves) (number : ℕ) : Type 0 where
+  pub ordered : IsOrdered branches firsts stays leaves number
+  pub once : (n : ℕ) → (branches n).once ≡ is_whole branches leaves (stays n)
+
+abbrev pub AreStays : Stays → LastStays → Leaves → ℕ → Type 0
+AreStays kept stays leaves number = AreBranches (branch_in kept.branches.items) (get nat_eq kept.firsts) stays leaves number
+
+-- whether each stay of the journey of the copy of each number was ended once, as it is kept
+abbrev pub once_in : Stays → Once
+once_in kept copy = (branch_in kept.branches.items copy).once
+
+-- a copy's stay was ended again: it isn't whole any more, and what grew from it, as far as the order leads from it to deeper copies,
+-- is still to be looked at
+pub record IsCutting (branches : Branches) (firsts : Firsts) (stays : LastStays) (leaves : Leaves) (number cut : ℕ) : Type 0 where
+  pub ordered : IsOrdered branches firsts stays leaves number
+  pub sound : (n : ℕ) → (branches n).once ≡ false → is_whole branches leaves (stays n) ≡ false
+  pub ahead : (n transit copy : ℕ) → stays n ≡ Some (transit, copy) → (branches n).once ≡ true → (is_once (leaves transit) && (branches copy).once) ≡ false
+      → Run (depths branches) (nexts branches) (branches cut).depth (branches cut).next n × ((branches cut).depth < (branches n).depth)
+  pub off : (branches cut).once ≡ false

@@ -1,0 +1,224 @@
+//! The stays of copies in clocks, and the journeys that have one which was ended twice.
+
+ghost use Rattle.std.specs.Prelude.{◌≡◌, ℕ, ◌<◌, ◌+◌, true, false, IfSome, Some, None, option_map, length, nat_eq, OnOk, OnErr, MatchResult};
+ghost use Rattle.std.specs.HashMap.{get};
+ghost use Rattle.exchange_check.specs.Kept.{Leaves, left_again};
+ghost use Rattle.exchange_check.specs.Stays.{LastStays, with_stay, is_once, Once, Branches, root, branch_in, with_branch, Firsts, with_first, AreBranches, AreStays, once_in};
+
+use crate::refusal::CheckFault;
+use std::alloc::Global;
+use std::collections::HashMap;
+
+/// What is kept of the copy of an event message.
+#[derive(Clone, Copy, Debug)]
+pub(crate) struct Branch {
+    /// Whether each stay of its journey was ended once.
+    pub(crate) once: bool,
+    /// How many stays its journey has; 0 also where one of them had been ended before.
+    pub(crate) depth: u64,
+    /// The copy after it in the order: what grew from a copy stands after it, deeper than it.
+    pub(crate) next: Option<u64>,
+}
+
+impl Branch {
+    /// A copy that was just sent, or none.
+    fn root() -> Branch
+        ensures { result ≡ root }
+    {
+        Branch {
+            once: true,
+            depth: 0,
+            next: None,
+        }
+    }
+
+    /// A copy with a stay that was ended twice.
+    fn dead() -> Branch
+        ensures { result ≡ record root { once = false } }
+    {
+        Branch {
+            once: false,
+            ..Branch::root()
+        }
+    }
+}
+
+/// What is kept of stays and of the copies that left them.
+#[derive(Drop)]
+pub(crate) struct Stays {
+    /// Of each Enter line that a Leave line names: the first one that does.
+    pub(crate) firsts: HashMap<u64, u64>,
+    /// Of each line: the copy that it made.
+    pub(crate) branches: Vec<Branch>,
+}
+
+impl Stays {
+    pub(crate) fn new(alloc: Global) -> Stays
+        ensures { AreStays result (λ n. None) (λ n. None) 0 }
+    {
+        Stays {
+            firsts: HashMap::new(alloc),
+            branches: Vec::new(alloc),
+        }
+    }
+
+    fn at(&self, copy: u64) -> Branch
+        ensures { result ≡ branch_in self.now.branches.items copy }
+    {
+        match self.branches.get(copy as usize) {
+            Some(branch) => *branch,
+            None => Branch::root(),
+        }
+    }
+
+    /// Whether each stay of a copy's journey was ended once.
+    pub(crate) fn once(&self, copy: u64) -> bool
+        ensures { result ≡ once_in self.now copy }
+    {
+        self.at(copy).once
+    }
+
+    fn set(&mut self, copy: u64, branch: Branch)
+        requires { copy < length self.old.branches.items }
+        ensures branches { branch_in self.new.branches.items ≡ with_branch copy branch (branch_in self.old.branches.items) }
+        ensures length { length self.new.branches.items ≡ length self.old.branches.items }
+        ensures firsts { self.new.firsts ≡ self.old.firsts }
+    {
+        self.branches[copy as usize] = branch;
+    }
+
+    /// Makes room for the copy of this number.
+    fn reach(&mut self, number: u64) -> Result<(), CheckFault>
+        ensures room { OnOk result (number < length self.new.branches.items) }
+        ensures branches { branch_in self.new.branches.items ≡ branch_in self.old.branches.items }
+        ensures firsts { self.new.firsts ≡ self.old.firsts }
+    {
+        while self.branches.len() as u64 <= number {
+            if self.branches.push(Branch::root()).is_err() {
+                return Err(CheckFault::Memory);
+            }
+        }
+        Ok(())
+    }
+
+    /// A stay was ended again: marks the copy that left after it first, and all that grew from it.
+    /// What is marked so leaves the order, but for that copy, so each copy is passed twice at most.
+    fn cut(&mut self, first: u64)
+        ensures stays { (stays : LastStays) (leaves : Leaves) (number transit : ℕ) → get nat_eq self.old.firsts transit ≡ Some first
+            → AreStays self.old stays leaves number → AreStays self.new stays (left_again transit leaves) number }
+        ensures length { length self.new.branches.items ≡ length self.old.branches.items }
+        ensures firsts { self.new.firsts ≡ self.old.firsts }
+    {
+        let cut = self.at(first);
+        let depth = cut.depth;
+        if depth == 0 {
+            return;
+        }
+        self.set(first, Branch { once: false, ..cut });
+        while let Some(copy) = self.at(first).next {
+            let grown = self.at(copy);
+            if grown.depth <= depth {
+                return;
+            }
+            self.set(
+                copy,
+                Branch {
+                    once: false,
+                    depth: grown.depth,
+                    next: None,
+                },
+            );
+            self.set(
+                first,
+                Branch {
+                    once: false,
+                    depth,
+                    next: grown.next,
+                },
+            );
+        }
+    }
+
+    /// Puts the copy of this number, which left its clock after a stay that no other line ended,
+    /// after the copy that entered there.
+    fn grow(&mut self, from: u64, number: u64)
+        requires room { number < length self.old.branches.items }
+        requires below { from < number }
+        ensures stays { (stays : LastStays) (leaves : Leaves) (transit : ℕ) → AreStays self.old stays leaves (number + 1) → stays number ≡ None
+            → get nat_eq self.old.firsts transit ≡ Some number → is_once (leaves transit) ≡ true
+            → ((other : ℕ) → get nat_eq self.old.firsts other ≡ Some number → other ≡ transit)
+            → AreStays self.new (with_stay number (Some (transit, from)) stays) leaves (number + 1) }
+    {
+        let parent = self.at(from);
+        if parent.once {
+            let depth = parent.depth.saturating_add(1);
+            self.set(
+                from,
+                Branch {
+                    next: Some(number),
+                    ..parent
+                },
+            );
+            self.set(
+                number,
+                Branch {
+                    once: true,
+                    depth,
+                    next: parent.next,
+                },
+            );
+        } else {
+            self.set(number, Branch::dead());
+        }
+    }
+
+    /// The first Leave line of a stay.
+    fn first(&self, transit: u64) -> Option<u64>
+        ensures { result ≡ get nat_eq self.now.firsts transit }
+    {
+        match self.firsts.get(&transit) {
+            Some(first) => Some(*first),
+            None => None,
+        }
+    }
+
+    /// The Leave line of this number is the first that names a stay.
+    fn name(&mut self, transit: u64, number: u64) -> Result<(), CheckFault>
+        ensures named { OnOk result (get nat_eq self.new.firsts ≡ with_first transit number (get nat_eq self.old.firsts)) }
+        ensures unchanged { OnErr result (get nat_eq self.new.firsts ≡ get nat_eq self.old.firsts) }
+        ensures branches { self.new.branches ≡ self.old.branches }
+    {
+        match self.firsts.insert(transit, number) {
+            Ok(_) => Ok(()),
+            Err(_) => Err(CheckFault::Memory),
+        }
+    }
+
+    /// A Leave line of this number, for the stay that began at the line `transit`, and the copy that
+    /// entered there, where the journey of the one that left is known.
+    pub(crate) fn leave(
+        &mut self,
+        number: u64,
+        transit: u64,
+        from: Option<u64>,
+    ) -> Result<(), CheckFault>
+        requires { IfSome from (λ copy. copy < number) }
+        ensures { (stays : LastStays) (leaves : Leaves) → AreStays self.old stays leaves number → MatchResult result
+            (λ _. AreStays self.new (with_stay number (option_map (λ copy. (transit, copy)) from) stays) (left_again transit leaves) (number + 1))
+            (λ _. AreStays self.new stays leaves number) }
+    {
+        self.reach(number)?;
+        if let Some(first) = self.first(transit) {
+            self.cut(first);
+            if from.is_some() {
+                self.set(number, Branch::dead());
+            }
+            return Ok(());
+        }
+        self.name(transit, number)?;
+        if let Some(copy) = from {
+            self.grow(copy, number);
+        }
+        Ok(())
+    }
+}
