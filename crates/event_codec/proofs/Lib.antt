@@ -6,3 +6,4 @@ pub mod Front
 pub mod Same
 pub mod Again
 pub mod Corrected
+pub mod Lengths

@@ -4,12 +4,10 @@ use Rattle.std.specs.Prelude.{EachIndex, slice_index, nat_lt}
 use Rattle.std.specs.List.{list_all}
 use Rattle.std.proofs.lemmas.Bool.Decides.{nat_tests}
 use Rattle.std.proofs.lemmas.List.Folds.{list_all_at}
+use Rattle.event_codec.proofs.Lengths.{all_octets}
 use Rattle.network_model.specs.Truth.{TellsTruth, copy_of}
 use Rattle.network_model.proofs.Worked.{small_network}
 use Rattle.network_model.proofs.WorkedExchange.{whole}
-
-all_octets : (b : List ℕ) → list_all (λ octet. nat_lt octet 256) b ≡ true → EachIndex b (λ k. slice_index b k < 256)
-all_octets b small k within = grind (arith, nat_tests, list_all_at (λ octet. nat_lt octet 256) b k 0 within)
 
 abbrev sync_octets : List ℕ
 sync_octets =

@@ -16,24 +16,15 @@ use Rattle.event_codec.specs.Packet.{Contents, Packet, IsIdentityAt, IsRequestin
 use Rattle.event_codec.specs.declared.refusal.EncodeRefusal.{EncodeRefusal}
 use Rattle.event_codec.specs.EncodeRefusal.{encode_refusal}
 use Rattle.event_codec.specs.Refusal.{message_length}
+use Rattle.event_codec.proofs.Lengths.{length-Packet, all_octets}
 use Rattle.trace_model.specs.Octets.{is_identity_at, is_requesting, is_packet}
-
-octet_at : (x : ℕ) (xs : List ℕ) → x < 256 → EachIndex xs (λ k. slice_index xs k < 256) → (k : ℕ) → k < length (x ∷ xs) → slice_index (x ∷ xs) k < 256
-octet_at x xs first others zero within = first
-octet_at x xs first others (suc k) within = others k (omega arith)
-
-octets_told : (b : List ℕ) → list_all (λ octet. nat_lt octet 256) b ≡ true → EachIndex b (λ k. slice_index b k < 256)
-octets_told [] h = λ k within. absurd (omega arith)
-octets_told (x ∷ xs) h =
-    let parts : (nat_lt x 256 ≡ true) × (list_all (λ octet. nat_lt octet 256) xs ≡ true) = and_parts (nat_lt x 256) (list_all (λ octet. nat_lt octet 256) xs) h in
-    octet_at x xs (ltb-true x 256 parts.0) (octets_told xs parts.1)
 
 octets_tested : (b : List ℕ) → EachIndex b (λ k. slice_index b k < 256) → list_all (λ octet. nat_lt octet 256) b ≡ true
 octets_tested [] h = refl
 octets_tested (x ∷ xs) h = and_from (nat_lt x 256) _ (lt-ltb x 256 (h 0 (omega arith))) (octets_tested xs (λ k within. h (suc k) (omega arith)))
 
 octets_decided : (b : List ℕ) → Decides (list_all (λ octet. nat_lt octet 256) b) (EachIndex b (λ k. slice_index b k < 256))
-octets_decided b = (octets_told b, octets_tested b)
+octets_decided b = (all_octets b, octets_tested b)
 
 Decides-at_most : (m n : ℕ) → Decides (not (nat_lt n m)) (m ≤ n)
 Decides-at_most m n = grind (arith, nat_tests)
@@ -242,9 +233,6 @@ is_packet-written m b room same written again tested =
       λ packet. tested ∙ (bytes_eq-Decides b room).1 (sym (again b packet)),
     ) in same_from_decides same (is_packet m b) decided (is_packet-Decides m b)
 
-length-message : (m : Contents) (b : List ℕ) → Packet m b → message_length m ≡ length b
-length-message m b packet = omega (arith, packet.least, ap length packet.suffix, length-drop (fields_length (type_of m.body)) b)
-
 not_refused : (m : Contents) (refusal : EncodeRefusal) (n : ℕ) → n ≡ message_length m → n ≤ 54 → encode_refusal m 54 ≡ Some refusal → ⊥
 not_refused m refusal n same within refused = grind (arith, nat_tests)
 
@@ -253,5 +241,5 @@ pub is_packet-refused : (m : Contents) (b : List ℕ) (refusal : EncodeRefusal) 
 is_packet-refused m b refusal within refused =
     let decided : Decides false (Packet m b) = (
       λ h. absurd (false≢true h),
-      λ packet. absurd (not_refused m refusal (length b) (sym (length-message m b packet)) within refused),
+      λ packet. absurd (not_refused m refusal (length b) (length-Packet m b packet) within refused),
     ) in same_from_decides false (is_packet m b) decided (is_packet-Decides m b)

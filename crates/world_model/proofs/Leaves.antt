@@ -34,7 +34,8 @@ use Rattle.world_model.specs.declared.station.Port.TheVariants as ports
 use Rattle.world_model.specs.declared.station.Station.{Station}
 use Rattle.world_model.specs.Stands.{listed, octets_in, event_at, octets_at, stay_at, entering, open_stay, Keeps, PortStands, Stands}
 use Rattle.world_model.specs.Acts.{Room, Answers, IsSent, Gives, Departs, copy_taken, copy_inside}
-use Rattle.world_model.proofs.Readings.{whole, packet_read}
+use Rattle.event_codec.proofs.Lengths.{length-Packet}
+use Rattle.world_model.proofs.Readings.{packet_read}
 use Rattle.world_model.proofs.Own.{difference-stays, reading_of-read, reading-read}
 
 -- what a clock makes of a message as what it gives
@@ -70,7 +71,7 @@ pub is_sent : (m : Contents) (entered now : ℕ) (old new : List ℕ) (sent : Re
     → MatchResult sent (λ ok. (x : Contents) × (forwarded (Ok m) entered now ≡ Ok x) × IsReading new (Ok x)) (λ refusal. forwarded (Ok m) entered now ≡ Err refusal)
     → IsSent (forwarded (Ok m) entered now) new sent
 is_sent m entered now old new (Ok ok) packet same said =
-    (said.0, said.1, packet_read said.0 new (forwarded-length m said.0 entered now said.1 ∙ whole m old packet ∙ sym same) said.2)
+    (said.0, said.1, packet_read said.0 new (forwarded-length m said.0 entered now said.1 ∙ sym (length-Packet m old packet) ∙ sym same) said.2)
 is_sent m entered now old new (Err refusal) packet same said = said
 
 -- a message that is inside a clock: its Enter event, and the copy that entered

@@ -5,16 +5,14 @@ use Rattle.event_codec.specs.Packet.{Contents, Packet}
 use Rattle.event_codec.specs.Layout.{type_of, fields_length}
 use Rattle.event_codec.specs.Reading.{IsReading}
 use Rattle.event_codec.specs.Refusal.{message_length}
+use Rattle.event_codec.proofs.Lengths.{length-Packet}
 use Rattle.network_model.specs.Truth.{TellsTruth}
-
-pub whole : (m : Contents) (b : List ℕ) → Packet m b → message_length m ≡ length b
-whole m b p = omega (arith, ap (length {A = ℕ}) p.suffix, length-drop (fields_length (type_of m.body)) b, p.least)
 
 -- octets that are a message say it
 pub IsReading-packet : (m : Contents) (b : List ℕ) → Packet m b → IsReading b (Ok m)
 IsReading-packet m b p = (
-  omega (arith, whole m b p),
-  subst (Packet m) (sym (take_all (message_length m) b (omega (arith, whole m b p)))) p,
+  omega (arith, sym (length-Packet m b p)),
+  subst (Packet m) (sym (take_all (message_length m) b (omega (arith, sym (length-Packet m b p))))) p,
 )
 
 -- octets of a message's length that say it are it

@@ -3,10 +3,8 @@ use Rattle.std.proofs.lemmas.List.{length-drop, length-take-le}
 use Rattle.event_codec.specs.Layout.{type_of, fields_length}
 use Rattle.event_codec.specs.Packet.{Contents, Packet, contents}
 use Rattle.event_codec.specs.Refusal.{message_length}
+use Rattle.event_codec.proofs.Lengths.{length-Packet}
 use Rattle.event_codec.proofs.laws.decode_of_encode.Goals as goal
-
-length-Packet : (m : Contents) (b : List ℕ) → Packet m b → length b ≡ message_length m
-length-Packet m b p = omega (arith, p.least, ap (length {A = ℕ}) p.suffix, length-drop (fields_length (type_of m.body)) b)
 
 pub returns-clause-same : goal.returns-clause-same
 returns-clause-same c =
