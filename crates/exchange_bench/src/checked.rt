@@ -1,8 +1,9 @@
-//! Transcripts that a checker is fed line by line, as a world tells them.
+//! Transcripts that a checker is fed line by line: as a world tells them, or forged.
 
 use crate::moment;
 use crate::networks::{Names, exchange, nodes_of, set_master};
-use exchange_check::{Checker, TraceLine, Verdict};
+use arrayvec::ArrayVec;
+use exchange_check::{Checker, TraceLine, TraceOut, Verdict};
 use network_model::{Event, Nodes};
 use std::alloc::Global;
 use world_model::World;
@@ -84,4 +85,70 @@ pub fn long_journey(alloc: Global, lines: u64) -> Option<Verdict> {
         watched.happen(&Event::Hear { node, copy })?;
     }
     Some(watched.checker.verdict())
+}
+
+/// A checker, and how many lines it was fed.
+#[derive(Drop)]
+struct Forged {
+    checker: Checker,
+    lines: u64,
+}
+
+impl Forged {
+    /// A line of this event, which is said to have come out so. Answers the line's number.
+    fn tell(&mut self, event: Event, out: TraceOut) -> Option<u64> {
+        let reading = None;
+        self.checker
+            .feed(TraceLine {
+                event,
+                reading,
+                out,
+            })
+            .ok()?;
+        let number = self.lines;
+        self.lines = number.saturating_add(1);
+        Some(number)
+    }
+
+    /// A copy enters a clock and leaves it. Answers the number of the Enter line; the copy that left
+    /// has the next.
+    fn pass(&mut self, names: &Names, copy: u64) -> Option<u64> {
+        let at = moment(1, 0);
+        let node = names.near;
+        let transit = self.tell(Event::Enter { node, copy, at }, TraceOut::Entered)?;
+        self.leave(names, transit)?;
+        Some(transit)
+    }
+
+    /// A copy leaves after a stay.
+    fn leave(&mut self, names: &Names, transit: u64) -> Option<u64> {
+        let at = moment(1, 0);
+        let node = names.near;
+        self.tell(
+            Event::Leave { node, transit, at },
+            TraceOut::Made(ArrayVec::new()),
+        )
+    }
+}
+
+/// So many lines of a tree of copies, in which each stay is ended twice: copies enter and leave, two
+/// from each copy, of which one goes on, and then the stays are ended again, the last ones first.
+pub fn broken_tree(alloc: Global, lines: u64) -> Option<Verdict> {
+    let names = Names::new()?;
+    let checker = Checker::new(alloc, Nodes::new(alloc, &nodes_of(&names)).ok()?).ok()?;
+    let mut forged = Forged { checker, lines: 0 };
+    let at = moment(1, 0);
+    let node = names.master;
+    let mut copy = forged.tell(Event::Sync { node, at }, TraceOut::Made(ArrayVec::new()))?;
+    let mut transits = Vec::new(alloc);
+    for _ in 0..lines / 6 {
+        transits.push(forged.pass(&names, copy)?).ok()?;
+        let transit = forged.pass(&names, copy)?;
+        transits.push(transit).ok()?;
+        copy = transit.saturating_add(1);
+    }
+    for transit in transits.iter().rev() {
+        forged.leave(&names, *transit)?;
+    }
+    Some(forged.checker.verdict())
 }

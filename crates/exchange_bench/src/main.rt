@@ -3,8 +3,8 @@
 //! of a Sync, a Follow_Up, a Delay_Req and a Delay_Resp on standard input; or numbers put in a table
 //! and sought there, `list16`, `ring16`, `list256` or `ring256`; or exchanges through two clocks, of
 //! so many events, in a `world`, which then tells its memory, or by calls of the `ports`; or so many
-//! lines that a checker is fed, of whole exchanges, `checked`, which then tells the memory, or of one
-//! `journey` that is reported again and again.
+//! lines that a checker is fed, of whole exchanges, `checked`, which then tells the memory, of one
+//! `journey` that is reported again and again, or of a `tree` of copies whose stays are ended twice.
 #![tactic(auto)]
 
 mod checked;
@@ -164,6 +164,10 @@ fn main(rt: HostRuntime) -> io::Result<()> {
         }
         "journey" => {
             let verdict = checked::long_journey(rt.alloc(), rounds);
+            return println!(rt; "{verdict:?}");
+        }
+        "tree" => {
+            let verdict = checked::broken_tree(rt.alloc(), rounds);
             return println!(rt; "{verdict:?}");
         }
         "ports" => {
