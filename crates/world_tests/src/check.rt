@@ -1,7 +1,7 @@
 //! What the checker says of worked transcripts, whole and line by line, and of each with one line
 //! changed.
 
-use crate::values::moment;
+use crate::moments::moment;
 use arrayvec::ArrayVec;
 use event_codec::{PortConfig, PortIdentity};
 use exchange_check::{CheckFault, Checker, TraceLine, TraceOut, Verdict, Why, check};

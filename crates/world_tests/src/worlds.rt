@@ -4,9 +4,9 @@ use crate::exchanges::{
     EXCHANGES, Exchange, LINE, PAIR, QUARTERS, REFUSED, SLAVES_AGREE, TICKED_IN_TIME,
     TICKED_TOO_SELDOM, TURN_BEGINS, TURN_ENDS, TURN_ENDS_AFTER_TICKS, TWO_SLAVES, TWO_TICKS,
 };
+use crate::moments::moment;
 use crate::script::{nodes_of, read_row};
 use network_model::{Name, Nodes};
-use ptp_units::{ScaledTime, Timestamp};
 use std::alloc::{AllocError, Global};
 use std::process::Abort;
 use std::slice;
@@ -184,14 +184,10 @@ fn a_run_stops_at_a_refused_event(rt: HostRuntime) -> Result<(), Fail> {
     Ok(())
 }
 
-fn second(second: u64, nanoseconds: u32) -> Result<ScaledTime, Fail> {
-    Ok(ScaledTime::join(Timestamp::new(second, nanoseconds)?, 0))
-}
-
 /// The master draws so many Syncs, at 2 s, in one run.
 fn draw_syncs(rt: &(impl Abort + AllocGlobal), world: &mut World, count: u32) -> Result<(), Fail> {
     let node = Name::new("M").ok_or("no name")?;
-    let at = second(2, 0)?;
+    let at = moment(2, 0, 0)?;
     let mut events = Vec::new(rt.alloc());
     for _ in 0..count {
         events.push(Event::Sync { node, at })?;
@@ -254,11 +250,11 @@ fn slaves_tell_the_true_time(rt: HostRuntime) -> Result<(), Fail> {
     for (slave, offset2) in [("S1", 917_504), ("S2", -1_179_648)] {
         let request = Event::Request {
             node: Name::new(slave).ok_or("no name")?,
-            at: second(3, 0)?,
+            at: moment(3, 0, 0)?,
         };
         let reading = world.step(&request)?.reading.ok_or("no reading")?;
         let doubled = i128::try_from(reading.value())?.wrapping_mul(2);
-        let time = i128::try_from(second(6, 0)?.value())?;
+        let time = i128::try_from(moment(6, 0, 0)?.value())?;
         assert_eq!(rt; doubled.wrapping_sub(offset2), time, "{slave}");
     }
     Ok(())

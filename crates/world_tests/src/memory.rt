@@ -1,7 +1,8 @@
 //! Worlds from which memory is withheld: each growth in turn, by the script that runs these tests.
 
+use crate::moments::moment;
 use event_codec::{PortConfig, PortIdentity};
-use ptp_units::{ScaledTime, Seq, Timestamp};
+use ptp_units::Seq;
 use std::alloc::Global;
 use std::test::Fail;
 use world_model::{
@@ -60,10 +61,6 @@ fn specs() -> Result<[NodeSpec; 3], Fail> {
     ])
 }
 
-fn at(seconds: u64, nanos: u32, fraction: u16) -> Result<ScaledTime, Fail> {
-    Ok(ScaledTime::join(Timestamp::new(seconds, nanos)?, fraction))
-}
-
 /// How many events the exchange has.
 const LENGTH: usize = 14;
 
@@ -85,43 +82,43 @@ fn event(tag: usize) -> Result<Event, Fail> {
         },
         2 => Event::Sync {
             node,
-            at: at(1, 0, 0)?,
+            at: moment(1, 0, 0)?,
         },
         3 => Event::Enter {
             node,
             copy: 2,
-            at: at(1, 500, 0)?,
+            at: moment(1, 500, 0)?,
         },
         4 => Event::Leave {
             node,
             transit: 3,
-            at: at(1, 2_500, 0)?,
+            at: moment(1, 2_500, 0)?,
         },
         5 => Event::Arrive {
             node,
             copy: 4,
-            at: at(1, 3_000, 0)?,
+            at: moment(1, 3_000, 0)?,
         },
         6 => Event::Follow { node },
         7 => Event::Hear { node, copy: 6 },
         8 => Event::Request {
             node,
-            at: at(2, 0, 0)?,
+            at: moment(2, 0, 0)?,
         },
         9 => Event::Enter {
             node,
             copy: 8,
-            at: at(2, 500, 0)?,
+            at: moment(2, 500, 0)?,
         },
         10 => Event::Leave {
             node,
             transit: 9,
-            at: at(2, 4_000, 16_384)?,
+            at: moment(2, 4_000, 16_384)?,
         },
         11 => Event::Arrive {
             node,
             copy: 10,
-            at: at(2, 4_500, 16_384)?,
+            at: moment(2, 4_500, 16_384)?,
         },
         12 => Event::Stamped { node },
         _ => Event::Hear { node, copy: 11 },

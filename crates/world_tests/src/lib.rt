@@ -1,0 +1,19 @@
+//! Tests by the public calls of networks, worlds and the checker: worked exchanges and transcripts.
+#![tactic(auto)]
+
+#[cfg(test)]
+mod check;
+#[cfg(test)]
+mod exchanges;
+#[cfg(test)]
+mod memory;
+#[cfg(test)]
+mod moments;
+#[cfg(test)]
+mod nodes;
+#[cfg(test)]
+mod script;
+#[cfg(test)]
+mod traces;
+#[cfg(test)]
+mod worlds;
