@@ -8,17 +8,10 @@ use Rattle.network_model.specs.Kinds.{is_at, heard_copy}
 use Rattle.trace_model.specs.Line.{Lines, is_arrival, is_hearing, is_made, completes}
 use Rattle.trace_model.specs.Record.{LinePlace, line_number, event_of, line_at}
 use Rattle.trace_model.specs.Sound.{where_passes, below, Exchange, line_of, sender, sync_line, arrival_line}
+use Rattle.trace_model.proofs.OctetsOfExchanges.{passed}
 use Rattle.exchange_check.proofs.Messages.{line_at-bound}
 use Rattle.exchange_check.proofs.Following.{line_at-number}
 use Rattle.exchange_check.proofs.Exchanges.{line_chain}
-
-passed : {X : Type 0} (test : X → Bool) (o : Option X) (x : X) → where_passes test o ≡ Some x → o ≡ Some x
-passed test None x h = h
-passed test (Some y) x h = by (test y) h
-  where
-    by : (b : Bool) → cond b (Some y) None ≡ Some x → Some y ≡ Some x
-    by true g = g
-    by false g = absurd (none-some x g)
 
 bound : {X Y : Type 0} (f : X → Option Y) (o : Option X) (y : Y) → option_and_then f o ≡ Some y → (x : X) × (f x ≡ Some y)
 bound f None y h = absurd (none-some y h)
@@ -34,13 +27,13 @@ under network lines false n e h = absurd (none-some e h)
 pub sync_within : (network : Network) (lines : Lines) (slave : NodeName) (report : Report) (e : LinePlace) → sync_line network lines slave report ≡ Some e → line_number e < length lines
 sync_within network lines slave report e h =
     under network lines true report.sync_tag e
-    (passed (λ x. is_at is_arrival slave (event_of x)) (line_at network lines report.sync_tag) e
-    (passed (λ x. is_some report.follow_tag || completes x.line.out) (line_of network lines is_arrival slave report.sync_tag) e h))
+    (passed (λ x. is_at is_arrival slave (event_of x)) (line_at network lines report.sync_tag)
+    (passed (λ x. is_some report.follow_tag || completes x.line.out) (line_of network lines is_arrival slave report.sync_tag) h).0).0
 
 pub arrival_within : (network : Network) (lines : Lines) (slave : NodeName) (n : ℕ) (e : LinePlace) → arrival_line network lines slave n ≡ Some e → line_number e < length lines
 arrival_within network lines slave n e h =
     let heard : Option LinePlace = where_passes (λ x. completes x.line.out) (line_of network lines is_hearing slave n) in
-    let sent = bound (sender network lines) heard e (passed (λ x. is_arrival (event_of x) && is_made x.line.out) (option_and_then (sender network lines) heard) e h) in
+    let sent = bound (sender network lines) heard e (passed (λ x. is_arrival (event_of x) && is_made x.line.out) (option_and_then (sender network lines) heard) h).0 in
     let copy = bound (below (line_at network lines) (line_number sent.0)) (heard_copy (event_of sent.0)) e sent.1 in
     under network lines _ copy.0 e copy.1
 

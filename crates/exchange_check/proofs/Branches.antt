@@ -1,13 +1,13 @@
 -- What is kept of copies, after one more copy and after a stay was ended again.
 use Rattle.std.proofs.Common.{◌≡◌, ◌∙◌, ℕ, ◌+◌, ◌<◌, ◌≤◌, Bool, true, false, ◌&&◌, cond, eqb, List, [], ◌∷◌, Option, Some, None, ◌⊎◌, inl, inr, refl, sym, ap, subst, arith}
 use Rattle.std.specs.Prelude.{is_some, option_map, IfSome}
-use Rattle.std.proofs.lemmas.Bool.{eqb-true, eq-eqb}
+use Rattle.std.proofs.lemmas.Bool.{true≢false, eqb-true, eq-eqb}
 use Rattle.std.proofs.lemmas.Bool.Decides.{nat_tests}
 use Rattle.std.proofs.lemmas.Option.{same_Some, none-some}
 use Rattle.exchange_check.specs.declared.stays.Branch.{Branch}
 use Rattle.exchange_check.specs.Kept.{Leaves, left_again}
-use Rattle.exchange_check.specs.Stays.{LastStays, with_stay, is_once, Branches, root, with_branch, IsRun, Run, depths, nexts, Firsts, with_first, IsOrdered, is_whole, AreBranches}
-use Rattle.exchange_check.proofs.Runs.{run_past, grown_run}
+use Rattle.exchange_check.specs.Stays.{LastStays, with_stay, is_once, Branches, root, with_branch, IsStretch, Stretch, depths, nexts, Firsts, with_first, IsOrdered, is_whole, AreBranches}
+use Rattle.exchange_check.proofs.Stretches.{run_past, grown_run}
 
 pub less-apart : (x n : ℕ) → x < n → eqb n x ≡ false
 less-apart x n h = grind (arith, nat_tests)
@@ -53,7 +53,7 @@ ordered_later branches firsts stays leaves number limit fits h = record {
   deeper = h.deeper;
   runs = h.runs;
   one_before = h.one_before;
-  below_root = h.below_root;
+  no_link_to_a_root = h.no_link_to_a_root;
 }
 
 pub later : (branches : Branches) (firsts : Firsts) (stays : LastStays) (leaves : Leaves) (number limit : ℕ) → number ≤ limit
@@ -139,7 +139,7 @@ module _ (branches : Branches) (firsts : Firsts) (stays : LastStays) (leaves : L
       deeper = h.ordered.deeper;
       runs = h.ordered.runs;
       one_before = h.ordered.one_before;
-      below_root = h.ordered.below_root;
+      no_link_to_a_root = h.ordered.no_link_to_a_root;
     };
     once = λ n. h.once n ∙ whole-before (stays n) (λ s e. other_stay n s.0 s.1 e);
   }
@@ -228,38 +228,38 @@ module _ (branches after : Branches) (firsts : Firsts) (stays : LastStays) (leav
           o.1 ∙ h.ordered.deeper m t c q.1 (sym o.0 ∙ on) ∙ ap (λ (d : ℕ). d + 1) (sym (grown-old c (from_before m t c q.1)).1)
     ]
 
-    run_on : (above : ℕ) (l : List ℕ) (from : Option ℕ) (to : ℕ) → IsRun (depths branches) (nexts branches) above from l to → Run (depths after) (nexts after) above from to
+    run_on : (above : ℕ) (l : List ℕ) (from : Option ℕ) (to : ℕ) → IsStretch (depths branches) (nexts branches) above from l to → Stretch (depths after) (nexts after) above from to
     run_on = grown_run (depths branches) (depths after) (nexts branches) (nexts after) p n flat_n depth_p depth_n next_p next_n
         (λ x at at_new. let o = others x at at_new in (ap (λ (b : Branch). b.depth) o, ap (λ (b : Branch). b.next) o))
 
     -- a run that begins after a copy
-    run_from : (c m : ℕ) → eqb n c ≡ false → Run (depths branches) (nexts branches) (branches c).depth (branches c).next m → Run (depths after) (nexts after) (after c).depth (after c).next m
+    run_from : (c m : ℕ) → eqb n c ≡ false → Stretch (depths branches) (nexts branches) (branches c).depth (branches c).next m → Stretch (depths after) (nexts after) (after c).depth (after c).next m
     run_from c m apart run = by (eqb p c) refl
       where
         same : (after c).depth ≡ (branches c).depth
         same = (grown-old c apart).1
 
-        old : Run (depths after) (nexts after) (branches c).depth (branches c).next m
+        old : Stretch (depths after) (nexts after) (branches c).depth (branches c).next m
         old = run_on (branches c).depth run.through (branches c).next m run.leads
 
-        by : (b : Bool) → eqb p c ≡ b → Run (depths after) (nexts after) (after c).depth (after c).next m
+        by : (b : Bool) → eqb p c ≡ b → Stretch (depths after) (nexts after) (after c).depth (after c).next m
         by true e =
             let g : p ≡ c = eqb-true p c e in
             let d : (branches p).depth ≡ (branches c).depth = ap (λ (x : ℕ). (branches x).depth) g in
             let link : (after n).next ≡ (branches c).next = next_n ∙ ap (λ (x : ℕ). (branches x).next) g in
-            subst (λ (a : ℕ). Run (depths after) (nexts after) a (after c).next m) (sym same) (record {
+            subst (λ (a : ℕ). Stretch (depths after) (nexts after) a (after c).next m) (sym same) (record {
               through = n ∷ old.through;
               leads = (
                 ap (λ (x : ℕ). (after x).next) (sym g) ∙ next_p,
                 omega (arith, d, depth_n),
-                subst (λ (o : Option ℕ). IsRun (depths after) (nexts after) (branches c).depth o old.through m) (sym link) old.leads,
+                subst (λ (o : Option ℕ). IsStretch (depths after) (nexts after) (branches c).depth o old.through m) (sym link) old.leads,
               );
             })
         by false e =
-            subst (λ (a : ℕ). Run (depths after) (nexts after) a (after c).next m) (sym same)
-            (subst (λ (o : Option ℕ). Run (depths after) (nexts after) (branches c).depth o m) (sym (ap (λ (b : Branch). b.next) (others c e apart))) old)
+            subst (λ (a : ℕ). Stretch (depths after) (nexts after) a (after c).next m) (sym same)
+            (subst (λ (o : Option ℕ). Stretch (depths after) (nexts after) (branches c).depth o m) (sym (ap (λ (b : Branch). b.next) (others c e apart))) old)
 
-    grown-runs : (m t c : ℕ) → more m ≡ Some (t, c) → (after m).once ≡ true → (after c).once ≡ true → Run (depths after) (nexts after) (after c).depth (after c).next m
+    grown-runs : (m t c : ℕ) → more m ≡ Some (t, c) → (after m).once ≡ true → (after c).once ≡ true → Stretch (depths after) (nexts after) (after c).depth (after c).next m
     grown-runs m t c s on from_on = elim (made n (Some (transit, p)) stays m (t, c) s) [
       | inl q ↦
           let g : p ≡ c = (pair (t, c) q.1).1 in
@@ -286,7 +286,7 @@ module _ (branches after : Branches) (firsts : Firsts) (stays : LastStays) (leav
 
     no_way : (y : ℕ) → (branches y).next ≡ Some n → ⊥
     no_way y e =
-        let deep : 0 < (branches n).depth = h.ordered.below_root y n e in
+        let deep : 0 < (branches n).depth = h.ordered.no_link_to_a_root y n e in
         absurd (omega (arith, deep, flat_n))
 
     grown-one : (one other m : ℕ) → (after one).next ≡ Some m → (after other).next ≡ Some m → one ≡ other
@@ -310,7 +310,7 @@ module _ (branches after : Branches) (firsts : Firsts) (stays : LastStays) (leav
             new : (b : Bool) → eqb n m ≡ b → 0 < (after m).depth
             new true k = absurd (no_way a.0 (a.1 ∙ ap Some (sym (eqb-true n m k))))
             new false k =
-                let deep : 0 < (branches m).depth = h.ordered.below_root a.0 m a.1 in
+                let deep : 0 < (branches m).depth = h.ordered.no_link_to_a_root a.0 m a.1 in
                 let d : (after m).depth ≡ (branches m).depth = (grown-old m k).1 in
                 omega (arith, deep, d)
 
@@ -362,7 +362,7 @@ module _ (branches after : Branches) (firsts : Firsts) (stays : LastStays) (leav
         deeper = grown-deeper;
         runs = grown-runs;
         one_before = grown-one;
-        below_root = grown-below;
+        no_link_to_a_root = grown-below;
       };
       once = grown-once;
     }
@@ -370,19 +370,16 @@ module _ (branches after : Branches) (firsts : Firsts) (stays : LastStays) (leav
   module _ (at_n : after n ≡ record root { once = false }) (others : (x : ℕ) → eqb n x ≡ false → after x ≡ branches x)
       (twice : (is_once (leaves transit) && (branches p).once) ≡ false) where
     off_n : (after n).once ≡ true → ⊥
-    off_n on = true-false (sym on ∙ ap (λ (b : Branch). b.once) at_n)
-      where
-        true-false : true ≡ false → ⊥
-        true-false e = grind (arith, e)
+    off_n on = true≢false (sym on ∙ ap (λ (b : Branch). b.once) at_n)
 
-    dead-new : (m : ℕ) (s : ℕ × ℕ) → more m ≡ Some s → (after m).once ≡ true → (eqb n m ≡ false) × (stays m ≡ Some s)
-    dead-new m s e on = elim (made n (Some (transit, p)) stays m s e) [
+    marked-new : (m : ℕ) (s : ℕ × ℕ) → more m ≡ Some s → (after m).once ≡ true → (eqb n m ≡ false) × (stays m ≡ Some s)
+    marked-new m s e on = elim (made n (Some (transit, p)) stays m s e) [
       | inl q ↦ absurd (off_n (ap (λ (y : ℕ). (after y).once) q.0 ∙ on))
       | inr q ↦ q
     ]
 
-    dead-depths : depths branches ≡ depths after
-    dead-depths = λ i x. at x (eqb n x) refl i
+    marked-depths : depths branches ≡ depths after
+    marked-depths = λ i x. at x (eqb n x) refl i
       where
         at : (x : ℕ) (b : Bool) → eqb n x ≡ b → (branches x).depth ≡ (after x).depth
         at x true e =
@@ -390,62 +387,62 @@ module _ (branches after : Branches) (firsts : Firsts) (stays : LastStays) (leav
             ap (λ (y : ℕ). (branches y).depth) (sym same) ∙ flat_n ∙ sym (ap (λ (b : Branch). b.depth) at_n) ∙ ap (λ (y : ℕ). (after y).depth) same
         at x false e = sym (ap (λ (b : Branch). b.depth) (others x e))
 
-    dead-depth : (x : ℕ) → (after x).depth ≡ (branches x).depth
-    dead-depth x = λ i. (sym dead-depths) i x
+    marked-depth : (x : ℕ) → (after x).depth ≡ (branches x).depth
+    marked-depth x = λ i. (sym marked-depths) i x
 
-    dead-run : (c m : ℕ) → eqb n c ≡ false → Run (depths branches) (nexts branches) (branches c).depth (branches c).next m → Run (depths after) (nexts after) (after c).depth (after c).next m
-    dead-run c m apart run =
+    marked-run : (c m : ℕ) → eqb n c ≡ false → Stretch (depths branches) (nexts branches) (branches c).depth (branches c).next m → Stretch (depths after) (nexts after) (after c).depth (after c).next m
+    marked-run c m apart run =
         let past = run_past (depths branches) (nexts branches) (nexts after) n flat_n (λ x e. ap (λ (b : Branch). b.next) (others x e)) (branches c).depth run.through (branches c).next m run.leads in
-        let deep : IsRun (depths after) (nexts after) (branches c).depth (branches c).next run.through m =
-        subst (λ (d : ℕ → ℕ). IsRun d (nexts after) (branches c).depth (branches c).next run.through m) dead-depths past in
+        let deep : IsStretch (depths after) (nexts after) (branches c).depth (branches c).next run.through m =
+        subst (λ (d : ℕ → ℕ). IsStretch d (nexts after) (branches c).depth (branches c).next run.through m) marked-depths past in
         record {
           through = run.through;
-          leads = subst (λ (b : Branch). IsRun (depths after) (nexts after) b.depth b.next run.through m) (sym (others c apart)) deep;
+          leads = subst (λ (b : Branch). IsStretch (depths after) (nexts after) b.depth b.next run.through m) (sym (others c apart)) deep;
         }
 
-    dead-next : (x m : ℕ) → (after x).next ≡ Some m → (branches x).next ≡ Some m
-    dead-next x m e = by (eqb n x) refl
+    marked-next : (x m : ℕ) → (after x).next ≡ Some m → (branches x).next ≡ Some m
+    marked-next x m e = by (eqb n x) refl
       where
         by : (b : Bool) → eqb n x ≡ b → (branches x).next ≡ Some m
         by true g = absurd (none-some m (sym (ap (λ (b : Branch). b.next) at_n) ∙ ap (λ (y : ℕ). (after y).next) (eqb-true n x g) ∙ e))
         by false g = sym (ap (λ (b : Branch). b.next) (others x g)) ∙ e
 
-    dead-whole : (m : ℕ) (o : Option (ℕ × ℕ)) → stays m ≡ o → is_whole branches leaves o ≡ is_whole after leaves o
-    dead-whole m None e = refl
-    dead-whole m (Some s) e = sym (ap (λ (b : Branch). is_once (leaves s.0) && b.once) (others s.1 (from_before m s.0 s.1 e)))
+    marked-whole : (m : ℕ) (o : Option (ℕ × ℕ)) → stays m ≡ o → is_whole branches leaves o ≡ is_whole after leaves o
+    marked-whole m None e = refl
+    marked-whole m (Some s) e = sym (ap (λ (b : Branch). is_once (leaves s.0) && b.once) (others s.1 (from_before m s.0 s.1 e)))
 
-    dead-once : (m : ℕ) → (after m).once ≡ is_whole after leaves (more m)
-    dead-once m = by (eqb n m) refl
+    marked-once : (m : ℕ) → (after m).once ≡ is_whole after leaves (more m)
+    marked-once m = by (eqb n m) refl
       where
         by : (b : Bool) → eqb n m ≡ b → (after m).once ≡ is_whole after leaves (cond b (Some (transit, p)) (stays m))
         by true e =
             ap (λ (y : ℕ). (after y).once) (sym (eqb-true n m e)) ∙ ap (λ (b : Branch). b.once) at_n
             ∙ sym twice ∙ sym (ap (λ (b : Branch). is_once (leaves transit) && b.once) (others p (less-apart p n below)))
-        by false e = ap (λ (b : Branch). b.once) (others m e) ∙ h.once m ∙ dead-whole m (stays m) refl
+        by false e = ap (λ (b : Branch). b.once) (others m e) ∙ h.once m ∙ marked-whole m (stays m) refl
 
     -- the copy's journey has a stay that was ended twice
-    pub dead : AreBranches after firsts more leaves (n + 1)
-    dead = record {
+    pub marked : AreBranches after firsts more leaves (n + 1)
+    marked = record {
       ordered = record {
         within = more_within;
         ended = more_ended;
         known = h.ordered.known;
         earlier = h.ordered.earlier;
         of_first = more_of_first;
-        first = λ m t c s on. let q = dead-new m (t, c) s on in h.ordered.first m t c q.1 (sym (ap (λ (b : Branch). b.once) (others m q.0)) ∙ on);
-        flat = λ m s. let f = more_flat m s in dead-depth m ∙ h.ordered.flat m f.1;
-        low = λ m. let l : (branches m).depth ≤ m = h.ordered.low m in let d : (after m).depth ≡ (branches m).depth = dead-depth m in omega (arith, l, d);
+        first = λ m t c s on. let q = marked-new m (t, c) s on in h.ordered.first m t c q.1 (sym (ap (λ (b : Branch). b.once) (others m q.0)) ∙ on);
+        flat = λ m s. let f = more_flat m s in marked-depth m ∙ h.ordered.flat m f.1;
+        low = λ m. let l : (branches m).depth ≤ m = h.ordered.low m in let d : (after m).depth ≡ (branches m).depth = marked-depth m in omega (arith, l, d);
         deeper = λ m t c s on.
-            let q = dead-new m (t, c) s on in
-            dead-depth m ∙ h.ordered.deeper m t c q.1 (sym (ap (λ (b : Branch). b.once) (others m q.0)) ∙ on) ∙ ap (λ (d : ℕ). d + 1) (sym (dead-depth c));
+            let q = marked-new m (t, c) s on in
+            marked-depth m ∙ h.ordered.deeper m t c q.1 (sym (ap (λ (b : Branch). b.once) (others m q.0)) ∙ on) ∙ ap (λ (d : ℕ). d + 1) (sym (marked-depth c));
         runs = λ m t c s on from_on.
-            let q = dead-new m (t, c) s on in
+            let q = marked-new m (t, c) s on in
             let apart = from_before m t c q.1 in
-            dead-run c m apart (h.ordered.runs m t c q.1 (sym (ap (λ (b : Branch). b.once) (others m q.0)) ∙ on) (sym (ap (λ (b : Branch). b.once) (others c apart)) ∙ from_on));
-        one_before = λ one other m e g. h.ordered.one_before one other m (dead-next one m e) (dead-next other m g);
-        below_root = λ x m e. let deep : 0 < (branches m).depth = h.ordered.below_root x m (dead-next x m e) in let d : (after m).depth ≡ (branches m).depth = dead-depth m in omega (arith, deep, d);
+            marked-run c m apart (h.ordered.runs m t c q.1 (sym (ap (λ (b : Branch). b.once) (others m q.0)) ∙ on) (sym (ap (λ (b : Branch). b.once) (others c apart)) ∙ from_on));
+        one_before = λ one other m e g. h.ordered.one_before one other m (marked-next one m e) (marked-next other m g);
+        no_link_to_a_root = λ x m e. let deep : 0 < (branches m).depth = h.ordered.no_link_to_a_root x m (marked-next x m e) in let d : (after m).depth ≡ (branches m).depth = marked-depth m in omega (arith, deep, d);
       };
-      once = dead-once;
+      once = marked-once;
     }
 
 -- a Leave line of a stay that none named before
@@ -479,7 +476,7 @@ module _ (branches cut after : Branches) (firsts : Firsts) (stays : LastStays) (
 
   left_twice : (p : ℕ) → p < number → AreBranches after firsts (with_stay number (Some (transit, p)) stays) (left_again transit leaves) (number + 1)
   left_twice p below =
-      dead cut after firsts stays (left_again transit leaves) number transit p
+      marked cut after firsts stays (left_again transit leaves) number transit p
       (later cut firsts stays (left_again transit leaves) number (number + 1) (omega arith) h)
       (unused cut firsts stays (left_again transit leaves) number h) below (ap (λ (o : Option ℕ). is_some o) first)
       (λ t e. let past : number < number = before.ordered.earlier t number e in absurd (omega (arith, past)))

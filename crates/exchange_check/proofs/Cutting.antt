@@ -1,15 +1,21 @@
 -- A stay is ended again: every copy that grew from the first copy which left it is marked.
 use Rattle.std.proofs.Common.{◌≡◌, ◌∙◌, ℕ, ◌+◌, ◌<◌, ◌≤◌, Bool, true, false, ◌&&◌, not, cond, eqb, List, [], ◌∷◌, Option, Some, None, ◌⊎◌, inl, inr, refl, sym, ap, subst, arith}
 use Rattle.std.specs.Prelude.{is_some}
-use Rattle.std.proofs.lemmas.Bool.{eqb-true, eqb-false, eq-eqb, and_parts}
+use Rattle.std.proofs.lemmas.Bool.{true≢false, eqb-true, eqb-false, eq-eqb, and_parts}
 use Rattle.std.proofs.lemmas.Option.{same_Some, none-some}
 use Rattle.exchange_check.specs.declared.stays.Branch.{Branch}
 use Rattle.exchange_check.specs.Kept.{Leaves, left_again}
-use Rattle.exchange_check.specs.Stays.{LastStays, is_once, Branches, IsRun, Run, depths, nexts, Firsts, IsOrdered, is_whole, AreBranches, IsCutting}
-use Rattle.exchange_check.proofs.Runs.{weaker, no_run, ends_nowhere, before_run, not_itself, shrunk_run}
+use Rattle.exchange_check.specs.Stays.{LastStays, is_once, Branches, IsStretch, Stretch, depths, nexts, Firsts, IsOrdered, is_whole, AreBranches}
+use Rattle.exchange_check.proofs.Stretches.{weaker, no_run, ends_nowhere, before_run, not_itself, shrunk_run}
 
-true-false : true ≡ false → ⊥
-true-false e = grind (arith, e)
+-- a copy's stay was ended again: it isn't whole any more, and what grew from it, as far as the order leads from it to deeper copies,
+-- is still to be looked at
+pub record IsCutting (branches : Branches) (firsts : Firsts) (stays : LastStays) (leaves : Leaves) (number cut : ℕ) : Type 0 where
+  pub ordered : IsOrdered branches firsts stays leaves number
+  pub sound : (n : ℕ) → (branches n).once ≡ false → is_whole branches leaves (stays n) ≡ false
+  pub ahead : (n transit copy : ℕ) → stays n ≡ Some (transit, copy) → (branches n).once ≡ true → (is_once (leaves transit) && (branches copy).once) ≡ false
+      → Stretch (depths branches) (nexts branches) (branches cut).depth (branches cut).next n × ((branches cut).depth < (branches n).depth)
+  pub off : (branches cut).once ≡ false
 
 lower : (a b c : Bool) → (a && b) ≡ false → (c ≡ b) ⊎ (c ≡ false) → (a && c) ≡ false
 lower true b c h (inl e) = e ∙ h
@@ -69,7 +75,7 @@ module _ (branches : Branches) (firsts : Firsts) (stays : LastStays) (leaves : L
     deeper = h.ordered.deeper;
     runs = h.ordered.runs;
     one_before = h.ordered.one_before;
-    below_root = h.ordered.below_root;
+    no_link_to_a_root = h.ordered.no_link_to_a_root;
   }
 
   module _ (flat : (branches f).depth ≡ 0) where
@@ -89,7 +95,7 @@ module _ (branches : Branches) (firsts : Firsts) (stays : LastStays) (leaves : L
         let parts = whole-parts n t c s on in
         let one : is_once (again t) ≡ true = ap is_once (other t (alive-other n t c s on (apart-flat n t c s on))) ∙ parts.0 in
         sym (λ i. one i && parts.1 i)
-    whole-flat n false None on s = absurd (true-false (sym (ap (is_whole branches leaves) s) ∙ sym (h.once n) ∙ on))
+    whole-flat n false None on s = absurd (true≢false (sym (ap (is_whole branches leaves) s) ∙ sym (h.once n) ∙ on))
     whole-flat n false (Some (t, c)) on s = by (eqb transit t) refl
       where
         by : (b : Bool) → eqb transit t ≡ b → false ≡ (is_once (again t) && (branches c).once)
@@ -124,7 +130,7 @@ module _ (branches : Branches) (firsts : Firsts) (stays : LastStays) (leaves : L
     start-on x on = by (eqb f x) refl
       where
         by : (b : Bool) → eqb f x ≡ b → (b ≡ false) × ((branches x).once ≡ true)
-        by true e = absurd (true-false (sym on ∙ ap (λ (y : ℕ). (after y).once) (sym (eqb-true f x e)) ∙ ap (λ (b : Branch). b.once) at_f))
+        by true e = absurd (true≢false (sym on ∙ ap (λ (y : ℕ). (after y).once) (sym (eqb-true f x e)) ∙ ap (λ (b : Branch). b.once) at_f))
         by false e = (refl, sym (ap (λ (b : Branch). b.once) (others x e)) ∙ on)
 
     start-fewer : (x : ℕ) → ((after x).once ≡ (branches x).once) ⊎ ((after x).once ≡ false)
@@ -134,8 +140,8 @@ module _ (branches : Branches) (firsts : Firsts) (stays : LastStays) (leaves : L
         by true e = inr (ap (λ (y : ℕ). (after y).once) (sym (eqb-true f x e)) ∙ ap (λ (b : Branch). b.once) at_f)
         by false e = inl (ap (λ (b : Branch). b.once) (others x e))
 
-    start-run : (c m : ℕ) → Run (depths branches) (nexts branches) (branches c).depth (branches c).next m → Run (depths after) (nexts after) (after c).depth (after c).next m
-    start-run c m run = subst (λ (d : ℕ → ℕ). Run d (nexts after) (d c) (after c).next m) start-depths (subst (λ (k : ℕ → Option ℕ). Run (depths branches) k (branches c).depth (k c) m) start-nexts run)
+    start-run : (c m : ℕ) → Stretch (depths branches) (nexts branches) (branches c).depth (branches c).next m → Stretch (depths after) (nexts after) (after c).depth (after c).next m
+    start-run c m run = subst (λ (d : ℕ → ℕ). Stretch d (nexts after) (d c) (after c).next m) start-depths (subst (λ (k : ℕ → Option ℕ). Stretch (depths branches) k (branches c).depth (k c) m) start-nexts run)
 
     start-depth : (x : ℕ) → (after x).depth ≡ (branches x).depth
     start-depth x = λ i. (sym start-depths) i x
@@ -156,8 +162,8 @@ module _ (branches : Branches) (firsts : Firsts) (stays : LastStays) (leaves : L
       deeper = λ n t c s on. start-depth n ∙ h.ordered.deeper n t c s (start-on n on).1 ∙ ap (λ (d : ℕ). d + 1) (sym (start-depth c));
       runs = λ n t c s on from_on. start-run c n (h.ordered.runs n t c s (start-on n on).1 (start-on c from_on).1);
       one_before = λ one other n e g. h.ordered.one_before one other n (sym (start-next one) ∙ e) (sym (start-next other) ∙ g);
-      below_root = λ n m e.
-          let b : 0 < (branches m).depth = h.ordered.below_root n m (sym (start-next n) ∙ e) in
+      no_link_to_a_root = λ n m e.
+          let b : 0 < (branches m).depth = h.ordered.no_link_to_a_root n m (sym (start-next n) ∙ e) in
           let d : (after m).depth ≡ (branches m).depth = start-depth m in
           omega (arith, b, d);
     }
@@ -170,7 +176,7 @@ module _ (branches : Branches) (firsts : Firsts) (stays : LastStays) (leaves : L
         ap (λ (a : Bool). a && (after c).once) (twice t (eq-eqb transit t (sym (h.ordered.of_first transit f t c first s))))
 
     sound-other : (n : ℕ) (o : Option (ℕ × ℕ)) → stays n ≡ o → (branches n).once ≡ false → is_whole after again o ≡ false
-    sound-other n None s off = absurd (true-false (sym (ap (is_whole branches leaves) s) ∙ sym (h.once n) ∙ off))
+    sound-other n None s off = absurd (true≢false (sym (ap (is_whole branches leaves) s) ∙ sym (h.once n) ∙ off))
     sound-other n (Some (t, c)) s off = by (eqb transit t) refl
       where
         by : (b : Bool) → eqb transit t ≡ b → (is_once (again t) && (after c).once) ≡ false
@@ -187,7 +193,7 @@ module _ (branches : Branches) (firsts : Firsts) (stays : LastStays) (leaves : L
         by false e = sound-other n (stays n) refl (sym (ap (λ (b : Branch). b.once) (others n e)) ∙ off)
 
     start-ahead : (n t c : ℕ) → stays n ≡ Some (t, c) → (after n).once ≡ true → (is_once (again t) && (after c).once) ≡ false
-        → Run (depths after) (nexts after) (after f).depth (after f).next n × ((after f).depth < (after n).depth)
+        → Stretch (depths after) (nexts after) (after f).depth (after f).next n × ((after f).depth < (after n).depth)
     start-ahead n t c s on broken = by (eqb f c) refl
       where
         old : (eqb f n ≡ false) × ((branches n).once ≡ true)
@@ -196,18 +202,18 @@ module _ (branches : Branches) (firsts : Firsts) (stays : LastStays) (leaves : L
         parts : (is_once (leaves t) ≡ true) × ((branches c).once ≡ true)
         parts = whole-parts n t c s old.1
 
-        by : (b : Bool) → eqb f c ≡ b → Run (depths after) (nexts after) (after f).depth (after f).next n × ((after f).depth < (after n).depth)
+        by : (b : Bool) → eqb f c ≡ b → Stretch (depths after) (nexts after) (after f).depth (after f).next n × ((after f).depth < (after n).depth)
         by true e =
             let same : f ≡ c = eqb-true f c e in
             let run = h.ordered.runs n t c s old.1 parts.1 in
             let d : (branches n).depth ≡ (branches c).depth + 1 = h.ordered.deeper n t c s old.1 in
             let deep_f : (after f).depth ≡ (branches c).depth = start-depth f ∙ ap (λ (x : ℕ). (branches x).depth) same in
             let deep_n : (after n).depth ≡ (branches n).depth = start-depth n in
-            (subst (λ (x : ℕ). Run (depths after) (nexts after) (after x).depth (after x).next n) (sym same) (start-run c n run), omega (arith, d, deep_f, deep_n))
+            (subst (λ (x : ℕ). Stretch (depths after) (nexts after) (after x).depth (after x).next n) (sym same) (start-run c n run), omega (arith, d, deep_f, deep_n))
         by false e =
             let one : is_once (again t) ≡ true = ap is_once (other t (alive-other n t c s old.1 old.0)) ∙ parts.0 in
             let on_c : (after c).once ≡ true = ap (λ (b : Branch). b.once) (others c e) ∙ parts.1 in
-            absurd (true-false (sym (λ i. one i && on_c i) ∙ broken))
+            absurd (true≢false (sym (λ i. one i && on_c i) ∙ broken))
 
     pub cut_start : IsCutting after firsts stays again number f
     cut_start = record { ordered = start-ordered; sound = start-sound; ahead = start-ahead; off = ap (λ (b : Branch). b.once) at_f }
@@ -238,8 +244,8 @@ module _ (branches : Branches) (firsts : Firsts) (stays : LastStays) (leaves : L
     step-on x on = by (eqb c x) (eqb y x) refl refl
       where
         by : (a b : Bool) → eqb c x ≡ a → eqb y x ≡ b → ((a ≡ false) × (b ≡ false)) × ((branches x).once ≡ true)
-        by true b e g = absurd (true-false (sym on ∙ ap (λ (z : ℕ). (after z).once) (sym (eqb-true c x e)) ∙ off_c))
-        by false true e g = absurd (true-false (sym on ∙ ap (λ (z : ℕ). (after z).once) (sym (eqb-true y x g)) ∙ off_y))
+        by true b e g = absurd (true≢false (sym on ∙ ap (λ (z : ℕ). (after z).once) (sym (eqb-true c x e)) ∙ off_c))
+        by false true e g = absurd (true≢false (sym on ∙ ap (λ (z : ℕ). (after z).once) (sym (eqb-true y x g)) ∙ off_y))
         by false false e g = ((refl, refl), sym (ap (λ (b : Branch). b.once) (others x e g)) ∙ on)
 
     step-same : (x : ℕ) → eqb y x ≡ false → (after x).once ≡ (branches x).once
@@ -259,23 +265,23 @@ module _ (branches : Branches) (firsts : Firsts) (stays : LastStays) (leaves : L
     next_c : (after c).next ≡ (branches y).next
     next_c = ap (λ (b : Branch). b.next) at_c
 
-    shrunk : (above : ℕ) (l : List ℕ) (from : Option ℕ) (to : ℕ) → IsRun (depths branches) (nexts branches) above from l to → (from ≡ Some y → ⊥) → (to ≡ y → ⊥)
-        → Run (depths after) (nexts after) above from to
+    shrunk : (above : ℕ) (l : List ℕ) (from : Option ℕ) (to : ℕ) → IsStretch (depths branches) (nexts branches) above from l to → (from ≡ Some y → ⊥) → (to ≡ y → ⊥)
+        → Stretch (depths after) (nexts after) above from to
     shrunk above l from to run apart other =
-        subst (λ (d : ℕ → ℕ). Run d (nexts after) above from to) step-depths
+        subst (λ (d : ℕ → ℕ). Stretch d (nexts after) above from to) step-depths
         (shrunk_run (depths branches) (nexts branches) (nexts after) c y follows deep h.ordered.one_before next_c (λ x e g. ap (λ (b : Branch). b.next) (others x e g)) above l from to run apart other)
 
     itself : (branches y).next ≡ Some y → ⊥
     itself = not_itself (depths branches) (nexts branches) (nexts after) c y follows deep h.ordered.one_before next_c (λ x e g. ap (λ (b : Branch). b.next) (others x e g))
 
-    step-runs : (n t p : ℕ) → stays n ≡ Some (t, p) → (after n).once ≡ true → (after p).once ≡ true → Run (depths after) (nexts after) (after p).depth (after p).next n
+    step-runs : (n t p : ℕ) → stays n ≡ Some (t, p) → (after n).once ≡ true → (after p).once ≡ true → Stretch (depths after) (nexts after) (after p).depth (after p).next n
     step-runs n t p s on from_on =
         let at_n = step-on n on in
         let at_p = step-on p from_on in
         let run = h.ordered.runs n t p s at_n.1 at_p.1 in
         let moved = shrunk (branches p).depth run.through (branches p).next n run.leads
         (λ e. eqb-false c p at_p.0.0 (sym (h.ordered.one_before p c y e follows))) (λ e. eqb-false y n at_n.0.1 (sym e)) in
-        subst (λ (b : Branch). Run (depths after) (nexts after) b.depth b.next n) (sym (others p at_p.0.0 at_p.0.1)) moved
+        subst (λ (b : Branch). Stretch (depths after) (nexts after) b.depth b.next n) (sym (others p at_p.0.0 at_p.0.1)) moved
 
     abbrev Back : ℕ → ℕ → Type 0
     Back x m = (z : ℕ) × ((branches z).next ≡ Some m) × (x ≡ cond (eqb y z) c z)
@@ -309,9 +315,9 @@ module _ (branches : Branches) (firsts : Firsts) (stays : LastStays) (leaves : L
       deeper = λ n t p s on. step-depth n ∙ h.ordered.deeper n t p s (step-on n on).1 ∙ ap (λ (d : ℕ). d + 1) (sym (step-depth p));
       runs = step-runs;
       one_before = step-one;
-      below_root = λ n m e.
+      no_link_to_a_root = λ n m e.
           let a = back n m e in
-          let b : 0 < (branches m).depth = h.ordered.below_root a.0 m a.1 in
+          let b : 0 < (branches m).depth = h.ordered.no_link_to_a_root a.0 m a.1 in
           let d : (after m).depth ≡ (branches m).depth = step-depth m in
           omega (arith, b, d);
     }
@@ -330,7 +336,7 @@ module _ (branches : Branches) (firsts : Firsts) (stays : LastStays) (leaves : L
             let run = h.ordered.runs y t p s on p_on in
             let before : (branches p).depth < (branches c).depth =
             before_run (depths branches) (nexts branches) c y follows h.ordered.one_before (branches p).depth run.through (branches p).next run.leads
-            (λ g. absurd (true-false (sym p_on ∙ ap (λ (z : ℕ). (branches z).once) (h.ordered.one_before p c y g follows) ∙ h.off))) in
+            (λ g. absurd (true≢false (sym p_on ∙ ap (λ (z : ℕ). (branches z).once) (h.ordered.one_before p c y g follows) ∙ h.off))) in
             let d : (branches y).depth ≡ (branches p).depth + 1 = h.ordered.deeper y t p s on in
             absurd (omega (arith, before, d, deep))
         by false e = refl
@@ -344,15 +350,15 @@ module _ (branches : Branches) (firsts : Firsts) (stays : LastStays) (leaves : L
         by false e = lower-whole branches after leaves step-fewer (stays n) (h.sound n (sym (step-same n e) ∙ off))
 
     abbrev Ahead : ℕ → Type 0
-    Ahead n = Run (depths after) (nexts after) (after c).depth (after c).next n × ((after c).depth < (after n).depth)
+    Ahead n = Stretch (depths after) (nexts after) (after c).depth (after c).next n × ((after c).depth < (after n).depth)
 
     -- from the cut copy, as before but for the one after it
-    past_y : (n : ℕ) → eqb y n ≡ false → (l : List ℕ) → IsRun (depths branches) (nexts branches) (branches c).depth (branches c).next l n → Run (depths after) (nexts after) (after c).depth (after c).next n
+    past_y : (n : ℕ) → eqb y n ≡ false → (l : List ℕ) → IsStretch (depths branches) (nexts branches) (branches c).depth (branches c).next l n → Stretch (depths after) (nexts after) (after c).depth (after c).next n
     past_y n apart [] run = absurd (eqb-false y n apart (same_Some y n (sym follows ∙ run)))
     past_y n apart (x ∷ l) run =
         let same : x ≡ y = same_Some x y (sym run.0 ∙ follows) in
-        let rest = shrunk (branches c).depth l (branches y).next n (subst (λ (z : ℕ). IsRun (depths branches) (nexts branches) (branches c).depth (branches z).next l n) same run.2) itself (λ e. eqb-false y n apart (sym e)) in
-        subst (λ (b : Branch). Run (depths after) (nexts after) b.depth b.next n) (sym at_c) rest
+        let rest = shrunk (branches c).depth l (branches y).next n (subst (λ (z : ℕ). IsStretch (depths branches) (nexts branches) (branches c).depth (branches z).next l n) same run.2) itself (λ e. eqb-false y n apart (sym e)) in
+        subst (λ (b : Branch). Stretch (depths after) (nexts after) b.depth b.next n) (sym at_c) rest
 
     step-ahead : (n t p : ℕ) → stays n ≡ Some (t, p) → (after n).once ≡ true → (is_once (leaves t) && (after p).once) ≡ false → Ahead n
     step-ahead n t p s on broken = by (is_once (leaves t) && (branches p).once) refl
@@ -369,21 +375,21 @@ module _ (branches : Branches) (firsts : Firsts) (stays : LastStays) (leaves : L
         from_y : (branches p).once ≡ true → y ≡ p → Ahead n
         from_y p_on same =
             let run = h.ordered.runs n t p s at_n.1 p_on in
-            let at : IsRun (depths branches) (nexts branches) (branches y).depth (branches y).next run.through n =
-            subst (λ (z : ℕ). IsRun (depths branches) (nexts branches) (branches z).depth (branches z).next run.through n) (sym same) run.leads in
-            let low : IsRun (depths branches) (nexts branches) (branches c).depth (branches y).next run.through n =
+            let at : IsStretch (depths branches) (nexts branches) (branches y).depth (branches y).next run.through n =
+            subst (λ (z : ℕ). IsStretch (depths branches) (nexts branches) (branches z).depth (branches z).next run.through n) (sym same) run.leads in
+            let low : IsStretch (depths branches) (nexts branches) (branches c).depth (branches y).next run.through n =
             weaker (depths branches) (nexts branches) (branches y).depth (branches c).depth (omega (arith, deep)) run.through (branches y).next n at in
             let moved = shrunk (branches c).depth run.through (branches y).next n low itself (λ e. eqb-false y n at_n.0.1 (sym e)) in
             let d : (branches n).depth ≡ (branches p).depth + 1 = h.ordered.deeper n t p s at_n.1 in
             let e : (branches y).depth ≡ (branches p).depth = ap (λ (z : ℕ). (branches z).depth) same in
-            (subst (λ (b : Branch). Run (depths after) (nexts after) b.depth b.next n) (sym at_c) moved, omega (arith, d, e, deep, deep_c, deep_n))
+            (subst (λ (b : Branch). Stretch (depths after) (nexts after) b.depth b.next n) (sym at_c) moved, omega (arith, d, e, deep, deep_c, deep_n))
 
         by : (b : Bool) → (is_once (leaves t) && (branches p).once) ≡ b → Ahead n
         by true e =
             let parts = and_parts (is_once (leaves t)) (branches p).once e in
             elim (eqb y p) as (λ b. eqb y p ≡ b → Ahead n) [
               | true ↦ λ g. from_y parts.1 (eqb-true y p g)
-              | false ↦ λ g. absurd (true-false (sym (λ i. parts.0 i && (step-same p g ∙ parts.1) i) ∙ broken))
+              | false ↦ λ g. absurd (true≢false (sym (λ i. parts.0 i && (step-same p g ∙ parts.1) i) ∙ broken))
             ] refl
         by false e =
             let old = h.ahead n t p s at_n.1 e in
@@ -395,7 +401,7 @@ module _ (branches : Branches) (firsts : Firsts) (stays : LastStays) (leaves : L
 
   -- no deeper copy is after the cut one
   module _ (over : (y : ℕ) → (branches c).next ≡ Some y → (branches y).depth ≤ (branches c).depth) where
-    none-ahead : (n : ℕ) (o : Option ℕ) (l : List ℕ) → (branches c).next ≡ o → IsRun (depths branches) (nexts branches) (branches c).depth o l n → (branches c).depth < (branches n).depth → ⊥
+    none-ahead : (n : ℕ) (o : Option ℕ) (l : List ℕ) → (branches c).next ≡ o → IsStretch (depths branches) (nexts branches) (branches c).depth o l n → (branches c).depth < (branches n).depth → ⊥
     none-ahead n None l e run d = ends_nowhere (depths branches) (nexts branches) (branches c).depth n l run
     none-ahead n (Some y) l e run d = no_run (depths branches) (nexts branches) (branches c).depth y n (over y e) d l run
 

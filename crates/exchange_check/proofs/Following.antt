@@ -18,6 +18,7 @@ use Rattle.trace_model.specs.Journey.{Journey, begun, with_stay, copy_entered, l
 use Rattle.exchange_check.specs.Kept.{Facts, Leaves, leaves_after}
 use Rattle.exchange_check.specs.Stays.{stay_below, stay_of, last_stays, is_once, once_by}
 use Rattle.exchange_check.proofs.Noted.{leaves_at, count_more, events_more}
+use Rattle.exchange_check.proofs.Passing.{none_made}
 use Rattle.exchange_check.proofs.Told.{fact_of, travel_of}
 use Rattle.trace_model.specs.Sound.{where_passes}
 use Rattle.exchange_check.proofs.Messages.{line_at-bound, line_at-later, line_at-here}
@@ -111,14 +112,7 @@ module _ (network : Network) (facts : Facts) (leaves : Leaves) (run : Run) (ends
       ∙ (λ i. option_map (λ k. (transit, k)) (cond (below_found copy c in_copy i) (Some c) None))
 
   no_stay : (copy : ℕ) (fact : Fact) → facts copy ≡ Some fact → spent_transit fact.event ≡ None → last_stays facts copy ≡ None
-  no_stay copy fact a b =
-      ap (λ (o : Option Fact). option_and_then (stay_of facts copy) o) a
-      ∙ (λ i. cond (is_some fact.travel) (option_and_then (stay_below facts copy) (b i)) None)
-      ∙ either (is_some fact.travel)
-    where
-      either : (b : Bool) → cond {A = Option (ℕ × ℕ)} b None None ≡ None
-      either true = refl
-      either false = refl
+  no_stay copy fact a b = ap (λ (o : Option Fact). option_and_then (stay_of facts copy) o) a ∙ none_made facts copy fact b
 
   follow_one : (copy transit c : ℕ) (rest : Bool) → last_stays facts copy ≡ Some (transit, c) → c < copy → ((count : ℕ) → c < count → once_by (last_stays facts) leaves count c ≡ rest)
       → (count : ℕ) → copy < count → once_by (last_stays facts) leaves count copy ≡ (eqb (count_by (spends transit) run) 1 && rest)

@@ -1,8 +1,9 @@
 -- What is kept after one more line.
-use Rattle.std.proofs.Common.{◌≡◌, ◌∙◌, ℕ, zero, suc, ◌+◌, ◌<◌, ◌≤◌, Bool, true, false, ◌&&◌, cond, eqb, List, [], ◌∷◌, ◌++◌, length, Option, Some, None, refl, sym, ap, subst, arith, length-append, nat_eq}
+use Rattle.std.proofs.Common.{◌≡◌, ◌∙◌, ℕ, zero, suc, ◌+◌, ◌<◌, ◌≤◌, Bool, true, false, ◌&&◌, cond, eqb, List, [], ◌∷◌, ◌++◌, length, Option, Some, None, refl, sym, ap, subst, arith, length-append}
 use Rattle.std.specs.Prelude.{option_map, option_and_then, is_some, nat_lt}
 use Rattle.std.specs.Option.{option_map_or}
-use Rattle.std.specs.HashMap.{get}
+use Rattle.std.specs.BTreeMap.{get}
+use Rattle.std.specs.Ordering.{nat_cmp}
 use Rattle.std.proofs.lemmas.Bool.Decides.{nat_tests}
 use Rattle.network_model.specs.Network.{Network}
 use Rattle.exchange_check.specs.declared.facts.Fact.{Fact}
@@ -130,8 +131,8 @@ pub IsKept-line : (network : Network) (line : TraceLine) (count : ℕ) (m : Mach
     → after.facts.items ≡ items
     → site_in after.sites ≡ sites_told fact number (site_in kept.sites)
     → ((stays : LastStays) (leaves : Leaves) → AreStays kept.stays stays leaves number → AreStays after.stays (with_stay number (option_and_then (stay_of (fact_in items) number) fact) stays) (leaves_told fact leaves) (number + 1))
-    → get nat_eq after.stamps ≡ stamps_told fact number (site_in kept.sites) (get nat_eq kept.stamps)
-    → after.verdict ≡ judged network (fact_in items) (once_in kept.stays) (get nat_eq kept.stamps) (site_in kept.sites) fact line.out last kept.verdict
+    → get nat_cmp after.stamps ≡ stamps_told fact number (site_in kept.sites) (get nat_cmp kept.stamps)
+    → after.verdict ≡ judged network (fact_in items) (once_in kept.stays) (get nat_cmp kept.stamps) (site_in kept.sites) fact line.out last kept.verdict
     → IsKept after (count + 1) (after_line network line count m)
 IsKept-line network line count m kept after number last fact items h number_is last_is fact_is items_is items_after sites_is stays_is stamps_is verdict_is =
     let counted : number ≡ count = number_is ∙ h.count_is in

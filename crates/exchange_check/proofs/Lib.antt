@@ -1,4 +1,4 @@
-pub mod Runs
+pub mod Stretches
 pub mod Branches
 pub mod Cutting
 pub mod Links

@@ -1,7 +1,8 @@
 -- Lines that end no stay.
 use Rattle.std.proofs.Common.{◌≡◌, ◌∙◌, ℕ, ◌+◌, Bool, true, false, cond, Option, None, refl, sym, subst, arith}
-use Rattle.std.specs.Prelude.{option_and_then, is_some, nat_eq}
-use Rattle.std.specs.HashMap.{get}
+use Rattle.std.specs.Prelude.{option_and_then, is_some}
+use Rattle.std.specs.BTreeMap.{get}
+use Rattle.std.specs.Ordering.{nat_cmp}
 use Rattle.network_model.specs.declared.event.Event.{Event}
 use Rattle.network_model.specs.declared.event.Event.TheVariants.{Sync, SyncOne, Follow, Enter, Leave, Arrive, Hear, Request, Stamped, Tick, SetMaster, StepClock}
 use Rattle.network_model.specs.Kinds.{spent_transit}
@@ -44,7 +45,8 @@ others_pass (Tick node) h = passes (Tick node) refl
 others_pass (SetMaster node master) h = passes (SetMaster node master) refl
 others_pass (StepClock node diff) h = passes (StepClock node diff) refl
 
-none_made : (facts : Facts) (number : ℕ) (fact : Fact) → spent_transit fact.event ≡ None → stay_of facts number fact ≡ None
+-- a copy of a line that ends no stay has none
+pub none_made : (facts : Facts) (number : ℕ) (fact : Fact) → spent_transit fact.event ≡ None → stay_of facts number fact ≡ None
 none_made facts number fact h = (λ i. cond (is_some fact.travel) (option_and_then (stay_below facts number) (h i)) None) ∙ either (is_some fact.travel)
   where
     either : (b : Bool) → cond {A = Option (ℕ × ℕ)} b None None ≡ None
@@ -57,4 +59,4 @@ pub stays_pass : (kept : Stays) (facts : Facts) (number : ℕ) (fact : Fact) (st
 stays_pass kept facts number fact stays leaves p h =
     subst (λ (l : Leaves). AreStays kept (with_stay number (stay_of facts number fact) stays) l (number + 1)) (sym (p.1 leaves))
     (subst (λ (o : Option (ℕ × ℕ)). AreStays kept (with_stay number o stays) leaves (number + 1)) (sym (none_made facts number fact p.0))
-    (one_more (branch_in kept.branches.items) (get nat_eq kept.firsts) stays leaves number h))
+    (one_more (branch_in kept.branches.items) (get nat_cmp kept.firsts) stays leaves number h))

@@ -1,7 +1,8 @@
 -- What the checker keeps after lines, and its verdict on them. Its own functions cite these; what its callers are told is said
 -- by the lines alone.
-use Rattle.std.specs.Prelude.{◌≡◌, ℕ, ◌≤◌, [], ◌∷◌, length, nat_eq, ◌==◌, if◌then◌else◌, Option, Some, None, option_map}
-use Rattle.std.specs.HashMap.{get}
+use Rattle.std.specs.Prelude.{◌≡◌, ℕ, ◌≤◌, [], ◌∷◌, length, ◌==◌, if◌then◌else◌, Option, Some, None, option_map}
+use Rattle.std.specs.BTreeMap.{get}
+use Rattle.std.specs.Ordering.{nat_cmp}
 use Rattle.network_model.specs.Network.{Network}
 use Rattle.exchange_check.specs.declared.facts.Fact.{Fact}
 use Rattle.exchange_check.specs.declared.kept.Kept.{Kept}
@@ -77,6 +78,6 @@ pub record IsKept (kept : Kept) (count : ℕ) (m : Machine) : Type 0 where
   pub facts : fact_in kept.facts.items ≡ m.facts
   pub sites : site_in kept.sites ≡ m.sites
   pub stays : AreStays kept.stays (last_stays m.facts) m.leaves count
-  pub stamps : get nat_eq kept.stamps ≡ m.stamps
+  pub stamps : get nat_cmp kept.stamps ≡ m.stamps
   pub verdict : kept.verdict ≡ m.verdict
   pub within : accepted_count m.verdict ≤ count

@@ -1,6 +1,7 @@
 -- The stays that journeys have, and which of them were ended twice.
-use Rattle.std.specs.Prelude.{◌≡◌, ℕ, zero, suc, ◌+◌, ◌<◌, ◌≤◌, Bool, true, false, ◌&&◌, not, List, [], ◌∷◌, nat_eq, nat_lt, slice_get, unwrap_or, ◌==◌, is_some, if◌then◌else◌, Option, Some, None, option_map, option_and_then}
-use Rattle.std.specs.HashMap.{get}
+use Rattle.std.specs.Prelude.{◌≡◌, ℕ, zero, suc, ◌+◌, ◌<◌, ◌≤◌, Bool, true, false, ◌&&◌, not, List, [], ◌∷◌, nat_lt, slice_get, unwrap_or, ◌==◌, is_some, if◌then◌else◌, Option, Some, None, option_map, option_and_then}
+use Rattle.std.specs.BTreeMap.{get}
+use Rattle.std.specs.Ordering.{nat_cmp}
 use Rattle.std.specs.Option.{option_map_or}
 use Rattle.network_model.specs.Kinds.{entered_copy, spent_transit}
 use Rattle.trace_model.specs.Sound.{where_passes, below}
@@ -24,6 +25,7 @@ abbrev pub stay_of : Facts → (number : ℕ) → Fact → Option (ℕ × ℕ)
 stay_of facts number fact =
     if is_some fact.travel then option_and_then (stay_below facts number) (spent_transit fact.event) else None
 
+-- that of the copy of each number
 abbrev pub last_stays : Facts → LastStays
 last_stays facts copy = option_and_then (stay_of facts copy) (facts copy)
 
@@ -42,10 +44,11 @@ once_by stays leaves zero copy = true
 once_by stays leaves (suc count) copy =
     option_map_or (λ stay. is_once (leaves stay.0) && once_by stays leaves count stay.1) (stays copy) true
 
--- whether each stay of the journey of the copy of each number was ended once
+-- of the copy of each number: whether each stay of its journey was ended once
 abbrev pub Once : Type 0
 Once = ℕ → Bool
 
+-- by what its stays say
 abbrev pub once_of : LastStays → Leaves → Once
 once_of stays leaves copy = once_by stays leaves (suc copy) copy
 
@@ -57,6 +60,7 @@ Branches = ℕ → Branch
 abbrev pub root : Branch
 root = record { once = true; depth = 0; next = None }
 
+-- what a list has of each copy
 abbrev pub branch_in : List Branch → Branches
 branch_in branches copy = unwrap_or (slice_get branches copy) root
 
@@ -65,14 +69,16 @@ abbrev pub with_branch : ℕ → Branch → Branches → Branches
 with_branch number branch branches copy = if number == copy then branch else branches copy
 
 -- the copies through which the order leads from a link to a copy, each deeper than this
-abbrev pub IsRun : (depth : ℕ → ℕ) → (next : ℕ → Option ℕ) → (above : ℕ) → Option ℕ → List ℕ → ℕ → Type 0
-IsRun depth next above from [] to = from ≡ Some to
-IsRun depth next above from (copy ∷ later) to = (from ≡ Some copy) × (above < depth copy) × IsRun depth next above (next copy) later to
+abbrev pub IsStretch : (depth : ℕ → ℕ) → (next : ℕ → Option ℕ) → (above : ℕ) → Option ℕ → List ℕ → ℕ → Type 0
+IsStretch depth next above from [] to = from ≡ Some to
+IsStretch depth next above from (copy ∷ later) to = (from ≡ Some copy) × (above < depth copy) × IsStretch depth next above (next copy) later to
 
-pub record Run (depth : ℕ → ℕ) (next : ℕ → Option ℕ) (above : ℕ) (from : Option ℕ) (to : ℕ) : Type 0 where
+-- there are such copies
+pub record Stretch (depth : ℕ → ℕ) (next : ℕ → Option ℕ) (above : ℕ) (from : Option ℕ) (to : ℕ) : Type 0 where
   pub through : List ℕ
-  pub leads : IsRun depth next above from through to
+  pub leads : IsStretch depth next above from through to
 
+-- how deep each copy is, and which one comes after it
 abbrev pub depths : Branches → ℕ → ℕ
 depths branches copy = (branches copy).depth
 
@@ -87,22 +93,28 @@ Firsts = ℕ → Option ℕ
 abbrev pub with_first : (transit number : ℕ) → Firsts → Firsts
 with_first transit number firsts stay = if transit == stay then Some number else firsts stay
 
--- The order of the copies below a number has what grew from a copy after it, each deeper than it, up to the first that isn't.
--- Copies with a stay that was ended twice aren't looked for in it.
+-- The order of the copies below a number. Of copies that aren't marked, the links lead from a copy to each that grew from it
+-- directly, through copies deeper than the first.
 pub record IsOrdered (branches : Branches) (firsts : Firsts) (stays : LastStays) (leaves : Leaves) (number : ℕ) : Type 0 where
+  -- a copy grew from an older one
   pub within : (n transit copy : ℕ) → stays n ≡ Some (transit, copy) → (copy < n) × (n < number)
+  -- its last stay has a first Leave line, as each stay that was ended
   pub ended : (n transit copy : ℕ) → stays n ≡ Some (transit, copy) → is_some (firsts transit) ≡ true
   pub known : (transit : ℕ) → is_some (firsts transit) ≡ is_some (leaves transit)
+  -- which is below the number, and names that stay
   pub earlier : (transit first : ℕ) → firsts transit ≡ Some first → first < number
   pub of_first : (transit first other copy : ℕ) → firsts transit ≡ Some first → stays first ≡ Some (other, copy) → other ≡ transit
+  -- a copy that isn't marked left by the first Leave line of its stay
   pub first : (n transit copy : ℕ) → stays n ≡ Some (transit, copy) → (branches n).once ≡ true → firsts transit ≡ Some n
+  -- how deep copies are
   pub flat : (n : ℕ) → stays n ≡ None → (branches n).depth ≡ 0
   pub low : (n : ℕ) → (branches n).depth ≤ n
   pub deeper : (n transit copy : ℕ) → stays n ≡ Some (transit, copy) → (branches n).once ≡ true → (branches n).depth ≡ (branches copy).depth + 1
+  -- the links lead from a copy to what grew from it, never two to one copy, and none to a copy without a stay
   pub runs : (n transit copy : ℕ) → stays n ≡ Some (transit, copy) → (branches n).once ≡ true → (branches copy).once ≡ true
-      → Run (depths branches) (nexts branches) (branches copy).depth (branches copy).next n
+      → Stretch (depths branches) (nexts branches) (branches copy).depth (branches copy).next n
   pub one_before : (one other n : ℕ) → (branches one).next ≡ Some n → (branches other).next ≡ Some n → one ≡ other
-  pub below_root : (n after : ℕ) → (branches n).next ≡ Some after → 0 < (branches after).depth
+  pub no_link_to_a_root : (n after : ℕ) → (branches n).next ≡ Some after → 0 < (branches after).depth
 
 -- whether a copy's last stay was ended once, and those before it too
 abbrev pub is_whole : Branches → Leaves → Option (ℕ × ℕ) → Bool
@@ -113,18 +125,10 @@ pub record AreBranches (branches : Branches) (firsts : Firsts) (stays : LastStay
   pub ordered : IsOrdered branches firsts stays leaves number
   pub once : (n : ℕ) → (branches n).once ≡ is_whole branches leaves (stays n)
 
+-- the same of what is kept
 abbrev pub AreStays : Stays → LastStays → Leaves → ℕ → Type 0
-AreStays kept stays leaves number = AreBranches (branch_in kept.branches.items) (get nat_eq kept.firsts) stays leaves number
+AreStays kept stays leaves number = AreBranches (branch_in kept.branches.items) (get nat_cmp kept.firsts) stays leaves number
 
--- whether each stay of the journey of the copy of each number was ended once, as it is kept
+-- what is kept of each copy's journey
 abbrev pub once_in : Stays → Once
 once_in kept copy = (branch_in kept.branches.items copy).once
-
--- a copy's stay was ended again: it isn't whole any more, and what grew from it, as far as the order leads from it to deeper copies,
--- is still to be looked at
-pub record IsCutting (branches : Branches) (firsts : Firsts) (stays : LastStays) (leaves : Leaves) (number cut : ℕ) : Type 0 where
-  pub ordered : IsOrdered branches firsts stays leaves number
-  pub sound : (n : ℕ) → (branches n).once ≡ false → is_whole branches leaves (stays n) ≡ false
-  pub ahead : (n transit copy : ℕ) → stays n ≡ Some (transit, copy) → (branches n).once ≡ true → (is_once (leaves transit) && (branches copy).once) ≡ false
-      → Run (depths branches) (nexts branches) (branches cut).depth (branches cut).next n × ((branches cut).depth < (branches n).depth)
-  pub off : (branches cut).once ≡ false

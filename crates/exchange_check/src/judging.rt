@@ -1,8 +1,8 @@
 //! How a report is judged by what is kept.
 
 ghost use Rattle.std.specs.Prelude.{◌≡◌, ◌+◌, ◌<◌, ◌-ℤ◌, ◌&&◌, pos, option_map};
-ghost use Rattle.std.specs.Prelude.{nat_eq};
-ghost use Rattle.std.specs.HashMap.{get};
+ghost use Rattle.std.specs.BTreeMap.{get};
+ghost use Rattle.std.specs.Ordering.{nat_cmp};
 ghost use Rattle.ptp_units.specs.Exchange.{IsBracket, offset2, path2};
 ghost use Rattle.std.specs.Ordering.{int_eq};
 ghost use Rattle.ptp_units.specs.Moment.{bound};
@@ -340,7 +340,7 @@ impl Kept {
 
     /// Whether the slave learned between these two lines when its request departed.
     fn is_stamped(&self, request: u64, hearing: u64) -> bool
-        ensures { result ≡ is_stamped_by (get nat_eq self.now.stamps) request hearing }
+        ensures { result ≡ is_stamped_by (get nat_cmp self.now.stamps) request hearing }
     {
         let stamped = match self.stamps.get(&request) {
             Some(stamp) => *stamp < hearing,
@@ -351,7 +351,7 @@ impl Kept {
 
     /// The lines of a report of the line of this number.
     fn found(&self, slave: &Name, number: u64, report: &Report) -> Option<Found>
-        ensures { result ≡ found_by (fact_in self.now.facts.items) (get nat_eq self.now.stamps) slave.now number report.now }
+        ensures { result ≡ found_by (fact_in self.now.facts.items) (get nat_cmp self.now.stamps) slave.now number report.now }
     {
         if !(is_of_line(number, report)
             && self.is_stamped(report.request_tag, report.response_tag))
@@ -438,7 +438,7 @@ impl Kept {
 
     /// Why a report at a line isn't sound, or nothing where it is.
     pub(crate) fn reason(&self, nodes: &Nodes, fact: &Option<Fact>, report: &Report) -> Option<Why>
-        ensures { result ≡ reason_by nodes.now (fact_in self.now.facts.items) (once_in self.now.stays) (get nat_eq self.now.stamps) (site_in self.now.sites) fact.now report.now }
+        ensures { result ≡ reason_by nodes.now (fact_in self.now.facts.items) (once_in self.now.stays) (get nat_cmp self.now.stamps) (site_in self.now.sites) fact.now report.now }
     {
         let Some(fact) = fact else {
             return Some(Why::NoSuchLine);

@@ -1,9 +1,10 @@
 //! What is kept of the lines so far, and what one more line adds to it.
 
 ghost use Rattle.std.specs.Prelude.{◌≡◌, ◌≤ℤ◌, ◌+ℤ◌, ◌+◌, pos, option_map, option_and_then, unwrap_or, IfSome};
-ghost use Rattle.std.specs.Prelude.{ℕ, ◌==◌, nat_eq, is_some, if◌then◌else◌, Some, None, OnOk, OnErr};
+ghost use Rattle.std.specs.Prelude.{ℕ, ◌==◌, is_some, if◌then◌else◌, Some, None, OnOk, OnErr};
 ghost use Rattle.std.specs.Prelude.{◌<◌, MatchResult};
-ghost use Rattle.std.specs.HashMap.{get};
+ghost use Rattle.std.specs.BTreeMap.{get};
+ghost use Rattle.std.specs.Ordering.{nat_cmp};
 ghost use Rattle.trace_model.specs.Verdict.{accepted_count};
 ghost use Rattle.exchange_check.specs.Machine.{Machine, IsKept, start, judged, after_line, sites_told, leaves_told, stamps_told};
 ghost use Rattle.exchange_check.specs.Stays.{LastStays, stay_of, with_stay, AreStays, once_in};
@@ -26,7 +27,7 @@ use crate::stays::Stays;
 use network_model::{Event, Name, Nodes};
 use ptp_units::{ScaledTime, Seq};
 use std::alloc::Global;
-use std::collections::HashMap;
+use std::collections::{BTreeMap, HashMap};
 use trace_model::{TraceLine, TraceOut, Verdict};
 
 /// The longest residence that is counted exactly is below this, in units of 2^-16 ns.
@@ -39,10 +40,10 @@ pub(crate) struct Kept {
     pub(crate) facts: Vec<Option<Fact>>,
     /// Of each node.
     pub(crate) sites: HashMap<Name, Site>,
-    /// Of stays, and of the copies that left them.
+    /// Of stays, and of the copies that left after them.
     pub(crate) stays: Stays,
     /// Of each request: the number of the line at which its departure was learned.
-    pub(crate) stamps: HashMap<u64, u64>,
+    pub(crate) stamps: BTreeMap<u64, u64>,
     /// The verdict so far.
     pub(crate) verdict: Verdict,
 }
@@ -130,7 +131,7 @@ impl Kept {
             facts: Vec::new(alloc),
             sites: HashMap::new(alloc),
             stays: Stays::new(alloc),
-            stamps: HashMap::new(alloc),
+            stamps: BTreeMap::new(alloc),
             verdict: Verdict::Accepted(0),
         }
     }
@@ -314,7 +315,8 @@ impl Kept {
         Some(self.told(nodes, line, &self.known(nodes, line, number)))
     }
 
-    /// The copy that entered the clock which the copy of a line left, where its journey is known.
+    /// The copy that entered at the stay which a Leave line ends, where the journey of the copy that left
+    /// is known.
     fn entered(&self, fact: &Fact, transit: u64, number: u64) -> Option<u64>
         ensures stay { spent_transit fact.now.event ≡ Some transit
             → option_map (λ copy. (transit, copy)) result ≡ stay_of (fact_in self.now.facts.items) number fact.now }
@@ -336,11 +338,11 @@ impl Kept {
         ensures stays { (stays : LastStays) (leaves : Leaves) → AreStays self.old.stays stays leaves number → MatchResult result
             (λ _. AreStays self.new.stays (with_stay number (stay_of (fact_in self.old.facts.items) number fact.now) stays) (leaves_after fact.now.event leaves) (number + 1))
             (λ _. AreStays self.new.stays stays leaves number) }
-        ensures stamps { OnOk result (get nat_eq self.new.stamps ≡ stamps_after fact.now.event number (site_in self.old.sites) (get nat_eq self.old.stamps)) }
+        ensures stamps { OnOk result (get nat_cmp self.new.stamps ≡ stamps_after fact.now.event number (site_in self.old.sites) (get nat_cmp self.old.stamps)) }
         ensures facts { self.new.facts.items ≡ self.old.facts.items }
         ensures verdict { self.new.verdict ≡ self.old.verdict }
         ensures same_sites { OnErr result (site_in self.new.sites ≡ site_in self.old.sites) }
-        ensures same_stamps { OnErr result (get nat_eq self.new.stamps ≡ get nat_eq self.old.stamps) }
+        ensures same_stamps { OnErr result (get nat_cmp self.new.stamps ≡ get nat_cmp self.old.stamps) }
     {
         match &fact.event {
             Event::Sync { .. }
@@ -366,11 +368,11 @@ impl Kept {
         ensures stays { (stays : LastStays) (leaves : Leaves) → AreStays self.old.stays stays leaves number → MatchResult result
             (λ _. AreStays self.new.stays (with_stay number (option_and_then (stay_of (fact_in self.old.facts.items) number) fact.now) stays) (leaves_told fact.now leaves) (number + 1))
             (λ _. AreStays self.new.stays stays leaves number) }
-        ensures stamps { OnOk result (get nat_eq self.new.stamps ≡ stamps_told fact.now number (site_in self.old.sites) (get nat_eq self.old.stamps)) }
+        ensures stamps { OnOk result (get nat_cmp self.new.stamps ≡ stamps_told fact.now number (site_in self.old.sites) (get nat_cmp self.old.stamps)) }
         ensures facts { self.new.facts.items ≡ self.old.facts.items }
         ensures verdict { self.new.verdict ≡ self.old.verdict }
         ensures same_sites { OnErr result (site_in self.new.sites ≡ site_in self.old.sites) }
-        ensures same_stamps { OnErr result (get nat_eq self.new.stamps ≡ get nat_eq self.old.stamps) }
+        ensures same_stamps { OnErr result (get nat_cmp self.new.stamps ≡ get nat_cmp self.old.stamps) }
     {
         match fact {
             Some(told) => self.note(told, number),
@@ -381,7 +383,7 @@ impl Kept {
     /// The verdict after a line of this number with this fact, which is kept already.
     fn judged(&self, nodes: &Nodes, fact: &Option<Fact>, out: &TraceOut, number: u64) -> Verdict
         ensures { accepted_count self.now.verdict < 18446744073709551615 → result ≡ judged nodes.now (fact_in self.now.facts.items)
-            (once_in self.now.stays) (get nat_eq self.now.stamps) (site_in self.now.sites) fact.now out.now number self.now.verdict }
+            (once_in self.now.stays) (get nat_cmp self.now.stamps) (site_in self.now.sites) fact.now out.now number self.now.verdict }
     {
         let (Verdict::Accepted(count), TraceOut::Report(report)) = (self.verdict, out) else {
             return self.verdict;
@@ -469,9 +471,9 @@ fn move_site(sites: &mut HashMap<Name, Site>, event: &Event, number: u64) -> Res
 }
 
 /// The line of this number tells when the last request of its node departed.
-fn stamp(stamps: &mut HashMap<u64, u64>, last: Option<u64>, number: u64) -> Result<(), CheckFault>
-    ensures stamped { OnOk result (get nat_eq stamps.new ≡ stamped last number (get nat_eq stamps.old)) }
-    ensures unchanged { OnErr result (get nat_eq stamps.new ≡ get nat_eq stamps.old) }
+fn stamp(stamps: &mut BTreeMap<u64, u64>, last: Option<u64>, number: u64) -> Result<(), CheckFault>
+    ensures stamped { OnOk result (get nat_cmp stamps.new ≡ stamped last number (get nat_cmp stamps.old)) }
+    ensures unchanged { OnErr result (get nat_cmp stamps.new ≡ get nat_cmp stamps.old) }
 {
     let Some(request) = last else {
         return Ok(());

@@ -1,27 +1,34 @@
-//! The stays of copies in clocks, and the journeys that have one which was ended twice.
+//! The stays of copies in clocks, and the copies with a stay that was ended twice: these are marked.
+//!
+//! The copies of a message make a tree: a copy grew from the one that entered the clock which it
+//! left. They stand in an order, each linked to the next: after a copy comes all that grew from it,
+//! each deeper than it, up to the first that isn't deeper. A new copy is put right after the one that
+//! it grew from. When a stay is ended again, what grew from the copy that left after it first follows
+//! that copy in the order: it is marked and taken out.
 
-ghost use Rattle.std.specs.Prelude.{◌≡◌, ℕ, ◌<◌, ◌+◌, true, false, IfSome, Some, None, option_map, length, nat_eq, OnOk, OnErr, MatchResult};
-ghost use Rattle.std.specs.HashMap.{get};
+ghost use Rattle.std.specs.Prelude.{◌≡◌, ℕ, ◌<◌, ◌+◌, true, false, IfSome, Some, None, option_map, length, OnOk, OnErr, MatchResult};
+ghost use Rattle.std.specs.BTreeMap.{get};
+ghost use Rattle.std.specs.Ordering.{nat_cmp};
 ghost use Rattle.exchange_check.specs.Kept.{Leaves, left_again};
 ghost use Rattle.exchange_check.specs.Stays.{LastStays, with_stay, is_once, Once, Branches, root, branch_in, with_branch, Firsts, with_first, AreBranches, AreStays, once_in};
 
 use crate::refusal::CheckFault;
 use std::alloc::Global;
-use std::collections::HashMap;
+use std::collections::BTreeMap;
 
-/// What is kept of the copy of an event message.
+/// What is kept of a copy of an event message.
 #[derive(Clone, Copy, Debug)]
 pub(crate) struct Branch {
     /// Whether each stay of its journey was ended once.
     pub(crate) once: bool,
-    /// How many stays its journey has; 0 also where one of them had been ended before.
+    /// How many stays its journey has; 0 also where it was marked when it left.
     pub(crate) depth: u64,
-    /// The copy after it in the order: what grew from a copy stands after it, deeper than it.
+    /// The copy after it in the order.
     pub(crate) next: Option<u64>,
 }
 
 impl Branch {
-    /// A copy that was just sent, or none.
+    /// A copy without a stay, as one that was just sent; also the place of a line that made no copy.
     fn root() -> Branch
         ensures { result ≡ root }
     {
@@ -32,8 +39,8 @@ impl Branch {
         }
     }
 
-    /// A copy with a stay that was ended twice.
-    fn dead() -> Branch
+    /// A copy that is marked when it leaves.
+    fn marked() -> Branch
         ensures { result ≡ record root { once = false } }
     {
         Branch {
@@ -43,12 +50,13 @@ impl Branch {
     }
 }
 
-/// What is kept of stays and of the copies that left them.
+/// What is kept of stays and of the copies that left after them.
 #[derive(Drop)]
 pub(crate) struct Stays {
-    /// Of each Enter line that a Leave line names: the first one that does.
-    pub(crate) firsts: HashMap<u64, u64>,
-    /// Of each line: the copy that it made.
+    /// Of each number that a Leave line names as its Enter line's: the first such Leave line. Whoever
+    /// writes lines picks these numbers, so they aren't hashed.
+    pub(crate) firsts: BTreeMap<u64, u64>,
+    /// Of each line up to the last Leave line: the copy that it made.
     pub(crate) branches: Vec<Branch>,
 }
 
@@ -57,7 +65,7 @@ impl Stays {
         ensures { AreStays result (λ n. None) (λ n. None) 0 }
     {
         Stays {
-            firsts: HashMap::new(alloc),
+            firsts: BTreeMap::new(alloc),
             branches: Vec::new(alloc),
         }
     }
@@ -87,7 +95,8 @@ impl Stays {
         self.branches[copy as usize] = branch;
     }
 
-    /// Makes room for the copy of this number.
+    /// Makes room for the copy of this number. Where memory is refused, copies of which nothing is
+    /// kept may have been added.
     fn reach(&mut self, number: u64) -> Result<(), CheckFault>
         ensures room { OnOk result (number < length self.new.branches.items) }
         ensures branches { branch_in self.new.branches.items ≡ branch_in self.old.branches.items }
@@ -101,20 +110,27 @@ impl Stays {
         Ok(())
     }
 
-    /// A stay was ended again: marks the copy that left after it first, and all that grew from it.
-    /// What is marked so leaves the order, but for that copy, so each copy is passed twice at most.
+    /// A stay was ended again: marks the copy that left after it first and all that grew from it, and
+    /// takes these out of the order. That copy stays in it, so over all calls each copy is taken out
+    /// once at most.
     fn cut(&mut self, first: u64)
-        ensures stays { (stays : LastStays) (leaves : Leaves) (number transit : ℕ) → get nat_eq self.old.firsts transit ≡ Some first
+        ensures stays { (stays : LastStays) (leaves : Leaves) (number transit : ℕ) → get nat_cmp self.old.firsts transit ≡ Some first
             → AreStays self.old stays leaves number → AreStays self.new stays (left_again transit leaves) number }
         ensures length { length self.new.branches.items ≡ length self.old.branches.items }
         ensures firsts { self.new.firsts ≡ self.old.firsts }
     {
-        let cut = self.at(first);
-        let depth = cut.depth;
+        let left = self.at(first);
+        let depth = left.depth;
         if depth == 0 {
             return;
         }
-        self.set(first, Branch { once: false, ..cut });
+        self.set(
+            first,
+            Branch {
+                once: false,
+                ..left
+            },
+        );
         while let Some(copy) = self.at(first).next {
             let grown = self.at(copy);
             if grown.depth <= depth {
@@ -140,13 +156,13 @@ impl Stays {
     }
 
     /// Puts the copy of this number, which left its clock after a stay that no other line ended,
-    /// after the copy that entered there.
+    /// after the copy that entered there, or marks it where that one is marked.
     fn grow(&mut self, from: u64, number: u64)
         requires room { number < length self.old.branches.items }
         requires below { from < number }
         ensures stays { (stays : LastStays) (leaves : Leaves) (transit : ℕ) → AreStays self.old stays leaves (number + 1) → stays number ≡ None
-            → get nat_eq self.old.firsts transit ≡ Some number → is_once (leaves transit) ≡ true
-            → ((other : ℕ) → get nat_eq self.old.firsts other ≡ Some number → other ≡ transit)
+            → get nat_cmp self.old.firsts transit ≡ Some number → is_once (leaves transit) ≡ true
+            → ((other : ℕ) → get nat_cmp self.old.firsts other ≡ Some number → other ≡ transit)
             → AreStays self.new (with_stay number (Some (transit, from)) stays) leaves (number + 1) }
     {
         let parent = self.at(from);
@@ -168,13 +184,13 @@ impl Stays {
                 },
             );
         } else {
-            self.set(number, Branch::dead());
+            self.set(number, Branch::marked());
         }
     }
 
     /// The first Leave line of a stay.
     fn first(&self, transit: u64) -> Option<u64>
-        ensures { result ≡ get nat_eq self.now.firsts transit }
+        ensures { result ≡ get nat_cmp self.now.firsts transit }
     {
         match self.firsts.get(&transit) {
             Some(first) => Some(*first),
@@ -183,9 +199,9 @@ impl Stays {
     }
 
     /// The Leave line of this number is the first that names a stay.
-    fn name(&mut self, transit: u64, number: u64) -> Result<(), CheckFault>
-        ensures named { OnOk result (get nat_eq self.new.firsts ≡ with_first transit number (get nat_eq self.old.firsts)) }
-        ensures unchanged { OnErr result (get nat_eq self.new.firsts ≡ get nat_eq self.old.firsts) }
+    fn keep_first(&mut self, transit: u64, number: u64) -> Result<(), CheckFault>
+        ensures named { OnOk result (get nat_cmp self.new.firsts ≡ with_first transit number (get nat_cmp self.old.firsts)) }
+        ensures unchanged { OnErr result (get nat_cmp self.new.firsts ≡ get nat_cmp self.old.firsts) }
         ensures branches { self.new.branches ≡ self.old.branches }
     {
         match self.firsts.insert(transit, number) {
@@ -195,7 +211,8 @@ impl Stays {
     }
 
     /// A Leave line of this number, for the stay that began at the line `transit`, and the copy that
-    /// entered there, where the journey of the one that left is known.
+    /// entered there, where the journey of the one that left is known. Where memory is refused, nothing
+    /// that is kept changes.
     pub(crate) fn leave(
         &mut self,
         number: u64,
@@ -211,11 +228,11 @@ impl Stays {
         if let Some(first) = self.first(transit) {
             self.cut(first);
             if from.is_some() {
-                self.set(number, Branch::dead());
+                self.set(number, Branch::marked());
             }
             return Ok(());
         }
-        self.name(transit, number)?;
+        self.keep_first(transit, number)?;
         if let Some(copy) = from {
             self.grow(copy, number);
         }

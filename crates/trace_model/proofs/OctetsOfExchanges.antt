@@ -30,7 +30,7 @@ use Rattle.trace_model.specs.Complete.{EachExchangeIsWritten}
 use Rattle.trace_model.proofs.Messages.{each_message_is_written}
 
 -- what passed a test
-passed : {X : Type 0} (test : X → Bool) (o : Option X) {x : X} → where_passes test o ≡ Some x → (o ≡ Some x) × (test x ≡ true)
+pub passed : {X : Type 0} (test : X → Bool) (o : Option X) {x : X} → where_passes test o ≡ Some x → (o ≡ Some x) × (test x ≡ true)
 passed test None is = cc
 passed test (Some y) {x = x} is = by (test y) refl is
   where

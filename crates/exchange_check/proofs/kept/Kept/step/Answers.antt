@@ -1,7 +1,8 @@
 use Rattle.std.proofs.Common.{◌≡◌, ◌∷◌, [], ◌++◌, ◌-◌, ◌+◌, ◌<◌, length, arith, rules}
 use Rattle.std.proofs.lemmas.Grind.{common_steps}
-use Rattle.std.specs.Prelude.{nat_eq, option_and_then}
-use Rattle.std.specs.HashMap.{get}
+use Rattle.std.specs.Prelude.{option_and_then}
+use Rattle.std.specs.BTreeMap.{get}
+use Rattle.std.specs.Ordering.{nat_cmp}
 use Rattle.exchange_check.specs.Kept.{Leaves, fact_in, site_in}
 use Rattle.exchange_check.specs.Stays.{LastStays, stay_of, with_stay, AreStays}
 use Rattle.exchange_check.specs.Machine.{sites_told, leaves_told, stamps_told}
@@ -22,7 +23,7 @@ returns c = record {
       let stays_are : (stays : LastStays) (leaves : Leaves) → AreStays c.args.self.now.stays stays leaves c.len-number.result
       → AreStays c.tell.new.self.stays (with_stay c.len-number.result (option_and_then (stay_of (fact_in c.push.new.self.items) c.len-number.result) c.fact-fact.result) stays)
       (leaves_told c.fact-fact.result leaves) (c.len-number.result + 1) = search rules in
-      let stamps : get nat_eq c.tell.new.self.stamps ≡ stamps_told c.fact-fact.result c.len-number.result (site_in c.args.self.now.sites) (get nat_eq c.args.self.now.stamps) = search rules in
+      let stamps : get nat_cmp c.tell.new.self.stamps ≡ stamps_told c.fact-fact.result c.len-number.result (site_in c.args.self.now.sites) (get nat_cmp c.args.self.now.stamps) = search rules in
       IsKept-line c.args.nodes.now c.args.line.now count m c.args.self.now
       (record { facts = c.tell.new.self.facts; sites = c.tell.new.self.sites; stays = c.tell.new.self.stays; stamps = c.tell.new.self.stamps; verdict = c.judged-verdict.result })
       c.len-number.result (c.len-total.result - 1) c.fact-fact.result c.push.new.self.items h

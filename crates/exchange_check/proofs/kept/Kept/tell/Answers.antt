@@ -1,6 +1,7 @@
-use Rattle.std.proofs.Common.{◌+◌, ℕ, Option, nat_eq, sym, subst}
+use Rattle.std.proofs.Common.{◌+◌, ℕ, Option, sym, subst}
 use Rattle.std.specs.Prelude.{option_and_then}
-use Rattle.std.specs.HashMap.{get}
+use Rattle.std.specs.BTreeMap.{get}
+use Rattle.std.specs.Ordering.{nat_cmp}
 use Rattle.exchange_check.specs.declared.facts.Fact.{Fact}
 use Rattle.exchange_check.specs.Machine.{leaves_told}
 use Rattle.exchange_check.specs.Kept.{fact_in}
@@ -13,4 +14,4 @@ returns-in-None-clause-stays c stays leaves h =
     let kept = c.args.self.now.stays in
     let n : ℕ = c.args.number in
     subst (λ (f : Option Fact). AreStays kept (with_stay n (option_and_then (stay_of (fact_in c.args.self.now.facts.items) n) f) stays) (leaves_told f leaves) (n + 1)) (sym c.in-None.is)
-    (one_more (branch_in kept.branches.items) (get nat_eq kept.firsts) stays leaves n h)
+    (one_more (branch_in kept.branches.items) (get nat_cmp kept.firsts) stays leaves n h)

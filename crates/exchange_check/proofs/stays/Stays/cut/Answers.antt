@@ -1,5 +1,6 @@
-use Rattle.std.proofs.Common.{◌≡◌, ◌∙◌, ℕ, ◌+◌, ◌<◌, ◌≤◌, eqb, true, false, Some, None, length, nat_eq, Bool, cond, refl, sym, ap, subst, arith}
-use Rattle.std.specs.HashMap.{get}
+use Rattle.std.proofs.Common.{◌≡◌, ◌∙◌, ℕ, ◌+◌, ◌<◌, ◌≤◌, eqb, true, false, Some, None, length, Bool, cond, refl, sym, ap, subst, arith}
+use Rattle.std.specs.BTreeMap.{get}
+use Rattle.std.specs.Ordering.{nat_cmp}
 use Rattle.std.proofs.lemmas.Bool.{eqb-true}
 use Rattle.std.specs.Prelude.{is_some}
 use Rattle.std.proofs.lemmas.Bool.Decides.{nat_tests}
@@ -14,13 +15,13 @@ use Rattle.exchange_check.proofs.stays.Stays.cut.Goals as goal
 
 pub returns-then-depth-eq0-clause-stays : goal.returns-then-depth-eq0-clause-stays
 returns-then-depth-eq0-clause-stays c stays leaves number transit first h =
-    cut_flat (branch_in c.args.self.now.branches.items) (get nat_eq c.args.self.now.firsts) stays leaves number transit c.args.first h first
-    (ap (λ (b : Branch). b.depth) (sym c.at-cut.ensures) ∙ c.if-depth-eq0.true)
+    cut_flat (branch_in c.args.self.now.branches.items) (get nat_cmp c.args.self.now.firsts) stays leaves number transit c.args.first h first
+    (ap (λ (b : Branch). b.depth) (sym c.at-left.ensures) ∙ c.if-depth-eq0.true)
 
 pub set-requires : goal.set-requires
 set-requires c =
-    let same : c.at-cut.result.depth ≡ (branch_in c.args.self.now.branches.items c.args.first).depth = ap (λ (b : Branch). b.depth) c.at-cut.ensures in
-    let deep : c.at-cut.result.depth ≡ 0 → ⊥ = c.if-depth-eq0.false in
+    let same : c.at-left.result.depth ≡ (branch_in c.args.self.now.branches.items c.args.first).depth = ap (λ (b : Branch). b.depth) c.at-left.ensures in
+    let deep : c.at-left.result.depth ≡ 0 → ⊥ = c.if-depth-eq0.false in
     deep_within c.args.self.now.branches.items c.args.first (omega (arith, same, deep))
 
 pub loop-copy-init : goal.loop-copy-init
@@ -28,13 +29,13 @@ loop-copy-init c =
     let branches : Branches = branch_in c.args.self.now.branches.items in
     let after : Branches = branch_in c.set.new.self.branches.items in
     let f : ℕ = c.args.first in
-    let same : c.at-cut.result.depth ≡ (branches f).depth = ap (λ (b : Branch). b.depth) c.at-cut.ensures in
-    let nonzero : c.at-cut.result.depth ≡ 0 → ⊥ = c.if-depth-eq0.false in
+    let same : c.at-left.result.depth ≡ (branches f).depth = ap (λ (b : Branch). b.depth) c.at-left.ensures in
+    let nonzero : c.at-left.result.depth ≡ 0 → ⊥ = c.if-depth-eq0.false in
     let at_f : after f ≡ record (branches f) { once = false } =
-    (λ i. c.set.ensures.branches i f) ∙ with_branch-here branches f _ ∙ ap (λ (b : Branch). let d : Branch = record b { once = false } in d) c.at-cut.ensures in
+    (λ i. c.set.ensures.branches i f) ∙ with_branch-here branches f _ ∙ ap (λ (b : Branch). let d : Branch = record b { once = false } in d) c.at-left.ensures in
     let others : (x : ℕ) → eqb f x ≡ false → after x ≡ branches x = λ x e. (λ i. c.set.ensures.branches i x) ∙ with_branch-there branches f _ x e in (
       λ stays leaves number transit first h.
-          cut_start branches (get nat_eq c.args.self.now.firsts) stays leaves number transit f h first after (omega (arith, same, nonzero)) at_f others,
+          cut_start branches (get nat_cmp c.args.self.now.firsts) stays leaves number transit f h first after (omega (arith, same, nonzero)) at_f others,
       c.set.ensures.firsts,
       c.set.ensures.length,
       same ∙ sym (ap (λ (b : Branch). b.depth) at_f),
@@ -50,11 +51,11 @@ returns-then-grown-depth-clause-stays c stays leaves number transit first h =
     let over : (y : ℕ) → (branches c.args.first).next ≡ Some y → (branches y).depth ≤ (branches c.args.first).depth = λ y e.
     let same : c.in-Some.copy ≡ y = same_Some _ _ (sym link_is ∙ e) in
     let grown : c.at-grown.result.depth ≡ (branches y).depth = ap (λ (b : Branch). b.depth) c.at-grown.ensures ∙ ap (λ (x : ℕ). (branches x).depth) same in
-    let low : c.at-grown.result.depth ≤ c.at-cut.result.depth = c.if-grown-depth.true in
-    let deep : c.at-cut.result.depth ≡ (branches c.args.first).depth = inv.3 in
+    let low : c.at-grown.result.depth ≤ c.at-left.result.depth = c.if-grown-depth.true in
+    let deep : c.at-left.result.depth ≡ (branches c.args.first).depth = inv.3 in
     omega (arith, grown, low, deep) in
-    subst (λ (f : Firsts). AreBranches branches f stays (left_again transit leaves) number) (sym (ap (get nat_eq) inv.1))
-    (cut_done branches (get nat_eq c.args.self.now.firsts) stays (left_again transit leaves) number c.args.first cutting over)
+    subst (λ (f : Firsts). AreBranches branches f stays (left_again transit leaves) number) (sym (ap (get nat_cmp) inv.1))
+    (cut_done branches (get nat_cmp c.args.self.now.firsts) stays (left_again transit leaves) number c.args.first cutting over)
 
 pub set-requires-in-Some : goal.set-requires-in-Some
 set-requires-in-Some c =
@@ -66,8 +67,8 @@ set-requires-in-Some c =
 pub set-requires-in-Some-2 : goal.set-requires-in-Some-2
 set-requires-in-Some-2 c =
     let inv = c.loop-copy.invariant in
-    let deep : c.at-cut.result.depth ≡ (branch_in c.loop-copy.self.branches.items c.args.first).depth = inv.3 in
-    let some : 0 < c.at-cut.result.depth = inv.4 in
+    let deep : c.at-left.result.depth ≡ (branch_in c.loop-copy.self.branches.items c.args.first).depth = inv.3 in
+    let some : 0 < c.at-left.result.depth = inv.4 in
     let within : c.args.first < length c.loop-copy.self.branches.items = deep_within c.loop-copy.self.branches.items c.args.first (omega (arith, deep, some)) in
     let same : length c.set-in-Some.new.self.branches.items ≡ length c.loop-copy.self.branches.items = c.set-in-Some.ensures.length in
     omega (arith, within, same)
@@ -126,14 +127,14 @@ loop-copy-smaller c =
     let inv = c.loop-copy.invariant in
     let grown = c.at-grown.result in
     let follows : (branches f).next ≡ Some y = ap (λ (b : Branch). b.next) (sym c.at.ensures) ∙ c.in-Some.is in
-    let deep : c.at-cut.result.depth ≡ (branches f).depth = inv.3 in
-    let some : 0 < c.at-cut.result.depth = inv.4 in
+    let deep : c.at-left.result.depth ≡ (branches f).depth = inv.3 in
+    let some : 0 < c.at-left.result.depth = inv.4 in
     let same : grown.depth ≡ (branches y).depth = ap (λ (b : Branch). b.depth) c.at-grown.ensures in
-    let more : c.at-cut.result.depth < grown.depth = c.if-grown-depth.false in
+    let more : c.at-left.result.depth < grown.depth = c.if-grown-depth.false in
     let in_f : f < length items = deep_within items f (omega (arith, deep, some)) in
     let in_y : y < length items = deep_within items y (omega (arith, same, more)) in
     let kept : length c.set-in-Some-2.new.self.branches.items ≡ length items = c.set-in-Some-2.ensures.length ∙ c.set-in-Some.ensures.length in
-    let less = fewer branches (branch_in c.set-in-Some.new.self.branches.items) (branch_in c.set-in-Some-2.new.self.branches.items) f y c.at-cut.result.depth grown
+    let less = fewer branches (branch_in c.set-in-Some.new.self.branches.items) (branch_in c.set-in-Some-2.new.self.branches.items) f y c.at-left.result.depth grown
     (sym c.at-grown.ensures) deep (λ low. absurd (omega (arith, low, more))) c.set-in-Some.ensures.branches c.set-in-Some-2.ensures.branches (length items) follows in_y in_f in
     subst (λ (n : ℕ). links (branch_in c.set-in-Some-2.new.self.branches.items) n < links branches (length items)) (sym kept) less
 
@@ -146,7 +147,7 @@ loop-copy-preserved c =
     let after : Branches = branch_in c.set-in-Some-2.new.self.branches.items in
     let inv = c.loop-copy.invariant in
     let grown = c.at-grown.result in
-    let depth = c.at-cut.result.depth in
+    let depth = c.at-left.result.depth in
     let follows : (branches f).next ≡ Some y = ap (λ (b : Branch). b.next) (sym c.at.ensures) ∙ c.in-Some.is in
     let more : depth < grown.depth = c.if-grown-depth.false in
     let shallow : grown.depth ≤ depth → ⊥ = λ low. absurd (omega (arith, low, more)) in
@@ -156,7 +157,7 @@ loop-copy-preserved c =
     let own : depth ≡ (after f).depth = sym (ap (λ (b : Branch). b.depth) ((λ i. second i f) ∙ with_branch-here middle f _)) in (
       λ stays leaves number transit named h.
           let cutting = inv.0 stays leaves number transit named h in
-          cut_step branches (get nat_eq c.args.self.now.firsts) stays (left_again transit leaves) number f cutting after y follows
+          cut_step branches (get nat_cmp c.args.self.now.firsts) stays (left_again transit leaves) number f cutting after y follows
           (is_deeper branches middle after f y depth grown at inv.3 shallow first second)
           (then_at_y branches middle after f y depth grown at inv.3 shallow first second)
           (then_at_f branches middle after f y depth grown at inv.3 shallow first second cutting.off)
@@ -173,5 +174,5 @@ returns-clause-stays c stays leaves number transit first h =
     let inv = c.loop-copy.invariant in
     let cutting = inv.0 stays leaves number transit first h in
     let over : (y : ℕ) → (branches c.args.first).next ≡ Some y → (branches y).depth ≤ (branches c.args.first).depth = λ y e. absurd (none-some y (sym c.in_default.is ∙ ap (λ (b : Branch). b.next) c.at.ensures ∙ e)) in
-    subst (λ (f : Firsts). AreBranches branches f stays (left_again transit leaves) number) (sym (ap (get nat_eq) inv.1))
-    (cut_done branches (get nat_eq c.args.self.now.firsts) stays (left_again transit leaves) number c.args.first cutting over)
+    subst (λ (f : Firsts). AreBranches branches f stays (left_again transit leaves) number) (sym (ap (get nat_cmp) inv.1))
+    (cut_done branches (get nat_cmp c.args.self.now.firsts) stays (left_again transit leaves) number c.args.first cutting over)

@@ -1,14 +1,16 @@
-use Rattle.std.proofs.Common.{◌≡◌, ℕ, ◌<◌, Some, length, nat_eq}
-use Rattle.std.specs.HashMap.{get}
+use Rattle.std.proofs.Common.{◌≡◌, ℕ, ◌<◌, Some, length}
+use Rattle.std.specs.BTreeMap.{get}
+use Rattle.std.specs.Ordering.{nat_cmp}
 use Rattle.exchange_check.specs.Kept.{Leaves, left_again}
-use Rattle.exchange_check.specs.Stays.{LastStays, branch_in, AreStays, IsCutting}
+use Rattle.exchange_check.specs.Stays.{LastStays, branch_in, AreStays}
+use Rattle.exchange_check.proofs.Cutting.{IsCutting}
 use Rattle.exchange_check.proofs.Links.{links}
 use Rattle.exchange_check.proofs.stays.Stays.cut.Given as goal
 
 abbrev pub invariant-loop-copy : goal.invariant-loop-copy
 invariant-loop-copy l =
-    ((stays : LastStays) (leaves : Leaves) (number transit : ℕ) → get nat_eq l.fn.self.firsts transit ≡ Some l.fn.first → AreStays l.fn.self stays leaves number
-    → IsCutting (branch_in l.self.branches.items) (get nat_eq l.fn.self.firsts) stays (left_again transit leaves) number l.fn.first)
+    ((stays : LastStays) (leaves : Leaves) (number transit : ℕ) → get nat_cmp l.fn.self.firsts transit ≡ Some l.fn.first → AreStays l.fn.self stays leaves number
+    → IsCutting (branch_in l.self.branches.items) (get nat_cmp l.fn.self.firsts) stays (left_again transit leaves) number l.fn.first)
     × (l.self.firsts ≡ l.fn.self.firsts) × (length l.self.branches.items ≡ length l.fn.self.branches.items)
     × (l.depth ≡ (branch_in l.self.branches.items l.fn.first).depth) × (0 < l.depth)
 

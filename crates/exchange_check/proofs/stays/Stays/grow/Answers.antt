@@ -1,9 +1,10 @@
-use Rattle.std.proofs.Common.{◌≡◌, ◌∙◌, ℕ, ◌+◌, ◌<◌, ◌≤◌, ◌&&◌, eqb, true, false, Option, Some, nat_eq, sym, ap, subst, arith, rules}
+use Rattle.std.proofs.Common.{◌≡◌, ◌∙◌, ℕ, ◌+◌, ◌<◌, ◌≤◌, ◌&&◌, eqb, true, false, Option, Some, sym, ap, subst, arith, rules}
 use Rattle.std.specs.Prelude.{is_some}
-use Rattle.std.specs.HashMap.{get}
+use Rattle.std.specs.BTreeMap.{get}
+use Rattle.std.specs.Ordering.{nat_cmp}
 use Rattle.exchange_check.specs.declared.stays.Branch.{Branch}
 use Rattle.exchange_check.specs.Stays.{Branches, Firsts, with_stay, is_once, AreBranches, branch_in}
-use Rattle.exchange_check.proofs.Branches.{less-apart, with_branch-here, with_branch-there, grown, dead}
+use Rattle.exchange_check.proofs.Branches.{less-apart, with_branch-here, with_branch-there, grown, marked}
 use Rattle.exchange_check.proofs.stays.Stays.grow.Goals as goal
 
 pub returns-else-parent : goal.returns-else-parent
@@ -14,9 +15,9 @@ returns-else-parent c = record {
       let after : Branches = branch_in c.set-else-parent.new.self.branches.items in
       let off : (branches c.args.from).once ≡ false = ap (λ (b : Branch). b.once) (sym c.at-parent.ensures) ∙ c.if-parent.false in
       let twice : (is_once (leaves transit) && (branches c.args.from).once) ≡ false = λ i. once i && off i in
-      subst (λ (f : Firsts). AreBranches after f (with_stay n (Some (transit, c.args.from)) stays) leaves (n + 1)) (sym (ap (get nat_eq) c.set-else-parent.ensures.firsts))
-      (dead branches after (get nat_eq c.args.self.now.firsts) stays leaves n transit c.args.from h fresh c.requires.below
-      (ap (λ (o : Option ℕ). is_some o) first) its ((λ i. c.set-else-parent.ensures.branches i n) ∙ with_branch-here branches n _ ∙ c.dead.ensures)
+      subst (λ (f : Firsts). AreBranches after f (with_stay n (Some (transit, c.args.from)) stays) leaves (n + 1)) (sym (ap (get nat_cmp) c.set-else-parent.ensures.firsts))
+      (marked branches after (get nat_cmp c.args.self.now.firsts) stays leaves n transit c.args.from h fresh c.requires.below
+      (ap (λ (o : Option ℕ). is_some o) first) its ((λ i. c.set-else-parent.ensures.branches i n) ∙ with_branch-here branches n _ ∙ c.marked.ensures)
       (λ x e. (λ i. c.set-else-parent.ensures.branches i x) ∙ with_branch-there branches n _ x e) twice);
 }
 
@@ -43,6 +44,6 @@ returns-then-parent c = record {
       ∙ (λ i. let d : Branch = record { once = true; depth = sum i; next = (c.at-parent.ensures i).next } in d) in
       let others : (x : ℕ) → eqb p x ≡ false → eqb n x ≡ false → after x ≡ branches x = λ x e g.
       (λ i. c.set-then-parent.ensures.branches i x) ∙ with_branch-there middle n _ x g ∙ (λ i. c.set.ensures.branches i x) ∙ with_branch-there branches p _ x e in
-      subst (λ (f : Firsts). AreBranches after f (with_stay n (Some (transit, p)) stays) leaves (n + 1)) (sym (ap (get nat_eq) (c.set-then-parent.ensures.firsts ∙ c.set.ensures.firsts)))
-      (grown branches after (get nat_eq c.args.self.now.firsts) stays leaves n transit p h fresh below (ap (λ (o : Option ℕ). is_some o) first) its at_p at_n others on once first);
+      subst (λ (f : Firsts). AreBranches after f (with_stay n (Some (transit, p)) stays) leaves (n + 1)) (sym (ap (get nat_cmp) (c.set-then-parent.ensures.firsts ∙ c.set.ensures.firsts)))
+      (grown branches after (get nat_cmp c.args.self.now.firsts) stays leaves n transit p h fresh below (ap (λ (o : Option ℕ). is_some o) first) its at_p at_n others on once first);
 }
