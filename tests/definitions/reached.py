@@ -1,9 +1,10 @@
 #!/usr/bin/env python3
 """Lists the definitions of specs/ that the clauses of public functions reach, and compares them with docs/DEFINITIONS.md.
 
-A definition is reached where a clause of a public function, of a public trait or of a public type's model names it, or
-where a definition that is reached names it. docs/DEFINITIONS.md has a section for each crate, and has to name there, in
-backquotes, each definition of that crate that is reached; and it may name none that doesn't exist.
+A definition is reached where a clause of a public function or of a public trait, the value of a public type's model or
+what a public conversion gives names it, or where a definition that is reached names it. Views and invariants don't count:
+no caller sees them. docs/DEFINITIONS.md has a section for each crate, and has to name there, in backquotes, each definition
+of that crate that is reached, and no other.
 """
 
 import re
@@ -89,7 +90,7 @@ def clauses_of(lines):
             in_trait_impl = "Model for" not in line and of in public_types
         if line == "}":
             in_public_trait = in_trait_impl = in_model = False
-        if in_model and re.match(r"^\s*ghost (Value|invariant)\b", line):
+        if (in_model and re.match(r"^\s*ghost Value\b", line)) or (in_trait_impl and re.match(r"^\s*ghost from_gives\b", line)):
             yield line
         if re.match(r"^\s*pub (?:const )?fn ", line) or ((in_public_trait or in_trait_impl) and re.match(r"^\s*fn ", line)):
             taking, clause = True, []
@@ -151,13 +152,13 @@ def main():
     named = sections()
     missing = sorted((crate, file, name) for crate, file, name in found if name not in named.get(crate, ()))
     known = {}
-    for crate, _, name in definitions:
+    for crate, _, name in found:
         known.setdefault(crate, set()).add(name)
     absent = sorted((crate, name) for crate, words in named.items() for name in words if name not in known.get(crate, ()))
     for crate, file, name in missing:
         print(f"docs/DEFINITIONS.md: `{name}` of {crate}/specs/{file}.antt is reached by a public clause, and isn't named")
     for crate, name in absent:
-        print(f"docs/DEFINITIONS.md: {crate} has no definition `{name}`")
+        print(f"docs/DEFINITIONS.md: no public clause reaches a definition `{name}` of {crate}")
     print(f"{len(found)} definitions of {len(definitions)} are reached by public clauses")
     return 1 if missing or absent else 0
 
