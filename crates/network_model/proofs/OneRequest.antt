@@ -139,7 +139,7 @@ pub record IsOneRequest (network : Network) (slave : NodeName) (run : Run) (p : 
   pub unset : is_set_master p.event ≡ false
 
 pub one_request : (reach : ℕ) → reach ≤ 65536 → (network : Network) (port : PortSetup) (slave : NodeName) → slave_at network slave ≡ Some port
-    → (run : Run) → NumbersMeet reach network run → (p : Place) → IsIn run p → site_of p.event ≡ slave → (call : Call) → call_made network port p.event p.earlier ≡ Some call
+    → (run : Run) → NumbersMeet reach network slave run → (p : Place) → IsIn run p → site_of p.event ≡ slave → (call : Call) → call_made network port p.event p.earlier ≡ Some call
     → (c : DelayCompletion) → delay_completion (slave_setup port) (history_of network port slave p.earlier) call ≡ Some c → IsOneRequest network slave run p c
 one_request reach fits network port slave slave_is run meet p there site call made c brought =
     let before : IsRun network p.earlier = IsRun-place_at network run (tag_of p) p meet.accepted there in
@@ -156,7 +156,7 @@ one_request reach fits network port slave slave_is run meet p there site call ma
     let made_in : IsIn p.earlier answer.made = IsIn-place_at p.earlier at.copy answer.made answer.there in
     let origin_in : IsIn p.earlier answer.journey.origin = IsIn-within p.earlier answer.made answer.journey.origin made_in answer.origin_there in
     let heard : origin_heard p ≡ Some answer.journey.origin = ap (option_and_then (origin_of p.earlier)) at.used.heard ∙ answer.origin_is in
-    let near = used_near_request slave p.earlier answer.journey.origin reach answer.drawn (meet.used p answer.journey.origin there at.used.used heard) in
+    let near = used_near_request slave p.earlier answer.journey.origin reach answer.drawn (meet.used p answer.journey.origin there site at.used.used heard) in
     let number : of_count (port.first + count_by (is_at is_request slave) held.u.earlier) ≡ of_count (port.first + count_by (is_at is_request slave) answer.journey.origin.earlier) =
     sym held.number ∙ found.4 ∙ answer.number_is
     ∙ ap (λ (kind : Event → Bool). of_count (port.first + count_by kind answer.journey.origin.earlier)) (draws_with-request slave answer.journey.origin.event answer.drawn) in

@@ -97,7 +97,7 @@ made_of network answered report accepted reports =
       last = ap (last_sync_completion (slave_setup by.port)) longer ∙ parts.2;
     }
 
-module _ (reach : ℕ) (fits : reach ≤ 65536) (network : Network) (answered : Place) (report : Report) (meet : NumbersMeet reach network (until answered))
+module _ (reach : ℕ) (fits : reach ≤ 65536) (network : Network) (answered : Place) (report : Report) (meet : NumbersMeet reach network (site_of answered.event) (until answered))
     (reports : Reports network answered report) where
   made : IsMadeOf network (until answered) (site_of answered.event) report
   made = made_of network answered report meet.accepted reports
@@ -163,17 +163,17 @@ module _ (reach : ℕ) (fits : reach ≤ 65536) (network : Network) (answered : 
 -- in runs that are fresh and ticked
 pub each_of_one_sync : EachReportIsOfOneSync (IsFreshAndTicked exact_limits)
 each_of_one_sync network answered report premise reports =
-    is_of_one_sync 65536 (omega arith) network answered report (meet-fresh_ticked exact_limits network (until answered) premise) reports
+    is_of_one_sync 65536 (omega arith) network answered report (meet-fresh_ticked exact_limits network (site_of answered.event) (until answered) premise) reports
 
 pub each_of_one_request : EachReportIsOfOneRequest (IsFreshAndTicked exact_limits)
 each_of_one_request network answered report premise reports =
-    is_of_one_request 65536 (omega arith) network answered report (meet-fresh_ticked exact_limits network (until answered) premise) reports
+    is_of_one_request 65536 (omega arith) network answered report (meet-fresh_ticked exact_limits network (site_of answered.event) (until answered) premise) reports
 
 -- in runs within one turn of the numbers
 pub each_of_one_sync-one_turn : EachReportIsOfOneSync IsWithinTurn
 each_of_one_sync-one_turn network answered report premise reports =
-    is_of_one_sync 65536 (omega arith) network answered report (meet-one_turn network (until answered) premise) reports
+    is_of_one_sync 65536 (omega arith) network answered report (meet-one_turn network (site_of answered.event) (until answered) premise) reports
 
 pub each_of_one_request-one_turn : EachReportIsOfOneRequest IsWithinTurn
 each_of_one_request-one_turn network answered report premise reports =
-    is_of_one_request 65536 (omega arith) network answered report (meet-one_turn network (until answered) premise) reports
+    is_of_one_request 65536 (omega arith) network answered report (meet-one_turn network (site_of answered.event) (until answered) premise) reports

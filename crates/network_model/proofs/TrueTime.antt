@@ -179,7 +179,7 @@ error_is_asymmetry network run slave master report premise steady reported prese
     let answered : Place = reported.answered in
     let until_premise : IsFreshAndTicked exact_limits network (until answered) =
     until_each (IsFreshAndTicked exact_limits network) (fresh_ticked_shorter exact_limits network) run answered reported.there premise in
-    let meet = meet-fresh_ticked exact_limits network (until answered) until_premise in
+    let meet = meet-fresh_ticked exact_limits network (site_of answered.event) (until answered) until_premise in
     let sync = is_of_one_sync 65536 (omega arith) network answered report meet reported.reports in
     let request = is_of_one_request 65536 (omega arith) network answered report meet reported.reports in
     let double = each_twice network answered report (record { apart = until_premise.apart; accepted = until_premise.accepted }) reported.reports sync request in
