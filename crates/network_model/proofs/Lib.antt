@@ -47,5 +47,6 @@ pub mod Even
 pub mod Agreement
 pub mod Departures
 pub mod Completing
+pub mod HeardMessages
 pub mod Shown
 pub mod Evidence
