@@ -1,7 +1,7 @@
 -- Each report of an accepted run has its evidence: the order of its tags, that its messages were used, how the slave learnt
 -- when the request left, the journeys of the Sync and the Delay_Req, one domain, and corrections that aren't too big.
 -- A measurement is of the same messages, and no stay in a clock is spent twice.
-use Rattle.std.proofs.Common.{◌≡◌, ◌∙◌, ℕ, ◌+◌, ◌<◌, ◌≤◌, List, ◌∷◌, length, Option, Some, None, refl, sym, ap, subst, arith, inl, inr}
+use Rattle.std.proofs.Common.{◌≡◌, ◌∙◌, ℕ, ◌+◌, ◌≤◌, List, ◌∷◌, length, Option, Some, None, refl, sym, ap, subst, arith, inl, inr}
 use Rattle.std.specs.Prelude.{◌⊎◌, count_by, IfSome}
 use Rattle.slave_port.specs.declared.heard.Heard.TheVariants as answers
 use Rattle.slave_port.specs.declared.heard.Report.{Report}

@@ -8,11 +8,11 @@ use Rattle.slave_port.specs.History.{Call}
 use Rattle.network_model.specs.declared.event.Event.{Event}
 use Rattle.network_model.specs.declared.event.Event.TheVariants.{Sync, SyncOne, Follow, Enter, Leave, Arrive, Hear, Request, Stamped, Tick, SetMaster, StepClock}
 use Rattle.network_model.specs.declared.refusal.WorldRefusal.TheVariants.{NoCopy}
-use Rattle.network_model.specs.Network.{Network, NodeName, PortSetup, slave_port}
+use Rattle.network_model.specs.Network.{Network, PortSetup, slave_port}
 use Rattle.network_model.specs.Run.{Run, Place, place, site_of}
 use Rattle.network_model.specs.Kinds.{heard_copy}
 use Rattle.network_model.specs.Clock.{reading}
-use Rattle.network_model.specs.Truth.{slave_at, copy_of, origin_of, origin_made, origin_heard}
+use Rattle.network_model.specs.Truth.{slave_at, copy_of, origin_of, origin_made}
 use Rattle.network_model.specs.SlaveHistory.{call_made}
 use Rattle.network_model.specs.Outcome.{◌>>=◌, node_as, port_of, reads, arrived_outcome, heard, outcome_of}
 use Rattle.network_model.specs.Premises.{IsAcceptedRun}
@@ -20,7 +20,7 @@ use Rattle.network_model.specs.Pairs.{EachMessageIsHeard}
 use Rattle.network_model.proofs.Options.{some_value, ok_value, ok_step, ok_some}
 use Rattle.network_model.proofs.Made.{origin_of-place_at}
 use Rattle.network_model.proofs.Journeys.{origin_of-journey}
-use Rattle.network_model.proofs.Copies.{IsCopy, IsFollowUp, TwoStep, OneStep, DelayReq, FollowUp, DelayResp, copy_kind}
+use Rattle.network_model.proofs.Copies.{IsCopy, TwoStep, OneStep, DelayReq, FollowUp, DelayResp, copy_kind}
 use Rattle.network_model.proofs.Entries.{delay_req_copy}
 use Rattle.network_model.proofs.HeldMessages.{origin_of_follow}
 use Rattle.network_model.proofs.Completing.{hears, heard_outcome}

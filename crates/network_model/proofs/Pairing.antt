@@ -121,7 +121,8 @@ fresh_ticked_shorter limits network event earlier premise = record {
   ticked = λ slave. (premise.ticked slave).1;
 }
 
-shorter_for : (limits : Limits) (network : Network) (slave : NodeName) (event : Event) (earlier : Run) → IsFreshAndTickedFor limits network slave (event ∷ earlier)
+-- the premise on one slave does so too
+pub shorter_for : (limits : Limits) (network : Network) (slave : NodeName) (event : Event) (earlier : Run) → IsFreshAndTickedFor limits network slave (event ∷ earlier)
     → IsFreshAndTickedFor limits network slave earlier
 shorter_for limits network slave event earlier premise = record {
   apart = premise.apart;

@@ -1,6 +1,6 @@
 -- No pair is missed: a usable message completes where its partner, of the same Sync event or the same Request event, is held,
 -- and nowhere else. One way is that what completes is of one origin; the other, that one origin gives one sequenceId.
-use Rattle.std.proofs.Common.{◌≡◌, ◌∙◌, ℕ, zero, suc, ◌+◌, ◌-◌, ◌<◌, ◌≤◌, Bool, true, false, List, [], ◌∷◌, length, get_or, take, Option, Some, None, Ok, refl, sym, ap, subst, inl, inr, arith, option_map, option_and_then, if◌then◌else◌}
+use Rattle.std.proofs.Common.{◌≡◌, ◌∙◌, ℕ, zero, suc, ◌+◌, ◌-◌, ◌<◌, ◌≤◌, Bool, true, false, List, [], ◌∷◌, length, get_or, take, Option, Some, Ok, refl, sym, ap, subst, inl, inr, arith, option_map, option_and_then, if◌then◌else◌}
 use Rattle.std.specs.Prelude.{count_by, nat_eq, find, IsSome, Any, ◌↔◌, ◌⊎◌}
 use Rattle.std.specs.List.{All}
 use Rattle.std.proofs.lemmas.Bool.{eqb-true, eqb-false}

@@ -23,6 +23,10 @@ Premise = Network → Run → Type 0
 abbrev pub SlavePremise : Type 1
 SlavePremise = Network → NodeName → Run → Type 0
 
+-- a premise that doesn't ask which slave it is for
+abbrev pub whichever : Premise → SlavePremise
+whichever premise network slave run = premise network run
+
 -- a message that a slave hears isn't ignored
 abbrev pub is_of_use : Heard → Bool
 is_of_use answers.Held = true
