@@ -108,6 +108,7 @@ has_sync network port slave run now c report slave_is tag shown = record {
     event = shown.event;
     travelled = shown.of_master.made;
   };
+  drawn = shown.of_master.drawn;
   domain = record {
     own = port;
     other = shown.of_master.master;

@@ -17,7 +17,7 @@ use Rattle.slave_port.proofs.Uses.{HeardSync, HeardFollowUp, two_step_value, one
 use Rattle.network_model.specs.declared.event.Event.TheVariants.{Arrive}
 use Rattle.network_model.specs.Network.{Network, NodeName, PortSetup}
 use Rattle.network_model.specs.Run.{Run, Place, place_at, tag_of, IsIn, site_of}
-use Rattle.network_model.specs.Kinds.{is_at, is_sync, is_one_step_sync, is_request}
+use Rattle.network_model.specs.Kinds.{is_at, is_sync, is_one_step_sync, draws_sync, is_request}
 use Rattle.network_model.specs.Clock.{reading}
 use Rattle.network_model.specs.Journey.{Journey, journey_of}
 use Rattle.network_model.specs.Truth.{master_at, slave_at, copy_of}
@@ -27,10 +27,10 @@ use Rattle.network_model.specs.Premises.{IsAcceptedRun, is_used}
 use Rattle.network_model.specs.Exact.{HearsOf}
 use Rattle.network_model.specs.Evidence.{is_complete, is_completing, HasOutcome, SyncWasUsed, ShareDomain}
 use Rattle.network_model.proofs.Places.{accepted-place_at, IsRun-place_at, IsIn-within}
-use Rattle.network_model.proofs.Sites.{at_site}
+use Rattle.network_model.proofs.Sites.{at_kind, at_site}
 use Rattle.network_model.proofs.Exactness.{small_request}
 use Rattle.network_model.proofs.Entries.{UsedAt, arrived, heard_by, two_step_copy, one_step_copy}
-use Rattle.network_model.proofs.Pairing.{found_in}
+use Rattle.network_model.proofs.Pairing.{found_in, two_step_draws, one_step_draws}
 use Rattle.network_model.proofs.HeldMessages.{IsHeldSync, IsHeldFollow, held_syncs_are, held_follows_are}
 use Rattle.network_model.proofs.OneSync.{tagged}
 use Rattle.network_model.proofs.OneRequest.{answer_to_slave}
@@ -46,6 +46,7 @@ pub record IsOfMaster (network : Network) (run : Run) (copy : ℕ) (m : Contents
   pub master_is : master_at network node ≡ Some master
   pub domain : m.header.domain ≡ master.config.domain
   pub site : site_of journey.origin.event ≡ node
+  pub drawn : draws_sync journey.origin.event ≡ true
 
 -- what a run shows of the Sync's half of a report
 pub record IsSyncShown (network : Network) (port : PortSetup) (slave : NodeName) (run : Run) (now : ℕ) (c : SyncCompletion) : Type 0 where
@@ -127,6 +128,7 @@ module _ (network : Network) (port : PortSetup) (slave : NodeName) (slave_is : s
           master_is = drawn.port_is;
           domain = ap (λ (m : Contents). m.header.domain) drawn.is;
           site = at_site is_sync drawn.node drawn.journey.origin.event drawn.drawn;
+          drawn = at_kind draws_sync drawn.node drawn.journey.origin.event (two_step_draws drawn.node drawn.journey.origin.event drawn.drawn);
         };
         sync_used = record { p = p; there = tagged run p h.tag there at.tag_is; outcome = at.used.used };
         follow_used = record {
@@ -164,6 +166,7 @@ module _ (network : Network) (port : PortSetup) (slave : NodeName) (slave_is : s
           master_is = held.drawn.port_is;
           domain = ap (λ (m : Contents). m.header.domain) held.drawn.is;
           site = at_site is_sync held.drawn.node held.drawn.journey.origin.event held.drawn.drawn;
+          drawn = at_kind draws_sync held.drawn.node held.drawn.journey.origin.event (two_step_draws held.drawn.node held.drawn.journey.origin.event held.drawn.drawn);
         };
         sync_used = record { p = held.p; there = arrives; outcome = held.used.used };
         follow_used = record { p = p; there = tagged run p h.tag there at.tag_is; outcome = at.used.used };
@@ -193,6 +196,7 @@ module _ (network : Network) (port : PortSetup) (slave : NodeName) (slave_is : s
           master_is = drawn.port_is;
           domain = ap (λ (m : Contents). m.header.domain) drawn.is;
           site = at_site is_one_step_sync drawn.node drawn.journey.origin.event drawn.drawn;
+          drawn = at_kind draws_sync drawn.node drawn.journey.origin.event (one_step_draws drawn.node drawn.journey.origin.event drawn.drawn);
         };
         sync_used = record { p = p; there = tagged run p h.tag there at.tag_is; outcome = completing };
         follow_used = tt;

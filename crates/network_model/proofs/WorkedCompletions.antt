@@ -1,6 +1,6 @@
 -- What completes in one exchange through a clock, in the words of the law on pairs: a message finds its partner held and
 -- completes, or finds none and doesn't.
-use Rattle.std.proofs.Common.{◌≡◌, ℕ, pos, false, List, [], ◌∷◌, refl, arith, inr, Some, Ok}
+use Rattle.std.proofs.Common.{◌≡◌, pos, false, List, [], ◌∷◌, refl, arith, inr, Some, Ok}
 use Rattle.std.specs.Prelude.{IsSome, Any}
 use Rattle.ptp_units.specs.Moment.{stamp}
 use Rattle.event_codec.specs.declared.message.Body.TheVariants.{DelayResp}
@@ -16,7 +16,7 @@ use Rattle.slave_port.specs.Kept.{usable_two_step_sync, usable_follow_up, usable
 use Rattle.slave_port.specs.Requests.{held_requests}
 use Rattle.network_model.specs.declared.event.Event.TheVariants.{Sync, Arrive, Hear, Request}
 use Rattle.network_model.specs.Network.{PortSetup}
-use Rattle.network_model.specs.Run.{Place, place, tag_of}
+use Rattle.network_model.specs.Run.{Place, place}
 use Rattle.network_model.specs.Truth.{origin_heard}
 use Rattle.network_model.specs.SlaveHistory.{slave_setup}
 use Rattle.network_model.specs.Outcome.{outcome_of}

@@ -228,6 +228,7 @@ evidence = record {
     arrival = sync_arrival;
     journey = sync_journey;
     arrives = of_one_sync.sync.arrives;
+    drawn = refl;
     domain = one_domain;
     small = record { message = with_correction (sync m_config 0) (record { 0 = pos 131072000 }); arrived = refl; small = refl };
   };

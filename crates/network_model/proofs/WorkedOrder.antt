@@ -1,13 +1,13 @@
 -- Two reports of two Syncs in one window: no change of master and one tick are between the first Sync's completion and the
 -- second report, so the law on the order of reports speaks of them.
-use Rattle.std.proofs.Common.{◌≡◌, ◌<◌, ℕ, ℤ, pos, refl, arith, List, [], ◌∷◌, reverse, take, Some, Ok}
+use Rattle.std.proofs.Common.{◌≡◌, ℕ, pos, refl, arith, List, [], ◌∷◌, reverse, take, Some, Ok}
 use Rattle.slave_port.specs.declared.heard.Heard.TheVariants as answers
 use Rattle.slave_port.specs.declared.heard.Report.{Report}
 use Rattle.network_model.specs.declared.event.Event.{Event}
 use Rattle.network_model.specs.declared.event.Event.TheVariants.{Sync, Follow, Arrive, Hear, Request, Stamped, Tick, SetMaster}
 use Rattle.network_model.specs.declared.stepped.Outcome.TheVariants.{Done, Made, Heard}
 use Rattle.network_model.specs.Run.{Run, place}
-use Rattle.network_model.specs.Premises.{ordered_limits, IsFreshAndTicked, IsFreshAndTickedFor}
+use Rattle.network_model.specs.Premises.{ordered_limits, IsFreshAndTicked}
 use Rattle.network_model.specs.Reported.{ReportedIn}
 use Rattle.network_model.specs.Order.{completed_at, IsOneWindow, IsInOrder}
 use Rattle.network_model.proofs.Accepted.{IsNetwork-test, IsRun-test}

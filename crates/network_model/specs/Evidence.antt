@@ -12,7 +12,7 @@ use Rattle.network_model.specs.declared.stepped.Outcome.{Outcome}
 use Rattle.network_model.specs.declared.stepped.Outcome.TheVariants as outcomes
 use Rattle.network_model.specs.Network.{Network, NodeName, PortSetup}
 use Rattle.network_model.specs.Run.{Run, Place, IsIn, place_at, tag_of, until, site_of, events_after}
-use Rattle.network_model.specs.Kinds.{is_at, is_request, spends}
+use Rattle.network_model.specs.Kinds.{is_at, draws_sync, is_request, spends}
 use Rattle.network_model.specs.Journey.{Journey}
 use Rattle.network_model.specs.Truth.{master_at, slave_at, travelled}
 use Rattle.network_model.specs.Outcome.{outcome_of, IsRun}
@@ -79,12 +79,13 @@ pub record IsRepresented (network : Network) (journey : Journey) : Type 0 where
   pub arrived : travelled network journey ≡ Some message
   pub small : IsTrue (int_lt message.header.correction.0 too_big)
 
--- The Sync of a report's tag: the copy that arrived at the slave, after this journey, was drawn by a master of the slave's
--- domain, and its correction isn't too big.
+-- The Sync of a report's tag: a copy arrived at the slave, after this journey, of a Sync that a master of the slave's domain
+-- drew, and its correction isn't too big.
 pub record HasSync (network : Network) (run : Run) (slave : NodeName) (report : Report) : Type 0 where
   pub arrival : Place
   pub journey : Journey
   pub arrives : Arrives run report.sync_tag slave arrival journey
+  pub drawn : IsTrue (draws_sync journey.origin.event)
   pub domain : ShareDomain network slave (site_of journey.origin.event)
   pub small : IsRepresented network journey
 
