@@ -14,4 +14,4 @@ mod stays;
 
 pub use checker::{Checker, check};
 pub use refusal::CheckFault;
-pub use trace_model::{TraceLine, TraceOut, Verdict, Why};
+pub use trace_model::{TraceLine, TraceOut, Verdict, Why, laws};

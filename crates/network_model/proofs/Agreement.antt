@@ -11,7 +11,7 @@ use Rattle.network_model.specs.Clock.{difference}
 use Rattle.network_model.specs.Journey.{Journey, journey_of}
 use Rattle.network_model.specs.Outcome.{IsRun}
 use Rattle.network_model.specs.Present.{present_master}
-use Rattle.network_model.specs.Premises.{exact_limits, IsFreshAndTicked}
+use Rattle.network_model.specs.Premises.{exact_limits, IsFreshAndTickedFor}
 use Rattle.network_model.specs.Reported.{ReportedIn}
 use Rattle.network_model.specs.Level.{Crossing, crossings_of, way_to, maker_heard, sync_way, request_way, time_on, IsLevelFor}
 use Rattle.network_model.specs.TrueTime.{twice, KnowsMaster, TellsTrueTime}
@@ -45,7 +45,7 @@ even_ways network run report accepted level =
     sym (zipped run level.back (reverse level.there) level.even back (crossings-reverse run level.there there) level.goes_back ∙ time-reverse level.there)
 
 -- one slave knows the master's clock
-knows_master : (network : Network) (run : Run) (slave master : NodeName) (report : Report) (moment : ℕ) → IsFreshAndTicked exact_limits network run
+knows_master : (network : Network) (run : Run) (slave master : NodeName) (report : Report) (moment : ℕ) → IsFreshAndTickedFor exact_limits network slave run
     → (reported : ReportedIn network run slave report) → present_master slave reported.answered.earlier ≡ Some master → IsLevelFor run report → KnowsMaster run slave master report moment
 knows_master network run slave master report moment premise reported present level =
     let error = error_is_asymmetry network run slave master report premise level.steady reported present in
@@ -59,13 +59,13 @@ knows_master network run slave master report moment premise reported present lev
     known : (offset s m x y t : ℤ) → offset ≡ twice (s -ℤ m) +ℤ (x -ℤ y) → x ≡ y → twice (t +ℤ s) -ℤ offset ≡ twice (t +ℤ m)
     known offset s m x y t e f = omega (arith, ints)
 
--- in runs that are fresh and ticked
+-- in runs that are fresh and ticked for the slaves that report
 pub tells_true_time : TellsTrueTime
 tells_true_time = record {
   error = error_is_asymmetry;
   even = λ network run slave report premise reported level. even_ways network run report premise.accepted level;
-  agreement = λ network run one other master first second moment premise reported reported_too present present_too level level_too. (
+  agreement = λ network run one other master first second moment premise premise_too reported reported_too present present_too level level_too. (
     knows_master network run one master first moment premise reported present level,
-    knows_master network run other master second moment premise reported_too present_too level_too,
+    knows_master network run other master second moment premise_too reported_too present_too level_too,
   );
 }

@@ -124,21 +124,26 @@ pub delay_last : (setup : Setup) (earlier : List Call) (call : Call) (c : DelayC
 delay_last setup earlier call c is =
     last_after call (delay_completion setup earlier call) (delay_completions setup earlier) c (delay_hears setup earlier call c is) is
 
--- a report completes one of its halves
-pub report_completes : (setup : Setup) (earlier : List Call) (call : Call) (report : Report) → answer setup earlier call ≡ answers.Report report
+-- what is answered to complete something does
+pub completes_something : (setup : Setup) (earlier : List Call) (call : Call) → is_complete (answer setup earlier call) ≡ true
     → ((c : SyncCompletion) × (sync_completion setup earlier call ≡ Some c)) ⊎ ((c : DelayCompletion) × (delay_completion setup earlier call ≡ Some c))
-report_completes setup earlier call report is = by (ignored setup earlier call) is
+completes_something setup earlier call is = by (ignored setup earlier call) is
   where
     Completes : Type 0
     Completes = ((c : SyncCompletion) × (sync_completion setup earlier call ≡ Some c)) ⊎ ((c : DelayCompletion) × (delay_completion setup earlier call ≡ Some c))
 
     of_used : (sync : Option SyncCompletion) (delay : Option DelayCompletion) → sync_completion setup earlier call ≡ sync → delay_completion setup earlier call ≡ delay
-        → (if is_none sync && is_none delay then answers.Held else completed (last_sync_completion setup (call ∷ earlier)) (last_delay_completion setup (call ∷ earlier)))
-        ≡ answers.Report report → Completes
+        → is_complete (if is_none sync && is_none delay then answers.Held else completed (last_sync_completion setup (call ∷ earlier)) (last_delay_completion setup (call ∷ earlier)))
+        ≡ true → Completes
     of_used (Some sync) delay e f is = inl (sync, e)
     of_used None (Some delay) e f is = inr (delay, f)
     of_used None None e f is = cc
 
-    by : (reason : Option Reason) → unless_ignored reason (used setup earlier call) ≡ answers.Report report → Completes
+    by : (reason : Option Reason) → is_complete (unless_ignored reason (used setup earlier call)) ≡ true → Completes
     by (Some reason) is = cc
     by None is = of_used (sync_completion setup earlier call) (delay_completion setup earlier call) refl refl is
+
+-- a report completes one of its halves
+pub report_completes : (setup : Setup) (earlier : List Call) (call : Call) (report : Report) → answer setup earlier call ≡ answers.Report report
+    → ((c : SyncCompletion) × (sync_completion setup earlier call ≡ Some c)) ⊎ ((c : DelayCompletion) × (delay_completion setup earlier call ≡ Some c))
+report_completes setup earlier call report is = completes_something setup earlier call (ap is_complete is)

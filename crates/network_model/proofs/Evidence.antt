@@ -1,6 +1,7 @@
 -- Each report of an accepted run has its evidence: the order of its tags, that its messages were used, how the slave learnt
--- when the request left, one domain, and corrections that aren't too big. No stay in a clock is spent twice beside that.
-use Rattle.std.proofs.Common.{◌≡◌, ◌∙◌, ℕ, ◌+◌, ◌<◌, ◌≤◌, List, ◌∷◌, length, Option, Some, None, refl, sym, ap, subst, arith, inl, inr}
+-- when the request left, the journeys of the Sync and the Delay_Req, one domain, and corrections that aren't too big.
+-- A measurement is of the same messages, and no stay in a clock is spent twice.
+use Rattle.std.proofs.Common.{◌≡◌, ◌∙◌, ℕ, ◌+◌, ◌≤◌, List, ◌∷◌, length, Option, Some, None, refl, sym, ap, subst, arith, inl, inr}
 use Rattle.std.specs.Prelude.{◌⊎◌, count_by, IfSome}
 use Rattle.slave_port.specs.declared.heard.Heard.TheVariants as answers
 use Rattle.slave_port.specs.declared.heard.Report.{Report}
@@ -11,19 +12,18 @@ use Rattle.slave_port.specs.Answer.{report_of}
 use Rattle.slave_port.proofs.Uses.{report_parts}
 use Rattle.network_model.specs.declared.event.Event.TheVariants.{Arrive}
 use Rattle.network_model.specs.Network.{Network, NodeName, PortSetup}
-use Rattle.network_model.specs.Run.{Run, Place, tag_of, until, site_of, events_after}
+use Rattle.network_model.specs.Run.{Run, Place, place_at, tag_of, IsIn, until, site_of, events_after}
 use Rattle.network_model.specs.Kinds.{is_at, is_request, draws_sync}
-use Rattle.network_model.specs.Journey.{Journey}
-use Rattle.network_model.specs.Truth.{master_at, slave_at, copy_of, travelled}
+use Rattle.network_model.specs.Journey.{Journey, journey_of}
+use Rattle.network_model.specs.Truth.{master_at, slave_at}
 use Rattle.network_model.specs.SlaveHistory.{slave_setup, call_made, history_of}
-use Rattle.network_model.specs.Outcome.{IsRun}
 use Rattle.network_model.specs.Premises.{IsAcceptedRun, is_used}
 use Rattle.network_model.specs.Reported.{Reports}
-use Rattle.network_model.specs.Exact.{Arrives, HearsOf, LearnsDeparture, IsOfOneSync, IsOfOneRequest}
-use Rattle.network_model.specs.Evidence.{is_completing, HasOutcome, SyncWasUsed, TagsInOrder, WasStamped, ShareDomain, IsRepresented, EachReportHasEvidence, ShowsEvidence}
-use Rattle.network_model.proofs.Places.{place_at-bound, tag_of-place_at, IsIn-place_at, IsIn-within}
+use Rattle.network_model.specs.Exact.{Arrives, HearsOf, IsMeasurement}
+use Rattle.network_model.specs.Evidence.{is_completing, HasOutcome, SyncWasUsed, TagsInOrder, WasStamped, ShareDomain, IsRepresented, HasSync, HasRequest, EachReportHasEvidence, EvidenceIsOfMeasurements, ShowsEvidence}
+use Rattle.network_model.proofs.Places.{place_at-bound, IsIn-place_at, IsIn-within}
 use Rattle.network_model.proofs.Sites.{at_site}
-use Rattle.network_model.proofs.Journeys.{IsIn-last, IsIn-origin}
+use Rattle.network_model.proofs.Journeys.{IsIn-last}
 use Rattle.network_model.proofs.Travelled.{copy_of-travelled}
 use Rattle.network_model.proofs.Requests.{waiting_request-is}
 use Rattle.network_model.proofs.Answers.{answered_by}
@@ -36,11 +36,9 @@ use Rattle.network_model.proofs.Departures.{waits_alone}
 use Rattle.network_model.proofs.Shown.{IsSyncShown, IsRequestShown, sync_shown, request_shown}
 
 -- a Follow_Up's tag is one of the run
-follow_bound : (run : Run) (slave master : NodeName) (follow : Option ℕ) (origin : Place) → LearnsDeparture run slave master follow origin
-    → (last : ℕ) → length run ≡ last + 1 → IfSome follow (λ tag. tag ≤ last)
-follow_bound run slave master None origin learns last ends = tt
-follow_bound run slave master (Some tag) origin learns last ends =
-    let below = place_at-bound run tag learns.hears.hearing learns.hears.there in omega arith
+follow_bound : (network : Network) (run : Run) (follow : Option ℕ) → IfSome follow (HasOutcome network run is_used) → (last : ℕ) → length run ≡ last + 1 → IfSome follow (λ tag. tag ≤ last)
+follow_bound network run None used last ends = tt
+follow_bound network run (Some tag) used last ends = let below = place_at-bound run tag used.p used.there in omega arith
 
 -- one of the report's messages is heard at its own event
 abbrev IsHeardAt : ℕ → Report → Type 0
@@ -51,7 +49,7 @@ heard_by_sync : (now : ℕ) (report : Report) (sync c : SyncCompletion) (delay :
 heard_by_sync now report sync c delay is same (inl e) = inl (ap (λ (r : Report). r.sync_tag) is ∙ ap (λ (c : SyncCompletion). c.sync_tag) same ∙ e)
 heard_by_sync now report sync c delay is same (inr e) = inr (inl (ap (λ (r : Report). r.follow_tag) is ∙ ap (λ (c : SyncCompletion). c.follow_tag) same ∙ e))
 
-module _ (network : Network) (answered : Place) (report : Report) (all : IsRun network (until answered)) where
+module _ (network : Network) (answered : Place) (report : Report) (premise : IsAcceptedRun network (until answered)) where
   by_completion : (port : PortSetup) (slave_is : slave_at network (site_of answered.event) ≡ Some port) (call : Call) (made : call_made network port answered.event answered.earlier ≡ Some call)
       → (sync : SyncCompletion) (delay : DelayCompletion)
       → last_sync_completion (slave_setup port) (call ∷ history_of network port (site_of answered.event) answered.earlier) ≡ Some sync
@@ -60,11 +58,11 @@ module _ (network : Network) (answered : Place) (report : Report) (all : IsRun n
       ⊎ ((c : DelayCompletion) × (delay_completion (slave_setup port) (history_of network port (site_of answered.event) answered.earlier) call ≡ Some c))
       → IsHeardAt (tag_of answered) report
   by_completion port slave_is call made sync delay last last_delay is (inl (c, brought)) =
-      let shown = sync_shown network port (site_of answered.event) slave_is (until answered) all answered (IsIn-last answered.event answered.earlier) refl call made c brought in
+      let shown = sync_shown network port (site_of answered.event) slave_is (until answered) premise.accepted answered (IsIn-last answered.event answered.earlier) refl call made c brought in
       let both : Some sync ≡ Some c = sym last ∙ sync_last (slave_setup port) (history_of network port (site_of answered.event) answered.earlier) call c brought in
       heard_by_sync (tag_of answered) report sync c delay is (cc) shown.completed_now
   by_completion port slave_is call made sync delay last last_delay is (inr (c, brought)) =
-      let shown = request_shown network port (site_of answered.event) slave_is (until answered) all answered (IsIn-last answered.event answered.earlier) refl call made c brought in
+      let shown = request_shown network port (site_of answered.event) slave_is (until answered) premise answered (IsIn-last answered.event answered.earlier) refl call made c brought in
       let both : Some delay ≡ Some c = sym last_delay ∙ delay_last (slave_setup port) (history_of network port (site_of answered.event) answered.earlier) call c brought in
       let same : delay ≡ c = cc in
       inr (inr (ap (λ (r : Report). r.response_tag) is ∙ ap (λ (c : DelayCompletion). c.response_tag) same ∙ shown.completed_now))
@@ -75,27 +73,6 @@ module _ (network : Network) (answered : Place) (report : Report) (all : IsRun n
       let history : List Call = history_of network by.port (site_of answered.event) answered.earlier in
       let parts = report_parts (slave_setup by.port) history by.call report (sym by.is) in
       by_completion by.port by.slave by.call by.made parts.0 parts.1 parts.2 parts.3 parts.4 (report_completes (slave_setup by.port) history by.call report (sym by.is))
-
--- the request is before its Delay_Resp
-request_first : (run : Run) (slave : NodeName) (report : Report) → (m : IsOfOneRequest run slave report) → report.request_tag < report.response_tag
-request_first run slave report m =
-    let hears = m.request.hears in
-    let origin = tag_of-place_at run report.request_tag m.journey.origin m.request.requested in
-    let hearing = tag_of-place_at run report.response_tag hears.hearing hears.there in
-    let made = place_at-bound hears.hearing.earlier (tag_of m.arrival) m.arrival (IsIn-place_at hears.hearing.earlier hears.copy m.arrival hears.made_by) in
-    let begun = place_at-bound m.arrival.earlier (tag_of m.journey.origin) m.journey.origin (IsIn-origin m.arrival.earlier m.request.arrives.copy m.journey m.request.arrives.travelled) in
-    omega arith
-
-tags_in_order : (network : Network) (answered : Place) (report : Report) → IsRun network (until answered) → Reports network answered report
-    → (sync : IsOfOneSync (until answered) (site_of answered.event) report) → (request : IsOfOneRequest (until answered) (site_of answered.event) report)
-    → TagsInOrder (tag_of answered) report
-tags_in_order network answered report all reports sync request = record {
-  sync = let below = place_at-bound (until answered) report.sync_tag sync.arrival sync.sync.arrives.there in omega arith;
-  follow = follow_bound (until answered) (site_of answered.event) sync.master report.follow_tag sync.journey.origin sync.sync.departure (tag_of answered) (omega arith);
-  response = let below = place_at-bound (until answered) report.response_tag request.request.hears.hearing request.request.hears.there in omega arith;
-  heard_now = heard_now network answered report all reports;
-  request = request_first (until answered) (site_of answered.event) report request;
-}
 
 -- the event by which the slave learnt when the request left
 was_stamped : (network : Network) (port : PortSetup) (slave : NodeName) (run : Run) (now : ℕ) (c : DelayCompletion) (report : Report) → report.request_tag ≡ c.request_tag → report.response_tag ≡ c.response_tag
@@ -118,72 +95,149 @@ was_stamped network port slave run now c report request_tag response_tag shown =
           (waits_alone port slave learnt.at.earlier learnt.request learnt.waiting);
     }
 
--- one domain, and a Sync that isn't too big
-of_one_domain : (network : Network) (port : PortSetup) (slave : NodeName) (run : Run) (now : ℕ) (c : SyncCompletion) (report : Report) → slave_at network slave ≡ Some port
-    → report.sync_tag ≡ c.sync_tag → IsSyncShown network port slave run now c → (m : IsOfOneSync run slave report) → ShareDomain network slave m.master × IsRepresented network m.journey
-of_one_domain network port slave run now c report slave_is tag shown m =
-    let arrives : Arrives run c.sync_tag slave m.arrival m.journey = subst (λ (t : ℕ). Arrives run t slave m.arrival m.journey) tag m.sync.arrives in
-    let own : Arrives run c.sync_tag slave shown.arrival shown.of_master.journey =
-    record { copy = shown.copy; moment = shown.moment; there = shown.there; event = shown.event; travelled = shown.of_master.made } in
-    let one = one_arrival run c.sync_tag slave shown.arrival m.arrival shown.of_master.journey m.journey own arrives in
-    let names : shown.of_master.node ≡ m.master =
-    sym shown.of_master.site ∙ ap (λ (j : Journey). site_of j.origin.event) one.1
-    ∙ at_site draws_sync m.master m.journey.origin.event (origin_drawn run slave m.master report.follow_tag m.journey.origin m.sync.departure) in (
-      record {
-        own = port;
-        other = shown.of_master.master;
-        slave_port = slave_is;
-        master_port = ap (master_at network) (sym names) ∙ shown.of_master.master_is;
-        domain = sym shown.used.domain ∙ shown.of_master.domain;
-      },
-      record {
-        message = shown.m;
-        arrived = ap (travelled network) (sym one.1) ∙ sym (copy_of-travelled network shown.arrival.earlier shown.copy shown.of_master.journey shown.of_master.made) ∙ shown.used.m_is;
-        small = shown.used.small;
-      },
-    )
+-- the Sync, of one domain and not too big
+has_sync : (network : Network) (port : PortSetup) (slave : NodeName) (run : Run) (now : ℕ) (c : SyncCompletion) (report : Report) → slave_at network slave ≡ Some port
+    → report.sync_tag ≡ c.sync_tag → IsSyncShown network port slave run now c → HasSync network run slave report
+has_sync network port slave run now c report slave_is tag shown = record {
+  arrival = shown.arrival;
+  journey = shown.of_master.journey;
+  arrives = record {
+    copy = shown.copy;
+    moment = shown.moment;
+    there = ap (place_at run) tag ∙ shown.there;
+    event = shown.event;
+    travelled = shown.of_master.made;
+  };
+  drawn = shown.of_master.drawn;
+  domain = record {
+    own = port;
+    other = shown.of_master.master;
+    slave_port = slave_is;
+    master_port = ap (master_at network) shown.of_master.site ∙ shown.of_master.master_is;
+    domain = sym shown.used.domain ∙ shown.of_master.domain;
+  };
+  small = record {
+    message = shown.m;
+    arrived = sym (copy_of-travelled network shown.arrival.earlier shown.copy shown.of_master.journey shown.of_master.made) ∙ shown.used.m_is;
+    small = shown.used.small;
+  };
+}
 
-same_copy : {a b : NodeName} {c d m n : ℕ} → Arrive a c m ≡ Arrive b d n → c ≡ d
-same_copy same = cc
-
--- and a Delay_Req that isn't
-request_represented : (network : Network) (slave : NodeName) (run : Run) (now : ℕ) (c : DelayCompletion) (report : Report) → report.response_tag ≡ c.response_tag
-    → IsRequestShown network slave run now c → (m : IsOfOneRequest run slave report) → IsRepresented network m.journey
-request_represented network slave run now c report tag shown m =
-    let one : shown.made ≡ m.arrival =
-    one_hearing run c.response_tag slave shown.made m.arrival shown.hears (subst (λ (t : ℕ). HearsOf run t slave m.arrival) tag m.request.hears) in
-    let copies : shown.asked ≡ m.request.arrives.copy = same_copy (sym shown.event ∙ ap (λ (p : Place). p.event) one ∙ m.request.arrives.event) in
+-- and the Delay_Req, which isn't too big either
+has_request : (network : Network) (port : PortSetup) (slave : NodeName) (run : Run) (now : ℕ) (c : DelayCompletion) (report : Report)
+    → report.request_tag ≡ c.request_tag → report.response_tag ≡ c.response_tag → IsRequestShown network slave run now c → HasRequest network run slave report
+has_request network port slave run now c report request_tag response_tag shown =
+    let learnt = shown.learnt in
+    let waited = waiting_request-is port slave learnt.at.earlier learnt.request learnt.waiting in
+    let stamped_in : IsIn run learnt.at = IsIn-within run shown.p learnt.at shown.there learnt.there in
+    let tag : report.request_tag ≡ tag_of learnt.request = request_tag ∙ learnt.tag_is in
+    let hears : HearsOf run report.response_tag slave shown.made = subst (λ (t : ℕ). HearsOf run t slave shown.made) (sym response_tag) shown.hears in
+    let made_in : IsIn hears.hearing.earlier shown.made = IsIn-place_at hears.hearing.earlier hears.copy shown.made hears.made_by in
     record {
-      message = shown.request;
-      arrived = sym (copy_of-travelled network m.arrival.earlier m.request.arrives.copy m.journey m.request.arrives.travelled)
-          ∙ ap (copy_of network m.arrival.earlier) (sym copies) ∙ ap (λ (p : Place). copy_of network p.earlier shown.asked) (sym one) ∙ shown.request_is;
-      small = shown.small;
+      requested = learnt.request;
+      there = ap (place_at run) tag ∙ IsIn-within run learnt.at learnt.request stamped_in waited.0;
+      asked = waited.1;
+      master = shown.node;
+      arrival = shown.made;
+      journey = shown.journey;
+      hears = hears;
+      arrives = record {
+        copy = shown.asked;
+        moment = shown.moment;
+        there = IsIn-within run hears.hearing shown.made (IsIn-place_at run report.response_tag hears.hearing hears.there) made_in;
+        event = shown.event;
+        travelled = shown.travelled;
+      };
+      drawn = shown.drawn;
+      domain = shown.domain;
+      small = record {
+        message = shown.request;
+        arrived = sym (copy_of-travelled network shown.made.earlier shown.asked shown.journey shown.travelled) ∙ shown.request_is;
+        small = shown.small;
+      };
     }
+
+-- the order of the tags
+tags_in_order : (network : Network) (answered : Place) (report : Report) → SyncWasUsed network (until answered) report.follow_tag report.sync_tag
+    → IfSome report.follow_tag (HasOutcome network (until answered) is_used) → HasOutcome network (until answered) is_completing report.response_tag
+    → HasSync network (until answered) (site_of answered.event) report → WasStamped network (until answered) (site_of answered.event) report
+    → IsHeardAt (tag_of answered) report → TagsInOrder (tag_of answered) report
+tags_in_order network answered report used follow response sync stamped heard = record {
+  sync = let below = place_at-bound (until answered) report.sync_tag sync.arrival sync.arrives.there in omega arith;
+  follow = follow_bound network (until answered) report.follow_tag follow (tag_of answered) (omega arith);
+  response = let below = place_at-bound (until answered) report.response_tag response.p response.there in omega arith;
+  heard_now = heard;
+  request = omega (arith, stamped.after_request, stamped.before_response);
+}
 
 -- each report
 pub each_has_evidence : EachReportHasEvidence IsAcceptedRun
-each_has_evidence network answered report premise reports measured =
+each_has_evidence network answered report premise reports =
     let run : Run = until answered in
     let slave : NodeName = site_of answered.event in
     let made = made_of network answered report premise.accepted reports in
     let sync = sync_shown network made.port slave made.slave_is run premise.accepted made.sync_is.p made.sync_is.there made.sync_is.site made.sync_is.call made.sync_is.made made.sync made.sync_is.brought in
-    let request = request_shown network made.port slave made.slave_is run premise.accepted made.delay_is.p made.delay_is.there made.delay_is.site made.delay_is.call made.delay_is.made made.delay made.delay_is.brought in
-    let sync_tag = ap (λ (r : Report). r.sync_tag) made.is in
-    let follow_tag = ap (λ (r : Report). r.follow_tag) made.is in
+    let request = request_shown network made.port slave made.slave_is run premise made.delay_is.p made.delay_is.there made.delay_is.site made.delay_is.call made.delay_is.made made.delay made.delay_is.brought in
     let request_tag = ap (λ (r : Report). r.request_tag) made.is in
     let response_tag = ap (λ (r : Report). r.response_tag) made.is in
-    let small = of_one_domain network made.port slave run (tag_of made.sync_is.p) made.sync report made.slave_is sync_tag sync measured.one_sync in
+    let used : SyncWasUsed network run report.follow_tag report.sync_tag = subst (λ (r : Report). SyncWasUsed network run r.follow_tag r.sync_tag) (sym made.is) sync.sync_used in
+    let follow : IfSome report.follow_tag (HasOutcome network run is_used) = subst (λ (r : Report). IfSome r.follow_tag (HasOutcome network run is_used)) (sym made.is) sync.follow_used in
+    let response : HasOutcome network run is_completing report.response_tag = subst (λ (r : Report). HasOutcome network run is_completing r.response_tag) (sym made.is) request.completing in
+    let stamped = was_stamped network made.port slave run (tag_of made.delay_is.p) made.delay report request_tag response_tag request in
+    let arrived = has_sync network made.port slave run (tag_of made.sync_is.p) made.sync report made.slave_is (ap (λ (r : Report). r.sync_tag) made.is) sync in
     record {
-      order = tags_in_order network answered report premise.accepted reports measured.one_sync measured.one_request;
-      sync_used = subst (λ (r : Report). SyncWasUsed network run r.follow_tag r.sync_tag) (sym made.is) sync.sync_used;
-      follow_used = subst (λ (r : Report). IfSome r.follow_tag (HasOutcome network run is_used)) (sym made.is) sync.follow_used;
-      response_completes = subst (λ (r : Report). HasOutcome network run is_completing r.response_tag) (sym made.is) request.completing;
-      stamped = was_stamped network made.port slave run (tag_of made.delay_is.p) made.delay report request_tag response_tag request;
-      domain = small.0;
-      sync_small = small.1;
-      request_small = request_represented network slave run (tag_of made.delay_is.p) made.delay report response_tag request measured.one_request;
+      order = tags_in_order network answered report used follow response arrived stamped (heard_now network answered report premise reports);
+      sync_used = used;
+      follow_used = follow;
+      response_completes = response;
+      stamped = stamped;
+      sync = arrived;
+      request = has_request network made.port slave run (tag_of made.delay_is.p) made.delay report request_tag response_tag request;
+    }
+
+-- two arrivals of one event are of one copy, at one node
+one_answer : (run : Run) (p q : Place) (node other : NodeName) (j k : Journey) → p ≡ q → Arrives run (tag_of p) node p j → Arrives run (tag_of q) other q k → (node ≡ other) × (j ≡ k)
+one_answer run p q node other j k one first second =
+    let events : Arrive node first.copy first.moment ≡ Arrive other second.copy second.moment = sym first.event ∙ ap (λ (o : Place). o.event) one ∙ second.event in
+    let copies : first.copy ≡ second.copy = cc in
+    let journeys : Some j ≡ Some k = sym first.travelled ∙ ap (λ (o : Place). journey_of o.earlier first.copy) one ∙ ap (journey_of q.earlier) copies ∙ second.travelled in
+    (cc, cc)
+
+-- what there is evidence of is what was measured
+pub evidence_is_measured : EvidenceIsOfMeasurements
+evidence_is_measured network run slave report sync request measured =
+    let of_sync = measured.one_sync.sync in
+    let of_request = measured.one_request.request in
+    let one = one_arrival run report.sync_tag slave sync.arrival measured.one_sync.arrival sync.journey measured.one_sync.journey sync.arrives of_sync.arrives in
+    let made = one_hearing run report.response_tag slave request.arrival measured.one_request.arrival request.hears of_request.hears in
+    let answer = one_answer run request.arrival measured.one_request.arrival request.master measured.one_request.master request.journey measured.one_request.journey made request.arrives of_request.arrives in
+    record {
+      master = ap (λ (j : Journey). site_of j.origin.event) one.1
+          ∙ at_site draws_sync measured.one_sync.master measured.one_sync.journey.origin.event
+          (origin_drawn run slave measured.one_sync.master report.follow_tag measured.one_sync.journey.origin of_sync.departure);
+      sync_arrival = one.0;
+      sync_journey = one.1;
+      answered_by = answer.0;
+      request_arrival = made;
+      request_journey = answer.1;
+    }
+
+-- the evidence in the words of a measurement
+pub record IsShownOf (network : Network) (run : Run) (slave : NodeName) (report : Report) (measured : IsMeasurement run slave report) : Type 0 where
+  pub domain : ShareDomain network slave measured.one_sync.master
+  pub sync_small : IsRepresented network measured.one_sync.journey
+  pub request_small : IsRepresented network measured.one_request.journey
+
+pub shown_of : (network : Network) (run : Run) (slave : NodeName) (report : Report) → HasSync network run slave report → HasRequest network run slave report
+    → (measured : IsMeasurement run slave report) → IsShownOf network run slave report measured
+shown_of network run slave report sync request measured =
+    let one = evidence_is_measured network run slave report sync request measured in
+    record {
+      domain = subst (ShareDomain network slave) one.master sync.domain;
+      sync_small = subst (IsRepresented network) one.sync_journey sync.small;
+      request_small = subst (IsRepresented network) one.request_journey request.small;
     }
 
 -- what every accepted run shows
 pub shows_evidence : ShowsEvidence
-shows_evidence = record { reports = each_has_evidence; transits = spent_once }
+shows_evidence = record { reports = each_has_evidence; measurements = evidence_is_measured; transits = spent_once }

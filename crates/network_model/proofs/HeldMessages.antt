@@ -227,17 +227,17 @@ same_told network slave run p source other there unset none now then =
     (sets, masters, cc)
 
 -- a message that is used now and one that is held, with one sequenceId, are of one Sync event
-pub one_origin_of : (reach : ℕ) (network : Network) (slave : NodeName) (run : Run) (p then : Place) (source other : PortIdentity) (number : ℕ) (origin origin_then : Place) → reach ≤ 65536 → NumbersMeet reach network run
-    → IsIn run p → IsIn p.earlier then → is_set_master then.event ≡ false → site_of then.event ≡ slave → IsOneWindow p.earlier slave (tag_of then)
+pub one_origin_of : (reach : ℕ) (network : Network) (slave : NodeName) (run : Run) (p then : Place) (source other : PortIdentity) (number : ℕ) (origin origin_then : Place) → reach ≤ 65536 → NumbersMeet reach network slave run
+    → IsIn run p → site_of p.event ≡ slave → IsIn p.earlier then → is_set_master then.event ≡ false → site_of then.event ≡ slave → IsOneWindow p.earlier slave (tag_of then)
     → (told : IsTold network slave p.earlier source) → (told_then : IsTold network slave then.earlier other)
     → (now : IsOfSync network slave p source number told origin) → (held : IsOfSync network slave then other number told_then origin_then)
     → (origin ≡ origin_then)
-one_origin_of reach network slave run p then source other number origin origin_then fits meet there before unset site window told told_then now held =
+one_origin_of reach network slave run p then source other number origin origin_then fits meet there here before unset site window told told_then now held =
     let same = same_told network slave p.earlier then source other before unset window.masters told told_then in
     let drawn : is_at draws_sync told.master origin_then.event ≡ true = subst (λ (n : NodeName). is_at draws_sync n origin_then.event ≡ true) (sym same.1) held.drawn in
     let present : present_master slave p.earlier ≡ Some told.master = ap (option_and_then (λ (set : Place). named_master set.event)) told.last ∙ told.named in
-    let near = used_near told.master p.earlier origin reach now.drawn (meet.used p origin there now.used now.heard) in
-    let near_too = meet.held p there then slave told.master origin_then before site held.used window present held.heard drawn in
+    let near = used_near told.master p.earlier origin reach now.drawn (meet.used p origin there here now.used now.heard) in
+    let near_too = meet.held p there then told.master origin_then before site held.used window present held.heard drawn in
     one_sync_event told.master told.port p.earlier origin origin_then now.there (IsIn-within p.earlier then origin_then before held.there) now.drawn drawn
     (omega arith) (omega arith)
     (sym now.number_is ∙ held.number_is ∙ ap (λ (o : PortSetup). of_count (number_of o origin_then)) (sym same.2))

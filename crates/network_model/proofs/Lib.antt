@@ -25,6 +25,8 @@ pub mod WorkedOctets
 pub mod WorkedRepeat
 pub mod WorkedOneStep
 pub mod WorkedPairs
+pub mod WorkedCompletions
+pub mod WorkedOrder
 pub mod WorkedRefusals
 pub mod WorkedSlaves
 pub mod Masters
@@ -47,5 +49,6 @@ pub mod Even
 pub mod Agreement
 pub mod Departures
 pub mod Completing
+pub mod HeardMessages
 pub mod Shown
 pub mod Evidence

@@ -71,9 +71,13 @@ pub record IsAnswer (network : Network) (port : PortSetup) (slave : NodeName) (r
   pub drawn : is_at is_request slave journey.origin.event ≡ true
   pub origin_is : origin_of run copy ≡ Some journey.origin
   pub source_is : m.header.source ≡ answering.config.identity
+  pub domain_is : m.header.domain ≡ answering.config.domain
   pub number_is : m.header.sequence.0 ≡ of_count (number_of port journey.origin)
   pub receive_is : receive ≡ stamp_of (reading made)
   pub correction_is : m.header.correction.0 ≡ less_fraction (with_residence (pos 0) (residence journey)) (fraction_of (reading made))
+  pub request : Contents
+  pub request_is : copy_of network made.earlier asked ≡ Some request
+  pub lessened : m.header.correction.0 ≡ less_fraction request.header.correction.0 (fraction_of (reading made))
 
 same_answer : {a b : PortIdentity} {receive other : Stamp} → ◌≡◌ {A = Body} (bodies.DelayResp receive a) (bodies.DelayResp other b) → (receive ≡ other) × (a ≡ b)
 same_answer same = (cc, cc)
@@ -108,11 +112,15 @@ answer_to_slave network port slave run copy m receive requesting apart slave_is 
       origin_is = origin_of-place_at run copy ∙ ap (option_and_then (λ (p : Place). origin_made p.event p.earlier (origin_of p.earlier))) resp.there
           ∙ ap (λ (e : Event). origin_made e resp.made.earlier (origin_of resp.made.earlier)) resp.event ∙ origin_of-journey resp.made.earlier resp.asked req.journey req.made;
       source_is = ap (λ (m : Contents). m.header.source) resp.is;
+      domain_is = ap (λ (m : Contents). m.header.domain) resp.is;
       number_is = ap (λ (m : Contents). m.header.sequence.0) resp.is ∙ ap (λ (m : Contents). m.header.sequence.0) req.is
           ∙ ap (λ (o : PortSetup). of_count (number_of o req.journey.origin)) port_is;
       receive_is = bodies_are.0;
       correction_is = ap (λ (m : Contents). m.header.correction.0) resp.is
           ∙ ap (λ (m : Contents). less_fraction m.header.correction.0 (fraction_of (reading resp.made))) req.is;
+      request = resp.request;
+      request_is = resp.request_is;
+      lessened = ap (λ (m : Contents). m.header.correction.0) resp.is;
     }
 
 -- a completion at an event is of one Request event of the slave, which the present master answered
@@ -131,7 +139,7 @@ pub record IsOneRequest (network : Network) (slave : NodeName) (run : Run) (p : 
   pub unset : is_set_master p.event ≡ false
 
 pub one_request : (reach : ℕ) → reach ≤ 65536 → (network : Network) (port : PortSetup) (slave : NodeName) → slave_at network slave ≡ Some port
-    → (run : Run) → NumbersMeet reach network run → (p : Place) → IsIn run p → site_of p.event ≡ slave → (call : Call) → call_made network port p.event p.earlier ≡ Some call
+    → (run : Run) → NumbersMeet reach network slave run → (p : Place) → IsIn run p → site_of p.event ≡ slave → (call : Call) → call_made network port p.event p.earlier ≡ Some call
     → (c : DelayCompletion) → delay_completion (slave_setup port) (history_of network port slave p.earlier) call ≡ Some c → IsOneRequest network slave run p c
 one_request reach fits network port slave slave_is run meet p there site call made c brought =
     let before : IsRun network p.earlier = IsRun-place_at network run (tag_of p) p meet.accepted there in
@@ -148,7 +156,7 @@ one_request reach fits network port slave slave_is run meet p there site call ma
     let made_in : IsIn p.earlier answer.made = IsIn-place_at p.earlier at.copy answer.made answer.there in
     let origin_in : IsIn p.earlier answer.journey.origin = IsIn-within p.earlier answer.made answer.journey.origin made_in answer.origin_there in
     let heard : origin_heard p ≡ Some answer.journey.origin = ap (option_and_then (origin_of p.earlier)) at.used.heard ∙ answer.origin_is in
-    let near = used_near_request slave p.earlier answer.journey.origin reach answer.drawn (meet.used p answer.journey.origin there at.used.used heard) in
+    let near = used_near_request slave p.earlier answer.journey.origin reach answer.drawn (meet.used p answer.journey.origin there site at.used.used heard) in
     let number : of_count (port.first + count_by (is_at is_request slave) held.u.earlier) ≡ of_count (port.first + count_by (is_at is_request slave) answer.journey.origin.earlier) =
     sym held.number ∙ found.4 ∙ answer.number_is
     ∙ ap (λ (kind : Event → Bool). of_count (port.first + count_by kind answer.journey.origin.earlier)) (draws_with-request slave answer.journey.origin.event answer.drawn) in

@@ -77,7 +77,7 @@ follow_up_of network run slave master p copy m tag origin there is event made no
     }
 
 module _ (reach : ℕ) (fits : reach ≤ 65536) (network : Network) (port : PortSetup) (slave : NodeName) (slave_is : slave_at network slave ≡ Some port)
-    (run : Run) (meet : NumbersMeet reach network run) (p : Place) (there : IsIn run p) (site : site_of p.event ≡ slave) (call : Call)
+    (run : Run) (meet : NumbersMeet reach network slave run) (p : Place) (there : IsIn run p) (site : site_of p.event ≡ slave) (call : Call)
     (made : call_made network port p.event p.earlier ≡ Some call)
     (answered : answer (slave_setup port) (history_of network port slave p.earlier) call ≡ used (slave_setup port) (history_of network port slave p.earlier) call) where
   before : IsRun network p.earlier
@@ -105,7 +105,7 @@ module _ (reach : ℕ) (fits : reach ≤ 65536) (network : Network) (port : Port
       (ap (λ (m : Contents). m.header.source) held.made.is) in
       let same = same_told network slave p.earlier held.p h.m.header.source held.m.header.source held.there not_set held.window.masters at.used.told held.used.told in
       let one : drawn.journey.origin ≡ held.made.origin =
-      one_origin_of reach network slave run p held.p h.m.header.source held.m.header.source h.m.header.sequence.0 drawn.journey.origin held.made.origin fits meet there held.there not_set
+      one_origin_of reach network slave run p held.p h.m.header.source held.m.header.source h.m.header.sequence.0 drawn.journey.origin held.made.origin fits meet there site held.there not_set
       (ap site_of held.event) held.window at.used.told held.used.told now
       (record { used = then.used; heard = then.heard; there = then.there; drawn = then.drawn; number_is = sym number ∙ then.number_is }) in
       record {
@@ -147,7 +147,7 @@ module _ (reach : ℕ) (fits : reach ≤ 65536) (network : Network) (port : Port
       (ap (λ (m : Contents). m.header.source) follow.is) in
       let same = same_told network slave p.earlier held.p h.m.header.source held.m.header.source held.there not_set held.window.masters at.used.told held.used.told in
       let one : follow.origin ≡ held.drawn.journey.origin =
-      one_origin_of reach network slave run p held.p h.m.header.source held.m.header.source h.m.header.sequence.0 follow.origin held.drawn.journey.origin fits meet there held.there not_set
+      one_origin_of reach network slave run p held.p h.m.header.source held.m.header.source h.m.header.sequence.0 follow.origin held.drawn.journey.origin fits meet there site held.there not_set
       (ap site_of held.event) held.window at.used.told held.used.told now
       (record { used = then.used; heard = then.heard; there = then.there; drawn = then.drawn; number_is = sym number ∙ then.number_is }) in
       record {
@@ -204,7 +204,7 @@ module _ (reach : ℕ) (fits : reach ≤ 65536) (network : Network) (port : Port
 
 -- each completion
 pub one_sync : (reach : ℕ) → reach ≤ 65536 → (network : Network) (port : PortSetup) (slave : NodeName) → slave_at network slave ≡ Some port
-    → (run : Run) → NumbersMeet reach network run → (p : Place) → IsIn run p → site_of p.event ≡ slave → (call : Call) → call_made network port p.event p.earlier ≡ Some call
+    → (run : Run) → NumbersMeet reach network slave run → (p : Place) → IsIn run p → site_of p.event ≡ slave → (call : Call) → call_made network port p.event p.earlier ≡ Some call
     → (c : SyncCompletion) → sync_completion (slave_setup port) (history_of network port slave p.earlier) call ≡ Some c → IsOneSync network slave run p c
 one_sync reach fits network port slave slave_is run meet p there site call made c brought =
     let completes = sync_completion_of (slave_setup port) (history_of network port slave p.earlier) call c brought in by completes.0 completes.1

@@ -31,7 +31,7 @@ use Rattle.network_model.proofs.Journeys.{IsIn-last}
 use Rattle.network_model.proofs.Calls.{events_after-later, history-here, history-elsewhere, ticks, sets, call_kind, silent}
 use Rattle.network_model.proofs.Windows.{CameFrom}
 use Rattle.network_model.proofs.Reach.{draws_with-sync}
-use Rattle.network_model.proofs.Pairing.{NumbersMeet, used_near, meet-fresh_ticked, place_at-until, until_each}
+use Rattle.network_model.proofs.Pairing.{NumbersMeet, used_near, meet_for, place_at-until, until_each}
 use Rattle.network_model.proofs.HeldMessages.{completions_came, same_told}
 use Rattle.network_model.proofs.OneSync.{one_sync}
 use Rattle.network_model.proofs.Reports.{first_of, IsMadeOf, made_of, report_event}
@@ -52,7 +52,7 @@ pub record IsAtLeast (run : Run) (master : NodeName) (least : ℕ) (c : SyncComp
 number_by_count : (master : NodeName) (port : PortSetup) (o : Place) → is_at draws_sync master o.event ≡ true → number_of port o ≡ port.first + count_by (is_at draws_sync master) o.earlier
 number_by_count master port o drawn = ap (λ (kind : Event → Bool). port.first + count_by kind o.earlier) (draws_with-sync master o.event drawn)
 
-module _ (network : Network) (port : PortSetup) (slave : NodeName) (slave_is : slave_at network slave ≡ Some port) (run : Run) (meet : NumbersMeet 32768 network run)
+module _ (network : Network) (port : PortSetup) (slave : NodeName) (slave_is : slave_at network slave ≡ Some port) (run : Run) (meet : NumbersMeet 32768 network slave run)
     (master : NodeName) (least : ℕ) where
   -- what completes while a completion is in the window isn't behind it
   follows : (q : Place) (call : Call) (c next : SyncCompletion) → IsIn run q → site_of q.event ≡ slave → call_made network port q.event q.earlier ≡ Some call
@@ -76,8 +76,8 @@ module _ (network : Network) (port : PortSetup) (slave : NodeName) (slave_is : s
       let old_drawn : is_at draws_sync master old.journey.origin.event ≡ true = subst (λ (n : NodeName). is_at draws_sync n old.journey.origin.event ≡ true) old_master old.drawn in
       let present : present_master slave q.earlier ≡ Some master =
       ap (option_and_then (λ (set : Place). named_master set.event)) now.told.last ∙ now.told.named ∙ ap (λ (n : NodeName). Some n) now_master in
-      let near = meet.held q there came.p slave master old.journey.origin came.there came.site old.used_now (record { ticks = came.few_ticks; masters = came.no_master }) present old.heard_now old_drawn in
-      let near_too = used_near master q.earlier now.journey.origin 32768 drawn (meet.used q now.journey.origin there now.used_now now.heard_now) in
+      let near = meet.held q there came.p master old.journey.origin came.there came.site old.used_now (record { ticks = came.few_ticks; masters = came.no_master }) present old.heard_now old_drawn in
+      let near_too = used_near master q.earlier now.journey.origin 32768 drawn (meet.used q now.journey.origin there site now.used_now now.heard_now) in
       let old_in = count-place_at (is_at draws_sync master) q.earlier (tag_of old.journey.origin) old.journey.origin (IsIn-within q.earlier came.p old.journey.origin came.there old.there) old_drawn in
       let now_in = count-place_at (is_at draws_sync master) q.earlier (tag_of now.journey.origin) now.journey.origin now.there drawn in
       let number : next.number ≡ of_count (now.told.port.first + count_by (is_at draws_sync master) now.journey.origin.earlier) =
@@ -132,7 +132,7 @@ completed_first network port slave run master least history (calls.General m tag
     ((λ e. (c, refl, good)), (λ e. (c, refl, good)))
 
 -- one event more
-one_event_more : (network : Network) (port : PortSetup) (slave : NodeName) → slave_at network slave ≡ Some port → (run : Run) → NumbersMeet 32768 network run
+one_event_more : (network : Network) (port : PortSetup) (slave : NodeName) → slave_at network slave ≡ Some port → (run : Run) → NumbersMeet 32768 network slave run
     → (master : NodeName) (least tag : ℕ) (event : Event) (earlier : Run) → IsIn run (place event earlier) → IsOk (outcome_of network earlier event) → tag < length earlier
     → is_at is_set_master slave event ≡ false
     → Has run master least (count_by (is_at is_tick slave) (events_after tag earlier)) (kept (slave_setup port) (history_of network port slave earlier)).completions
@@ -209,7 +209,7 @@ one_event_more network port slave slave_is run meet master least tag event earli
         (called call (named-same (site_of event) slave here) made (with_site (is_tick event) (ticks call) kind.0 here) (with_site (is_set_master event) (sets call) kind.1 here))
 
 -- from its completion on, the last completion in the window is at least so far on
-still_there : (network : Network) (port : PortSetup) (slave : NodeName) → slave_at network slave ≡ Some port → (run : Run) → NumbersMeet 32768 network run
+still_there : (network : Network) (port : PortSetup) (slave : NodeName) → slave_at network slave ≡ Some port → (run : Run) → NumbersMeet 32768 network slave run
     → (master : NodeName) (least : ℕ) (p : Place) (call : Call) (c : SyncCompletion) → call_made network port p.event p.earlier ≡ Some call → is_named (site_of p.event) slave ≡ true
     → sync_completion (slave_setup port) (history_of network port slave p.earlier) call ≡ Some c → IsAtLeast run master least c
     → (part : Run) → ((q : Place) → IsIn part q → IsIn run q) → IsRun network part → IsIn part p
@@ -263,7 +263,7 @@ number_reported network run report origin master port is drawn port_is =
 -- in runs that are fresh and ticked within half of the limits
 pub reports_dont_go_back : ReportsDontGoBack
 reports_dont_go_back network run slave first second premise reported reported_later order window =
-    let meet = meet-fresh_ticked ordered_limits network run premise in
+    let meet = meet_for ordered_limits network slave run premise in
     let early : Place = reported.answered in
     let late : Place = reported_later.answered in
     let early_run = IsRun-until network run early reported.there premise.accepted in

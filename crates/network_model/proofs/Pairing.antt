@@ -15,9 +15,9 @@ use Rattle.network_model.specs.Kinds.{is_at, is_sync, is_one_step_sync, draws_sy
 use Rattle.network_model.specs.Numbering.{drawn_later, number_of}
 use Rattle.network_model.specs.Truth.{master_at}
 use Rattle.network_model.specs.Outcome.{IsRun}
-use Rattle.network_model.specs.Premises.{Limits, IsFreshAndTicked, IsWithinTurn}
+use Rattle.network_model.specs.Premises.{Limits, IsFreshAndTicked, IsFreshAndTickedFor, IsWithinTurn}
 use Rattle.network_model.proofs.Identities.{same_name, identity_of_master}
-use Rattle.network_model.proofs.Reach.{one_origin, draws_with-sync, draws_with-request, HeldReach, UsedReach, reach-fresh_ticked, reach-one_turn}
+use Rattle.network_model.proofs.Reach.{one_origin, draws_with-sync, draws_with-request, HeldReach, UsedReach, for_slave, reach-fresh_ticked, reach-one_turn}
 use Rattle.network_model.proofs.Places.{place_at-within}
 use Rattle.network_model.proofs.Sequences.{count-more}
 use Rattle.network_model.proofs.Told.{IsTold}
@@ -105,12 +105,12 @@ before_each P step (event ∷ earlier) p there is = at (length earlier == tag_of
     at false there rest = rest there
 
 -- What both premises give, and all that the rest of the argument asks for: an accepted run of a network, in which numbers
--- that meet lie within this reach of the front of their sequence.
-pub record NumbersMeet (reach : ℕ) (network : Network) (run : Run) : Type 0 where
+-- that meet at a slave lie within this reach of the front of their sequence.
+pub record NumbersMeet (reach : ℕ) (network : Network) (slave : NodeName) (run : Run) : Type 0 where
   pub apart : IsNetwork network
   pub accepted : IsRun network run
-  pub held : (p : Place) → IsIn run p → HeldReach reach network p.earlier
-  pub used : UsedReach reach network run
+  pub held : (p : Place) → IsIn run p → HeldReach reach network slave p.earlier
+  pub used : UsedReach reach network slave run
 
 -- the premise of the headline holds of each run that a run goes on from
 pub fresh_ticked_shorter : (limits : Limits) (network : Network) (event : Event) (earlier : Run) → IsFreshAndTicked limits network (event ∷ earlier) → IsFreshAndTicked limits network earlier
@@ -121,14 +121,30 @@ fresh_ticked_shorter limits network event earlier premise = record {
   ticked = λ slave. (premise.ticked slave).1;
 }
 
-pub meet-fresh_ticked : (limits : Limits) (network : Network) (run : Run) → IsFreshAndTicked limits network run
-    → NumbersMeet (limits.late + limits.between_ticks + limits.between_ticks) network run
-meet-fresh_ticked limits network run premise = record {
+-- the premise on one slave does so too
+pub shorter_for : (limits : Limits) (network : Network) (slave : NodeName) (event : Event) (earlier : Run) → IsFreshAndTickedFor limits network slave (event ∷ earlier)
+    → IsFreshAndTickedFor limits network slave earlier
+shorter_for limits network slave event earlier premise = record {
+  apart = premise.apart;
+  accepted = premise.accepted.1;
+  fresh = premise.fresh.1;
+  ticked = premise.ticked.1;
+}
+
+-- for one slave
+pub meet_for : (limits : Limits) (network : Network) (slave : NodeName) (run : Run) → IsFreshAndTickedFor limits network slave run
+    → NumbersMeet (limits.late + limits.between_ticks + limits.between_ticks) network slave run
+meet_for limits network slave run premise = record {
   apart = premise.apart;
   accepted = premise.accepted;
-  held = λ p there. (reach-fresh_ticked limits network p.earlier (before_each (IsFreshAndTicked limits network) (fresh_ticked_shorter limits network) run p there premise)).held;
-  used = (reach-fresh_ticked limits network run premise).used;
+  held = λ p there. (reach-fresh_ticked limits network slave p.earlier (before_each (IsFreshAndTickedFor limits network slave) (shorter_for limits network slave) run p there premise)).held;
+  used = (reach-fresh_ticked limits network slave run premise).used;
 }
+
+-- and where all slaves are as they should be
+pub meet-fresh_ticked : (limits : Limits) (network : Network) (slave : NodeName) (run : Run) → IsFreshAndTicked limits network run
+    → NumbersMeet (limits.late + limits.between_ticks + limits.between_ticks) network slave run
+meet-fresh_ticked limits network slave run premise = meet_for limits network slave run (for_slave limits network slave run premise)
 
 pub within_turn_shorter : (network : Network) (event : Event) (earlier : Run) → IsWithinTurn network (event ∷ earlier) → IsWithinTurn network earlier
 within_turn_shorter network event earlier premise = record {
@@ -140,12 +156,12 @@ within_turn_shorter network event earlier premise = record {
   };
 }
 
-pub meet-one_turn : (network : Network) (run : Run) → IsWithinTurn network run → NumbersMeet 65536 network run
-meet-one_turn network run premise = record {
+pub meet-one_turn : (network : Network) (slave : NodeName) (run : Run) → IsWithinTurn network run → NumbersMeet 65536 network slave run
+meet-one_turn network slave run premise = record {
   apart = premise.apart;
   accepted = premise.accepted;
-  held = λ p there. (reach-one_turn network p.earlier (before_each (IsWithinTurn network) (within_turn_shorter network) run p there premise)).held;
-  used = (reach-one_turn network run premise).used;
+  held = λ p there. (reach-one_turn network slave p.earlier (before_each (IsWithinTurn network) (within_turn_shorter network) run p there premise)).held;
+  used = (reach-one_turn network slave run premise).used;
 }
 
 -- what holds of a run and of each that it goes on from, up to an event

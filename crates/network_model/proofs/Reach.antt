@@ -15,7 +15,7 @@ use Rattle.network_model.specs.Numbering.{draws_with, drawn_later}
 use Rattle.network_model.specs.Truth.{origin_of, origin_heard}
 use Rattle.network_model.specs.Outcome.{outcome_of}
 use Rattle.network_model.specs.Present.{last_set_master, present_master}
-use Rattle.network_model.specs.Premises.{Limits, is_used, IsFresh, IsFreshAt, IsTickedAt, draws_present, syncs_since_tick, IsFreshAndTicked, IsWithinTurn}
+use Rattle.network_model.specs.Premises.{Limits, is_used, IsFresh, IsFreshAt, IsFreshFor, IsTickedAt, draws_present, syncs_since_tick, IsFreshAndTicked, IsFreshAndTickedFor, IsWithinTurn}
 use Rattle.network_model.specs.Order.{IsOneWindow}
 use Rattle.network_model.proofs.Places.{place_at-bound}
 use Rattle.network_model.proofs.Sequences.{count-yes, count-no, count-place_at, count-within, count-none, same_count}
@@ -98,25 +98,25 @@ tick_draws_none (Stamped other) is = cc
 tick_draws_none (SetMaster other master) is = cc
 tick_draws_none (StepClock other diff) is = cc
 
--- How many Syncs the present master drew after the one of a message: of a message that a slave used, and after which it had
--- at most one tick and was told no master, fewer than `reach`.
-abbrev pub HeldReach : ℕ → Network → Run → Type 0
-HeldReach reach network run =
-    (p : Place) (slave master : NodeName) (origin : Place) → IsIn run p → site_of p.event ≡ slave
+-- How many Syncs a slave's present master drew after the one of a message: of a message that the slave used, and after which
+-- it had at most one tick and was told no master, fewer than `reach`.
+abbrev pub HeldReach : ℕ → Network → NodeName → Run → Type 0
+HeldReach reach network slave run =
+    (p : Place) (master : NodeName) (origin : Place) → IsIn run p → site_of p.event ≡ slave
     → is_used (outcome_of network p.earlier p.event) ≡ true → IsOneWindow run slave (tag_of p) → present_master slave run ≡ Some master
     → origin_heard p ≡ Some origin → is_at draws_sync master origin.event ≡ true
     → count_by (is_at draws_sync master) run - (count_by (is_at draws_sync master) origin.earlier + 1) < reach
 
--- the same of a message of any sequence, when it is used
-abbrev pub UsedReach : ℕ → Network → Run → Type 0
-UsedReach reach network run =
-    (p : Place) (origin : Place) → IsIn run p → is_used (outcome_of network p.earlier p.event) ≡ true → origin_heard p ≡ Some origin
+-- the same of a message of any sequence, when the slave uses it
+abbrev pub UsedReach : ℕ → Network → NodeName → Run → Type 0
+UsedReach reach network slave run =
+    (p : Place) (origin : Place) → IsIn run p → site_of p.event ≡ slave → is_used (outcome_of network p.earlier p.event) ≡ true → origin_heard p ≡ Some origin
     → drawn_later origin p.earlier < reach
 
--- numbers that meet in a run, or did in a run that it goes on from, lie within this reach of the front of their sequence
-pub record IsWithinReach (reach : ℕ) (network : Network) (run : Run) : Type 0 where
-  pub held : HeldReach reach network run
-  pub used : UsedReach reach network run
+-- numbers that meet at a slave in a run, or did in a run that it goes on from, lie within this reach of the front of their sequence
+pub record IsWithinReach (reach : ℕ) (network : Network) (slave : NodeName) (run : Run) : Type 0 where
+  pub held : HeldReach reach network slave run
+  pub used : UsedReach reach network slave run
 
 -- how many Syncs a master drew in a run after one that had so many before it
 abbrev behind : NodeName → (before : ℕ) → Run → ℕ
@@ -184,19 +184,34 @@ one_more slave master tag before late between event earlier below unset present 
           (λ e. let low : behind master before earlier < late + between + syncs_since_tick slave earlier = bounds.1 (omega arith) in omega arith),
         )
 
+-- what is fresh is so for each slave
+IsFresh-for : (late : ℕ) (network : Network) (slave : NodeName) (run : Run) → IsFresh late network run → IsFreshFor late network slave run
+IsFresh-for late network slave [] fresh = tt
+IsFresh-for late network slave (event ∷ earlier) fresh = ((λ here. fresh.0), IsFresh-for late network slave earlier fresh.1)
+
+-- a premise on all slaves is one on each
+pub for_slave : (limits : Limits) (network : Network) (slave : NodeName) (run : Run) → IsFreshAndTicked limits network run → IsFreshAndTickedFor limits network slave run
+for_slave limits network slave run premise = record {
+  apart = premise.apart;
+  accepted = premise.accepted;
+  fresh = IsFresh-for limits.late network slave run premise.fresh;
+  ticked = premise.ticked slave;
+}
+
 -- a message that was fresh when it was used
-fresh_then : (late : ℕ) (network : Network) (run : Run) (p origin : Place) → IsFresh late network run → IsIn run p
+fresh_then : (late : ℕ) (network : Network) (slave : NodeName) (run : Run) (p origin : Place) → IsFreshFor late network slave run → IsIn run p → site_of p.event ≡ slave
     → is_used (outcome_of network p.earlier p.event) ≡ true → origin_heard p ≡ Some origin → drawn_later origin p.earlier < late
-fresh_then late network [] p origin fresh there used heard = cc
-fresh_then late network (event ∷ earlier) p origin fresh there used heard =
-    at (length earlier == tag_of p) there (λ (within : IsIn earlier p). fresh_then late network earlier p origin fresh.1 within used heard)
+fresh_then late network slave [] p origin fresh there site used heard = cc
+fresh_then late network slave (event ∷ earlier) p origin fresh there site used heard =
+    at (length earlier == tag_of p) there (λ (within : IsIn earlier p). fresh_then late network slave earlier p origin fresh.1 within site used heard)
   where
     at : (same : Bool) → (if same then Some (place event earlier) else place_at earlier (tag_of p)) ≡ Some p
         → (IsIn earlier p → drawn_later origin p.earlier < late) → drawn_later origin p.earlier < late
     at true there rest =
         let same : place event earlier ≡ p = cc in
-        let now : IsFreshAt late network p.earlier p.event = subst (λ (o : Place). IsFreshAt late network o.earlier o.event) same fresh.0 in
-        subst (λ (o : Option Place). IfSome o (λ origin. drawn_later origin p.earlier < late)) heard (now used)
+        let now : site_of p.event ≡ slave → IsFreshAt late network p.earlier p.event =
+        subst (λ (o : Place). site_of o.event ≡ slave → IsFreshAt late network o.earlier o.event) same fresh.0 in
+        subst (λ (o : Option Place). IfSome o (λ origin. drawn_later origin p.earlier < late)) heard (now site used)
     at false there rest = rest there
 
 ticked_now : (between : ℕ) (slave : NodeName) (run : Run) → IsTickedAt between slave run → syncs_since_tick slave run ≤ between
@@ -204,15 +219,15 @@ ticked_now between slave [] ticked = omega arith
 ticked_now between slave (event ∷ earlier) ticked = ticked.0
 
 -- since a message was used
-bounds_since : (late between : ℕ) (network : Network) (slave master : NodeName) (p origin : Place) → is_used (outcome_of network p.earlier p.event) ≡ true
+bounds_since : (late between : ℕ) (network : Network) (slave master : NodeName) (p origin : Place) → site_of p.event ≡ slave → is_used (outcome_of network p.earlier p.event) ≡ true
     → origin_heard p ≡ Some origin → is_at draws_sync master origin.event ≡ true
-    → (run : Run) → IsIn run p → IsFresh late network run → IsTickedAt between slave run
+    → (run : Run) → IsIn run p → IsFreshFor late network slave run → IsTickedAt between slave run
     → count_by (is_at is_set_master slave) (events_after (tag_of p) run) ≡ 0 → present_master slave run ≡ Some master
     → Bounds slave master (tag_of p) (count_by (is_at draws_sync master) origin.earlier) late between run
-bounds_since late between network slave master p origin used heard drew [] there fresh ticked unset present = cc
-bounds_since late between network slave master p origin used heard drew (event ∷ earlier) there fresh ticked unset present =
+bounds_since late between network slave master p origin site used heard drew [] there fresh ticked unset present = cc
+bounds_since late between network slave master p origin site used heard drew (event ∷ earlier) there fresh ticked unset present =
     at (length earlier == tag_of p) there
-    (λ within none follows. bounds_since late between network slave master p origin used heard drew earlier within fresh.1 ticked.1 none follows)
+    (λ within none follows. bounds_since late between network slave master p origin site used heard drew earlier within fresh.1 ticked.1 none follows)
   where
     before : ℕ
     before = count_by (is_at draws_sync master) origin.earlier
@@ -228,7 +243,7 @@ bounds_since late between network slave master p origin used heard drew (event �
         let same : place event earlier ≡ p = cc in
         let copy = some_step (origin_of p.earlier) (heard_copy p.event) heard in
         let none : draws_sync p.event ≡ false = heard_draws_none p.event copy.0 copy.1 in
-        let low : behind master before p.earlier < late = subst (λ n. n < late) now (fresh_then late network (event ∷ earlier) p origin fresh there used heard) in
+        let low : behind master before p.earlier < late = subst (λ n. n < late) now (fresh_then late network slave (event ∷ earlier) p origin fresh there site used heard) in
         let still : count_by (is_at draws_sync master) (p.event ∷ p.earlier) ≡ count_by (is_at draws_sync master) p.earlier =
         count-no (is_at draws_sync master) p.event p.earlier (ap (λ (b : Bool). b && is_named (site_of p.event) master) none) in
         subst (λ (o : Place). Bounds slave master (tag_of p) before late between (o.event ∷ o.earlier)) (sym same)
@@ -243,17 +258,17 @@ bounds_since late between network slave master p origin used heard drew (event �
         one_more slave master (tag_of p) before late between event earlier below not_set follows (ticked_now between slave earlier ticked.1)
         (rest there_now (sym (count-no (is_at is_set_master slave) event (events_after (tag_of p) earlier) not_set) ∙ none) follows)
 
--- fresh and ticked runs
-pub reach-fresh_ticked : (limits : Limits) (network : Network) (run : Run) → IsFreshAndTicked limits network run
-    → IsWithinReach (limits.late + limits.between_ticks + limits.between_ticks) network run
-reach-fresh_ticked limits network run premise = record {
-  held = λ p slave master origin there here used window present heard drew.
-      let few : syncs_since_tick slave run ≤ limits.between_ticks = ticked_now limits.between_ticks slave run (premise.ticked slave) in
-      let bounds = bounds_since limits.late limits.between_ticks network slave master p origin used heard drew run there premise.fresh (premise.ticked slave) window.masters present in
+-- runs that are fresh and ticked for a slave
+pub reach-fresh_ticked : (limits : Limits) (network : Network) (slave : NodeName) (run : Run) → IsFreshAndTickedFor limits network slave run
+    → IsWithinReach (limits.late + limits.between_ticks + limits.between_ticks) network slave run
+reach-fresh_ticked limits network slave run premise = record {
+  held = λ p master origin there here used window present heard drew.
+      let few : syncs_since_tick slave run ≤ limits.between_ticks = ticked_now limits.between_ticks slave run premise.ticked in
+      let bounds = bounds_since limits.late limits.between_ticks network slave master p origin here used heard drew run there premise.fresh premise.ticked window.masters present in
       let low : behind master (count_by (is_at draws_sync master) origin.earlier) run < limits.late + limits.between_ticks + syncs_since_tick slave run = bounds.1 window.ticks in
       omega arith;
-  used = λ p origin there used heard.
-      let low : drawn_later origin p.earlier < limits.late = fresh_then limits.late network run p origin premise.fresh there used heard in omega arith;
+  used = λ p origin there here used heard.
+      let low : drawn_later origin p.earlier < limits.late = fresh_then limits.late network slave run p origin premise.fresh there here used heard in omega arith;
 }
 
 -- no sequence has drawn more than one turn
@@ -273,10 +288,10 @@ few_drawn network run premise earlier (SetMaster node master) fewer = omega (ari
 few_drawn network run premise earlier (StepClock node diff) fewer = omega (arith, count-none earlier)
 
 -- runs in which no number has come round
-pub reach-one_turn : (network : Network) (run : Run) → IsWithinTurn network run → IsWithinReach 65536 network run
-reach-one_turn network run premise = record {
-  held = λ p slave master origin there here used window present heard drew. let few = premise.one_turn.syncs master in omega arith;
-  used = λ p origin there used heard.
+pub reach-one_turn : (network : Network) (slave : NodeName) (run : Run) → IsWithinTurn network run → IsWithinReach 65536 network slave run
+reach-one_turn network slave run premise = record {
+  held = λ p master origin there here used window present heard drew. let few = premise.one_turn.syncs master in omega arith;
+  used = λ p origin there here used heard.
       let few : count_by (draws_with origin.event) p.earlier ≤ 65536 = few_drawn network run premise p.earlier origin.event (λ kind. count-within kind run (tag_of p) p there) in
       omega arith;
 }

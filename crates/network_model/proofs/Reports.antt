@@ -20,7 +20,7 @@ use Rattle.network_model.specs.Truth.{slave_at}
 use Rattle.network_model.specs.SlaveHistory.{slave_setup, history_of}
 use Rattle.network_model.specs.Outcome.{IsRun}
 use Rattle.network_model.specs.Present.{last_set_master}
-use Rattle.network_model.specs.Premises.{exact_limits, IsFreshAndTicked, IsWithinTurn}
+use Rattle.network_model.specs.Premises.{whichever, exact_limits, IsFreshAndTicked, IsFreshAndTickedFor, IsWithinTurn}
 use Rattle.network_model.specs.Reported.{Reports}
 use Rattle.network_model.specs.Exact.{IsOfOneSync, IsOfOneRequest}
 use Rattle.network_model.specs.Headline.{EachReportIsOfOneSync, EachReportIsOfOneRequest}
@@ -28,7 +28,7 @@ use Rattle.network_model.proofs.Sites.{named-self}
 use Rattle.network_model.proofs.Calls.{history-here, ticks, sets, call_kind}
 use Rattle.network_model.proofs.Windows.{CameFrom}
 use Rattle.network_model.proofs.Masters.{last_set_master-since}
-use Rattle.network_model.proofs.Pairing.{NumbersMeet, meet-fresh_ticked, meet-one_turn}
+use Rattle.network_model.proofs.Pairing.{NumbersMeet, meet_for, meet-fresh_ticked, meet-one_turn}
 use Rattle.network_model.proofs.HeldMessages.{completions_came, delay_completions_came}
 use Rattle.network_model.proofs.OneSync.{IsOneSync, one_sync}
 use Rattle.network_model.proofs.OneRequest.{IsOneRequest, one_request}
@@ -97,7 +97,7 @@ made_of network answered report accepted reports =
       last = ap (last_sync_completion (slave_setup by.port)) longer ∙ parts.2;
     }
 
-module _ (reach : ℕ) (fits : reach ≤ 65536) (network : Network) (answered : Place) (report : Report) (meet : NumbersMeet reach network (until answered))
+module _ (reach : ℕ) (fits : reach ≤ 65536) (network : Network) (answered : Place) (report : Report) (meet : NumbersMeet reach network (site_of answered.event) (until answered))
     (reports : Reports network answered report) where
   made : IsMadeOf network (until answered) (site_of answered.event) report
   made = made_of network answered report meet.accepted reports
@@ -160,20 +160,29 @@ module _ (reach : ℕ) (fits : reach ≤ 65536) (network : Network) (answered : 
     request = record { requested = request.requested; drawn = request.drawn; hears = request.hears; arrives = request.arrives };
   })
 
--- in runs that are fresh and ticked
-pub each_of_one_sync : EachReportIsOfOneSync (IsFreshAndTicked exact_limits)
-each_of_one_sync network answered report premise reports =
-    is_of_one_sync 65536 (omega arith) network answered report (meet-fresh_ticked exact_limits network (until answered) premise) reports
+-- in runs that are fresh and ticked for the slave
+pub each_of_one_sync-slave : EachReportIsOfOneSync (IsFreshAndTickedFor exact_limits)
+each_of_one_sync-slave network answered report premise reports =
+    is_of_one_sync 65536 (omega arith) network answered report (meet_for exact_limits network (site_of answered.event) (until answered) premise) reports
 
-pub each_of_one_request : EachReportIsOfOneRequest (IsFreshAndTicked exact_limits)
+pub each_of_one_request-slave : EachReportIsOfOneRequest (IsFreshAndTickedFor exact_limits)
+each_of_one_request-slave network answered report premise reports =
+    is_of_one_request 65536 (omega arith) network answered report (meet_for exact_limits network (site_of answered.event) (until answered) premise) reports
+
+-- in runs that are fresh and ticked
+pub each_of_one_sync : EachReportIsOfOneSync (whichever (IsFreshAndTicked exact_limits))
+each_of_one_sync network answered report premise reports =
+    is_of_one_sync 65536 (omega arith) network answered report (meet-fresh_ticked exact_limits network (site_of answered.event) (until answered) premise) reports
+
+pub each_of_one_request : EachReportIsOfOneRequest (whichever (IsFreshAndTicked exact_limits))
 each_of_one_request network answered report premise reports =
-    is_of_one_request 65536 (omega arith) network answered report (meet-fresh_ticked exact_limits network (until answered) premise) reports
+    is_of_one_request 65536 (omega arith) network answered report (meet-fresh_ticked exact_limits network (site_of answered.event) (until answered) premise) reports
 
 -- in runs within one turn of the numbers
-pub each_of_one_sync-one_turn : EachReportIsOfOneSync IsWithinTurn
+pub each_of_one_sync-one_turn : EachReportIsOfOneSync (whichever IsWithinTurn)
 each_of_one_sync-one_turn network answered report premise reports =
-    is_of_one_sync 65536 (omega arith) network answered report (meet-one_turn network (until answered) premise) reports
+    is_of_one_sync 65536 (omega arith) network answered report (meet-one_turn network (site_of answered.event) (until answered) premise) reports
 
-pub each_of_one_request-one_turn : EachReportIsOfOneRequest IsWithinTurn
+pub each_of_one_request-one_turn : EachReportIsOfOneRequest (whichever IsWithinTurn)
 each_of_one_request-one_turn network answered report premise reports =
-    is_of_one_request 65536 (omega arith) network answered report (meet-one_turn network (until answered) premise) reports
+    is_of_one_request 65536 (omega arith) network answered report (meet-one_turn network (site_of answered.event) (until answered) premise) reports

@@ -17,22 +17,23 @@ use Rattle.slave_port.proofs.Uses.{HeardSync, HeardFollowUp, two_step_value, one
 use Rattle.network_model.specs.declared.event.Event.TheVariants.{Arrive}
 use Rattle.network_model.specs.Network.{Network, NodeName, PortSetup}
 use Rattle.network_model.specs.Run.{Run, Place, place_at, tag_of, IsIn, site_of}
-use Rattle.network_model.specs.Kinds.{is_sync, is_one_step_sync}
+use Rattle.network_model.specs.Kinds.{is_at, is_sync, is_one_step_sync, draws_sync, is_request}
 use Rattle.network_model.specs.Clock.{reading}
 use Rattle.network_model.specs.Journey.{Journey, journey_of}
 use Rattle.network_model.specs.Truth.{master_at, slave_at, copy_of}
 use Rattle.network_model.specs.SlaveHistory.{slave_setup, table_capacity, call_made, history_of}
 use Rattle.network_model.specs.Outcome.{outcome_of, IsRun}
-use Rattle.network_model.specs.Premises.{is_used}
+use Rattle.network_model.specs.Premises.{IsAcceptedRun, is_used}
 use Rattle.network_model.specs.Exact.{HearsOf}
-use Rattle.network_model.specs.Evidence.{is_complete, is_completing, HasOutcome, SyncWasUsed}
+use Rattle.network_model.specs.Evidence.{is_complete, is_completing, HasOutcome, SyncWasUsed, ShareDomain}
 use Rattle.network_model.proofs.Places.{accepted-place_at, IsRun-place_at, IsIn-within}
-use Rattle.network_model.proofs.Sites.{at_site}
+use Rattle.network_model.proofs.Sites.{at_kind, at_site}
 use Rattle.network_model.proofs.Exactness.{small_request}
-use Rattle.network_model.proofs.Entries.{UsedAt, arrived, heard_by, two_step_copy, one_step_copy, delay_resp_copy}
-use Rattle.network_model.proofs.Pairing.{found_in}
+use Rattle.network_model.proofs.Entries.{UsedAt, arrived, heard_by, two_step_copy, one_step_copy}
+use Rattle.network_model.proofs.Pairing.{found_in, two_step_draws, one_step_draws}
 use Rattle.network_model.proofs.HeldMessages.{IsHeldSync, IsHeldFollow, held_syncs_are, held_follows_are}
 use Rattle.network_model.proofs.OneSync.{tagged}
+use Rattle.network_model.proofs.OneRequest.{answer_to_slave}
 use Rattle.network_model.proofs.Completing.{hears, heard_outcome, sync_completes, delay_completes, sync_hears, delay_hears}
 use Rattle.network_model.proofs.Departures.{IsLearnt, are_stamped, stamped_found}
 
@@ -45,6 +46,7 @@ pub record IsOfMaster (network : Network) (run : Run) (copy : ℕ) (m : Contents
   pub master_is : master_at network node ≡ Some master
   pub domain : m.header.domain ≡ master.config.domain
   pub site : site_of journey.origin.event ≡ node
+  pub drawn : draws_sync journey.origin.event ≡ true
 
 -- what a run shows of the Sync's half of a report
 pub record IsSyncShown (network : Network) (port : PortSetup) (slave : NodeName) (run : Run) (now : ℕ) (c : SyncCompletion) : Type 0 where
@@ -77,6 +79,10 @@ pub record IsRequestShown (network : Network) (slave : NodeName) (run : Run) (no
   pub request : Contents
   pub request_is : copy_of network made.earlier asked ≡ Some request
   pub small : int_lt request.header.correction.0 too_big ≡ true
+  pub journey : Journey
+  pub travelled : journey_of made.earlier asked ≡ Some journey
+  pub drawn : is_at is_request slave journey.origin.event ≡ true
+  pub domain : ShareDomain network slave node
 
 module _ (network : Network) (port : PortSetup) (slave : NodeName) (slave_is : slave_at network slave ≡ Some port)
     (run : Run) (all : IsRun network run) (p : Place) (there : IsIn run p) (site : site_of p.event ≡ slave) (call : Call)
@@ -122,6 +128,7 @@ module _ (network : Network) (port : PortSetup) (slave : NodeName) (slave_is : s
           master_is = drawn.port_is;
           domain = ap (λ (m : Contents). m.header.domain) drawn.is;
           site = at_site is_sync drawn.node drawn.journey.origin.event drawn.drawn;
+          drawn = at_kind draws_sync drawn.node drawn.journey.origin.event (two_step_draws drawn.node drawn.journey.origin.event drawn.drawn);
         };
         sync_used = record { p = p; there = tagged run p h.tag there at.tag_is; outcome = at.used.used };
         follow_used = record {
@@ -159,6 +166,7 @@ module _ (network : Network) (port : PortSetup) (slave : NodeName) (slave_is : s
           master_is = held.drawn.port_is;
           domain = ap (λ (m : Contents). m.header.domain) held.drawn.is;
           site = at_site is_sync held.drawn.node held.drawn.journey.origin.event held.drawn.drawn;
+          drawn = at_kind draws_sync held.drawn.node held.drawn.journey.origin.event (two_step_draws held.drawn.node held.drawn.journey.origin.event held.drawn.drawn);
         };
         sync_used = record { p = held.p; there = arrives; outcome = held.used.used };
         follow_used = record { p = p; there = tagged run p h.tag there at.tag_is; outcome = at.used.used };
@@ -188,6 +196,7 @@ module _ (network : Network) (port : PortSetup) (slave : NodeName) (slave_is : s
           master_is = drawn.port_is;
           domain = ap (λ (m : Contents). m.header.domain) drawn.is;
           site = at_site is_one_step_sync drawn.node drawn.journey.origin.event drawn.drawn;
+          drawn = at_kind draws_sync drawn.node drawn.journey.origin.event (one_step_draws drawn.node drawn.journey.origin.event drawn.drawn);
         };
         sync_used = record { p = p; there = tagged run p h.tag there at.tag_is; outcome = completing };
         follow_used = tt;
@@ -218,15 +227,15 @@ sync_shown network port slave slave_is run all p there site call made c brought 
         (by_follow_up network port slave slave_is run all p there site call made answered h sync found)
 
 -- each completion of a request
-pub request_shown : (network : Network) (port : PortSetup) (slave : NodeName) → slave_at network slave ≡ Some port → (run : Run) → IsRun network run
+pub request_shown : (network : Network) (port : PortSetup) (slave : NodeName) → slave_at network slave ≡ Some port → (run : Run) → IsAcceptedRun network run
     → (p : Place) → IsIn run p → site_of p.event ≡ slave → (call : Call) → call_made network port p.event p.earlier ≡ Some call
     → (c : DelayCompletion) → delay_completion (slave_setup port) (history_of network port slave p.earlier) call ≡ Some c → IsRequestShown network slave run (tag_of p) c
-request_shown network port slave slave_is run all p there site call made c brought =
-    let before : IsRun network p.earlier = IsRun-place_at network run (tag_of p) p all there in
+request_shown network port slave slave_is run premise p there site call made c brought =
+    let before : IsRun network p.earlier = IsRun-place_at network run (tag_of p) p premise.accepted there in
     let done = delay_completion_of (slave_setup port) (history_of network port slave p.earlier) call c brought in
-    let at = heard_by network port slave p call slave_is before (accepted-place_at network run (tag_of p) p all there) site made done.used
+    let at = heard_by network port slave p call slave_is before (accepted-place_at network run (tag_of p) p premise.accepted there) site made done.used
     done.h.m done.h.tag done.h.call_is done.h.passes in
-    let resp = delay_resp_copy network p.earlier at.copy done.h.m done.h.receive done.h.requesting at.used.m_is done.h.body in
+    let answer = answer_to_slave network port slave p.earlier at.copy done.h.m done.h.receive done.h.requesting premise.apart slave_is at.used.m_is done.h.body done.h.own in
     let response_tag : c.response_tag ≡ tag_of p = ap (λ (c : DelayCompletion). c.response_tag) done.is ∙ at.tag_is in
     let request_tag : done.request.tag ≡ c.request_tag = sym (ap (λ (c : DelayCompletion). c.request_tag) done.is) in
     let learnt = stamped_found network slave p.earlier done.h.m.header.sequence.0 done.request table_capacity
@@ -235,7 +244,7 @@ request_shown network port slave slave_is run all p there site call made c broug
       completing = record {
         p = p;
         there = tagged run p c.response_tag there response_tag;
-        outcome = completes network port slave slave_is run all p there site call made done.used
+        outcome = completes network port slave slave_is run premise.accepted p there site call made done.used
             (delay_hears (slave_setup port) (history_of network port slave p.earlier) call c brought)
             (delay_completes (slave_setup port) (history_of network port slave p.earlier) call c brought);
       };
@@ -244,14 +253,24 @@ request_shown network port slave slave_is run all p there site call made c broug
       there = there;
       now_is = refl;
       learnt = subst (IsLearnt network slave p.earlier) request_tag learnt;
-      made = resp.made;
-      hears = record { hearing = p; copy = at.copy; there = tagged run p c.response_tag there response_tag; event = at.event; made_by = resp.there };
-      node = resp.node;
-      asked = resp.asked;
-      moment = resp.moment;
-      event = resp.event;
-      request = resp.request;
-      request_is = resp.request_is;
-      small = small_request resp.request.header.correction.0 (fraction_of (reading resp.made))
-          (subst (λ (c : _). int_lt c too_big ≡ true) (ap (λ (m : Contents). m.header.correction.0) resp.is) at.used.small);
+      made = answer.made;
+      hears = record { hearing = p; copy = at.copy; there = tagged run p c.response_tag there response_tag; event = at.event; made_by = answer.there };
+      node = answer.node;
+      asked = answer.asked;
+      moment = answer.moment;
+      event = answer.event;
+      request = answer.request;
+      request_is = answer.request_is;
+      small = small_request answer.request.header.correction.0 (fraction_of (reading answer.made))
+          (subst (λ (c : _). int_lt c too_big ≡ true) answer.lessened at.used.small);
+      journey = answer.journey;
+      travelled = answer.travelled;
+      drawn = answer.drawn;
+      domain = record {
+        own = port;
+        other = answer.answering;
+        slave_port = slave_is;
+        master_port = answer.answering_is;
+        domain = sym at.used.domain ∙ answer.domain_is;
+      };
     }

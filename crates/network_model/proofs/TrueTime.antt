@@ -14,7 +14,7 @@ use Rattle.network_model.specs.Clock.{difference, reading}
 use Rattle.network_model.specs.Journey.{Journey, Stay, journey_of, residence}
 use Rattle.network_model.specs.Outcome.{IsRun}
 use Rattle.network_model.specs.Present.{present_master}
-use Rattle.network_model.specs.Premises.{exact_limits, IsFreshAndTicked}
+use Rattle.network_model.specs.Premises.{exact_limits, IsFreshAndTickedFor}
 use Rattle.network_model.specs.Reported.{Reports}
 use Rattle.network_model.specs.Exact.{IsBracketOf, IsOfOneSync, IsOfOneRequest, IsTwice, LearnsDeparture, OfPresentMaster}
 use Rattle.network_model.specs.Level.{crossings_of, way_to, maker_heard, time_on, moment_at, IsSteady}
@@ -24,7 +24,7 @@ use Rattle.network_model.proofs.Sites.{at_kind, at_site}
 use Rattle.network_model.proofs.Journeys.{IsIn-origin}
 use Rattle.network_model.proofs.Readings.{shown_reading, sync_timed, request_timed}
 use Rattle.network_model.proofs.Reach.{present_master-later}
-use Rattle.network_model.proofs.Pairing.{meet-fresh_ticked, until_each, fresh_ticked_shorter, place_at-until, one_step_draws, two_step_draws}
+use Rattle.network_model.proofs.Pairing.{shorter_for, meet_for, until_each, place_at-until, one_step_draws, two_step_draws}
 use Rattle.network_model.proofs.Reports.{report_event, is_of_one_sync, is_of_one_request}
 use Rattle.network_model.proofs.Twice.{each_twice}
 use Rattle.network_model.proofs.Steady.{reading_is}
@@ -173,13 +173,14 @@ asymmetric network run answered report master accepted steady there sync request
     paths : (a b x y s m : ℤ) → a ≡ x +ℤ (s -ℤ m) → b ≡ y +ℤ (m -ℤ s) → path2 a b ≡ x +ℤ y
     paths a b x y s m e f = omega (arith, ints)
 
--- in runs that are fresh and ticked
-pub error_is_asymmetry : ErrorIsAsymmetry (IsFreshAndTicked exact_limits)
+-- in runs that are fresh and ticked for the slave
+pub error_is_asymmetry : ErrorIsAsymmetry (IsFreshAndTickedFor exact_limits)
 error_is_asymmetry network run slave master report premise steady reported present =
     let answered : Place = reported.answered in
-    let until_premise : IsFreshAndTicked exact_limits network (until answered) =
-    until_each (IsFreshAndTicked exact_limits network) (fresh_ticked_shorter exact_limits network) run answered reported.there premise in
-    let meet = meet-fresh_ticked exact_limits network (until answered) until_premise in
+    let until_premise : IsFreshAndTickedFor exact_limits network slave (until answered) =
+    until_each (IsFreshAndTickedFor exact_limits network slave) (shorter_for exact_limits network slave) run answered reported.there premise in
+    let meet = meet_for exact_limits network (site_of answered.event) (until answered)
+    (subst (λ (n : NodeName). IsFreshAndTickedFor exact_limits network n (until answered)) (sym reported.site) until_premise) in
     let sync = is_of_one_sync 65536 (omega arith) network answered report meet reported.reports in
     let request = is_of_one_request 65536 (omega arith) network answered report meet reported.reports in
     let double = each_twice network answered report (record { apart = until_premise.apart; accepted = until_premise.accepted }) reported.reports sync request in

@@ -19,23 +19,23 @@ use Rattle.network_model.specs.Truth.{copy_of}
 use Rattle.network_model.specs.Outcome.{outcome_of, IsRun}
 use Rattle.network_model.specs.Premises.{exact_limits, ordered_limits, IsFreshAndTicked, IsWithinTurn}
 use Rattle.network_model.specs.Exact.{OfPresentMaster, IsOfOneSync, IsOfOneRequest, IsMeasurement}
-use Rattle.network_model.specs.Evidence.{HasEvidence}
+use Rattle.network_model.specs.Evidence.{ShareDomain, HasEvidence}
 use Rattle.network_model.proofs.Accepted.{IsNetwork-test, IsRun-test}
 use Rattle.network_model.proofs.Short.{IsFresh-short, IsTicked-short, IsWithinOneTurn-short}
 use Rattle.network_model.proofs.Worked.{small_network, m_config, s_config, m, s, t, at, answers_after}
 
 -- all but the last event, for a slave that is so far ahead and a Sync that arrives at this moment
-abbrev exchange_with : ℤ → ℕ → List Event
+abbrev pub exchange_with : ℤ → ℕ → List Event
 exchange_with diff arrival =
     StepClock s diff ∷ SetMaster s m ∷ Sync m (at 1 0 0) ∷ Enter t 2 (at 1 500 0) ∷ Leave t 3 (at 1 2500 0)
     ∷ Arrive s 4 arrival ∷ Follow m ∷ Hear s 6 ∷ Request s (at 2 0 0) ∷ Enter t 8 (at 2 500 0)
     ∷ Leave t 9 (at 2 4000 16384) ∷ Arrive m 10 (at 2 4500 16384) ∷ Stamped s ∷ []
 
-abbrev exchange : List Event
+abbrev pub exchange : List Event
 exchange = exchange_with (pos 65536000) (at 1 3000 0)
 
 -- the first so many events
-abbrev after : ℕ → Run
+abbrev pub after : ℕ → Run
 after n = reverse (take n exchange)
 
 abbrev pub whole : Run
@@ -192,8 +192,18 @@ measurement = record {
   };
 }
 
+-- master and slave are of one domain
+one_domain : ShareDomain small_network s m
+one_domain = record {
+  own = record { config = s_config; first = 0 };
+  other = record { config = m_config; first = 0 };
+  slave_port = refl;
+  master_port = refl;
+  domain = refl;
+}
+
 -- the events of its tags were used, in their order
-evidence : HasEvidence small_network (place (Hear s 11) (after 13)) s (report (pos 131072000) (pos 131072000) 13) measurement
+evidence : HasEvidence small_network (place (Hear s 11) (after 13)) s (report (pos 131072000) (pos 131072000) 13)
 evidence = record {
   order = record {
     sync = omega arith;
@@ -214,17 +224,29 @@ evidence = record {
     before_response = omega arith;
     no_other = refl;
   };
-  domain = record {
-    own = record { config = s_config; first = 0 };
-    other = record { config = m_config; first = 0 };
-    slave_port = refl;
-    master_port = refl;
-    domain = refl;
+  sync = record {
+    arrival = sync_arrival;
+    journey = sync_journey;
+    arrives = of_one_sync.sync.arrives;
+    drawn = refl;
+    domain = one_domain;
+    small = record { message = with_correction (sync m_config 0) (record { 0 = pos 131072000 }); arrived = refl; small = refl };
   };
-  sync_small = record { message = with_correction (sync m_config 0) (record { 0 = pos 131072000 }); arrived = refl; small = refl };
-  request_small = record {
-    message = with_correction (delay_req s_config 0) (record { 0 = pos 229392384 });
-    arrived = refl;
-    small = refl;
+  request = record {
+    requested = request_journey.origin;
+    there = refl;
+    asked = refl;
+    master = m;
+    arrival = request_arrival;
+    journey = request_journey;
+    hears = of_one_request.request.hears;
+    arrives = of_one_request.request.arrives;
+    drawn = refl;
+    domain = one_domain;
+    small = record {
+      message = with_correction (delay_req s_config 0) (record { 0 = pos 229392384 });
+      arrived = refl;
+      small = refl;
+    };
   };
 }

@@ -1,9 +1,5 @@
 -- The octets of the exchange's messages, field by field.
-use Rattle.std.proofs.Common.{◌≡◌, ℕ, ◌<◌, true, refl, arith, rules, List, [], ◌∷◌, Some}
-use Rattle.std.specs.Prelude.{EachIndex, slice_index, nat_lt}
-use Rattle.std.specs.List.{list_all}
-use Rattle.std.proofs.lemmas.Bool.Decides.{nat_tests}
-use Rattle.std.proofs.lemmas.List.Folds.{list_all_at}
+use Rattle.std.proofs.Common.{ℕ, refl, arith, rules, List, [], ◌∷◌, Some}
 use Rattle.event_codec.proofs.Lengths.{all_octets}
 use Rattle.network_model.specs.Truth.{TellsTruth, copy_of}
 use Rattle.network_model.proofs.Worked.{small_network}

@@ -1,10 +1,12 @@
 -- One-step Syncs: an exchange with one, through a clock; corrections that are too big and not; and numbers of both kinds of Sync.
-use Rattle.std.proofs.Common.{◌≡◌, ℕ, pos, refl, arith, List, [], ◌∷◌, reverse, take, None, Some, Ok}
+use Rattle.std.proofs.Common.{◌≡◌, ℕ, pos, refl, arith, List, [], ◌∷◌, reverse, take, inr, None, Some, Ok}
 use Rattle.ptp_units.specs.Moment.{stamp}
 use Rattle.event_codec.specs.declared.message.Body.TheVariants.{Sync as SyncBody}
+use Rattle.event_codec.specs.Correction.{with_correction}
 use Rattle.event_codec.specs.Packet.{Contents}
 use Rattle.event_codec.specs.Profile.{header_of}
 use Rattle.master_port.specs.Written.{follow_up}
+use Rattle.slave_port.specs.Written.{delay_req}
 use Rattle.slave_port.specs.declared.heard.Heard.TheVariants as answers
 use Rattle.slave_port.specs.declared.heard.Report.{Report}
 use Rattle.slave_port.specs.declared.reason.Reason.TheVariants.{TooBig}
@@ -14,8 +16,12 @@ use Rattle.network_model.specs.declared.stepped.Outcome.TheVariants.{Done, Made,
 use Rattle.network_model.specs.Run.{Run, Place, place}
 use Rattle.network_model.specs.Journey.{Journey}
 use Rattle.network_model.specs.Truth.{copy_of}
+use Rattle.network_model.specs.Premises.{exact_limits, IsFreshAndTicked}
 use Rattle.network_model.specs.Exact.{IsOfOneSync, IsTwice}
-use Rattle.network_model.proofs.Worked.{small_network, m_config, m, s, t, at, answers_after}
+use Rattle.network_model.specs.Evidence.{ShareDomain, HasEvidence}
+use Rattle.network_model.proofs.Accepted.{IsNetwork-test, IsRun-test}
+use Rattle.network_model.proofs.Short.{IsFresh-short, IsTicked-short}
+use Rattle.network_model.proofs.Worked.{small_network, m_config, s_config, m, s, t, at, answers_after}
 
 -- the slave is 1,000 ns ahead, and the Sync leaves a quarter of a nanosecond past the second
 abbrev exchange : List Event
@@ -85,13 +91,17 @@ of_one_sync = record {
   };
 }
 
+abbrev request_arrival : Place
+request_arrival = place (Arrive m 8 (at 2 4500 16384)) (after 9)
+
+abbrev request_journey : Journey
+request_journey = record {
+  origin = place (Request s (at 2 0 0)) (after 6);
+  stays = record { entered = place (Enter t 6 (at 2 500 0)) (after 7); left = place (Leave t 7 (at 2 4000 16384)) (after 8) } ∷ [];
+}
+
 -- and exact, the quarter of a nanosecond included
-exact : IsTwice arrival journey (place (Arrive m 8 (at 2 4500 16384)) (after 9))
-    (record {
-      origin = place (Request s (at 2 0 0)) (after 6);
-      stays = record { entered = place (Enter t 6 (at 2 500 0)) (after 7); left = place (Leave t 7 (at 2 4000 16384)) (after 8) } ∷ [];
-    })
-    report
+exact : IsTwice arrival journey request_arrival request_journey report
 exact = record {
   a = pos 131055616;
   b = pos 0;
@@ -105,6 +115,68 @@ exact = record {
   };
   offset = refl;
   path = refl;
+}
+
+-- the run meets the premises
+fresh_and_ticked : IsFreshAndTicked exact_limits small_network (after 12)
+fresh_and_ticked = record {
+  apart = IsNetwork-test small_network refl refl;
+  accepted = IsRun-test small_network (after 12) refl;
+  fresh = IsFresh-short 32768 small_network (after 12) (omega arith);
+  ticked = IsTicked-short 16384 (after 12) (omega arith);
+}
+
+-- master and slave are of one domain
+one_domain : ShareDomain small_network s m
+one_domain = record {
+  own = record { config = s_config; first = 0 };
+  other = record { config = m_config; first = 0 };
+  slave_port = refl;
+  master_port = refl;
+  domain = refl;
+}
+
+-- and the Sync completed when it arrived
+evidence : HasEvidence small_network (place (Hear s 9) (after 11)) s report
+evidence = record {
+  order = record { sync = omega arith; follow = tt; response = omega arith; heard_now = inr (inr refl); request = omega arith };
+  sync_used = record { p = arrival; there = refl; outcome = refl };
+  follow_used = tt;
+  response_completes = record { p = place (Hear s 9) (after 11); there = refl; outcome = refl };
+  stamped = record {
+    stamped = place (Stamped s) (after 10);
+    there = refl;
+    event = refl;
+    done = refl;
+    after_request = omega arith;
+    before_response = omega arith;
+    no_other = refl;
+  };
+  sync = record {
+    arrival = arrival;
+    journey = journey;
+    arrives = record { copy = 4; moment = at 1 3000 0; there = refl; event = refl; travelled = refl };
+    drawn = refl;
+    domain = one_domain;
+    small = record { message = one_step 0 131088384; arrived = refl; small = refl };
+  };
+  request = record {
+    requested = request_journey.origin;
+    there = refl;
+    asked = refl;
+    master = m;
+    arrival = request_arrival;
+    journey = request_journey;
+    hears = record { hearing = place (Hear s 9) (after 11); copy = 9; there = refl; event = refl; made_by = refl };
+    arrives = record { copy = 8; moment = at 2 4500 16384; there = refl; event = refl; travelled = refl };
+    drawn = refl;
+    domain = one_domain;
+    small = record {
+      message = with_correction (delay_req s_config 0) (record { 0 = pos 229392384 });
+      arrived = refl;
+      small = refl;
+    };
+  };
 }
 
 -- a one-step Sync that left at the greatest fraction, and stays in a clock for almost too long

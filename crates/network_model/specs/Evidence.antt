@@ -1,4 +1,4 @@
--- What a run shows of a report beside its measurement: the order of the events that its tags name, and that they were used.
+-- What an accepted run shows of each report, exact or not: the order of the events that its tags name, and of what they are.
 -- `laws::runs_show_evidence` promises it.
 use Rattle.std.specs.Prelude.{◌≡◌, ℕ, ◌<◌, ◌≤◌, ◌⊎◌, int_lt, Bool, true, false, count_by, Option, Some, None, IfSome, IsTrue, Ok, Err, Result}
 use Rattle.ptp_units.specs.Interval.{too_big}
@@ -12,13 +12,13 @@ use Rattle.network_model.specs.declared.stepped.Outcome.{Outcome}
 use Rattle.network_model.specs.declared.stepped.Outcome.TheVariants as outcomes
 use Rattle.network_model.specs.Network.{Network, NodeName, PortSetup}
 use Rattle.network_model.specs.Run.{Run, Place, IsIn, place_at, tag_of, until, site_of, events_after}
-use Rattle.network_model.specs.Kinds.{is_at, is_request, spends}
+use Rattle.network_model.specs.Kinds.{is_at, draws_sync, is_request, spends}
 use Rattle.network_model.specs.Journey.{Journey}
 use Rattle.network_model.specs.Truth.{master_at, slave_at, travelled}
 use Rattle.network_model.specs.Outcome.{outcome_of, IsRun}
 use Rattle.network_model.specs.Premises.{Premise, IsAcceptedRun, is_used}
 use Rattle.network_model.specs.Reported.{Reports}
-use Rattle.network_model.specs.Exact.{IsMeasurement}
+use Rattle.network_model.specs.Exact.{Arrives, HearsOf, IsMeasurement}
 
 -- a message that a slave hears completes a Sync or a request
 abbrev pub is_complete : Heard → Bool
@@ -79,25 +79,67 @@ pub record IsRepresented (network : Network) (journey : Journey) : Type 0 where
   pub arrived : travelled network journey ≡ Some message
   pub small : IsTrue (int_lt message.header.correction.0 too_big)
 
--- all this of a report that an event answers, whose messages were these
-pub record HasEvidence (network : Network) (answered : Place) (slave : NodeName) (report : Report)
-    (measured : IsMeasurement (until answered) slave report) : Type 0 where
+-- The Sync of a report's tag: a copy arrived at the slave, after this journey, of a Sync that a master of the slave's domain
+-- drew, and its correction isn't too big.
+pub record HasSync (network : Network) (run : Run) (slave : NodeName) (report : Report) : Type 0 where
+  pub arrival : Place
+  pub journey : Journey
+  pub arrives : Arrives run report.sync_tag slave arrival journey
+  pub drawn : IsTrue (draws_sync journey.origin.event)
+  pub domain : ShareDomain network slave (site_of journey.origin.event)
+  pub small : IsRepresented network journey
+
+-- The Delay_Req of a report's tags: the event of the request's tag is a Request of the slave. The Delay_Resp was made by the
+-- arrival of a Delay_Req of the slave, after this journey, at a master of the slave's domain, and the correction of that
+-- Delay_Req isn't too big.
+pub record HasRequest (network : Network) (run : Run) (slave : NodeName) (report : Report) : Type 0 where
+  pub requested : Place
+  pub there : place_at run report.request_tag ≡ Some requested
+  pub asked : IsTrue (is_at is_request slave requested.event)
+  pub master : NodeName
+  pub arrival : Place
+  pub journey : Journey
+  pub hears : HearsOf run report.response_tag slave arrival
+  pub arrives : Arrives run (tag_of arrival) master arrival journey
+  pub drawn : IsTrue (is_at is_request slave journey.origin.event)
+  pub domain : ShareDomain network slave master
+  pub small : IsRepresented network journey
+
+-- all this of a report that an event answers
+pub record HasEvidence (network : Network) (answered : Place) (slave : NodeName) (report : Report) : Type 0 where
   pub order : TagsInOrder (tag_of answered) report
   pub sync_used : SyncWasUsed network (until answered) report.follow_tag report.sync_tag
   pub follow_used : IfSome report.follow_tag (HasOutcome network (until answered) is_used)
   pub response_completes : HasOutcome network (until answered) is_completing report.response_tag
   pub stamped : WasStamped network (until answered) slave report
-  pub domain : ShareDomain network slave measured.one_sync.master
-  pub sync_small : IsRepresented network measured.one_sync.journey
-  pub request_small : IsRepresented network measured.one_request.journey
+  pub sync : HasSync network (until answered) slave report
+  pub request : HasRequest network (until answered) slave report
 
--- Each report that is a measurement has its evidence in the run.
+-- Each report has its evidence in the run.
 abbrev pub EachReportHasEvidence : Premise → Type 0
 EachReportHasEvidence premise =
     (network : Network) (answered : Place) (report : Report)
     → premise network (until answered) → Reports network answered report
-    → (measured : IsMeasurement (until answered) (site_of answered.event) report)
-    → HasEvidence network answered (site_of answered.event) report measured
+    → HasEvidence network answered (site_of answered.event) report
+
+-- a report's evidence and a measurement of it are of one master and of the same messages
+pub record AreOfOne {run : Run} {slave : NodeName} {report : Report} {network : Network}
+    (sync : HasSync network run slave report) (request : HasRequest network run slave report)
+    (measured : IsMeasurement run slave report) : Type 0 where
+  pub master : site_of sync.journey.origin.event ≡ measured.one_sync.master
+  pub sync_arrival : sync.arrival ≡ measured.one_sync.arrival
+  pub sync_journey : sync.journey ≡ measured.one_sync.journey
+  pub answered_by : request.master ≡ measured.one_request.master
+  pub request_arrival : request.arrival ≡ measured.one_request.arrival
+  pub request_journey : request.journey ≡ measured.one_request.journey
+
+-- The tags of a report leave no choice: what there is evidence of is what was measured.
+abbrev pub EvidenceIsOfMeasurements : Type 0
+EvidenceIsOfMeasurements =
+    (network : Network) (run : Run) (slave : NodeName) (report : Report)
+    → (sync : HasSync network run slave report) → (request : HasRequest network run slave report)
+    → (measured : IsMeasurement run slave report)
+    → AreOfOne sync request measured
 
 -- No stay in a clock ends twice: no two events of a run spend one transit.
 abbrev pub EachTransitIsSpentOnce : Type 0
@@ -107,4 +149,5 @@ EachTransitIsSpentOnce =
 -- What every accepted run shows.
 pub record ShowsEvidence : Type 0 where
   pub reports : EachReportHasEvidence IsAcceptedRun
+  pub measurements : EvidenceIsOfMeasurements
   pub transits : EachTransitIsSpentOnce

@@ -3,22 +3,22 @@
 use Rattle.slave_port.specs.declared.heard.Report.{Report}
 use Rattle.network_model.specs.Network.{Network}
 use Rattle.network_model.specs.Run.{Place, until, site_of}
-use Rattle.network_model.specs.Premises.{Premise, exact_limits, IsAcceptedRun, IsFreshAndTicked, IsWithinTurn}
+use Rattle.network_model.specs.Premises.{Premise, SlavePremise, whichever, exact_limits, IsAcceptedRun, IsFreshAndTickedFor, IsWithinTurn}
 use Rattle.network_model.specs.Reported.{Reports}
 use Rattle.network_model.specs.Exact.{IsOfOneSync, IsOfOneRequest, IsTwice, IsMeasurement}
 
 -- Each report is of one Sync of the slave's present master: the one that its tags name.
-abbrev pub EachReportIsOfOneSync : Premise → Type 0
+abbrev pub EachReportIsOfOneSync : SlavePremise → Type 0
 EachReportIsOfOneSync premise =
     (network : Network) (answered : Place) (report : Report)
-    → premise network (until answered) → Reports network answered report
+    → premise network (site_of answered.event) (until answered) → Reports network answered report
     → IsOfOneSync (until answered) (site_of answered.event) report
 
 -- Each report is of one Delay_Req to the slave's present master: the one that its tags name.
-abbrev pub EachReportIsOfOneRequest : Premise → Type 0
+abbrev pub EachReportIsOfOneRequest : SlavePremise → Type 0
 EachReportIsOfOneRequest premise =
     (network : Network) (answered : Place) (report : Report)
-    → premise network (until answered) → Reports network answered report
+    → premise network (site_of answered.event) (until answered) → Reports network answered report
     → IsOfOneRequest (until answered) (site_of answered.event) report
 
 -- Each report that is of one Sync and of one Delay_Req is exactly twice the two results over them.
@@ -38,15 +38,15 @@ EachReportIsExact premise =
     → premise network (until answered) → Reports network answered report
     → IsMeasurement (until answered) (site_of answered.event) report
 
--- The headline: over runs of any length that are fresh and ticked, each report is exact. That it is twice the two results
--- follows for all accepted runs, once it is of one Sync and of one Delay_Req.
+-- The headline: over runs of any length that are fresh and ticked for the slave that reports, each report is exact. That it is
+-- twice the two results follows for all accepted runs, once it is of one Sync and of one Delay_Req.
 pub record Headline : Type 0 where
-  pub one_sync : EachReportIsOfOneSync (IsFreshAndTicked exact_limits)
-  pub one_request : EachReportIsOfOneRequest (IsFreshAndTicked exact_limits)
+  pub one_sync : EachReportIsOfOneSync (IsFreshAndTickedFor exact_limits)
+  pub one_request : EachReportIsOfOneRequest (IsFreshAndTickedFor exact_limits)
   pub twice : EachReportIsTwice IsAcceptedRun
 
 -- The same where the numbers of no port have come round, however old what is heard and however rare the ticks.
 pub record HeadlineWithinOneTurn : Type 0 where
-  pub one_sync : EachReportIsOfOneSync IsWithinTurn
-  pub one_request : EachReportIsOfOneRequest IsWithinTurn
+  pub one_sync : EachReportIsOfOneSync (whichever IsWithinTurn)
+  pub one_request : EachReportIsOfOneRequest (whichever IsWithinTurn)
   pub twice : EachReportIsTwice IsAcceptedRun

@@ -7,7 +7,7 @@ use Rattle.network_model.specs.Run.{Run, place_at, tag_of, site_of, events_after
 use Rattle.network_model.specs.Kinds.{is_at, is_tick, is_set_master}
 use Rattle.network_model.specs.Numbering.{number_of}
 use Rattle.network_model.specs.Truth.{master_at, origin_heard}
-use Rattle.network_model.specs.Premises.{Premise, ordered_limits, IsFreshAndTicked}
+use Rattle.network_model.specs.Premises.{SlavePremise, ordered_limits, IsFreshAndTickedFor}
 use Rattle.network_model.specs.Reported.{ReportedIn}
 
 -- the true number of a report's Sync
@@ -35,15 +35,16 @@ pub record IsInOrder (network : Network) (run : Run) (first second : Report) : T
 
 -- The second of two reports of a slave is of no older Sync, by true numbers, than the first, as long as the slave was told no
 -- master and ticked at most once between the completion of the first one's Sync and the second report.
-abbrev pub ReportsKeepOrder : Premise → Type 0
+abbrev pub ReportsKeepOrder : SlavePremise → Type 0
 ReportsKeepOrder premise =
     (network : Network) (run : Run) (slave : NodeName) (first second : Report)
-    → premise network run
+    → premise network slave run
     → (reported : ReportedIn network run slave first) → (reported_later : ReportedIn network run slave second)
     → tag_of reported.answered < tag_of reported_later.answered
     → IsOneWindow reported_later.answered.earlier slave (completed_at first)
     → IsInOrder network run first second
 
--- Reports don't go back in runs, of whatever length, that are fresh and ticked within half of the limits.
+-- A slave's reports don't go back in runs, of whatever length, that are fresh and ticked for this slave, within half of the
+-- limits.
 abbrev pub ReportsDontGoBack : Type 0
-ReportsDontGoBack = ReportsKeepOrder (IsFreshAndTicked ordered_limits)
+ReportsDontGoBack = ReportsKeepOrder (IsFreshAndTickedFor ordered_limits)

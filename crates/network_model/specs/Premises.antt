@@ -1,5 +1,5 @@
 -- What is asked of a run whose reports are exact: no number is too old when it is heard, and slaves tick often enough.
-use Rattle.std.specs.Prelude.{ℕ, ◌+◌, ◌<◌, ◌≤◌, Bool, ◌||◌, true, false, [], ◌∷◌, count_by, if◌then◌else◌, IsTrue, Ok, Err, Result, IfSome}
+use Rattle.std.specs.Prelude.{◌≡◌, ℕ, ◌+◌, ◌<◌, ◌≤◌, Bool, ◌||◌, true, false, [], ◌∷◌, count_by, if◌then◌else◌, IsTrue, Ok, Err, Result, IfSome}
 use Rattle.std.specs.Option.{option_map_or}
 use Rattle.slave_port.specs.declared.heard.Heard.{Heard}
 use Rattle.slave_port.specs.declared.heard.Heard.TheVariants as answers
@@ -8,7 +8,7 @@ use Rattle.network_model.specs.declared.refusal.WorldRefusal.{WorldRefusal}
 use Rattle.network_model.specs.declared.stepped.Outcome.{Outcome}
 use Rattle.network_model.specs.declared.stepped.Outcome.TheVariants as outcomes
 use Rattle.network_model.specs.Network.{Network, NodeName, IsNetwork}
-use Rattle.network_model.specs.Run.{Run, place}
+use Rattle.network_model.specs.Run.{Run, place, site_of}
 use Rattle.network_model.specs.Kinds.{is_at, draws_sync, is_request, is_tick, is_set_master}
 use Rattle.network_model.specs.Numbering.{drawn_later}
 use Rattle.network_model.specs.Truth.{origin_heard}
@@ -18,6 +18,14 @@ use Rattle.network_model.specs.Present.{present_master}
 -- what is asked of a network and of a run of it
 abbrev pub Premise : Type 1
 Premise = Network → Run → Type 0
+
+-- what is asked of these for the sake of one slave
+abbrev pub SlavePremise : Type 1
+SlavePremise = Network → NodeName → Run → Type 0
+
+-- a premise that doesn't ask which slave it is for
+abbrev pub whichever : Premise → SlavePremise
+whichever premise network slave run = premise network run
 
 -- a message that a slave hears isn't ignored
 abbrev pub is_of_use : Heard → Bool
@@ -64,6 +72,12 @@ abbrev pub IsFresh : ℕ → Network → Run → Type 0
 IsFresh late network [] = Unit {0}
 IsFresh late network (event ∷ earlier) = IsFreshAt late network earlier event × IsFresh late network earlier
 
+-- at every event of one slave
+abbrev pub IsFreshFor : ℕ → Network → NodeName → Run → Type 0
+IsFreshFor late network slave [] = Unit {0}
+IsFreshFor late network slave (event ∷ earlier) =
+    (site_of event ≡ slave → IsFreshAt late network earlier event) × IsFreshFor late network slave earlier
+
 -- whether an event draws a Sync of a slave's present master
 abbrev pub draws_present : NodeName → Run → Event → Bool
 draws_present slave earlier event = option_map_or (λ master. is_at draws_sync master event) (present_master slave earlier) false
@@ -102,6 +116,13 @@ pub record IsFreshAndTicked (limits : Limits) (network : Network) (run : Run) : 
   pub accepted : IsRun network run
   pub fresh : IsFresh limits.late network run
   pub ticked : IsTicked limits.between_ticks run
+
+-- The same for one slave: what others hear may be old, and they need never tick.
+pub record IsFreshAndTickedFor (limits : Limits) (network : Network) (slave : NodeName) (run : Run) : Type 0 where
+  pub apart : IsNetwork network
+  pub accepted : IsRun network run
+  pub fresh : IsFreshFor limits.late network slave run
+  pub ticked : IsTickedAt limits.between_ticks slave run
 
 -- What stands in their place for short runs: the numbers of no port have come round.
 pub record IsWithinTurn (network : Network) (run : Run) : Type 0 where

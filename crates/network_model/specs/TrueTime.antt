@@ -6,7 +6,7 @@ use Rattle.network_model.specs.Network.{Network, NodeName}
 use Rattle.network_model.specs.Run.{Run}
 use Rattle.network_model.specs.Clock.{difference, clock_shows}
 use Rattle.network_model.specs.Present.{present_master}
-use Rattle.network_model.specs.Premises.{Premise, exact_limits, IsFreshAndTicked}
+use Rattle.network_model.specs.Premises.{Premise, SlavePremise, exact_limits, IsAcceptedRun, IsFreshAndTickedFor}
 use Rattle.network_model.specs.Reported.{ReportedIn}
 use Rattle.network_model.specs.Level.{Crossing, sync_way, request_way, time_on, IsSteady, IsLevelFor}
 
@@ -26,10 +26,10 @@ pub record IsAsymmetric (run : Run) (slave master : NodeName) (report : Report) 
   pub path : report.path2 ≡ time_on there +ℤ time_on back
 
 -- Where clocks are steady, the error of each report is exactly the asymmetry of its two ways.
-abbrev pub ErrorIsAsymmetry : Premise → Type 0
+abbrev pub ErrorIsAsymmetry : SlavePremise → Type 0
 ErrorIsAsymmetry premise =
     (network : Network) (run : Run) (slave master : NodeName) (report : Report)
-    → premise network run → IsSteady run
+    → premise network slave run → IsSteady run
     → (reported : ReportedIn network run slave report)
     → present_master slave reported.answered.earlier ≡ Some master
     → IsAsymmetric run slave master report
@@ -47,18 +47,19 @@ KnowsMaster run slave master report moment =
     twice (clock_shows slave run moment) -ℤ report.offset2 ≡ twice (clock_shows master run moment)
 
 -- In a level network two slaves make out the same time of their master from their reports, at every true moment.
-abbrev pub SlavesAgree : Premise → Type 0
+abbrev pub SlavesAgree : SlavePremise → Type 0
 SlavesAgree premise =
     (network : Network) (run : Run) (one other master : NodeName) (first second : Report) (moment : ℕ)
-    → premise network run
+    → premise network one run → premise network other run
     → (reported : ReportedIn network run one first) → (reported_too : ReportedIn network run other second)
     → present_master one reported.answered.earlier ≡ Some master
     → present_master other reported_too.answered.earlier ≡ Some master
     → IsLevelFor run first → IsLevelFor run second
     → KnowsMaster run one master first moment × KnowsMaster run other master second moment
 
--- What reports say of true time, over runs of any length that are fresh and ticked.
+-- What reports say of true time, over runs of any length that are fresh and ticked for the slaves that report. That the ways of
+-- a level network take one time is so in all accepted runs.
 pub record TellsTrueTime : Type 0 where
-  pub error : ErrorIsAsymmetry (IsFreshAndTicked exact_limits)
-  pub even : WaysAreEven (IsFreshAndTicked exact_limits)
-  pub agreement : SlavesAgree (IsFreshAndTicked exact_limits)
+  pub error : ErrorIsAsymmetry (IsFreshAndTickedFor exact_limits)
+  pub even : WaysAreEven IsAcceptedRun
+  pub agreement : SlavesAgree (IsFreshAndTickedFor exact_limits)

@@ -7,8 +7,9 @@ ghost use Rattle.network_model.specs.Order.{ReportsDontGoBack};
 ghost use Rattle.network_model.specs.Pairs.{NoPairIsMissed};
 ghost use Rattle.network_model.specs.TrueTime.{TellsTrueTime};
 
-/// What a slave reports in a fresh and ticked run, of whatever length, is of one Sync and of one
-/// Delay_Req, which its tags name, and is twice the standard's two results for them, without any error.
+/// What a slave reports in a run that is fresh and ticked for it, of whatever length and whatever other
+/// slaves do, is of one Sync and of one Delay_Req, which its tags name, and is twice the standard's two
+/// results for them, without any error.
 pub fn each_report_is_exact()
     ensures { Headline }
 {}
@@ -19,33 +20,38 @@ pub fn each_report_is_exact_within_one_turn()
     ensures { HeadlineWithinOneTurn }
 {}
 
-/// In fresh and ticked runs, of whatever length, a slave pairs what belongs together and nothing else.
-/// A usable two-step Sync or Follow_Up completes just where the other message of its Sync event is held,
-/// a usable Delay_Resp just where the request that it answers is held and known to have left.
+/// In a run that is fresh and ticked for a slave, of whatever length, it pairs what belongs together and
+/// nothing else. A usable two-step Sync or Follow_Up completes just where the other message of its Sync
+/// event is held, and with one of that event; a usable Delay_Resp just where the request that it answers
+/// is held and known to have left, and with that request. The event's outcome says that something
+/// completes just where this is so. In every accepted run each message that a slave hears is told to its
+/// port, and one event drew its number.
 pub fn no_pair_is_missed()
     ensures { NoPairIsMissed }
 {}
 
-/// What reports say of true time in fresh and ticked runs, of whatever length. Where clocks are steady,
-/// twice the offset is twice the true difference of the two clocks and the asymmetry of the two ways, and
-/// twice the path delay is both ways together. In a level network both ways take one time, and two slaves
-/// of one master agree at every true moment.
+/// What reports say of true time in runs, of whatever length, that are fresh and ticked for the slaves
+/// that report. Where clocks are steady, twice the offset is twice the true difference of the two clocks
+/// and the asymmetry of the two ways, and twice the path delay is both ways together. In a level network
+/// two slaves of one master agree at every true moment, and in every accepted run both ways take one time.
 pub fn reports_tell_true_time()
     ensures { TellsTrueTime }
 {}
 
-/// In runs, of whatever length, that are fresh and ticked within half of the limits, a slave's later
-/// report is of no older Sync than the one before it, as long as the slave was told no master and ticked
-/// at most once since the Sync of the one before completed.
+/// In a run, of whatever length, that is fresh and ticked for a slave within half of the limits, and
+/// whatever other slaves do, its later report is of no older Sync than the one before it, as long as it
+/// was told no master and ticked at most once since the Sync of the one before completed.
 pub fn reports_dont_go_back()
     ensures { ReportsDontGoBack }
 {}
 
-/// Every accepted run shows the evidence of its reports: the tags of a report are in the order of its
-/// events and one of them is its own event's, its messages were used, the slave learnt when the request
-/// left before it heard the answer and sent no other request between, slave and master are of one
-/// domain, and the corrections of the Sync and of the Delay_Req aren't too big. No stay in a clock ends
-/// twice.
+/// Every accepted run shows the evidence of each of its reports, whether that is exact or not. The tags
+/// are in the order of their events and one of them is the report's own, and the messages were used. The
+/// slave learnt when the request left before it heard the answer, and sent no other request between. The
+/// Sync that arrived was drawn by a master of the slave's domain, the Delay_Resp answers a Delay_Req of
+/// the slave that arrived at such a master, and the corrections of both, at the end of their journeys,
+/// aren't too big. Where a report was measured, the measurement is of these messages. No stay in a clock
+/// ends twice.
 pub fn runs_show_evidence()
     ensures { ShowsEvidence }
 {}

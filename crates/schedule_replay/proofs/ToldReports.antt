@@ -27,7 +27,7 @@ use Rattle.network_model.specs.Premises.{IsAcceptedRun}
 use Rattle.network_model.specs.Reported.{Reports}
 use Rattle.network_model.specs.Exact.{IsBracketOf, IsMeasurement}
 use Rattle.network_model.specs.Evidence.{IsRepresented}
-use Rattle.network_model.proofs.Evidence.{each_has_evidence}
+use Rattle.network_model.proofs.Evidence.{each_has_evidence, shown_of}
 use Rattle.network_model.proofs.Journeys.{IsIn-origin}
 use Rattle.network_model.proofs.Places.{IsIn-place_at, IsIn-within}
 use Rattle.network_model.proofs.Readings.{shown_reading, sync_timed, request_timed}
@@ -134,7 +134,8 @@ pub short_report : (network : Network) (answered : Place) (report : Report) → 
     → IsMeasurement (until answered) (site_of answered.event) report → IsShortReport report
 short_report network answered report accepted reports measured =
     let run : Run = until answered in
-    let evidence = each_has_evidence network answered report accepted reports measured in
+    let evidence = each_has_evidence network answered report accepted reports in
+    let shown = shown_of network run (site_of answered.event) report evidence.sync evidence.request measured in
     let os = measured.one_sync in
     let or = measured.one_request in
     let sync_in : IsIn run os.arrival = IsIn-place_at run report.sync_tag os.arrival os.sync.arrives.there in
@@ -149,8 +150,8 @@ short_report network answered report accepted reports measured =
     let a = bracket_is network run os.arrival os.journey measured.exact.a accepted.accepted sync_in sync_arrived sync_origin_in (sync_timed os.journey.origin.event sync_kind) measured.exact.of_sync in
     let b = bracket_is network run or.arrival or.journey measured.exact.b accepted.accepted arrival_in request_arrived request_origin_in (request_timed or.journey.origin.event request_kind)
     measured.exact.of_request in
-    let sync_small = residence_small network os.journey evidence.sync_small in
-    let request_small = residence_small network or.journey evidence.request_small in
+    let sync_small = residence_small network os.journey shown.sync_small in
+    let request_small = residence_small network or.journey shown.request_small in
     let offset : report.offset2 ≡ offset2 (bracket_by (reading os.arrival) (reading os.journey.origin) (residence os.journey)) (bracket_by (reading or.arrival) (reading or.journey.origin) (residence or.journey)) =
     measured.exact.offset ∙ (λ i. offset2 (a i) (b i)) in
     let path : report.path2 ≡ path2 (bracket_by (reading os.arrival) (reading os.journey.origin) (residence os.journey)) (bracket_by (reading or.arrival) (reading or.journey.origin) (residence or.journey)) =

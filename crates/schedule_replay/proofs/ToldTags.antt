@@ -153,6 +153,6 @@ tagged_line network event earlier line accepted measured small told = record {
   report = tagged_out (copy_of network (event ∷ earlier) told.stepped.tag) told.stepped.outcome line.out
       (λ report is.
       let reports : Reports network (place event earlier) report = told.answered.outcome ∙ ap Ok is in
-      report_tags (length earlier) report small (each_has_evidence network (place event earlier) report accepted reports (measured report reports)).order)
+      report_tags (length earlier) report small (each_has_evidence network (place event earlier) report accepted reports).order)
       told.told.outcome;
 }

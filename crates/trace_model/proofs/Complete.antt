@@ -32,7 +32,7 @@ use Rattle.network_model.proofs.Pairing.{fresh_ticked_shorter, within_turn_short
 use Rattle.network_model.proofs.Reports.{report_event, each_of_one_sync, each_of_one_request, each_of_one_sync-one_turn, each_of_one_request-one_turn}
 use Rattle.network_model.proofs.Twice.{each_twice}
 use Rattle.network_model.proofs.TrueTime.{origin_drawn}
-use Rattle.network_model.proofs.Evidence.{each_has_evidence}
+use Rattle.network_model.proofs.Evidence.{IsShownOf, each_has_evidence, shown_of}
 use Rattle.trace_model.specs.declared.line.TraceLine.{TraceLine}
 use Rattle.trace_model.specs.declared.line.TraceOut.{TraceOut}
 use Rattle.trace_model.specs.declared.line.TraceOut.TheVariants as outs
@@ -105,7 +105,8 @@ whole s f r a =
     option_map (λ arrival. record { sync = sync; follow = follow; request = request; arrival = arrival }) a) r) f) s
 
 module _ (network : Network) (answered : Place) (e : LinePlace) (report : Report) (tells : TellsPlace network answered e) (reports : Reports network answered report)
-    (measured : IsMeasurement (until answered) (site_of answered.event) report) (evidence : HasEvidence network answered (site_of answered.event) report measured) where
+    (measured : IsMeasurement (until answered) (site_of answered.event) report) (evidence : HasEvidence network answered (site_of answered.event) report)
+    (shown : IsShownOf network (until answered) (site_of answered.event) report measured) where
   abbrev slave : NodeName
   slave = site_of answered.event
 
@@ -201,7 +202,7 @@ module _ (network : Network) (answered : Place) (e : LinePlace) (report : Report
       let named : is_named (site answer.e) (site sync_way.by_lines.origin) ≡ true =
       ap (λ (m : NodeName). is_named m (site sync_way.by_lines.origin)) site_arrival ∙ ap (is_named os.master) site_sync ∙ named-self os.master in
       let domain : is_domain (slave_at network slave) (master_at network (site sync_way.by_lines.origin)) ≡ true =
-      ap (λ (m : NodeName). is_domain (slave_at network slave) (master_at network m)) site_sync ∙ one_domain network slave os.master evidence.domain in
+      ap (λ (m : NodeName). is_domain (slave_at network slave) (master_at network m)) site_sync ∙ one_domain network slave os.master shown.domain in
       let of_master : is_of_master network slave e report x sync_way.by_lines ≡ true = λ i. of_present i && named i && domain i in
       let followed_by = follow.followed sync_way.by_lines.origin sync_way.tells.origin in
       let own : (line_number request_way.by_lines.origin == line_number request.e) ≡ true =
@@ -225,8 +226,8 @@ module _ (network : Network) (answered : Place) (e : LinePlace) (report : Report
         paired = λ i. followed_by i && own i;
         of_master = subst (λ (name : NodeName). is_of_master network name e report x sync_way.by_lines ≡ true) (sym here) of_master;
         readings = λ i. sync_way.arrival_right i && sync_way.journey_right i && request_way.arrival_right i && request_way.journey_right i;
-        sync_fits = fits_told network draws_sync e os.arrival sync.e os.journey evidence.sync_small sync_way;
-        request_fits = fits_told network is_request e or.arrival answer.e or.journey evidence.request_small request_way;
+        sync_fits = fits_told network draws_sync e os.arrival sync.e os.journey shown.sync_small sync_way;
+        request_fits = fits_told network is_request e or.arrival answer.e or.journey shown.request_small request_way;
         results = λ i. offset i && path i;
       }
     where
@@ -270,7 +271,9 @@ exchange_from : (network : Network) (answered : Place) (e : LinePlace) (report :
 exchange_from network answered e report premise tells reports one_sync one_request =
     let measured : IsMeasurement (until answered) (site_of answered.event) report =
     record { one_sync = one_sync; one_request = one_request; exact = each_twice network answered report premise reports one_sync one_request } in
-    measured_exchange network answered e report tells reports measured (each_has_evidence network answered report premise reports measured)
+    let evidence = each_has_evidence network answered report premise reports in
+    measured_exchange network answered e report tells reports measured evidence
+    (shown_of network (until answered) (site_of answered.event) report evidence.sync evidence.request measured)
 
 fresh_exchange : EachReportHasExchange (IsFreshAndTicked exact_limits)
 fresh_exchange network answered e report premise tells reports =

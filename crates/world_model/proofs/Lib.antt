@@ -11,4 +11,4 @@ mod Ended
 mod Leaves
 mod Happening
 mod InTurn
-mod Laws
+mod RunLaws

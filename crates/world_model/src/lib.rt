@@ -15,5 +15,6 @@ pub use network_model::{
     Event, Name, NodeKind, NodeSpec, Nodes, Outcome, RunStop, Stepped, WorldRefusal,
 };
 pub use slave_port::{Heard, Reason, Report};
+pub use network_model::laws;
 pub use turns::run;
 pub use world::World;

@@ -65,7 +65,7 @@ impl World {
         ensures run { IsRun self.new.network self.new.run }
         // A report is exact where no message that is used is too old and slaves tick often enough, or where no number came round.
         ensures exact { IfOk result (IsExactAnswer (IsTimely exact_limits) self.old event.now) }
-        ensures exact_within_one_turn { IfOk result (IsExactAnswer (λ network run. IsWithinOneTurn run) self.old event.now) }
+        ensures exact_within_one_turn { IfOk result (IsExactAnswer (λ network slave run. IsWithinOneTurn run) self.old event.now) }
         ensures laws { RunsKeepLaws }
     {
         step(&self.nodes, &mut self.stations, &mut self.entries, event)

@@ -7,7 +7,7 @@ use Rattle.world_model.specs.State.{State, after, after_all, IsRefused}
 use Rattle.world_model.specs.Turns.{AnswersInTurn}
 use Rattle.world_model.proofs.Happening.{reads_at}
 use Rattle.world_model.proofs.InTurn.{after_all-more, AnswersInTurn-more}
-use Rattle.world_model.proofs.Laws.{answers_exact, answers_exact-one_turn, runs_keep_laws}
+use Rattle.world_model.proofs.RunLaws.{answers_exact, answers_exact-one_turn, runs_keep_laws}
 use Rattle.world_model.proofs.turns.run.Goals as goal
 
 pub loop-done-preserved : goal.loop-done-preserved
