@@ -20,5 +20,4 @@ pub use encoding::encode;
 pub use message::{Body, Header, Message};
 pub use nibble::Nibble;
 pub use port::{PortConfig, PortIdentity};
-pub use profile::octets_of;
 pub use refusal::{DecodeRefusal, EncodeRefusal};

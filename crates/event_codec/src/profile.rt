@@ -6,8 +6,8 @@ ghost use Rattle.event_codec.specs.Profile.{header_of};
 use crate::encoding::encode;
 use crate::message::{Body, Header, Message};
 use crate::nibble::Nibble;
-use crate::port::PortConfig;
-use ptp_units::{Interval, Seq};
+use crate::port::{PortConfig, PortIdentity};
+use ptp_units::{Interval, Seq, Timestamp};
 
 impl PortConfig {
     /// The header of a message that a port of this configuration writes: sdoId 0, version 2.1,
@@ -38,8 +38,42 @@ impl PortConfig {
     }
 }
 
+impl Header {
+    /// The octets of the Sync that has this header, and no suffix.
+    pub fn sync(self, origin: Timestamp) -> [u8; 44]
+        ensures { Packet (record { header = self; body = Body.Sync origin; suffix = [] }) result }
+    {
+        octets_of(self, Body::Sync { origin })
+    }
+
+    /// The octets of the Delay_Req that has this header, and no suffix.
+    pub fn delay_req(self, origin: Timestamp) -> [u8; 44]
+        ensures { Packet (record { header = self; body = Body.DelayReq origin; suffix = [] }) result }
+    {
+        octets_of(self, Body::DelayReq { origin })
+    }
+
+    /// The octets of the Follow_Up that has this header, and no suffix.
+    pub fn follow_up(self, precise: Timestamp) -> [u8; 44]
+        ensures { Packet (record { header = self; body = Body.FollowUp precise; suffix = [] }) result }
+    {
+        octets_of(self, Body::FollowUp { precise })
+    }
+
+    /// The octets of the Delay_Resp that has this header, and no suffix.
+    pub fn delay_resp(self, receive: Timestamp, requesting: PortIdentity) -> [u8; 54]
+        ensures { Packet (record { header = self; body = Body.DelayResp receive requesting; suffix = [] }) result }
+    {
+        let body = Body::DelayResp {
+            receive,
+            requesting,
+        };
+        octets_of(self, body)
+    }
+}
+
 /// The octets of a message without suffix, whose fields take N of them.
-pub fn octets_of<const N: usize>(header: Header, body: Body) -> [u8; N]
+fn octets_of<const N: usize>(header: Header, body: Body) -> [u8; N]
     requires { fields_length (type_of body) ≡ N }
     ensures { Packet (record { header = header; body = body; suffix = [] }) result }
 {

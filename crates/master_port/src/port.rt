@@ -6,7 +6,7 @@ ghost use Rattle.master_port.specs.Port.{new_port};
 ghost use Rattle.master_port.specs.Written.{sync_with, sync, one_step_sync, follow_up, answer};
 
 use crate::refusal::MasterRefusal;
-use event_codec::{Body, Message, PortConfig, decode, octets_of};
+use event_codec::{Body, Message, PortConfig, decode};
 use ptp_units::{Interval, ScaledTime, Seq, Timestamp};
 use std::marker::Model;
 
@@ -86,7 +86,7 @@ impl MasterPort {
     {
         let config = self.config;
         let header = config.header(flags, correction, number, 0, config.log);
-        octets_of(header, Body::Sync { origin })
+        header.sync(origin)
     }
 
     /// The Follow_Up of the waiting Sync, which left at t1; no Sync waits then. Refused with 301
@@ -113,7 +113,7 @@ impl MasterPort {
         let (precise, fraction) = t1.split();
         let correction = Interval(i64::from(fraction));
         let header = config.header(NO_FLAGS, correction, number, 2, config.log);
-        octets_of(header, Body::FollowUp { precise })
+        header.follow_up(precise)
     }
 
     /// The Delay_Resp to a Delay_Req that arrived at t4. Refused with the first of 302 to 305 that
@@ -150,10 +150,6 @@ impl MasterPort {
         };
         let sequence = request.header.sequence;
         let header = config.header(NO_FLAGS, correction, sequence, 3, config.log);
-        let body = Body::DelayResp {
-            receive,
-            requesting: request.header.source,
-        };
-        Ok(octets_of(header, body))
+        Ok(header.delay_resp(receive, request.header.source))
     }
 }

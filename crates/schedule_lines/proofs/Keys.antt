@@ -3,6 +3,7 @@ use Rattle.std.proofs.Common.{◌≡◌, ℕ, List, [], ◌∷◌, codes, Option
 use Rattle.serde_json.specs.Data.{Data, string, object, Members, no_members}
 use Rattle.network_model.specs.Run.{site_of, true_moment}
 use Rattle.network_model.specs.Kinds.{named_master, step_of, spent_transit}
+use Rattle.network_model.specs.declared.event.Event.{Event}
 use Rattle.trace_model.specs.declared.line.TraceLine.{TraceLine}
 use Rattle.schedule_lines.specs.Transcript.{whole, moment_data, difference_data, octets_data, tags_data, with_some, named_copy, event_text, made_octets, out_text, out_code, out_report, event_data}
 
@@ -15,17 +16,22 @@ abbrev pub members_of : List Field → Members
 members_of [] = no_members
 members_of (f ∷ fs) = with_some f.0 f.1 (members_of fs)
 
--- the keys of an event's line
-abbrev pub line_fields : ℕ → TraceLine → List Field
-line_fields n line =
-    (codes "at", option_map moment_data (true_moment line.event))
-    ∷ (codes "copy", option_map whole (named_copy line.event))
-    ∷ (codes "diff", option_map difference_data (step_of line.event))
-    ∷ (codes "ev", Some (string (event_text line.event)))
-    ∷ (codes "master", option_map string (named_master line.event))
-    ∷ (codes "node", Some (string (site_of line.event)))
-    ∷ (codes "transit", option_map whole (spent_transit line.event))
-    ∷ (codes "code", option_map whole (out_code line.out))
+-- an event's own keys, in front of others
+abbrev pub event_fields : Event → List Field → List Field
+event_fields event rest =
+    (codes "at", option_map moment_data (true_moment event))
+    ∷ (codes "copy", option_map whole (named_copy event))
+    ∷ (codes "diff", option_map difference_data (step_of event))
+    ∷ (codes "ev", Some (string (event_text event)))
+    ∷ (codes "master", option_map string (named_master event))
+    ∷ (codes "node", Some (string (site_of event)))
+    ∷ (codes "transit", option_map whole (spent_transit event))
+    ∷ rest
+
+-- the keys beside them in a transcript
+abbrev pub answer_fields : ℕ → TraceLine → List Field
+answer_fields n line =
+    (codes "code", option_map whole (out_code line.out))
     ∷ (codes "hex", option_map octets_data (made_octets line.out))
     ∷ (codes "n", Some (whole n))
     ∷ (codes "out", Some (string (out_text line.out)))
@@ -34,6 +40,10 @@ line_fields n line =
     ∷ (codes "path2", option_map (λ r. difference_data r.path2) (out_report line.out))
     ∷ (codes "tags", option_map tags_data (out_report line.out))
     ∷ []
+
+-- the keys of an event's line
+abbrev pub line_fields : ℕ → TraceLine → List Field
+line_fields n line = event_fields line.event (answer_fields n line)
 
 pub event_data-by_fields : (n : ℕ) (line : TraceLine) → event_data n line ≡ object (members_of (line_fields n line))
 event_data-by_fields n line = refl

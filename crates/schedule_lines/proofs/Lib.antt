@@ -9,3 +9,6 @@ pub mod Names
 pub mod Nodes
 pub mod Printed
 pub mod Ranges
+pub mod OneText
+pub mod OwnKeys
+pub mod OwnLines

@@ -27,7 +27,7 @@ or_else : (b : Bool) (d : Data) (rest : Option Data) → (if b then Some d else 
 or_else true d rest = refl
 or_else false d rest = refl
 
-or_same : (b : Bool) (rest : Option Data) → rest ≡ (if b then option_or None rest else rest)
+pub or_same : (b : Bool) (rest : Option Data) → rest ≡ (if b then option_or None rest else rest)
 or_same true rest = refl
 or_same false rest = refl
 
@@ -62,7 +62,7 @@ abbrev pub are_distinct : List Field → Bool
 are_distinct [] = true
 are_distinct (f ∷ fs) = is_absent f.0 fs && are_distinct fs
 
-both : (a b : Bool) → (a && b) ≡ true → (a ≡ true) × (b ≡ true)
+pub both : (a b : Bool) → (a && b) ≡ true → (a ≡ true) × (b ≡ true)
 both true b h = (refl, h)
 both false b h = absurd (cc)
 

@@ -114,7 +114,8 @@ event_texts_back n line h tagged =
     let fs = line_fields n line in
     read_object (members_of fs) (members_readable fs (fields_readable n line h tagged)) (members_ascending fs)
 
-abbrev port_fields : List ℕ → List ℕ → PortConfig → Seq → List Field
+-- the keys of a node with a port
+abbrev pub port_fields : List ℕ → List ℕ → PortConfig → Seq → List Field
 port_fields name kind config first =
     (codes "domain", Some (whole config.domain))
     ∷ (codes "first", Some (whole first.0))
@@ -151,9 +152,13 @@ port_text_back name kind config first h fits =
     in
     read_object (members_of fs) (members_readable fs readable) (members_ascending fs)
 
+-- the keys of a clock
+abbrev pub clock_fields : List ℕ → List Field
+clock_fields name = (codes "kind", Some (string (codes "clock"))) ∷ (codes "node", Some (string name)) ∷ []
+
 clock_text_back : (name : List ℕ) → read (compact_text (kind_data name kinds.Clock)) ≡ Some (kind_data name kinds.Clock)
 clock_text_back name =
-    let fs : List Field = (codes "kind", Some (string (codes "clock"))) ∷ (codes "node", Some (string name)) ∷ [] in
+    let fs = clock_fields name in
     read_object (members_of fs) (members_readable fs (text_readable _, (text_readable name, tt))) (members_ascending fs)
 
 kind_text_back : (name : List ℕ) (kind : NodeKind) → IsKind kind → read (compact_text (kind_data name kind)) ≡ Some (kind_data name kind)

@@ -1,8 +1,8 @@
 -- A written line, read again.
-use Rattle.std.proofs.Common.{◌≡◌, ◌==◌, ℕ, ℤ, ◌+◌, ◌<◌, List, codes, Option, Some, None, true, is_some, IfSome, option_map, option_and_then, refl, ap, ◌∙◌, arith}
+use Rattle.std.proofs.Common.{◌≡◌, ◌==◌, ℕ, ℤ, ◌+◌, ◌<◌, List, [], codes, Option, Some, None, true, is_some, IfSome, option_map, option_and_then, refl, ap, ◌∙◌, arith}
 use Rattle.std.specs.Option.{option_or}
 use Rattle.std.proofs.lemmas.Bool.Decides.{nat_tests}
-use Rattle.serde_json.specs.Data.{Data, string}
+use Rattle.serde_json.specs.Data.{Data, string, object}
 use Rattle.serde_json.specs.Find.{get, as_str}
 use Rattle.ptp_units.specs.Moment.{bound}
 use Rattle.slave_port.specs.declared.heard.Report.{Report}
@@ -16,11 +16,12 @@ use Rattle.trace_model.specs.declared.line.TraceOut.{TraceOut}
 use Rattle.trace_model.specs.declared.line.TraceOut.TheVariants as outs
 use Rattle.schedule_lines.specs.declared.traced.TranscriptLine.TheVariants as lines
 use Rattle.schedule_lines.specs.Json.{field, has_keys, moment_in, name_in, whole_in, whole_below, octets_in, difference_in}
-use Rattle.schedule_lines.specs.Line.{event_in, event_keys, node_in, at_in, copy_in}
+use Rattle.schedule_lines.specs.declared.schedule.Line.TheVariants as schedules
+use Rattle.schedule_lines.specs.Line.{event_in, event_keys, node_in, at_in, copy_in, line_of}
 use Rattle.schedule_lines.specs.Traced.{transcript_line_of, recorded_in, reading_in, reading_keys, out_of, out_keys, line_keys, code_in, report_in}
-use Rattle.schedule_lines.specs.Transcript.{whole, moment_data, difference_data, octets_data, tags_data, named_copy, event_text, made_octets, out_text, out_code, out_report, event_data}
-use Rattle.schedule_lines.specs.Recorded.{IsShort, IsOut, IsRecorded, EventsReadBack}
-use Rattle.schedule_lines.proofs.Keys.{line_fields}
+use Rattle.schedule_lines.specs.Transcript.{whole, moment_data, difference_data, octets_data, tags_data, named_copy, event_text, made_octets, out_text, out_code, out_report, scheduled_data, event_data}
+use Rattle.schedule_lines.specs.Recorded.{IsShort, IsEvent, IsOut, IsRecorded, ScheduledReadBack, EventsReadBack}
+use Rattle.schedule_lines.proofs.Keys.{Field, members_of, event_fields, answer_fields, line_fields}
 use Rattle.schedule_lines.proofs.Lookup.{find, get_member-members_of, option_or-none, one_if, count, members_len-members_of}
 use Rattle.schedule_lines.proofs.Texts.{name_back, below_back, octets_back, moment_back, difference_back, report_back}
 
@@ -110,14 +111,17 @@ reading_counted : (reading : Option ℕ) → one_if (option_map moment_data read
 reading_counted None = refl
 reading_counted (Some time) = refl
 
-line_counted : (n : ℕ) (line : TraceLine) → count (line_fields n line) ≡ line_keys line
-line_counted n line = omega (arith, event_counted line.event, out_counted line.out, reading_counted line.reading)
+pub event_count : (event : Event) → count (event_fields event []) ≡ event_keys event
+event_count event = omega (arith, event_counted event)
+
+pub line_count : (n : ℕ) (line : TraceLine) → count (line_fields n line) ≡ line_keys line
+line_count n line = omega (arith, event_counted line.event, out_counted line.out, reading_counted line.reading)
 
 same_count : (m k : ℕ) → m ≡ k → (m == k) ≡ true
 same_count m k e = grind (arith, nat_tests)
 
 keys_back : (n : ℕ) (line : TraceLine) → has_keys (line_keys line) (event_data n line) ≡ true
-keys_back n line = same_count _ _ (members_len-members_of (line_fields n line) refl ∙ line_counted n line)
+keys_back n line = same_count _ _ (members_len-members_of (line_fields n line) refl ∙ line_count n line)
 
 -- ---- what stands at its keys
 
@@ -126,13 +130,13 @@ back : {X : Type 0} (reads : Data → Option X) (f : X → Data) (o : Option X) 
 back reads f None P each h = refl
 back reads f (Some x) P each h = each x h
 
-stands : (n : ℕ) (line : TraceLine) (key : List ℕ) (o : Option Data) → find key (line_fields n line) ≡ option_or o None → get key (event_data n line) ≡ o
-stands n line key o e = get_member-members_of key (line_fields n line) ∙ e ∙ option_or-none o
+stands : (fs : List Field) (key : List ℕ) (o : Option Data) → find key fs ≡ option_or o None → get key (object (members_of fs)) ≡ o
+stands fs key o e = get_member-members_of key fs ∙ e ∙ option_or-none o
 
-told : {X : Type 0} (n : ℕ) (line : TraceLine) (key : List ℕ) (reads : Data → Option X) (f : X → Data) (o : Option X) (P : X → Type 0)
-    → find key (line_fields n line) ≡ option_or (option_map f o) None → ((x : X) → P x → reads (f x) ≡ Some x) → IfSome o P
-    → field reads key (event_data n line) ≡ o
-told n line key reads f o P e each h = ap (option_and_then reads) (stands n line key (option_map f o) e) ∙ back reads f o P each h
+told : {X : Type 0} (fs : List Field) (key : List ℕ) (reads : Data → Option X) (f : X → Data) (o : Option X) (P : X → Type 0)
+    → find key fs ≡ option_or (option_map f o) None → ((x : X) → P x → reads (f x) ≡ Some x) → IfSome o P
+    → field reads key (object (members_of fs)) ≡ o
+told fs key reads f o P e each h = ap (option_and_then reads) (stands fs key (option_map f o) e) ∙ back reads f o P each h
 
 pub always : {X : Type 0} (o : Option X) → IfSome o (λ _. Unit {0})
 always None = tt
@@ -181,45 +185,68 @@ both_short : (o : Option Report) → IfSome o (λ report. IsShort report.offset2
 both_short None h = (tt, tt)
 both_short (Some report) h = (h.0, h.1)
 
-read_event : (n : ℕ) (line : TraceLine) → IsRecorded line → event_in (event_data n line) ≡ Some line.event
-read_event n line h =
-    let e = line.event in
-    event_back e (event_data n line)
-    (told n line (codes "ev") as_str string (Some (event_text e)) (λ _. Unit {0}) refl (λ _ _. refl) tt)
-    (told n line (codes "node") name_in string (Some (site_of e)) IsName refl name_back h.event.node)
-    (told n line (codes "at") moment_in moment_data (true_moment e) (λ time. time < bound) refl moment_back h.event.moment)
-    (told n line (codes "copy") whole_in whole (named_copy e) (λ _. Unit {0}) refl (λ _ _. refl) (always (named_copy e)))
-    (told n line (codes "transit") whole_in whole (spent_transit e) (λ _. Unit {0}) refl (λ _ _. refl) (always (spent_transit e)))
-    (told n line (codes "master") name_in string (named_master e) IsName refl name_back h.event.master)
-    (told n line (codes "diff") difference_in difference_data (step_of e) IsShort refl difference_back h.event.step)
+-- none of an event's keys is among these
+record AreOthers (fs : List Field) : Type 0 where
+  at : find (codes "at") fs ≡ None
+  copy : find (codes "copy") fs ≡ None
+  diff : find (codes "diff") fs ≡ None
+  master : find (codes "master") fs ≡ None
+  transit : find (codes "transit") fs ≡ None
+
+read_event : (event : Event) (rest : List Field) → IsEvent event → AreOthers rest → event_in (object (members_of (event_fields event rest))) ≡ Some event
+read_event event rest h others =
+    let fs = event_fields event rest in
+    event_back event (object (members_of fs))
+    (told fs (codes "ev") as_str string (Some (event_text event)) (λ _. Unit {0}) refl (λ _ _. refl) tt)
+    (told fs (codes "node") name_in string (Some (site_of event)) IsName refl name_back h.node)
+    (told fs (codes "at") moment_in moment_data (true_moment event) (λ time. time < bound) (ap (option_or (option_map moment_data (true_moment event))) others.at) moment_back h.moment)
+    (told fs (codes "copy") whole_in whole (named_copy event) (λ _. Unit {0}) (ap (option_or (option_map whole (named_copy event))) others.copy) (λ _ _. refl) (always (named_copy event)))
+    (told fs (codes "transit") whole_in whole (spent_transit event) (λ _. Unit {0}) (ap (option_or (option_map whole (spent_transit event))) others.transit) (λ _ _. refl) (always (spent_transit event)))
+    (told fs (codes "master") name_in string (named_master event) IsName (ap (option_or (option_map string (named_master event))) others.master) name_back h.master)
+    (told fs (codes "diff") difference_in difference_data (step_of event) IsShort (ap (option_or (option_map difference_data (step_of event))) others.diff) difference_back h.step)
 
 read_report : (n : ℕ) (line : TraceLine) → IsRecorded line → report_in (event_data n line) ≡ out_report line.out
 read_report n line h =
     let report = out_report line.out in
     let short = both_short report (report_out line.out h.out) in
     report_in_back report (event_data n line)
-    (told n line (codes "offset2") difference_in difference_data (option_map (λ r. r.offset2) report) IsShort
+    (told (line_fields n line) (codes "offset2") difference_in difference_data (option_map (λ r. r.offset2) report) IsShort
     (ap (λ o. option_or o None) (twice_mapped difference_data (λ r. r.offset2) report)) difference_back (short_of (λ r. r.offset2) report short.0))
-    (told n line (codes "path2") difference_in difference_data (option_map (λ r. r.path2) report) IsShort
+    (told (line_fields n line) (codes "path2") difference_in difference_data (option_map (λ r. r.path2) report) IsShort
     (ap (λ o. option_or o None) (twice_mapped difference_data (λ r. r.path2) report)) difference_back (short_of (λ r. r.path2) report short.1))
-    (stands n line (codes "tags") (option_map tags_data report) refl)
+    (stands (line_fields n line) (codes "tags") (option_map tags_data report) refl)
 
 read_out : (n : ℕ) (line : TraceLine) → IsRecorded line → out_of (out_text line.out) (event_data n line) ≡ Some line.out
 read_out n line h =
     out_back line.out (event_data n line)
-    (told n line (codes "hex") octets_in octets_data (made_octets line.out) _ refl (λ octets fits. octets_back octets fits.0 fits.1) (octets_out line.out h.out))
-    (told n line (codes "code") (whole_below 65536) whole (out_code line.out) (λ code. code < 65536) refl (below_back 65536) (code_out line.out h.out))
+    (told (line_fields n line) (codes "hex") octets_in octets_data (made_octets line.out) _ refl (λ octets fits. octets_back octets fits.0 fits.1) (octets_out line.out h.out))
+    (told (line_fields n line) (codes "code") (whole_below 65536) whole (out_code line.out) (λ code. code < 65536) refl (below_back 65536) (code_out line.out h.out))
     (read_report n line h)
+
+scheduled_keys : (event : Event) → has_keys (event_keys event) (scheduled_data event) ≡ true
+scheduled_keys event = same_count _ _ (members_len-members_of (event_fields event []) refl ∙ event_count event)
+
+scheduled_back : (event : Event) (d : Data) → get (codes "ev") d ≡ Some (string (event_text event)) → event_in d ≡ Some event → has_keys (event_keys event) d ≡ true
+    → line_of d ≡ Some (schedules.Event event)
+scheduled_back event d ev is keys = rw (is, keys, ev)
+
+-- an event's own keys are read as the event
+pub scheduled_reads_back : ScheduledReadBack
+scheduled_reads_back event h =
+    scheduled_back event (scheduled_data event)
+    (stands (event_fields event []) (codes "ev") (Some (string (event_text event))) refl)
+    (read_event event [] h (record { at = refl; copy = refl; diff = refl; master = refl; transit = refl }))
+    (scheduled_keys event)
 
 -- a line that tells what may be recorded is read as it was written
 pub reads_back : EventsReadBack
 reads_back n line h =
     line_back n line (event_data n line)
-    (stands n line (codes "ev") (Some (string (event_text line.event))) refl)
-    (recorded_back line (event_data n line) (read_event n line h)
+    (stands (line_fields n line) (codes "ev") (Some (string (event_text line.event))) refl)
+    (recorded_back line (event_data n line) (read_event line.event (answer_fields n line) h.event (record { at = refl; copy = refl; diff = refl; master = refl; transit = refl }))
     (reading_back (true_moment line.event) line.reading (event_data n line) h.timed
-    (told n line (codes "reading") moment_in moment_data line.reading (λ time. time < bound) refl moment_back h.reading))
-    (told n line (codes "out") as_str string (Some (out_text line.out)) (λ _. Unit {0}) refl (λ _ _. refl) tt)
+    (told (line_fields n line) (codes "reading") moment_in moment_data line.reading (λ time. time < bound) refl moment_back h.reading))
+    (told (line_fields n line) (codes "out") as_str string (Some (out_text line.out)) (λ _. Unit {0}) refl (λ _ _. refl) tt)
     (read_out n line h))
-    (told n line (codes "n") whole_in whole (Some n) (λ _. Unit {0}) refl (λ _ _. refl) tt)
+    (told (line_fields n line) (codes "n") whole_in whole (Some n) (λ _. Unit {0}) refl (λ _ _. refl) tt)
     (keys_back n line)

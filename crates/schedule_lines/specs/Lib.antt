@@ -3,3 +3,4 @@ pub mod Line
 pub mod Recorded
 pub mod Traced
 pub mod Transcript
+pub mod Keys

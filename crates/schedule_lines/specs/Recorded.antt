@@ -23,7 +23,7 @@ use Rattle.schedule_lines.specs.declared.traced.TranscriptLine.{TranscriptLine}
 use Rattle.schedule_lines.specs.declared.traced.TranscriptLine.TheVariants as lines
 use Rattle.schedule_lines.specs.Line.{line_of}
 use Rattle.schedule_lines.specs.Traced.{transcript_line_of}
-use Rattle.schedule_lines.specs.Transcript.{named_copy, out_report, node_data, event_data}
+use Rattle.schedule_lines.specs.Transcript.{named_copy, out_report, node_data, scheduled_data, event_data}
 
 -- a whole number whose text has 32 octets at the most
 abbrev pub IsShort : ℤ → Type 0
@@ -77,6 +77,10 @@ abbrev pub NodesReadBack : Type 0
 NodesReadBack =
     (node : NodeSpec) → IsNode node
     → (line_of (node_data node) ≡ Some (schedules.Node node)) × (transcript_line_of (node_data node) ≡ Some (lines.Node node))
+
+-- what an event's own keys say in a schedule is read as the event
+abbrev pub ScheduledReadBack : Type 0
+ScheduledReadBack = (event : Event) → IsEvent event → line_of (scheduled_data event) ≡ Some (schedules.Event event)
 
 -- each line that tells what may be recorded is read as it was written
 abbrev pub EventsReadBack : Type 0

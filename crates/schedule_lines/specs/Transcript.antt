@@ -88,6 +88,10 @@ with_event event members =
     (with_some (codes "node") (Some (string (site_of event)))
     (with_some (codes "transit") (option_map whole (spent_transit event)) members))))))
 
+-- the value of an event's line in a schedule
+abbrev pub scheduled_data : Event → Data
+scheduled_data event = object (with_event event no_members)
+
 -- the text of `out`
 abbrev pub out_text : TraceOut → List ℕ
 out_text outs.Done = codes "done"

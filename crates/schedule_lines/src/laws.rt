@@ -1,12 +1,15 @@
 //! Laws that follow from the definitions, each the contract of a function that does nothing: a caller
 //! that needs one in its proof calls it.
 
-ghost use Rattle.schedule_lines.specs.Recorded.{NodesReadBack, EventsReadBack, NodeTextsReadBack, EventTextsReadBack, ReadsInRange};
+ghost use Rattle.schedule_lines.specs.Keys.{LinesHaveOwnKeys, TranscriptLinesHaveOwnKeys, NumbersHaveOneText};
+ghost use Rattle.schedule_lines.specs.Recorded.{NodesReadBack, ScheduledReadBack, EventsReadBack, NodeTextsReadBack, EventTextsReadBack, ReadsInRange};
 
-/// What is written of a node is read as that node, and what is written of an event as the number and
-/// what was recorded that it was written from, for all values that are within their ranges.
+/// What is written of a node is read as that node, what an event's own keys say in a schedule as that
+/// event, and what is written of an event as the number and what was recorded that it was written
+/// from, for all values that are within their ranges.
 pub fn written_lines_are_read()
     ensures nodes { NodesReadBack }
+    ensures scheduled { ScheduledReadBack }
     ensures events { EventsReadBack }
 {}
 
@@ -23,4 +26,16 @@ pub fn written_texts_are_read()
 /// again.
 pub fn read_lines_are_in_range()
     ensures { ReadsInRange }
+{}
+
+/// What is read as a line has just the keys of what is written of that line: in a schedule those of a
+/// node or of the event itself, in a transcript those that tell what was recorded too.
+pub fn read_lines_have_own_keys()
+    ensures schedule { LinesHaveOwnKeys }
+    ensures transcript { TranscriptLinesHaveOwnKeys }
+{}
+
+/// A signed number has one text: texts that are read as the same number are the same.
+pub fn numbers_have_one_text()
+    ensures { NumbersHaveOneText }
 {}

@@ -15,7 +15,7 @@ use crate::held::{HeldFollow, HeldRequest, HeldSync};
 use crate::reason::{Reason, SlaveRefusal};
 use crate::usable::{Criteria, event_use, general_use};
 use crate::used::{Response, Used};
-use event_codec::{Body, Message, PortConfig, PortIdentity, decode, octets_of};
+use event_codec::{Message, PortConfig, PortIdentity, decode};
 use pairing::PairTable;
 use ptp_units::{Interval, ScaledTime, Seq, Timestamp};
 use std::marker::Model;
@@ -29,7 +29,7 @@ fn delay_req(config: &PortConfig, number: Seq) -> [u8; 44]
 {
     let header = config.header([0, 0], Interval(0), number, 1, LOG_DELAY_REQ);
     let origin = Timestamp::default();
-    octets_of(header, Body::DelayReq { origin })
+    header.delay_req(origin)
 }
 
 /// A slave port, with a table each for the Syncs, the Follow_Ups and the requests that it holds.

@@ -38,12 +38,12 @@ use Rattle.trace_model.specs.declared.line.TraceOut.{TraceOut}
 use Rattle.trace_model.specs.declared.line.TraceOut.TheVariants as outs
 use Rattle.trace_model.specs.Line.{Lines, counts}
 use Rattle.trace_model.specs.Record.{LinePlace, event_of, site, line_number, first_stamp}
-use Rattle.trace_model.specs.Sound.{Exchange, Sound, lines_to, sync_line, follow_lines, line_of, arrival_line, is_of_line, is_report_in_place, exchange_of, are_later, is_present_master, is_domain, is_of_master, bracket}
+use Rattle.trace_model.specs.Sound.{Exchange, HasExchange, Sound, lines_to, sync_line, follow_lines, line_of, arrival_line, is_of_line, is_report_in_place, exchange_of, are_later, is_present_master, is_domain, is_of_master, bracket}
 use Rattle.trace_model.specs.Verdict.{report_in}
 use Rattle.trace_model.specs.Soundness.{AllSound, report_count}
 use Rattle.trace_model.specs.Told.{TellsMade, TellsOutcome, TellsRun, heard_out}
 use Rattle.trace_model.specs.Faithful.{took_effect, TellsPlace}
-use Rattle.trace_model.specs.Complete.{HasExchange, EachReportHasExchange, is_report, answers_report, reports_in, MissesNothing, Complete, CompleteWithinOneTurn}
+use Rattle.trace_model.specs.Complete.{EachReportHasExchange, is_report, answers_report, reports_in, MissesNothing, Complete, CompleteWithinOneTurn}
 use Rattle.trace_model.proofs.Soundness.{verdicts_tell_soundness}
 use Rattle.trace_model.proofs.Certain.{set_master_certain}
 use Rattle.trace_model.proofs.Found.{same_event, same_number, line_counts}
@@ -294,21 +294,7 @@ module _ (premise : Premise) (shorter : (network : Network) (event : Event) (ear
       let answered = report_told (copy_of network (event ∷ earlier) stepped.tag) stepped.outcome e.line.out report tells.told.told.outcome is in
       let reports : Reports network (place event earlier) report = tells.told.answered.outcome ∙ ap Ok answered in
       let has = each network (place event earlier) e report holds tells reports in
-      record {
-        x = has.x;
-        sync = has.sync;
-        request = has.request;
-        lines = has.lines;
-        sync_unbroken = has.sync_unbroken;
-        request_unbroken = has.request_unbroken;
-        paired = has.paired;
-        of_master = has.of_master;
-        readings = has.readings;
-        sync_fits = has.sync_fits;
-        request_fits = has.request_fits;
-        results = has.results;
-        octets = each_exchange_is_written network (place event earlier) e report tells has;
-      }
+      record { exchange = has; octets = each_exchange_is_written network (place event earlier) e report tells has }
 
   -- all report lines are
   sound_behind : (network : Network) (run : Run) (later : Lines) (e : LinePlace) (report : Report) → premise network run

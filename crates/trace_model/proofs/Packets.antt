@@ -1,11 +1,11 @@
 -- The test of a message's octets decides `Packet`.
-use Rattle.std.proofs.Common.{◌≡◌, ℕ, ◌+◌, ◌*◌, ◌^◌, ◌<◌, ◌≤◌, Bool, true, false, ◌&&◌, not, List, [], ◌∷◌, length, drop, Decides, refl, sym, ap, subst, ◌∙◌, arith, zero, suc, ◌==◌, Some, length-drop}
+use Rattle.std.proofs.Common.{◌≡◌, ℕ, ◌+◌, ◌*◌, ◌^◌, ◌<◌, ◌≤◌, Bool, true, false, ◌&&◌, not, List, [], ◌∷◌, length, drop, Decides, refl, sym, subst, ◌∙◌, arith, suc, ◌==◌, Some}
 use Rattle.std.specs.Prelude.{nat_lt, slice_index, slice_range, EachIndex}
 use Rattle.std.specs.Int.{w8, w64, cast_signed}
 use Rattle.std.specs.List.{list_all}
 use Rattle.std.specs.Ordering.{int_eq}
 use Rattle.std.specs.Str.{bytes_eq}
-use Rattle.std.proofs.lemmas.Bool.{and_parts, and_from, ltb-true, lt-ltb, false≢true}
+use Rattle.std.proofs.lemmas.Bool.{and_from, lt-ltb, false≢true}
 use Rattle.std.proofs.lemmas.Bool.Decides.{Decides-eqb, Decides-int_eq, Decides-ltb, Decides-and, Decides-like, nat_tests, same_from_decides}
 use Rattle.std.proofs.lemmas.Slice.Eq.{bytes_eq-Decides}
 use Rattle.event_codec.specs.declared.message.Body.{Body}

@@ -35,9 +35,10 @@ none_fails false b c d f g h = cc
 module _ (network : Network) (e : LinePlace) (report : Report) where
   sound_reason : Sound network e report → reason network e report ≡ None
   sound_reason s =
-      ap (exchange_reason network e report) s.lines
-      ∙ (λ i. journeys_reason network e report s.x (s.sync_unbroken i) (s.request_unbroken i))
-      ∙ (λ i. first_failing (s.paired i) (s.of_master i) (s.readings i) (s.sync_fits i && s.request_fits i) (s.results i) (s.octets i))
+      let has = s.exchange in
+      ap (exchange_reason network e report) has.lines
+      ∙ (λ i. journeys_reason network e report has.x (has.sync_unbroken i) (has.request_unbroken i))
+      ∙ (λ i. first_failing (has.paired i) (has.of_master i) (has.readings i) (has.sync_fits i && has.request_fits i) (has.results i) (s.octets i))
 
   journeys_sound : (x : Exchange) (sync request : Option Journey) → exchange_of network (site e) e report ≡ Some x
       → unbroken network e draws_sync x.sync ≡ sync → unbroken network e is_request x.arrival ≡ request
@@ -47,18 +48,20 @@ module _ (network : Network) (e : LinePlace) (report : Report) where
       (fits sync && fits request) (are_results report x sync request) (are_octets network x sync request) h in
       let fit = and_parts (fits sync) (fits request) p.3 in
       record {
-        x = x;
-        sync = sync;
-        request = request;
-        lines = lines;
-        sync_unbroken = s;
-        request_unbroken = r;
-        paired = p.0;
-        of_master = p.1;
-        readings = p.2;
-        sync_fits = fit.0;
-        request_fits = fit.1;
-        results = p.4;
+        exchange = record {
+          x = x;
+          sync = sync;
+          request = request;
+          lines = lines;
+          sync_unbroken = s;
+          request_unbroken = r;
+          paired = p.0;
+          of_master = p.1;
+          readings = p.2;
+          sync_fits = fit.0;
+          request_fits = fit.1;
+          results = p.4;
+        };
         octets = p.5;
       }
   journeys_sound x (Some sync) None lines s r h = cc

@@ -1,7 +1,7 @@
 -- The checker misses nothing: of lines that tell a run, each report line is sound. In two parts: all but the octets follows from
 -- the definitions of runs and from what exact reports are, and the octets from readings, numbers and what ports and clocks write.
 -- `laws::verdicts_miss_nothing`, `laws::verdicts_miss_nothing_within_one_turn` and `laws::each_message_is_written` promise it.
-use Rattle.std.specs.Prelude.{◌≡◌, ℕ, ◌+◌, Bool, true, false, [], ◌∷◌, IsTrue, Some, Ok, Err, Result, if◌then◌else◌}
+use Rattle.std.specs.Prelude.{◌≡◌, ℕ, ◌+◌, Bool, true, false, [], ◌∷◌, IsTrue, Ok, Err, Result, if◌then◌else◌}
 use Rattle.slave_port.specs.declared.heard.Heard.{Heard}
 use Rattle.slave_port.specs.declared.heard.Heard.TheVariants as answers
 use Rattle.slave_port.specs.declared.heard.Report.{Report}
@@ -10,36 +10,18 @@ use Rattle.network_model.specs.declared.stepped.Outcome.{Outcome}
 use Rattle.network_model.specs.declared.stepped.Outcome.TheVariants as outcomes
 use Rattle.network_model.specs.Network.{Network}
 use Rattle.network_model.specs.Run.{Run, Place, until}
-use Rattle.network_model.specs.Kinds.{draws_sync, is_request}
 use Rattle.network_model.specs.Outcome.{outcome_of}
 use Rattle.network_model.specs.Premises.{Premise, exact_limits, IsFreshAndTicked, IsWithinTurn}
 use Rattle.network_model.specs.Reported.{Reports}
 use Rattle.trace_model.specs.declared.verdict.Verdict.{Verdict}
 use Rattle.trace_model.specs.declared.verdict.Verdict.TheVariants.{Accepted}
 use Rattle.trace_model.specs.Line.{Lines}
-use Rattle.trace_model.specs.Record.{LinePlace, site}
-use Rattle.trace_model.specs.Journey.{Journey}
+use Rattle.trace_model.specs.Record.{LinePlace}
 use Rattle.trace_model.specs.Octets.{writes_right}
-use Rattle.trace_model.specs.Sound.{Exchange, exchange_of, unbroken, are_paired, is_of_master, are_readings, fits, are_results, are_octets}
+use Rattle.trace_model.specs.Sound.{HasExchange, are_octets}
 use Rattle.trace_model.specs.Verdict.{verdict}
 use Rattle.trace_model.specs.Told.{TellsRun}
 use Rattle.trace_model.specs.Faithful.{TellsPlace}
-
--- the conditions of a sound line that don't speak of octets: its lines, its two journeys, one Sync and one Delay_Req, the
--- present master, the readings, what fits, and the two results
-pub record HasExchange (network : Network) (e : LinePlace) (report : Report) : Type 0 where
-  pub x : Exchange
-  pub sync : Journey
-  pub request : Journey
-  pub lines : exchange_of network (site e) e report ≡ Some x
-  pub sync_unbroken : unbroken network e draws_sync x.sync ≡ Some sync
-  pub request_unbroken : unbroken network e is_request x.arrival ≡ Some request
-  pub paired : IsTrue (are_paired network x sync request)
-  pub of_master : IsTrue (is_of_master network (site e) e report x sync)
-  pub readings : IsTrue (are_readings network x sync request)
-  pub sync_fits : IsTrue (fits sync)
-  pub request_fits : IsTrue (fits request)
-  pub results : IsTrue (are_results report x sync request)
 
 -- Each line that tells of a message that was made has the octets that its port or its clock writes, by the lines before it.
 abbrev pub EachMessageIsWritten : Type 0

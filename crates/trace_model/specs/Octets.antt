@@ -1,5 +1,5 @@
 -- The message that each line made, if its octets are those that ports and clocks write.
-use Rattle.std.specs.Prelude.{ℕ, ◌+◌, ◌*◌, ◌^◌, Bool, true, false, ◌&&◌, not, List, length, drop, nat_lt, ◌==◌, slice_index, slice_range, Option, Some, None, option_map, option_and_then}
+use Rattle.std.specs.Prelude.{◌↔◌, ℕ, ◌+◌, ◌*◌, ◌^◌, Bool, true, false, ◌&&◌, not, List, length, drop, nat_lt, ◌==◌, slice_index, slice_range, IsTrue, Option, Some, None, option_map, option_and_then}
 use Rattle.std.specs.Int.{w8, w64, cast_signed}
 use Rattle.std.specs.List.{list_all}
 use Rattle.std.specs.Ordering.{int_eq}
@@ -9,7 +9,7 @@ use Rattle.event_codec.specs.declared.message.Body.TheVariants as bodies
 use Rattle.event_codec.specs.declared.port.PortConfig.{PortConfig}
 use Rattle.event_codec.specs.declared.port.PortIdentity.{PortIdentity}
 use Rattle.event_codec.specs.Layout.{number, number_of, type_of, fields_length, stamp_in}
-use Rattle.event_codec.specs.Packet.{Contents}
+use Rattle.event_codec.specs.Packet.{Contents, Packet}
 use Rattle.master_port.specs.Written.{sync, one_step_sync, follow_up, delay_resp}
 use Rattle.slave_port.specs.Written.{delay_req}
 use Rattle.transparent_clock.specs.Forwarding.{resided}
@@ -34,7 +34,7 @@ is_requesting (bodies.DelayReq origin) b = true
 is_requesting (bodies.FollowUp precise) b = true
 is_requesting (bodies.DelayResp receive requesting) b = is_identity_at requesting b 44
 
--- Whether b is the message, octet for octet: the test of `Packet`, which decides what is written and read.
+-- whether b is the message, octet for octet: the test of `Packet`, as `EachPacketIsTested` says
 abbrev pub is_packet : Contents → List ℕ → Bool
 is_packet m b =
     list_all (λ octet. nat_lt octet 256) b
@@ -56,6 +56,10 @@ is_packet m b =
     && nat_lt (number b 40 4) (10 ^ 9)
     && is_requesting m.body b
     && bytes_eq m.suffix (drop (fields_length (type_of m.body)) b)
+
+-- The test holds of just those octets that are the message by the layout's one relation. `laws::each_packet_is_tested` promises it.
+abbrev pub EachPacketIsTested : Type 0
+EachPacketIsTested = (m : Contents) (b : List ℕ) → IsTrue (is_packet m b) ↔ Packet m b
 
 -- the port that draws a number at an event
 abbrev pub drawing_port : Network → Event → Option PortSetup

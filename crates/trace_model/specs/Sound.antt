@@ -203,8 +203,9 @@ are_octets network x sync request =
     journey_writes_right network sync && option_map_or (writes_right network) x.follow true
     && journey_writes_right network request && writes_right network x.arrival
 
--- A report line is sound where all eight conditions hold.
-pub record Sound (network : Network) (e : LinePlace) (report : Report) : Type 0 where
+-- the conditions of a sound line that don't speak of octets: its lines, its two journeys, one Sync and one Delay_Req, the
+-- present master, the readings, what fits, and the two results
+pub record HasExchange (network : Network) (e : LinePlace) (report : Report) : Type 0 where
   pub x : Exchange
   pub sync : Journey
   pub request : Journey
@@ -217,7 +218,11 @@ pub record Sound (network : Network) (e : LinePlace) (report : Report) : Type 0 
   pub sync_fits : IsTrue (fits sync)
   pub request_fits : IsTrue (fits request)
   pub results : IsTrue (are_results report x sync request)
-  pub octets : IsTrue (are_octets network x sync request)
+
+-- A report line is sound where all eight conditions hold: it has an exchange, and the octets of that are right.
+pub record Sound (network : Network) (e : LinePlace) (report : Report) : Type 0 where
+  pub exchange : HasExchange network e report
+  pub octets : IsTrue (are_octets network exchange.x exchange.sync exchange.request)
 
 -- the first of the last six conditions that fails
 abbrev pub journeys_reason : Network → LinePlace → Report → Exchange → Option Journey → Option Journey → Option Why

@@ -3,6 +3,7 @@
 
 ghost use Rattle.trace_model.specs.Complete.{Complete, CompleteWithinOneTurn, EachExchangeIsWritten, EachMessageIsWritten};
 ghost use Rattle.trace_model.specs.Faithful.{EachEventHasItsLine, EachEventIsRecorded, EachJourneyIsTold, EachLineIsGood};
+ghost use Rattle.trace_model.specs.Octets.{EachPacketIsTested};
 ghost use Rattle.trace_model.specs.Soundness.{ReasonsMissNothing, VerdictsTellSoundness};
 
 /// Whatever wrote the lines, there is no reason against a report line exactly where all eight
@@ -16,6 +17,12 @@ pub fn reasons_miss_nothing()
 /// condition that it fails.
 pub fn verdicts_tell_soundness()
     ensures { VerdictsTellSoundness }
+{}
+
+/// The test of octets that a sound line's last condition asks is the layout's one relation: it holds
+/// exactly where the octets are the message.
+pub fn each_packet_is_tested()
+    ensures { EachPacketIsTested }
 {}
 
 /// Each line that tells an event of a world is good, and counts exactly where the event took effect:

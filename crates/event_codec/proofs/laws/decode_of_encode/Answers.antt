@@ -1,7 +1,6 @@
-use Rattle.std.proofs.Common.{◌≡◌, ℕ, ◌∙◌, ◌≤◌, IsOkAnd, List, length, take, sym, subst, ap, arith, rules}
-use Rattle.std.proofs.lemmas.List.{length-drop, length-take-le}
-use Rattle.event_codec.specs.Layout.{type_of, fields_length}
-use Rattle.event_codec.specs.Packet.{Contents, Packet, contents}
+use Rattle.std.proofs.Common.{◌≡◌, ℕ, ◌∙◌, ◌≤◌, IsOkAnd, length, take, sym, subst, rules}
+use Rattle.std.proofs.lemmas.List.{length-take-le}
+use Rattle.event_codec.specs.Packet.{Contents, contents}
 use Rattle.event_codec.specs.Refusal.{message_length}
 use Rattle.event_codec.proofs.Lengths.{length-Packet}
 use Rattle.event_codec.proofs.laws.decode_of_encode.Goals as goal

@@ -9,5 +9,5 @@ pub returns : goal.returns
 returns c =
     let request = c.args.request.now.header in
     let enough : int_lt (less_fraction request.correction.0 (fraction_of c.args.t4)) least ≡ false = search rules in
-    let written : Packet (delay_resp c.args.self.now.config request c.args.t4) c.octets_of.result = search rules in
+    let written : Packet (delay_resp c.args.self.now.config request c.args.t4) c.delay_resp.result = search rules in
     (delay_resp c.args.self.now.config request c.args.t4, search rules, written)
