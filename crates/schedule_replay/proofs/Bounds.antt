@@ -1,89 +1,81 @@
--- How many octets are read, whatever becomes of the lines.
-use Rattle.std.proofs.Common.{if◌then◌else◌, ◌≡◌, ℕ, ◌+◌, ◌*◌, ◌≤◌, ◌==◌, List, [], ◌∷◌, Bool, true, false, length, drop, Option, Some, None, refl, sym, ap, ◌∙◌, arith, add-one}
-use Rattle.std.proofs.lemmas.List.{drop-drop}
-use Rattle.std.specs.Prelude.{nat_lt}
-use Rattle.std.specs.Io.BufRead.{drop_through}
+-- How many octets are given, whatever becomes of the lines.
+use Rattle.std.proofs.Common.{if◌then◌else◌, ◌≡◌, ℕ, ◌+◌, ◌*◌, ◌^◌, ◌<◌, ◌≤◌, List, Bool, true, false, length, drop, Option, Some, refl, sym, ap, ◌∙◌, arith}
+use Rattle.std.proofs.lemmas.List.{drop-drop, drop_at}
 use Rattle.std.proofs.lemmas.Bool.{ltb-false}
+use Rattle.std.specs.Prelude.{nat_lt}
+use Rattle.std.specs.Io.KnownBytes.{Consumes, Keeps}
 use Rattle.schedule_replay.specs.declared.counted.Counted.{Counted}
-use Rattle.schedule_replay.specs.declared.fault.FaultKind.{FaultKind}
-use Rattle.schedule_replay.specs.declared.fault.FaultKind.TheVariants.{Read, Write, LineTooLong, TooManyLines, Json, Field, World, Memory}
-use Rattle.schedule_replay.specs.Lines.{lines_of, line_limit, lines_limit, input_limit, room_of, IsFromReading, ReadsLine, ReadsWithin, StopsReading}
-use Rattle.schedule_replay.proofs.Cutting.{first_line}
+use Rattle.schedule_replay.specs.Counted.{device_of, given_of, with_more, HasGiven}
+use Rattle.schedule_replay.specs.Lines.{line_limit, lines_limit, input_limit, room_of, GivesWithin}
+use Rattle.schedule_replay.proofs.KnownOctets.{Consumes-known, Keeps-known}
 
-pub reads_less : (a b : ℕ) (octets : List ℕ) (left : Option (List ℕ)) → ReadsWithin a octets left → a ≤ b → ReadsWithin b octets left
-reads_less a b octets left (count, within, is) le = (count, omega arith, is)
+more_more : (x a b : ℕ) → with_more (with_more x a) b ≡ with_more x (a + b)
+more_more x a b = omega arith
 
-pub end_read : (octets : List ℕ) (left : Option (List ℕ)) → octets ≡ [] → left ≡ Some [] → ReadsWithin 0 octets left
-end_read octets left none is = (0, omega arith, is ∙ ap Some (sym none))
+no_more : (x : ℕ) → x < 2 ^ 64 → x ≡ with_more x 0
+no_more x within = omega arith
+
+-- a read that gave these
+pub gives_read : {R : Type 0} (remaining : R → Option (List ℕ)) (x y : Counted R) (bs : List ℕ) → Consumes (remaining (device_of x)) (remaining (device_of y)) bs
+    → HasGiven (length bs) x y → GivesWithin remaining (length bs) x y
+gives_read remaining x y bs consumed counted = record {
+  given = length bs;
+  within = omega arith;
+  counted = counted;
+  gone = λ octets known.
+      let (rest, left, split) = Consumes-known (remaining (device_of x)) (remaining (device_of y)) bs octets consumed known in
+      left ∙ ap Some (sym (ap (drop (length bs)) split ∙ drop_at bs rest (length bs) refl));
+}
+
+-- none were given
+pub gives_none : {R : Type 0} (remaining : R → Option (List ℕ)) (x y : Counted R) → given_of x < 2 ^ 64 → given_of y ≡ given_of x
+    → Keeps (remaining (device_of x)) (remaining (device_of y)) → GivesWithin remaining 0 x y
+gives_none remaining x y range counted kept = record {
+  given = 0;
+  within = omega arith;
+  counted = counted ∙ no_more (given_of x) range;
+  gone = λ octets known. Keeps-known (remaining (device_of x)) (remaining (device_of y)) octets kept known;
+}
+
+pub gives_less : {R : Type 0} (remaining : R → Option (List ℕ)) (a b : ℕ) (x y : Counted R) → GivesWithin remaining a x y → a ≤ b → GivesWithin remaining b x y
+gives_less remaining a b x y gives less = record {
+  given = gives.given;
+  within = omega (arith, gives.within, less);
+  counted = gives.counted;
+  gone = gives.gone;
+}
 
 -- one read after another
-pub reads_more : (a b : ℕ) (octets : List ℕ) (left left' : Option (List ℕ)) → ReadsWithin a octets left
-    → ((rest : List ℕ) → left ≡ Some rest → ReadsWithin b rest left') → ReadsWithin (a + b) octets left'
-reads_more a b octets left left' (count, within, is) more =
-    let (after, within', is') = more (drop count octets) is in
-    (count + after, omega arith, is' ∙ ap Some (drop-drop after count octets))
+pub gives_more : {R : Type 0} (remaining : R → Option (List ℕ)) (a b : ℕ) (x y z : Counted R) → GivesWithin remaining a x y → GivesWithin remaining b y z
+    → GivesWithin remaining (a + b) x z
+gives_more remaining a b x y z first next = record {
+  given = first.given + next.given;
+  within = omega (arith, first.within, next.within);
+  counted = next.counted ∙ ap (λ n. with_more n next.given) first.counted ∙ more_more (given_of x) first.given next.given;
+  gone = λ octets known. next.gone (drop first.given octets) (first.gone octets known) ∙ ap Some (drop-drop next.given first.given octets);
+}
 
--- the octets through the first LF are a line and the LF at most
-abbrev IsThrough : List ℕ → List ℕ → Type 0
-IsThrough octets line = (count : ℕ) × (count ≤ length line + 1) × (drop_through 10 octets ≡ drop count octets)
+-- the octets of a line, and one more
+pub line_within : {R : Type 0} (remaining : R → Option (List ℕ)) (count : ℕ) (x y z : Counted R) → count ≤ line_limit → GivesWithin remaining count x y
+    → GivesWithin remaining 1 y z → GivesWithin remaining (line_limit + 1) x z
+line_within remaining count x y z fits so_far octet =
+    gives_less remaining _ _ x z (gives_more remaining _ _ x y z so_far octet) (omega arith)
 
-head_same : (a b : List ℕ) (more others : List (List ℕ)) → a ∷ more ≡ b ∷ others → a ≡ b
-head_same a b more others e = cc
-
-through_begun : (x : ℕ) (rest line line' : List ℕ) (others others' : List (List ℕ)) → (x == 10) ≡ false → lines_of rest ≡ line' ∷ others'
-    → lines_of (x ∷ rest) ≡ line ∷ others → IsThrough rest line' → IsThrough (x ∷ rest) line
-through_begun x rest line line' others others' other cut e (count, within, is) =
-    let begun : (x ∷ line') ∷ others' ≡ line ∷ others = rw (other, cut) at e in
-    let long : length line ≡ length line' + 1 = rw (← head_same (x ∷ line') line others' others begun) (omega arith) in
-    (count + 1, omega arith, rw (other, add-one) is)
-
-through_line : (octets line : List ℕ) (others : List (List ℕ)) → lines_of octets ≡ line ∷ others → IsThrough octets line
-through_line [] line others e = absurd cc
-through_line (x ∷ rest) line others e = go (x == 10) refl rest (through_line rest) e
+-- whole lines, and one more
+pub line_more : {R : Type 0} (remaining : R → Option (List ℕ)) (count : ℕ) (x y z : Counted R) → GivesWithin remaining (count * (line_limit + 1)) x y
+    → GivesWithin remaining (room_of (count + 1) + 1) y z → GivesWithin remaining ((count + 1) * (line_limit + 1)) x z
+line_more remaining count x y z so_far line =
+    gives_less remaining _ _ x z (gives_more remaining _ _ x y z so_far line) (go (nat_lt lines_limit (count + 1)))
   where
-    go : (b : Bool) → (x == 10) ≡ b → (rest : List ℕ) → ((line : List ℕ) (others : List (List ℕ)) → lines_of rest ≡ line ∷ others → IsThrough rest line)
-        → lines_of (x ∷ rest) ≡ line ∷ others → IsThrough (x ∷ rest) line
-    go true is rest of_rest e = (1, omega arith, rw is refl)
-    go false is [] of_rest e = (1, omega arith, rw is refl)
-    go false is (y ∷ ys) of_rest e =
-        let (line', others', cut) = first_line y ys in
-        through_begun x (y ∷ ys) line line' others others' is cut e (of_rest line' others' cut)
+    go : (beyond : Bool) → count * (line_limit + 1) + ((if beyond then 0 else line_limit) + 1) ≤ (count + 1) * (line_limit + 1)
+    go true = omega arith
+    go false = omega arith
 
--- the line of an allowed number fits, or there is a fault
-abbrev Fits : ℕ → List ℕ → Bool → Bool → Option FaultKind
-Fits number line beyond long = if beyond then Some TooManyLines else if long then Some LineTooLong else None
-
-pub line_read : (number : ℕ) (line : List ℕ) (ended : Bool) (octets : List ℕ) (left : Option (List ℕ)) → ReadsLine true number line ended octets left
-    → ReadsWithin (line_limit + 1) octets left
-line_read number line ended octets left (cut, fine, is, lf) =
-    let (count, within, through) = through_line octets line _ cut in
-    let fits : length line ≤ line_limit = go (nat_lt lines_limit number) (nat_lt line_limit (length line)) refl fine in
-    (count, omega arith, is ∙ ap Some through)
-  where
-    go : (beyond long : Bool) → nat_lt line_limit (length line) ≡ long → Fits number line beyond long ≡ None → length line ≤ line_limit
-    go true long is e = absurd cc
-    go false true is e = absurd cc
-    go false false is e = ltb-false line_limit (length line) is
-
-pub stop_read : (number : ℕ) (what : FaultKind) {R : Type 0} (input input' : Counted R) (octets : List ℕ) (left : Option (List ℕ)) → StopsReading what number octets left
-    → IsFromReading what input input' → ReadsWithin (room_of number + 1) octets left
-stop_read number Read input input' octets left (count, within, unended, is) allowed = (count, omega arith, is)
-stop_read number TooManyLines input input' octets left (line, others, cut, fault, is) allowed = (1, omega arith, is)
-stop_read number LineTooLong input input' octets left (line, others, cut, fault, is) allowed =
-    (line_limit + 1, go (nat_lt lines_limit number) (nat_lt line_limit (length line)) fault, is)
-  where
-    go : (beyond long : Bool) → Fits number line beyond long ≡ Some LineTooLong → line_limit + 1 ≤ (if beyond then 0 else line_limit) + 1
-    go true long e = absurd cc
-    go false long e = omega arith
-stop_read number Write input input' octets left stops allowed = absurd allowed
-stop_read number Json input input' octets left stops allowed = absurd allowed
-stop_read number Field input input' octets left stops allowed = absurd allowed
-stop_read number (World why) input input' octets left stops allowed = absurd allowed
-stop_read number Memory input input' octets left stops allowed = absurd allowed
-
--- whole lines and the octets of a last one are within the limit
-pub within_limit : (count : ℕ) → count ≤ lines_limit → count * (line_limit + 1) + (room_of (count + 1) + 1) ≤ input_limit
-within_limit count allowed = go (nat_lt lines_limit (count + 1)) refl
+-- whole lines, and the octets of a last one, are within the limit
+pub input_within : {R : Type 0} (remaining : R → Option (List ℕ)) (count : ℕ) (x y z : Counted R) → count ≤ lines_limit → GivesWithin remaining (count * (line_limit + 1)) x y
+    → GivesWithin remaining (room_of (count + 1) + 1) y z → GivesWithin remaining input_limit x z
+input_within remaining count x y z allowed so_far line =
+    gives_less remaining _ _ x z (gives_more remaining _ _ x y z so_far line) (go (nat_lt lines_limit (count + 1)) refl)
   where
     go : (beyond : Bool) → nat_lt lines_limit (count + 1) ≡ beyond → count * (line_limit + 1) + ((if beyond then 0 else line_limit) + 1) ≤ input_limit
     go true is = omega arith

@@ -22,13 +22,12 @@ use Rattle.schedule_replay.specs.Lines.{lines_of, lfs_in, after_lines, without_c
 use Rattle.schedule_replay.specs.Show.{WentOutAs}
 use Rattle.schedule_replay.specs.CheckText.{recorded_in, AreRecorded, numbered, transcript_of, MistakesIn, MistakesAt, MistakesAtEnd, StopsCheckAfter, verdict_text, ChecksAll, ChecksUntil}
 use Rattle.schedule_replay.specs.Progress.{nodes_of, lines_so_far, IsProgress, Follows, TakesRecord}
-use Rattle.schedule_replay.proofs.KnownOctets.{Keeps-known, Appends-known}
+use Rattle.std.proofs.KnownBytes.{Keeps-refl}
 use Rattle.schedule_replay.proofs.ShownLines.{is_at, within_list, after_lines-more}
 
--- the first lines, which are count, were taken, and nothing went out
-pub record HasChecked (octets held : List ℕ) (count : ℕ) (ended : Bool) (progress : Progress) (left now : Option (List ℕ)) : Type 0 where
+-- the first lines, which are count, were taken
+pub record HasChecked (octets : List ℕ) (count : ℕ) (ended : Bool) (progress : Progress) (left : Option (List ℕ)) : Type 0 where
   pub transcript : AreRecorded 1 (take count (lines_of octets)) (transcript_of (nodes_of progress) (lines_so_far progress))
-  pub output : now ≡ Some held
   pub input : left ≡ Some (after_lines count octets)
   pub rest : drop count (lines_of octets) ≡ lines_of (after_lines count octets)
   pub within : count ≤ length (lines_of octets)
@@ -67,16 +66,15 @@ took progress (Events checker) (recorded.Event number line) (place, events, netw
     ∙ transcript_of-event (nodes_of progress) (lines_so_far progress) line
     ∙ ap (λ n. transcript_of (nodes_of progress) (lines_so_far progress) ++ recorded.Event n line ∷ []) (sym place)
 
-pub checked_more : (octets held : List ℕ) (count : ℕ) (ended : Bool) (progress next : Progress) (left left' now : Option (List ℕ)) (line : List ℕ)
-    → HasChecked octets held count false progress left now → ReadsLine true (count + 1) line ended (after_lines count octets) left'
-    → TakesRecord (without_cr line) progress next → HasChecked octets held (count + 1) ended next left' now
-checked_more octets held count ended progress next left left' now line so_far (cut, fine, behind, lf) (entry, is, follows) =
+pub checked_more : (octets : List ℕ) (count : ℕ) (ended : Bool) (progress next : Progress) (left left' : Option (List ℕ)) (line : List ℕ)
+    → HasChecked octets count false progress left → ReadsLine true (count + 1) line ended (after_lines count octets) left'
+    → TakesRecord (without_cr line) progress next → HasChecked octets (count + 1) ended next left'
+checked_more octets count ended progress next left left' line so_far (cut, fine, behind, lf) (entry, is, follows) =
     let place = is_at count (lines_of octets) line _ (so_far.rest ∙ cut) in
     let more = after_lines-more count octets in
     record {
       transcript = rw (place.upto, took progress next entry follows) (AreRecorded-push 1 (take count (lines_of octets)) line _ entry so_far.transcript
           (rw (length-take-le count (lines_of octets) so_far.within, add_comm 1 count) fine) is);
-      output = so_far.output;
       input = behind ∙ ap Some (sym more);
       rest = place.behind ∙ ap lines_of (sym more);
       within = omega (arith, place.within);
@@ -85,20 +83,19 @@ checked_more octets held count ended progress next left left' now line so_far (c
 
 -- ---- the end
 
-pub checked_all : (octets held : List ℕ) (count : ℕ) (ended : Bool) (progress : Progress) (left left' now now' : Option (List ℕ)) (answer : Verdict)
-    → HasChecked octets held count ended progress left now → after_lines count octets ≡ [] → left' ≡ Some []
-    → (answer ≡ verdict (nodes_of progress) (lines_so_far progress)) × (first_clash (nodes_of progress) ≡ None) × Appends now now' (verdict_text answer)
-    → ChecksAll octets held left' now' answer
-checked_all octets held count ended progress left left' now now' answer so_far none end (is, network, appended) =
+pub checked_all : (octets : List ℕ) (count : ℕ) (ended : Bool) (progress : Progress) (left left' before after : Option (List ℕ)) (answer : Verdict)
+    → HasChecked octets count ended progress left → after_lines count octets ≡ [] → left' ≡ Some []
+    → (answer ≡ verdict (nodes_of progress) (lines_so_far progress)) × (first_clash (nodes_of progress) ≡ None) × Appends before after (verdict_text answer)
+    → ChecksAll octets left' before after answer
+checked_all octets count ended progress left left' before after answer so_far none end (is, network, appended) =
     let all = within_list count (lines_of octets) (so_far.rest ∙ ap lines_of none) so_far.within in
-    let (new, now_is, new_is) = Appends-known now now' (verdict_text answer) held appended so_far.output in
     record {
       nodes = nodes_of progress;
       lines = lines_so_far progress;
       transcript = rw (all, take_all (length (lines_of octets)) (lines_of octets) (le_refl _)) at so_far.transcript;
       network = network;
       verdict_is = is;
-      output = now_is ∙ ap Some new_is;
+      output = appended;
       input = end;
     }
 
@@ -109,11 +106,11 @@ network_of : (progress : Progress) → IsProgress progress → lines_so_far prog
 network_of (Nodes nodes) is some = absurd (some refl)
 network_of (Events checker) is some = is.1
 
-until : (octets held : List ℕ) (count : ℕ) (ended : Bool) (progress : Progress) (left left' now now' : Option (List ℕ)) (what : FaultKind) → IsProgress progress
-    → HasChecked octets held count ended progress left now → WentOutAs what (now' ≡ Some held)
+until : (octets : List ℕ) (count : ℕ) (ended : Bool) (progress : Progress) (left left' before after : Option (List ℕ)) (what : FaultKind) → IsProgress progress
+    → HasChecked octets count ended progress left → WentOutAs what (Keeps before after)
     → StopsCheckAfter count (nodes_of progress) (lines_so_far progress) octets left' (record { line = count + 1; what = what })
-    → ChecksUntil octets held left' now' (record { line = count + 1; what = what })
-until octets held count ended progress left left' now now' what is so_far out stops = record {
+    → ChecksUntil octets left' before after (record { line = count + 1; what = what })
+until octets count ended progress left left' before after what is so_far out stops = record {
   earlier = count;
   line = refl;
   nodes = nodes_of progress;
@@ -124,64 +121,53 @@ until octets held count ended progress left left' now now' what is so_far out st
   fault = stops;
 }
 
-pub stopped_reading : (octets held : List ℕ) (count : ℕ) (progress : Progress) (left left' now : Option (List ℕ)) (what : FaultKind) {R : Type 0} (input input' : Counted R)
-    → IsProgress progress → HasChecked octets held count false progress left now → StopsReading what (count + 1) (after_lines count octets) left' → IsFromReading what input input'
-    → ChecksUntil octets held left' now (record { line = count + 1; what = what })
-stopped_reading octets held count progress left left' now Read input input' is so_far stops allowed =
-    until octets held count false progress left left' now now Read is so_far so_far.output (inl (omega (arith, so_far.lfs refl), tt, stops))
-stopped_reading octets held count progress left left' now LineTooLong input input' is so_far (line, others, cut, fault, unread) allowed =
+pub stopped_reading : (octets : List ℕ) (count : ℕ) (progress : Progress) (left left' at : Option (List ℕ)) (what : FaultKind) {R : Type 0} (input input' : Counted R)
+    → IsProgress progress → HasChecked octets count false progress left → StopsReading what (count + 1) (after_lines count octets) left' → IsFromReading what input input'
+    → ChecksUntil octets left' at at (record { line = count + 1; what = what })
+stopped_reading octets count progress left left' at Read input input' is so_far stops allowed =
+    until octets count false progress left left' at at Read is so_far (Keeps-refl at) (inl (omega (arith, so_far.lfs refl), tt, stops))
+stopped_reading octets count progress left left' at LineTooLong input input' is so_far (line, others, cut, fault, unread) allowed =
     let place = is_at count (lines_of octets) line others (so_far.rest ∙ cut) in
-    until octets held count false progress left left' now now LineTooLong is so_far so_far.output (inl (omega (arith, so_far.lfs refl), rw place.at fault, unread))
-stopped_reading octets held count progress left left' now TooManyLines input input' is so_far (line, others, cut, fault, unread) allowed =
+    until octets count false progress left left' at at LineTooLong is so_far (Keeps-refl at) (inl (omega (arith, so_far.lfs refl), rw place.at fault, unread))
+stopped_reading octets count progress left left' at TooManyLines input input' is so_far (line, others, cut, fault, unread) allowed =
     let place = is_at count (lines_of octets) line others (so_far.rest ∙ cut) in
-    until octets held count false progress left left' now now TooManyLines is so_far so_far.output (inl (omega (arith, so_far.lfs refl), rw place.at fault, unread))
-stopped_reading octets held count progress left left' now Write input input' is so_far stops allowed = absurd allowed
-stopped_reading octets held count progress left left' now Json input input' is so_far stops allowed = absurd allowed
-stopped_reading octets held count progress left left' now Field input input' is so_far stops allowed = absurd allowed
-stopped_reading octets held count progress left left' now (World why) input input' is so_far stops allowed = absurd allowed
-stopped_reading octets held count progress left left' now Memory input input' is so_far stops allowed = absurd allowed
+    until octets count false progress left left' at at TooManyLines is so_far (Keeps-refl at) (inl (omega (arith, so_far.lfs refl), rw place.at fault, unread))
+stopped_reading octets count progress left left' at Write input input' is so_far stops allowed = absurd allowed
+stopped_reading octets count progress left left' at Json input input' is so_far stops allowed = absurd allowed
+stopped_reading octets count progress left left' at Field input input' is so_far stops allowed = absurd allowed
+stopped_reading octets count progress left left' at (World why) input input' is so_far stops allowed = absurd allowed
+stopped_reading octets count progress left left' at Memory input input' is so_far stops allowed = absurd allowed
 
-pub stopped_taking : (octets held : List ℕ) (count : ℕ) (ended : Bool) (progress : Progress) (left left' now : Option (List ℕ)) (line : List ℕ) (what : FaultKind)
-    → IsProgress progress → HasChecked octets held count false progress left now → ReadsLine true (count + 1) line ended (after_lines count octets) left'
+pub stopped_taking : (octets : List ℕ) (count : ℕ) (ended : Bool) (progress : Progress) (left left' at : Option (List ℕ)) (line : List ℕ) (what : FaultKind)
+    → IsProgress progress → HasChecked octets count false progress left → ReadsLine true (count + 1) line ended (after_lines count octets) left'
     → MistakesIn what (nodes_of progress) (lines_so_far progress) (without_cr line)
-    → ChecksUntil octets held left' now (record { line = count + 1; what = what })
-stopped_taking octets held count ended progress left left' now line Json is so_far (cut, fine, behind, lf) mistake =
+    → ChecksUntil octets left' at at (record { line = count + 1; what = what })
+stopped_taking octets count ended progress left left' at line Json is so_far (cut, fine, behind, lf) mistake =
     let place = is_at count (lines_of octets) line _ (so_far.rest ∙ cut) in
-    until octets held count false progress left left' now now Json is so_far so_far.output (inl (omega (arith, so_far.lfs refl), rw place.at (fine, mistake), behind))
-stopped_taking octets held count ended progress left left' now line Field is so_far (cut, fine, behind, lf) mistake =
+    until octets count false progress left left' at at Json is so_far (Keeps-refl at) (inl (omega (arith, so_far.lfs refl), rw place.at (fine, mistake), behind))
+stopped_taking octets count ended progress left left' at line Field is so_far (cut, fine, behind, lf) mistake =
     let place = is_at count (lines_of octets) line _ (so_far.rest ∙ cut) in
-    until octets held count false progress left left' now now Field is so_far so_far.output (inl (omega (arith, so_far.lfs refl), rw place.at (fine, mistake), behind))
-stopped_taking octets held count ended progress left left' now line (World why) is so_far (cut, fine, behind, lf) mistake =
+    until octets count false progress left left' at at Field is so_far (Keeps-refl at) (inl (omega (arith, so_far.lfs refl), rw place.at (fine, mistake), behind))
+stopped_taking octets count ended progress left left' at line (World why) is so_far (cut, fine, behind, lf) mistake =
     let place = is_at count (lines_of octets) line _ (so_far.rest ∙ cut) in
-    until octets held count false progress left left' now now (World why) is so_far so_far.output (inl (omega (arith, so_far.lfs refl), rw place.at (fine, mistake), behind))
-stopped_taking octets held count ended progress left left' now line Memory is so_far (cut, fine, behind, lf) mistake =
+    until octets count false progress left left' at at (World why) is so_far (Keeps-refl at) (inl (omega (arith, so_far.lfs refl), rw place.at (fine, mistake), behind))
+stopped_taking octets count ended progress left left' at line Memory is so_far (cut, fine, behind, lf) mistake =
     let place = is_at count (lines_of octets) line _ (so_far.rest ∙ cut) in
-    until octets held count false progress left left' now now Memory is so_far so_far.output (inl (omega (arith, so_far.lfs refl), rw place.at (fine, mistake), behind))
-stopped_taking octets held count ended progress left left' now line Read is so_far read mistake = absurd mistake
-stopped_taking octets held count ended progress left left' now line Write is so_far read mistake = absurd mistake
-stopped_taking octets held count ended progress left left' now line LineTooLong is so_far read mistake = absurd mistake
-stopped_taking octets held count ended progress left left' now line TooManyLines is so_far read mistake = absurd mistake
+    until octets count false progress left left' at at Memory is so_far (Keeps-refl at) (inl (omega (arith, so_far.lfs refl), rw place.at (fine, mistake), behind))
+stopped_taking octets count ended progress left left' at line Read is so_far read mistake = absurd mistake
+stopped_taking octets count ended progress left left' at line Write is so_far read mistake = absurd mistake
+stopped_taking octets count ended progress left left' at line LineTooLong is so_far read mistake = absurd mistake
+stopped_taking octets count ended progress left left' at line TooManyLines is so_far read mistake = absurd mistake
 
--- what the output holds where there is no verdict
-held_still : (kind : FaultKind) (held : List ℕ) (now now' : Option (List ℕ)) → now ≡ Some held → WentOutAs kind (Keeps now now') → WentOutAs kind (now' ≡ Some held)
-held_still Write held now now' known out = tt
-held_still Read held now now' known out = Keeps-known now now' _ out known
-held_still LineTooLong held now now' known out = Keeps-known now now' _ out known
-held_still TooManyLines held now now' known out = Keeps-known now now' _ out known
-held_still Json held now now' known out = Keeps-known now now' _ out known
-held_still Field held now now' known out = Keeps-known now now' _ out known
-held_still (World why) held now now' known out = Keeps-known now now' _ out known
-held_still Memory held now now' known out = Keeps-known now now' _ out known
-
-pub stopped_at_end : (octets held : List ℕ) (count : ℕ) (ended : Bool) (progress : Progress) (left left' now now' : Option (List ℕ)) (what : FaultKind)
-    → IsProgress progress → HasChecked octets held count ended progress left now → after_lines count octets ≡ [] → left' ≡ Some []
-    → MistakesAtEnd what (nodes_of progress) (lines_so_far progress) → WentOutAs what (Keeps now now')
-    → ChecksUntil octets held left' now' (record { line = count + 1; what = what })
-stopped_at_end octets held count ended progress left left' now now' what is so_far none end mistake out =
+pub stopped_at_end : (octets : List ℕ) (count : ℕ) (ended : Bool) (progress : Progress) (left left' before after : Option (List ℕ)) (what : FaultKind)
+    → IsProgress progress → HasChecked octets count ended progress left → after_lines count octets ≡ [] → left' ≡ Some []
+    → MistakesAtEnd what (nodes_of progress) (lines_so_far progress) → WentOutAs what (Keeps before after)
+    → ChecksUntil octets left' before after (record { line = count + 1; what = what })
+stopped_at_end octets count ended progress left left' before after what is so_far none end mistake out =
     let all = within_list count (lines_of octets) (so_far.rest ∙ ap lines_of none) so_far.within in
-    until octets held count ended progress left left' now now' what is so_far (held_still what held now now' so_far.output out) (inr (all, mistake, end))
+    until octets count ended progress left left' before after what is so_far out (inr (all, mistake, end))
 
 -- the fault is at that line
-pub at_line : (octets held : List ℕ) (stop : Fault) (number : ℕ) (left now : Option (List ℕ)) → stop.line ≡ number
-    → ChecksUntil octets held left now (record { line = number; what = stop.what }) → ChecksUntil octets held left now stop
-at_line octets held stop number left now e h = subst (λ n. ChecksUntil octets held left now (record { line = n; what = stop.what })) (sym e) h
+pub at_line : (octets : List ℕ) (stop : Fault) (number : ℕ) (left before after : Option (List ℕ)) → stop.line ≡ number
+    → ChecksUntil octets left before after (record { line = number; what = stop.what }) → ChecksUntil octets left before after stop
+at_line octets stop number left before after e h = subst (λ n. ChecksUntil octets left before after (record { line = n; what = stop.what })) (sym e) h

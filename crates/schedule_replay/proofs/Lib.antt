@@ -30,3 +30,6 @@ pub mod FlagWords
 pub mod SubcommandNames
 pub mod CommandLines
 pub mod Invocations
+pub mod OneReading
+pub mod OneText
+pub mod OneLine

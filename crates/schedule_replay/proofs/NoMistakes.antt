@@ -1,10 +1,11 @@
 -- Over what is written of a run, no line is a mistake: a fault is of a device or of memory.
-use Rattle.std.proofs.Common.{◌≡◌, ◌∙◌, inl, inr, ℕ, zero, suc, ◌+◌, List, [], ◌∷◌, ◌++◌, length, take, Option, Some, None, Ok, refl, sym, ap, subst, arith, append_assoc, append-nil, map}
+use Rattle.std.proofs.Common.{◌≡◌, ◌≢◌, ◌∙◌, inl, inr, ℕ, zero, suc, ◌+◌, List, [], ◌∷◌, ◌++◌, length, take, Option, Some, None, Ok, refl, sym, ap, subst, arith, append_assoc, append-nil, map}
 use Rattle.std.specs.Prelude.{slice_get}
 use Rattle.network_model.specs.declared.refusal.WorldRefusal.{WorldRefusal}
 use Rattle.network_model.specs.Network.{Network}
 use Rattle.network_model.specs.Clash.{first_clash}
 use Rattle.network_model.specs.Premises.{Premise}
+use Rattle.trace_model.specs.declared.line.TraceLine.{TraceLine}
 use Rattle.trace_model.specs.Line.{Lines}
 use Rattle.schedule_lines.specs.declared.traced.TranscriptLine.{TranscriptLine}
 use Rattle.schedule_lines.specs.declared.traced.TranscriptLine.TheVariants as recorded
@@ -16,7 +17,8 @@ use Rattle.schedule_replay.specs.CheckText.{recorded_in, AreRecorded, numbered, 
 use Rattle.schedule_replay.specs.Accepted.{IsOfDevice, EachRunIsChecked}
 use Rattle.schedule_replay.proofs.ToldLines.{IsExact}
 use Rattle.schedule_replay.proofs.Transcribed.{transcribed}
-use Rattle.schedule_replay.proofs.OneTranscript.{same_entries, nodes_in, nodes_in-nodes, nodes_of_transcript}
+use Rattle.schedule_replay.proofs.OneReading.{same_entries, one_entry, next_is, all_taken}
+use Rattle.schedule_replay.proofs.OneTranscript.{nodes_in, lines_after, nodes_in-nodes, lines_after-nodes, nodes_of_transcript, lines_of_transcript}
 
 -- ---- what stands in its place
 
@@ -78,60 +80,21 @@ no_nodes n (recorded.Event number line ∷ es) h = no_nodes (suc n) es h.1
 
 -- ---- the line of a fault
 
--- these lines are the first entries, and the next line is the next entry
-pub record IsNext (number : ℕ) (lines : List (List ℕ)) (line : List ℕ) (earlier : ℕ) (es : List TranscriptLine) : Type 0 where
-  pub first : List TranscriptLine
-  pub entry : TranscriptLine
-  pub rest : List TranscriptLine
-  pub whole : es ≡ first ++ entry ∷ rest
-  pub before : AreRecorded number (take earlier lines) first
-  pub readable : reading_fault (number + earlier) line ≡ None
-  pub is : recorded_in (without_cr line) ≡ Ok entry
+-- a line of an event is among them
+some_after : (line : TraceLine) (earlier : Lines) (es : List TranscriptLine) → lines_after (line ∷ earlier) es ≢ []
+unfolding lines_after
+some_after line earlier [] none = absurd cc
+some_after line earlier (recorded.Node node ∷ es) none = some_after line earlier es none
+some_after line earlier (recorded.Event number other ∷ es) none = some_after other (line ∷ earlier) es none
 
-next_is : (number earlier : ℕ) (lines : List (List ℕ)) (line : List ℕ) (es : List TranscriptLine) → AreRecorded number lines es → slice_get lines earlier ≡ Some line
-    → IsNext number lines line earlier es
-next_is number zero [] line es h there = absurd cc
-next_is number (suc earlier) [] line es h there = absurd cc
-next_is number zero (l ∷ lines) line [] h there = absurd h
-next_is number (suc earlier) (l ∷ lines) line [] h there = absurd h
-next_is number zero (l ∷ lines) line (e ∷ es) h there =
-    let same : l ≡ line = cc in
-    record {
-      first = [];
-      entry = e;
-      rest = es;
-      whole = refl;
-      before = tt;
-      readable = subst (λ (n : ℕ). reading_fault n line ≡ None) (omega arith) (subst (λ (t : List ℕ). reading_fault number t ≡ None) same h.0);
-      is = subst (λ (t : List ℕ). recorded_in (without_cr t) ≡ Ok e) same h.1;
-    }
-next_is number (suc earlier) (l ∷ lines) line (e ∷ es) h there =
-    let later = next_is (number + 1) earlier lines line es h.2 there in
-    record {
-      first = e ∷ later.first;
-      entry = later.entry;
-      rest = later.rest;
-      whole = ap (λ (others : List TranscriptLine). e ∷ others) later.whole;
-      before = (h.0, h.1, later.before);
-      readable = subst (λ (n : ℕ). reading_fault n line ≡ None) (omega arith) later.readable;
-      is = later.is;
-    }
-
-all_taken : (lines : List (List ℕ)) → take (length lines) lines ≡ lines
-all_taken [] = refl
-all_taken (line ∷ lines) = ap (λ (others : List (List ℕ)). line ∷ others) (all_taken lines)
-
-one_entry : (line : List ℕ) (e f : TranscriptLine) → recorded_in line ≡ Ok e → recorded_in line ≡ Ok f → e ≡ f
-one_entry line e f a b = cc
-
-module _ (nodes : Network) (lines : Lines) (network : first_clash nodes ≡ None) (octets : List (List ℕ)) (recorded_all : AreRecorded 1 octets (transcript_of nodes lines)) where
+module _ (nodes : Network) (lines : Lines) (network : lines ≢ [] → first_clash nodes ≡ None) (octets : List (List ℕ)) (recorded_all : AreRecorded 1 octets (transcript_of nodes lines)) where
   -- the first event comes after all nodes
   clashes : (why : WorldRefusal) (nodes' : Network) (lines' : Lines) (line : List ℕ) (entry : TranscriptLine) (rest : List TranscriptLine)
       → transcript_of nodes lines ≡ transcript_of nodes' lines' ++ entry ∷ rest → recorded_in line ≡ Ok entry → MistakesIn (World why) nodes' lines' line → ⊥
-  unfolding nodes_in AreInPlace
+  unfolding nodes_in lines_after AreInPlace
   clashes why nodes' lines' line entry rest whole is mistake =
       let first : TranscriptLine = recorded.Event 0 mistake.0 in
-      let same : entry ≡ first = one_entry line entry first is mistake.1 in
+      let same : entry ≡ first = one_entry recorded_in line entry first is mistake.1 in
       let full : transcript_of nodes lines ≡ transcript_of nodes' [] ++ first ∷ rest =
       whole ∙ ap (λ (ls : Lines). transcript_of nodes' ls ++ entry ∷ rest) mistake.2 ∙ ap (λ (e : TranscriptLine). transcript_of nodes' [] ++ e ∷ rest) same in
       let place : AreInPlace 0 (first ∷ rest) = after_transcript nodes' [] (first ∷ rest) (subst (AreInPlace 0) full (place_transcript nodes lines)) in
@@ -140,7 +103,10 @@ module _ (nodes : Network) (lines : Lines) (network : first_clash nodes ≡ None
       sym (nodes_of_transcript nodes lines) ∙ ap nodes_in (full ∙ ap (λ (es : List TranscriptLine). es ++ first ∷ rest) (append-nil (map recorded.Node nodes')))
       ∙ nodes_in-nodes nodes' (first ∷ rest) ∙ ap (λ (others : Network). nodes' ++ others) none ∙ append-nil nodes' in
       let clash : first_clash nodes ≡ Some why = ap first_clash nodes_same ∙ mistake.3 in
-      absurd (cc (clash, network))
+      let some : lines ≢ [] = λ e. some_after mistake.0 [] rest
+      (sym (ap (lines_after []) full ∙ ap (λ (es : List TranscriptLine). lines_after [] (es ++ first ∷ rest)) (append-nil (map recorded.Node nodes'))
+      ∙ lines_after-nodes [] nodes' (first ∷ rest)) ∙ lines_of_transcript nodes lines ∙ e) in
+      absurd (cc (clash, network some))
 
   -- where the nodes and events so far are those of the lines before it, the next line isn't a mistake
   in_line : (kind : FaultKind) (nodes' : Network) (lines' : Lines) (line : List ℕ) (entry : TranscriptLine) (rest : List TranscriptLine)
@@ -152,7 +118,7 @@ module _ (nodes : Network) (lines : Lines) (network : first_clash nodes ≡ None
   in_line Json nodes' lines' line entry rest whole is mistake = absurd (cc (is, mistake))
   in_line Field nodes' lines' line entry rest whole is (inl mistake) = absurd (cc (is, mistake))
   in_line Field nodes' lines' line entry rest whole is (inr mistake) =
-      let same : mistake.0 ≡ entry = one_entry line mistake.0 entry mistake.1 is in
+      let same : mistake.0 ≡ entry = one_entry recorded_in line mistake.0 entry mistake.1 is in
       let place = after_transcript nodes' lines' (entry ∷ rest) (subst (AreInPlace 0) whole (place_transcript nodes lines)) in
       absurd (in_place lines' entry rest place (subst (IsOutOfPlace lines') same mistake.2))
   in_line (World why) nodes' lines' line entry rest whole is mistake = absurd (clashes why nodes' lines' line entry rest whole is mistake)
@@ -162,17 +128,17 @@ module _ (nodes : Network) (lines : Lines) (network : first_clash nodes ≡ None
   read_line : (kind : FaultKind) (earlier : ℕ) (nodes' : Network) (lines' : Lines) (line : List ℕ) → slice_get octets earlier ≡ Some line
       → AreRecorded 1 (take earlier octets) (transcript_of nodes' lines') → MistakesIn kind nodes' lines' (without_cr line) → IsOfDevice kind
   read_line kind earlier nodes' lines' line there before mistake =
-      let next = next_is 1 earlier octets line (transcript_of nodes lines) recorded_all there in
-      let same = same_entries 1 (take earlier octets) next.first (transcript_of nodes' lines') next.before before in
+      let next = next_is recorded_in 1 earlier octets line (transcript_of nodes lines) recorded_all there in
+      let same = same_entries recorded_in 1 (take earlier octets) next.first (transcript_of nodes' lines') next.before before in
       in_line kind nodes' lines' (without_cr line) next.entry next.rest (next.whole ∙ ap (λ (es : List TranscriptLine). es ++ next.entry ∷ next.rest) same) next.is mistake
 
   -- and each can be read
   readable : (number earlier : ℕ) (line : List ℕ) → number ≡ earlier + 1 → slice_get octets earlier ≡ Some line → reading_fault number line ≡ None
   readable number earlier line at there =
-      let next = next_is 1 earlier octets line (transcript_of nodes lines) recorded_all there in
+      let next = next_is recorded_in 1 earlier octets line (transcript_of nodes lines) recorded_all there in
       subst (λ (n : ℕ). reading_fault n line ≡ None) (omega (arith, at)) next.readable
 
-  at_line : (kind : FaultKind) (number earlier : ℕ) (nodes' : Network) (lines' : Lines) (line : Option (List ℕ)) → number ≡ earlier + 1
+  pub at_line : (kind : FaultKind) (number earlier : ℕ) (nodes' : Network) (lines' : Lines) (line : Option (List ℕ)) → number ≡ earlier + 1
       → slice_get octets earlier ≡ line → AreRecorded 1 (take earlier octets) (transcript_of nodes' lines') → MistakesAt kind number nodes' lines' line → IsOfDevice kind
   at_line Read number earlier nodes' lines' line at there before mistake = tt
   at_line Memory number earlier nodes' lines' line at there before mistake = tt
@@ -188,26 +154,26 @@ module _ (nodes : Network) (lines : Lines) (network : first_clash nodes ≡ None
   at_line Field number earlier nodes' lines' (Some line) at there before mistake = read_line Field earlier nodes' lines' line there before mistake.1
   at_line (World why) number earlier nodes' lines' (Some line) at there before mistake = read_line (World why) earlier nodes' lines' line there before mistake.1
 
-  at_end : (kind : FaultKind) (earlier : ℕ) (nodes' : Network) (lines' : Lines) → earlier ≡ length octets
+  at_end : first_clash nodes ≡ None → (kind : FaultKind) (earlier : ℕ) (nodes' : Network) (lines' : Lines) → earlier ≡ length octets
       → AreRecorded 1 (take earlier octets) (transcript_of nodes' lines') → MistakesAtEnd kind nodes' lines' → IsOfDevice kind
-  at_end Read earlier nodes' lines' at before mistake = tt
-  at_end Memory earlier nodes' lines' at before mistake = tt
-  at_end Write earlier nodes' lines' at before mistake = tt
-  at_end LineTooLong earlier nodes' lines' at before mistake = absurd mistake
-  at_end TooManyLines earlier nodes' lines' at before mistake = absurd mistake
-  at_end Json earlier nodes' lines' at before mistake = absurd mistake
-  at_end Field earlier nodes' lines' at before mistake = absurd mistake
-  at_end (World why) earlier nodes' lines' at before mistake =
+  at_end sound Read earlier nodes' lines' at before mistake = tt
+  at_end sound Memory earlier nodes' lines' at before mistake = tt
+  at_end sound Write earlier nodes' lines' at before mistake = tt
+  at_end sound LineTooLong earlier nodes' lines' at before mistake = absurd mistake
+  at_end sound TooManyLines earlier nodes' lines' at before mistake = absurd mistake
+  at_end sound Json earlier nodes' lines' at before mistake = absurd mistake
+  at_end sound Field earlier nodes' lines' at before mistake = absurd mistake
+  at_end sound (World why) earlier nodes' lines' at before mistake =
       let all : take earlier octets ≡ octets = ap (λ (n : ℕ). take n octets) at ∙ all_taken octets in
-      let same = same_entries 1 octets (transcript_of nodes lines) (transcript_of nodes' lines') recorded_all
+      let same = same_entries recorded_in 1 octets (transcript_of nodes lines) (transcript_of nodes' lines') recorded_all
       (subst (λ (ls : List (List ℕ)). AreRecorded 1 ls (transcript_of nodes' lines')) all before) in
       let nodes_same : nodes ≡ nodes' = sym (nodes_of_transcript nodes lines) ∙ ap nodes_in same ∙ nodes_of_transcript nodes' lines' in
       let clash : first_clash nodes ≡ Some why = ap first_clash nodes_same ∙ mistake.1 in
-      absurd (cc (clash, network))
+      absurd (cc (clash, sound))
 
 -- a fault over what is written of a run is of a device or of memory
 pub checked_by : (premise : Premise) → IsExact premise → EachRunIsChecked premise
-checked_by premise exact nodes run text held left now stop network holds ranges writes until =
+checked_by premise exact nodes run text left before after stop network holds ranges writes until =
     let told = transcribed premise exact nodes run text holds ranges writes in
     let octets = lines_of (nodes_text nodes ++ text) in
     by told.lines told.recorded until.fault
@@ -215,7 +181,7 @@ checked_by premise exact nodes run text held left now stop network holds ranges 
     by : (lines : Lines) → AreRecorded 1 (lines_of (nodes_text nodes ++ text)) (transcript_of nodes lines)
         → StopsCheckAfter until.earlier until.nodes until.lines (nodes_text nodes ++ text) left stop → IsOfDevice stop.what
     by lines all (inl mistake) =
-        at_line nodes lines network (lines_of (nodes_text nodes ++ text)) all stop.what stop.line until.earlier until.nodes until.lines
+        at_line nodes lines (λ _. network) (lines_of (nodes_text nodes ++ text)) all stop.what stop.line until.earlier until.nodes until.lines
         (slice_get (lines_of (nodes_text nodes ++ text)) until.earlier) until.line refl until.transcript mistake.1
     by lines all (inr mistake) =
-        at_end nodes lines network (lines_of (nodes_text nodes ++ text)) all stop.what until.earlier until.nodes until.lines mistake.0 until.transcript mistake.1
+        at_end nodes lines (λ _. network) (lines_of (nodes_text nodes ++ text)) all network stop.what until.earlier until.nodes until.lines mistake.0 until.transcript mistake.1

@@ -1,7 +1,7 @@
 -- How the lines of nodes go out, and what is known where they don't.
 use Rattle.std.proofs.Common.{◌≡◌, ◌∙◌, ◌⊎◌, inl, inr, refl, sym, ap, ℕ, zero, suc, ◌+◌, List, [], ◌∷◌, ◌++◌, Option, Some, None, length, take, append_assoc, append-nil, add-one, ◌<◌, get_or, arith}
 use Rattle.std.specs.Io.KnownBytes.{Appends, Keeps}
-use Rattle.std.proofs.KnownBytes.{Appends-nil}
+use Rattle.std.proofs.KnownBytes.{Appends-nil, Appends-kept}
 use Rattle.network_model.specs.declared.node.NodeSpec.{NodeSpec}
 use Rattle.network_model.specs.declared.refusal.WorldRefusal.{WorldRefusal}
 use Rattle.network_model.specs.declared.refusal.WorldRefusal.TheVariants.{SameName, SameIdentity, NoNode, WrongKind, NoCopy, NoTransit, ReadingOutOfRange, NothingWaiting, Memory}
@@ -15,13 +15,6 @@ use Rattle.schedule_replay.specs.Schedule.{FaultsAtEnd}
 use Rattle.schedule_replay.specs.Replay.{nodes_text, NodesWentOut}
 use Rattle.schedule_replay.specs.Show.{WentOutAs}
 use Rattle.schedule_replay.specs.Stage.{LeavesUnwritten}
-
--- what is appended and then kept was appended
-pub Appends-kept : (a b c : Option (List ℕ)) (bs : List ℕ) → Appends a b bs → Keeps b c → Appends a c bs
-Appends-kept None b c bs h k = tt
-Appends-kept (Some x) None c bs h k = absurd h
-Appends-kept (Some x) (Some y) None bs h k = absurd k
-Appends-kept (Some x) (Some y) (Some z) bs h k = k ∙ h
 
 -- one node more
 pub nodes_text-more : (count : ℕ) (nodes : Network) (node : NodeSpec) → count < length nodes → node ≡ get_or nodes count node

@@ -12,21 +12,9 @@ use Rattle.schedule_replay.specs.Replay.{nodes_text}
 use Rattle.schedule_replay.specs.CheckText.{recorded_in, AreRecorded, numbered, transcript_of}
 use Rattle.schedule_replay.specs.Lines.{without_cr}
 use Rattle.schedule_replay.specs.Accepted.{EachRunIsAccepted}
+use Rattle.schedule_replay.proofs.OneReading.{same_entries}
 use Rattle.schedule_replay.proofs.ToldLines.{IsExact}
 use Rattle.schedule_replay.proofs.Transcribed.{transcribed}
-
--- lines are the same nodes and events, however they are read
-pub same_entries : (number : ℕ) (lines : List (List ℕ)) (es fs : List TranscriptLine) → AreRecorded number lines es → AreRecorded number lines fs → es ≡ fs
-same_entries number [] [] [] h k = refl
-same_entries number [] [] (f ∷ fs) h k = absurd k
-same_entries number [] (e ∷ es) fs h k = absurd h
-same_entries number (line ∷ lines) [] fs h k = absurd h
-same_entries number (line ∷ lines) (e ∷ es) [] h k = absurd k
-same_entries number (line ∷ lines) (e ∷ es) (f ∷ fs) h k =
-    let both : recorded_in (without_cr line) ≡ recorded_in (without_cr line) = refl in
-    let one : e ≡ f = cc (h.1, k.1) in
-    let others = same_entries (number + 1) lines es fs h.2 k.2 in
-    λ i. one i ∷ others i
 
 -- ---- the nodes and the lines of a transcript
 
@@ -35,7 +23,7 @@ nodes_in [] = []
 nodes_in (recorded.Node node ∷ es) = node ∷ nodes_in es
 nodes_in (recorded.Event number line ∷ es) = nodes_in es
 
-lines_after : Lines → List TranscriptLine → Lines
+unfoldable pub lines_after : Lines → List TranscriptLine → Lines
 lines_after earlier [] = earlier
 lines_after earlier (recorded.Node node ∷ es) = lines_after earlier es
 lines_after earlier (recorded.Event number line ∷ es) = lines_after (line ∷ earlier) es
@@ -52,7 +40,7 @@ nodes_in-numbered (line ∷ earlier) rest =
     ap nodes_in (append_assoc (numbered earlier) (recorded.Event (length earlier) line ∷ []) rest)
     ∙ nodes_in-numbered earlier (recorded.Event (length earlier) line ∷ rest)
 
-lines_after-nodes : (earlier : Lines) (nodes : Network) (rest : List TranscriptLine) → lines_after earlier (map recorded.Node nodes ++ rest) ≡ lines_after earlier rest
+pub lines_after-nodes : (earlier : Lines) (nodes : Network) (rest : List TranscriptLine) → lines_after earlier (map recorded.Node nodes ++ rest) ≡ lines_after earlier rest
 unfolding lines_after
 lines_after-nodes earlier [] rest = refl
 lines_after-nodes earlier (node ∷ nodes) rest = lines_after-nodes earlier nodes rest
@@ -71,7 +59,7 @@ nodes_of_transcript nodes lines =
     ∙ ap (λ (others : Network). nodes ++ others) (ap nodes_in (sym (append-nil (numbered lines))) ∙ nodes_in-numbered lines [])
     ∙ append-nil nodes
 
-lines_of_transcript : (nodes : Network) (lines : Lines) → lines_after [] (transcript_of nodes lines) ≡ lines
+pub lines_of_transcript : (nodes : Network) (lines : Lines) → lines_after [] (transcript_of nodes lines) ≡ lines
 unfolding lines_after
 lines_of_transcript nodes lines =
     lines_after-nodes [] nodes (numbered lines)
@@ -80,9 +68,9 @@ lines_of_transcript nodes lines =
 
 -- a verdict over what is written of a run accepts it
 pub accepted_by : (premise : Premise) → IsExact premise → MissesNothing premise → EachRunIsAccepted premise
-accepted_by premise exact misses nodes run text held left now answer holds ranges writes checks =
+accepted_by premise exact misses nodes run text left before after answer holds ranges writes checks =
     let told = transcribed premise exact nodes run text holds ranges writes in
-    let same = same_entries 1 (lines_of (nodes_text nodes ++ text)) (transcript_of checks.nodes checks.lines) (transcript_of nodes told.lines) checks.transcript told.recorded in
+    let same = same_entries recorded_in 1 (lines_of (nodes_text nodes ++ text)) (transcript_of checks.nodes checks.lines) (transcript_of nodes told.lines) checks.transcript told.recorded in
     let nodes_same : checks.nodes ≡ nodes = sym (nodes_of_transcript checks.nodes checks.lines) ∙ ap nodes_in same ∙ nodes_of_transcript nodes told.lines in
     let lines_same : checks.lines ≡ told.lines = sym (lines_of_transcript checks.nodes checks.lines) ∙ ap (lines_after []) same ∙ lines_of_transcript nodes told.lines in
     checks.verdict_is ∙ (λ i. verdict (nodes_same i) (lines_same i)) ∙ misses nodes told.lines run holds told.tells

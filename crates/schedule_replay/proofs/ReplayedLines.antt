@@ -3,7 +3,7 @@ use Rattle.std.proofs.Common.{◌≡◌, ◌≢◌, inl, inr, ℕ, suc, ◌+◌,
 use Rattle.std.specs.Prelude.{reverse}
 use Rattle.std.proofs.lemmas.List.{map-append, reverse-append}
 use Rattle.std.specs.Io.KnownBytes.{Appends}
-use Rattle.std.proofs.KnownBytes.{Appends-nil}
+use Rattle.std.proofs.KnownBytes.{Appends-nil, Appends-trans}
 use Rattle.network_model.specs.declared.event.Event.{Event}
 use Rattle.network_model.specs.declared.node.NodeSpec.{NodeSpec}
 use Rattle.network_model.specs.Network.{Network}
@@ -23,15 +23,14 @@ use Rattle.schedule_replay.specs.Schedule.{entry_in, AreEntries, schedule_of, Fa
 use Rattle.schedule_replay.specs.Show.{WentOutAs}
 use Rattle.schedule_replay.specs.Replay.{nodes_text, WritesRun, WentOutBefore, StopsAfter, ReplaysAll, ReplaysUntil}
 use Rattle.schedule_replay.specs.Stage.{nodes_of, run_of, begun_of, owed_by, IsStage, IsWorldOf, Follows, TakesLine, WritesAtFault, ShowsFault}
-use Rattle.schedule_replay.proofs.KnownOctets.{Appends-known}
 use Rattle.schedule_replay.proofs.ShownLines.{is_at, within_list, after_lines-more}
 
 -- the first lines, which are count, were taken
-pub record HasReplayed (octets held : List ℕ) (count : ℕ) (ended : Bool) (stage : Stage) (left now : Option (List ℕ)) : Type 0 where
+pub record HasReplayed (octets : List ℕ) (before : Option (List ℕ)) (count : ℕ) (ended : Bool) (stage : Stage) (left now : Option (List ℕ)) : Type 0 where
   pub schedule : AreEntries 1 (take count (lines_of octets)) (schedule_of (nodes_of stage) (run_of stage))
   pub text : List ℕ
   pub transcript : WritesRun (nodes_of stage) (run_of stage) text
-  pub output : now ≡ Some (held ++ (begun_of stage ++ text))
+  pub output : Appends before now (begun_of stage ++ text)
   pub input : left ≡ Some (after_lines count octets)
   pub rest : drop count (lines_of octets) ≡ lines_of (after_lines count octets)
   pub within : count ≤ length (lines_of octets)
@@ -92,20 +91,19 @@ took stage (Events world) (entries.Event event) text written so_far (world_is, n
   out = rw (world_is, all) (went_out stage text line so_far);
 }
 
-pub replayed_more : (octets held : List ℕ) (count : ℕ) (ended : Bool) (stage next : Stage) (left left' now now' : Option (List ℕ)) (line written : List ℕ)
-    → HasReplayed octets held count false stage left now → ReadsLine true (count + 1) line ended (after_lines count octets) left'
-    → TakesLine (without_cr line) stage next written → Appends now now' written → HasReplayed octets held (count + 1) ended next left' now'
-replayed_more octets held count ended stage next left left' now now' line written so_far (cut, fine, behind, lf) (entry, is, follows) appended =
+pub replayed_more : (octets : List ℕ) (before : Option (List ℕ)) (count : ℕ) (ended : Bool) (stage next : Stage) (left left' now now' : Option (List ℕ)) (line written : List ℕ)
+    → HasReplayed octets before count false stage left now → ReadsLine true (count + 1) line ended (after_lines count octets) left'
+    → TakesLine (without_cr line) stage next written → Appends now now' written → HasReplayed octets before (count + 1) ended next left' now'
+replayed_more octets before count ended stage next left left' now now' line written so_far (cut, fine, behind, lf) (entry, is, follows) appended =
     let place = is_at count (lines_of octets) line _ (so_far.rest ∙ cut) in
     let more = after_lines-more count octets in
     let taken = took stage next entry so_far.text written so_far.transcript follows in
-    let (new, now_is, new_is) = Appends-known now now' written (held ++ (begun_of stage ++ so_far.text)) appended so_far.output in
     record {
       schedule = rw (place.upto, taken.schedule) (AreEntries-push 1 (take count (lines_of octets)) line _ entry so_far.schedule
           (rw (length-take-le count (lines_of octets) so_far.within, add_comm 1 count) fine) is);
       text = taken.text';
       transcript = taken.transcript;
-      output = now_is ∙ ap Some (new_is ∙ append_assoc held (begun_of stage ++ so_far.text) written ∙ ap (λ t. held ++ t) taken.out);
+      output = subst (Appends before now') taken.out (Appends-trans before now now' (begun_of stage ++ so_far.text) written so_far.output appended);
       input = behind ∙ ap Some (sym more);
       rest = place.behind ∙ ap lines_of (sym more);
       within = omega (arith, place.within);
@@ -114,12 +112,11 @@ replayed_more octets held count ended stage next left left' now now' line writte
 
 -- ---- the end
 
-pub replayed_all : (octets held : List ℕ) (count : ℕ) (ended : Bool) (stage : Stage) (left left' now now' : Option (List ℕ)) (world : State)
-    → HasReplayed octets held count ended stage left now → after_lines count octets ≡ [] → left' ≡ Some []
-    → IsWorldOf stage world → Appends now now' (owed_by stage) → ReplaysAll octets held left' now' (length world.run)
-replayed_all octets held count ended stage left left' now now' world so_far none end (is, network) appended =
+pub replayed_all : (octets : List ℕ) (before : Option (List ℕ)) (count : ℕ) (ended : Bool) (stage : Stage) (left left' now now' : Option (List ℕ)) (world : State)
+    → HasReplayed octets before count ended stage left now → after_lines count octets ≡ [] → left' ≡ Some []
+    → IsWorldOf stage world → Appends now now' (owed_by stage) → ReplaysAll octets left' before now' (length world.run)
+replayed_all octets before count ended stage left left' now now' world so_far none end (is, network) appended =
     let all = within_list count (lines_of octets) (so_far.rest ∙ ap lines_of none) so_far.within in
-    let (new, now_is, new_is) = Appends-known now now' (owed_by stage) (held ++ (begun_of stage ++ so_far.text)) appended so_far.output in
     record {
       nodes = nodes_of stage;
       run = run_of stage;
@@ -128,8 +125,8 @@ replayed_all octets held count ended stage left left' now now' world so_far none
       count = ap (λ (w : State). length w.run) is;
       text = so_far.text;
       transcript = so_far.transcript;
-      output = now_is ∙ ap Some (new_is ∙ append_assoc held (begun_of stage ++ so_far.text) (owed_by stage)
-          ∙ ap (λ t. held ++ t) (owed stage so_far.text so_far.transcript));
+      output = subst (Appends before now') (owed stage so_far.text so_far.transcript)
+          (Appends-trans before now now' (begun_of stage ++ so_far.text) (owed_by stage) so_far.output appended);
       input = end;
     }
   where
@@ -156,16 +153,14 @@ went_out_before kind (Events world) text written (begun, network) transcript out
     after_events (event ∷ earlier) network begun fine = (refl, fine)
 
 -- what the output holds before a fault
-held_until : (kind : FaultKind) (held front text written begun : List ℕ) (now now' : Option (List ℕ)) → now ≡ Some (held ++ (front ++ text))
-    → WentOutAs kind (Appends now now' written) → (front ++ text) ++ written ≡ begun ++ text → WentOutAs kind (now' ≡ Some (held ++ (begun ++ text)))
-held_until kind held front text written begun now now' known out is = go kind out
+held_until : (kind : FaultKind) (front text written begun : List ℕ) (before now now' : Option (List ℕ)) → Appends before now (front ++ text)
+    → WentOutAs kind (Appends now now' written) → (front ++ text) ++ written ≡ begun ++ text → WentOutAs kind (Appends before now' (begun ++ text))
+held_until kind front text written begun before now now' known out is = go kind out
   where
-    whole : Appends now now' written → now' ≡ Some (held ++ (begun ++ text))
-    whole appended =
-        let (new, now_is, new_is) = Appends-known now now' written (held ++ (front ++ text)) appended known in
-        now_is ∙ ap Some (new_is ∙ append_assoc held (front ++ text) written ∙ ap (λ t. held ++ t) is)
+    whole : Appends now now' written → Appends before now' (begun ++ text)
+    whole appended = subst (Appends before now') is (Appends-trans before now now' (front ++ text) written known appended)
 
-    go : (kind : FaultKind) → WentOutAs kind (Appends now now' written) → WentOutAs kind (now' ≡ Some (held ++ (begun ++ text)))
+    go : (kind : FaultKind) → WentOutAs kind (Appends now now' written) → WentOutAs kind (Appends before now' (begun ++ text))
     go Write out = tt
     go Read out = whole out
     go LineTooLong out = whole out
@@ -175,12 +170,12 @@ held_until kind held front text written begun now now' known out is = go kind ou
     go (World why) out = whole out
     go Memory out = whole out
 
-until : (octets held : List ℕ) (count : ℕ) (ended : Bool) (stage : Stage) (left left' now now' : Option (List ℕ)) (what : FaultKind) → IsStage stage
-    → HasReplayed octets held count ended stage left now → ShowsFault what stage now now'
+until : (octets : List ℕ) (before : Option (List ℕ)) (count : ℕ) (ended : Bool) (stage : Stage) (left left' now now' : Option (List ℕ)) (what : FaultKind) → IsStage stage
+    → HasReplayed octets before count ended stage left now → ShowsFault what stage now now'
     → StopsAfter count (nodes_of stage) (run_of stage) octets left' (record { line = count + 1; what = what })
-    → ReplaysUntil octets held left' now' (record { line = count + 1; what = what })
-until octets held count ended stage left left' now now' what is so_far (written, out, went) stops =
-    let (begun, before, whole) = went_out_before what stage so_far.text written is so_far.transcript out in
+    → ReplaysUntil octets left' before now' (record { line = count + 1; what = what })
+until octets before count ended stage left left' now now' what is so_far (written, out, went) stops =
+    let (begun, sent, whole) = went_out_before what stage so_far.text written is so_far.transcript out in
     record {
       earlier = count;
       line = refl;
@@ -188,24 +183,24 @@ until octets held count ended stage left left' now now' what is so_far (written,
       run = run_of stage;
       schedule = so_far.schedule;
       begun = begun;
-      went_out = before;
+      went_out = sent;
       text = so_far.text;
       transcript = so_far.transcript;
-      output = held_until what held (begun_of stage) so_far.text written begun now now' so_far.output went whole;
+      output = held_until what (begun_of stage) so_far.text written begun before now now' so_far.output went whole;
       fault = stops;
     }
 
 -- the fault is at that line
-pub at_line : (octets held : List ℕ) (stop : Fault) (number : ℕ) (left now : Option (List ℕ)) → stop.line ≡ number
-    → ReplaysUntil octets held left now (record { line = number; what = stop.what }) → ReplaysUntil octets held left now stop
-at_line octets held stop number left now e h = subst (λ n. ReplaysUntil octets held left now (record { line = n; what = stop.what })) (sym e) h
+pub at_line : (octets : List ℕ) (before : Option (List ℕ)) (stop : Fault) (number : ℕ) (left now : Option (List ℕ)) → stop.line ≡ number
+    → ReplaysUntil octets left before now (record { line = number; what = stop.what }) → ReplaysUntil octets left before now stop
+at_line octets before stop number left now e h = subst (λ n. ReplaysUntil octets left before now (record { line = n; what = stop.what })) (sym e) h
 
 -- reading a line faults
-pub stopped_reading : (octets held : List ℕ) (count : ℕ) (stage : Stage) (left left' now : Option (List ℕ)) (what : FaultKind) {R : Type 0}
-    (input input' : Counted R) → IsStage stage → HasReplayed octets held count false stage left now
+pub stopped_reading : (octets : List ℕ) (before : Option (List ℕ)) (count : ℕ) (stage : Stage) (left left' now : Option (List ℕ)) (what : FaultKind) {R : Type 0}
+    (input input' : Counted R) → IsStage stage → HasReplayed octets before count false stage left now
     → StopsReading what (count + 1) (after_lines count octets) left' → IsFromReading what input input'
-    → ReplaysUntil octets held left' now (record { line = count + 1; what = what })
-stopped_reading octets held count stage left left' now what input input' is so_far stops allowed =
+    → ReplaysUntil octets left' before now (record { line = count + 1; what = what })
+stopped_reading octets before count stage left left' now what input input' is so_far stops allowed =
     go what stops allowed
   where
     ended : count ≤ lfs_in octets
@@ -224,15 +219,15 @@ stopped_reading octets held count stage left left' now what input input' is so_f
     too_many (Events world) = ([], refl, Appends-nil now)
 
     go : (what : FaultKind) → StopsReading what (count + 1) (after_lines count octets) left' → IsFromReading what input input'
-        → ReplaysUntil octets held left' now (record { line = count + 1; what = what })
+        → ReplaysUntil octets left' before now (record { line = count + 1; what = what })
     go Read stops allowed =
-        until octets held count false stage left left' now now Read is so_far (reader_fails stage) (inl (ended, tt, stops))
+        until octets before count false stage left left' now now Read is so_far (reader_fails stage) (inl (ended, tt, stops))
     go LineTooLong (line, others, cut, fault, unread) allowed =
         let place = is_at count (lines_of octets) line others (so_far.rest ∙ cut) in
-        until octets held count false stage left left' now now LineTooLong is so_far (too_long stage) (inl (ended, rw place.at fault, unread))
+        until octets before count false stage left left' now now LineTooLong is so_far (too_long stage) (inl (ended, rw place.at fault, unread))
     go TooManyLines (line, others, cut, fault, unread) allowed =
         let place = is_at count (lines_of octets) line others (so_far.rest ∙ cut) in
-        until octets held count false stage left left' now now TooManyLines is so_far (too_many stage) (inl (ended, rw place.at fault, unread))
+        until octets before count false stage left left' now now TooManyLines is so_far (too_many stage) (inl (ended, rw place.at fault, unread))
     go Write stops allowed = absurd allowed
     go Json stops allowed = absurd allowed
     go Field stops allowed = absurd allowed
@@ -252,16 +247,16 @@ faults_at (World why) number nodes run line there is fine fault = rw is (fine, f
 faults_at Memory number nodes run line there is fine fault = rw is (fine, fault)
 
 -- a line that was read faults
-pub stopped_taking : (octets held : List ℕ) (count : ℕ) (ended : Bool) (stage : Stage) (left left' now now' : Option (List ℕ)) (line : List ℕ)
-    (what : FaultKind) → IsStage stage → HasReplayed octets held count false stage left now
+pub stopped_taking : (octets : List ℕ) (before : Option (List ℕ)) (count : ℕ) (ended : Bool) (stage : Stage) (left left' now now' : Option (List ℕ)) (line : List ℕ)
+    (what : FaultKind) → IsStage stage → HasReplayed octets before count false stage left now
     → ReadsLine true (count + 1) line ended (after_lines count octets) left'
     → FaultsIn what (nodes_of stage) (run_of stage) (without_cr line) → ShowsFault what stage now now'
-    → ReplaysUntil octets held left' now' (record { line = count + 1; what = what })
-stopped_taking octets held count ended stage left left' now now' line what is so_far (cut, fine, behind, lf) fault out =
+    → ReplaysUntil octets left' before now' (record { line = count + 1; what = what })
+stopped_taking octets before count ended stage left left' now now' line what is so_far (cut, fine, behind, lf) fault out =
     let place = is_at count (lines_of octets) line _ (so_far.rest ∙ cut) in
-    let before : count ≤ lfs_in octets = omega (arith, so_far.lfs refl) in
-    until octets held count false stage left left' now now' what is so_far out
-    (inl (before, faults_at what (count + 1) (nodes_of stage) (run_of stage) line _ place.at fine fault, leaves what behind fault))
+    let whole : count ≤ lfs_in octets = omega (arith, so_far.lfs refl) in
+    until octets before count false stage left left' now now' what is so_far out
+    (inl (whole, faults_at what (count + 1) (nodes_of stage) (run_of stage) line _ place.at fine fault, leaves what behind fault))
   where
     leaves : (what : FaultKind) → left' ≡ Some (after_lines 1 (after_lines count octets)) → FaultsIn what (nodes_of stage) (run_of stage) (without_cr line)
         → LeavesUnread what (count + 1) (after_lines count octets) left'
@@ -275,10 +270,10 @@ stopped_taking octets held count ended stage left left' now now' line what is so
     leaves Memory behind fault = behind
 
 -- the nodes fault at the end
-pub stopped_at_end : (octets held : List ℕ) (count : ℕ) (ended : Bool) (stage : Stage) (left left' now now' : Option (List ℕ)) (what : FaultKind)
-    → IsStage stage → HasReplayed octets held count ended stage left now → after_lines count octets ≡ [] → left' ≡ Some []
+pub stopped_at_end : (octets : List ℕ) (before : Option (List ℕ)) (count : ℕ) (ended : Bool) (stage : Stage) (left left' now now' : Option (List ℕ)) (what : FaultKind)
+    → IsStage stage → HasReplayed octets before count ended stage left now → after_lines count octets ≡ [] → left' ≡ Some []
     → FaultsAtEnd what (nodes_of stage) → run_of stage ≡ [] → ShowsFault what stage now now'
-    → ReplaysUntil octets held left' now' (record { line = count + 1; what = what })
-stopped_at_end octets held count ended stage left left' now now' what is so_far none end fault first out =
-    until octets held count ended stage left left' now now' what is so_far out
+    → ReplaysUntil octets left' before now' (record { line = count + 1; what = what })
+stopped_at_end octets before count ended stage left left' now now' what is so_far none end fault first out =
+    until octets before count ended stage left left' now now' what is so_far out
     (inr (within_list count (lines_of octets) (so_far.rest ∙ ap lines_of none) so_far.within, first, fault, end))

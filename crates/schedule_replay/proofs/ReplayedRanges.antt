@@ -96,7 +96,7 @@ ranged octets nodes run h =
 
 -- what was replayed is accepted
 pub replay_accepted : (premise : Premise) → IsExact premise → MissesNothing premise → EachReplayIsAccepted premise
-replay_accepted premise exact misses octets held left now events r holds held' left' now' (Ok answer) checks =
-    accepted_by premise exact misses r.nodes r.run r.text held' left' now' answer holds (ranged octets r.nodes r.run r.schedule) r.transcript checks
-replay_accepted premise exact misses octets held left now events r holds held' left' now' (Err stop) checks =
-    checked_by premise exact r.nodes r.run r.text held' left' now' stop r.network holds (ranged octets r.nodes r.run r.schedule) r.transcript checks
+replay_accepted premise exact misses octets left before after events r holds left' before' after' (Ok answer) checks =
+    accepted_by premise exact misses r.nodes r.run r.text left' before' after' answer holds (ranged octets r.nodes r.run r.schedule) r.transcript checks
+replay_accepted premise exact misses octets left before after events r holds left' before' after' (Err stop) checks =
+    checked_by premise exact r.nodes r.run r.text left' before' after' stop r.network holds (ranged octets r.nodes r.run r.schedule) r.transcript checks

@@ -3,7 +3,7 @@ use Rattle.std.proofs.Common.{◌≡◌, ℕ, zero, suc, ◌+◌, ◌<◌, ◌�
 use Rattle.std.specs.Prelude.{slice_get}
 use Rattle.std.specs.Io.BufRead.{drop_through}
 use Rattle.std.specs.Io.KnownBytes.{Appends, Keeps}
-use Rattle.schedule_replay.proofs.KnownOctets.{Keeps-known, Appends-known}
+use Rattle.std.proofs.KnownBytes.{Appends-trans, Appends-kept}
 use Rattle.schedule_replay.specs.declared.counted.Counted.{Counted}
 use Rattle.schedule_replay.specs.declared.fault.Fault.{Fault}
 use Rattle.schedule_replay.specs.declared.fault.FaultKind.{FaultKind}
@@ -11,11 +11,11 @@ use Rattle.schedule_replay.specs.declared.fault.FaultKind.TheVariants.{Read, Wri
 use Rattle.schedule_replay.specs.Lines.{lines_of, lfs_in, after_lines, without_cr, reading_fault, LeavesUnread, StopsReading, ReadsLine, IsFromReading}
 use Rattle.schedule_replay.specs.Show.{IsAnswer, line_fault, digits_fault, own_fault, ShowsLines, WentOutAs, IsFaultAt, IsFromAnswering, ShowsAll, ShowsUntil}
 
--- the first lines, which are count, were shown after what the output held; each has its LF, unless the end was seen
-pub record HasShown (octets held : List ℕ) (count : ℕ) (ended : Bool) (left now : Option (List ℕ)) : Type 0 where
+-- the first lines, which are count, were shown; each has its LF, unless the end was seen
+pub record HasShown (octets : List ℕ) (before : Option (List ℕ)) (count : ℕ) (ended : Bool) (left now : Option (List ℕ)) : Type 0 where
   pub text : List ℕ
   pub shown : ShowsLines 1 (take count (lines_of octets)) text
-  pub output : now ≡ Some (held ++ text)
+  pub output : Appends before now text
   pub input : left ≡ Some (after_lines count octets)
   pub rest : drop count (lines_of octets) ≡ lines_of (after_lines count octets)
   pub within : count ≤ length (lines_of octets)
@@ -82,9 +82,9 @@ at_answering number line what read own = rw read own
 
 -- ---- the loop
 
-pub shown_all : (octets held : List ℕ) (count : ℕ) (ended : Bool) (left left' now : Option (List ℕ)) → HasShown octets held count ended left now
-    → after_lines count octets ≡ [] → left' ≡ Some [] → ShowsAll octets held left' now count
-shown_all octets held count ended left left' now so_far none end =
+pub shown_all : (octets : List ℕ) (before : Option (List ℕ)) (count : ℕ) (ended : Bool) (left left' now : Option (List ℕ)) → HasShown octets before count ended left now
+    → after_lines count octets ≡ [] → left' ≡ Some [] → ShowsAll octets left' before now count
+shown_all octets before count ended left left' now so_far none end =
     let all = within_list count (lines_of octets) (so_far.rest ∙ ap lines_of none) so_far.within in
     record {
       count = all;
@@ -94,28 +94,27 @@ shown_all octets held count ended left left' now so_far none end =
       input = end;
     }
 
-pub shown_more : (octets held : List ℕ) (count : ℕ) (ended : Bool) (left left' now now' : Option (List ℕ)) (line written : List ℕ)
-    → HasShown octets held count false left now → ReadsLine true (count + 1) line ended (after_lines count octets) left'
-    → IsAnswer (without_cr line) written → Appends now now' written → HasShown octets held (count + 1) ended left' now'
-shown_more octets held count ended left left' now now' line written so_far (cut, fine, behind, lf) answer appended =
+pub shown_more : (octets : List ℕ) (before : Option (List ℕ)) (count : ℕ) (ended : Bool) (left left' now now' : Option (List ℕ)) (line written : List ℕ)
+    → HasShown octets before count false left now → ReadsLine true (count + 1) line ended (after_lines count octets) left'
+    → IsAnswer (without_cr line) written → Appends now now' written → HasShown octets before (count + 1) ended left' now'
+shown_more octets before count ended left left' now now' line written so_far (cut, fine, behind, lf) answer appended =
     let place = is_at count (lines_of octets) line _ (so_far.rest ∙ cut) in
     let more = after_lines-more count octets in
-    let (new, now_is, is) = Appends-known now now' written (held ++ so_far.text) appended so_far.output in
     record {
       text = so_far.text ++ written;
       shown = rw place.upto (ShowsLines-push 1 (take count (lines_of octets)) line so_far.text written so_far.shown
           (rw (length-take-le count (lines_of octets) so_far.within, add_comm 1 count) (faultless (count + 1) line written fine answer)) answer);
-      output = now_is ∙ ap Some (is ∙ append_assoc held so_far.text written);
+      output = Appends-trans before now now' so_far.text written so_far.output appended;
       input = behind ∙ ap Some (sym more);
       rest = place.behind ∙ ap lines_of (sym more);
       within = omega (arith, place.within);
       lfs = λ unended. let lfs = so_far.lfs refl in let one = lf unended in rw more (omega (arith, lfs, one));
     }
 
-until : (octets held : List ℕ) (count : ℕ) (left left' now now' : Option (List ℕ)) (what : FaultKind) → (so_far : HasShown octets held count false left now)
-    → WentOutAs what (now' ≡ Some (held ++ so_far.text)) → IsFaultAt what (count + 1) (slice_get (lines_of octets) count)
-    → LeavesUnread what (count + 1) (after_lines count octets) left' → ShowsUntil octets held left' now' (record { line = count + 1; what = what })
-until octets held count left left' now now' what so_far out fault unread = record {
+until : (octets : List ℕ) (before : Option (List ℕ)) (count : ℕ) (left left' now now' : Option (List ℕ)) (what : FaultKind) → (so_far : HasShown octets before count false left now)
+    → WentOutAs what (Appends before now' so_far.text) → IsFaultAt what (count + 1) (slice_get (lines_of octets) count)
+    → LeavesUnread what (count + 1) (after_lines count octets) left' → ShowsUntil octets left' before now' (record { line = count + 1; what = what })
+until octets before count left left' now now' what so_far out fault unread = record {
   earlier = count;
   line = refl;
   ended = omega (arith, so_far.lfs refl);
@@ -126,43 +125,43 @@ until octets held count left left' now now' what so_far out fault unread = recor
   input = unread;
 }
 
-pub stopped_reading : (octets held : List ℕ) (count : ℕ) (left left' now : Option (List ℕ)) (what : FaultKind) {R : Type 0} (input input' : Counted R)
-    → HasShown octets held count false left now → StopsReading what (count + 1) (after_lines count octets) left' → IsFromReading what input input'
-    → ShowsUntil octets held left' now (record { line = count + 1; what = what })
-stopped_reading octets held count left left' now Read input input' so_far stops allowed =
-    until octets held count left left' now now Read so_far so_far.output tt stops
-stopped_reading octets held count left left' now LineTooLong input input' so_far (line, others, cut, fault, unread) allowed =
+pub stopped_reading : (octets : List ℕ) (before : Option (List ℕ)) (count : ℕ) (left left' now : Option (List ℕ)) (what : FaultKind) {R : Type 0} (input input' : Counted R)
+    → HasShown octets before count false left now → StopsReading what (count + 1) (after_lines count octets) left' → IsFromReading what input input'
+    → ShowsUntil octets left' before now (record { line = count + 1; what = what })
+stopped_reading octets before count left left' now Read input input' so_far stops allowed =
+    until octets before count left left' now now Read so_far so_far.output tt stops
+stopped_reading octets before count left left' now LineTooLong input input' so_far (line, others, cut, fault, unread) allowed =
     let place = is_at count (lines_of octets) line others (so_far.rest ∙ cut) in
-    until octets held count left left' now now LineTooLong so_far so_far.output (rw place.at (at_reading (count + 1) line LineTooLong fault)) unread
-stopped_reading octets held count left left' now TooManyLines input input' so_far (line, others, cut, fault, unread) allowed =
+    until octets before count left left' now now LineTooLong so_far so_far.output (rw place.at (at_reading (count + 1) line LineTooLong fault)) unread
+stopped_reading octets before count left left' now TooManyLines input input' so_far (line, others, cut, fault, unread) allowed =
     let place = is_at count (lines_of octets) line others (so_far.rest ∙ cut) in
-    until octets held count left left' now now TooManyLines so_far so_far.output (rw place.at (at_reading (count + 1) line TooManyLines fault)) unread
-stopped_reading octets held count left left' now Write input input' so_far stops allowed = absurd allowed
-stopped_reading octets held count left left' now Json input input' so_far stops allowed = absurd allowed
-stopped_reading octets held count left left' now Field input input' so_far stops allowed = absurd allowed
-stopped_reading octets held count left left' now (World why) input input' so_far stops allowed = absurd allowed
-stopped_reading octets held count left left' now Memory input input' so_far stops allowed = absurd allowed
+    until octets before count left left' now now TooManyLines so_far so_far.output (rw place.at (at_reading (count + 1) line TooManyLines fault)) unread
+stopped_reading octets before count left left' now Write input input' so_far stops allowed = absurd allowed
+stopped_reading octets before count left left' now Json input input' so_far stops allowed = absurd allowed
+stopped_reading octets before count left left' now Field input input' so_far stops allowed = absurd allowed
+stopped_reading octets before count left left' now (World why) input input' so_far stops allowed = absurd allowed
+stopped_reading octets before count left left' now Memory input input' so_far stops allowed = absurd allowed
 
-pub stopped_answering : (octets held : List ℕ) (count : ℕ) (ended : Bool) (left left' now now' : Option (List ℕ)) (line : List ℕ) (what : FaultKind) {W : Type 0} (output output' : Counted W)
-    → HasShown octets held count false left now → ReadsLine true (count + 1) line ended (after_lines count octets) left'
+pub stopped_answering : (octets : List ℕ) (before : Option (List ℕ)) (count : ℕ) (ended : Bool) (left left' now now' : Option (List ℕ)) (line : List ℕ) (what : FaultKind) {W : Type 0} (output output' : Counted W)
+    → HasShown octets before count false left now → ReadsLine true (count + 1) line ended (after_lines count octets) left'
     → digits_fault (without_cr line) ≡ own_fault what → WentOutAs what (Keeps now now') → IsFromAnswering what output output'
-    → ShowsUntil octets held left' now' (record { line = count + 1; what = what })
-stopped_answering octets held count ended left left' now now' line Write output output' so_far (cut, read, behind, lf) own out allowed =
+    → ShowsUntil octets left' before now' (record { line = count + 1; what = what })
+stopped_answering octets before count ended left left' now now' line Write output output' so_far (cut, read, behind, lf) own out allowed =
     let place = is_at count (lines_of octets) line _ (so_far.rest ∙ cut) in
-    until octets held count left left' now now' Write so_far tt (rw place.at (at_answering (count + 1) line Write read own)) behind
-stopped_answering octets held count ended left left' now now' line Field output output' so_far (cut, read, behind, lf) own out allowed =
+    until octets before count left left' now now' Write so_far tt (rw place.at (at_answering (count + 1) line Write read own)) behind
+stopped_answering octets before count ended left left' now now' line Field output output' so_far (cut, read, behind, lf) own out allowed =
     let place = is_at count (lines_of octets) line _ (so_far.rest ∙ cut) in
-    until octets held count left left' now now' Field so_far (Keeps-known now now' _ out so_far.output) (rw place.at (at_answering (count + 1) line Field read own)) behind
-stopped_answering octets held count ended left left' now now' line Memory output output' so_far (cut, read, behind, lf) own out allowed =
+    until octets before count left left' now now' Field so_far (Appends-kept before now now' so_far.text so_far.output out) (rw place.at (at_answering (count + 1) line Field read own)) behind
+stopped_answering octets before count ended left left' now now' line Memory output output' so_far (cut, read, behind, lf) own out allowed =
     let place = is_at count (lines_of octets) line _ (so_far.rest ∙ cut) in
-    until octets held count left left' now now' Memory so_far (Keeps-known now now' _ out so_far.output) (rw place.at (at_answering (count + 1) line Memory read own)) behind
-stopped_answering octets held count ended left left' now now' line Read output output' so_far read own out allowed = absurd allowed
-stopped_answering octets held count ended left left' now now' line Json output output' so_far read own out allowed = absurd allowed
-stopped_answering octets held count ended left left' now now' line (World why) output output' so_far read own out allowed = absurd allowed
-stopped_answering octets held count ended left left' now now' line LineTooLong output output' so_far read own out allowed = absurd allowed
-stopped_answering octets held count ended left left' now now' line TooManyLines output output' so_far read own out allowed = absurd allowed
+    until octets before count left left' now now' Memory so_far (Appends-kept before now now' so_far.text so_far.output out) (rw place.at (at_answering (count + 1) line Memory read own)) behind
+stopped_answering octets before count ended left left' now now' line Read output output' so_far read own out allowed = absurd allowed
+stopped_answering octets before count ended left left' now now' line Json output output' so_far read own out allowed = absurd allowed
+stopped_answering octets before count ended left left' now now' line (World why) output output' so_far read own out allowed = absurd allowed
+stopped_answering octets before count ended left left' now now' line LineTooLong output output' so_far read own out allowed = absurd allowed
+stopped_answering octets before count ended left left' now now' line TooManyLines output output' so_far read own out allowed = absurd allowed
 
 -- the fault is at that line
-pub at_line : (octets held : List ℕ) (stop : Fault) (number : ℕ) (left now : Option (List ℕ)) → stop.line ≡ number
-    → ShowsUntil octets held left now (record { line = number; what = stop.what }) → ShowsUntil octets held left now stop
-at_line octets held stop number left now e h = subst (λ n. ShowsUntil octets held left now (record { line = n; what = stop.what })) (sym e) h
+pub at_line : (octets : List ℕ) (before : Option (List ℕ)) (stop : Fault) (number : ℕ) (left now : Option (List ℕ)) → stop.line ≡ number
+    → ShowsUntil octets left before now (record { line = number; what = stop.what }) → ShowsUntil octets left before now stop
+at_line octets before stop number left now e h = subst (λ n. ShowsUntil octets left before now (record { line = n; what = stop.what })) (sym e) h

@@ -2,7 +2,7 @@
 use Rattle.std.proofs.Common.{◌≡◌, ◌≢◌, ◌∙◌, ◌⊎◌, inl, inr, refl, sym, ap, subst, ℕ, List, [], ◌∷◌, ◌++◌, length, take_all, le_refl, Option, None, Result, Ok, Err}
 use Rattle.std.specs.Prelude.{MatchResult}
 use Rattle.std.specs.Io.KnownBytes.{Appends}
-use Rattle.std.proofs.KnownBytes.{Appends-nil, Appends-trans}
+use Rattle.std.proofs.KnownBytes.{Appends-nil, Appends-trans, Appends-kept}
 use Rattle.network_model.specs.declared.event.Event.{Event}
 use Rattle.network_model.specs.declared.node.NodeSpec.{NodeSpec}
 use Rattle.network_model.specs.declared.refusal.WorldRefusal.{WorldRefusal}
@@ -16,7 +16,6 @@ use Rattle.schedule_replay.specs.declared.replaying.Stage.TheVariants.{Nodes, Ev
 use Rattle.schedule_replay.specs.Schedule.{entry_in, FaultsIn, FaultsAtEnd}
 use Rattle.schedule_replay.specs.Replay.{nodes_text, IsEventLine}
 use Rattle.schedule_replay.specs.Stage.{nodes_of, run_of, begun_of, owed_by, IsStage, IsBegun, HasNodes, IsWorldOf, TakesLine, IsOwnFault, WritesAtFault, ShowsFault, WritesNone, StopsEvent}
-use Rattle.schedule_replay.proofs.NodeLines.{Appends-kept}
 
 -- what is said of a line with a fault
 abbrev pub Stops : FaultKind → Stage → List ℕ → Option (List ℕ) → Option (List ℕ) → Type 0

@@ -18,7 +18,7 @@ use Rattle.schedule_replay.specs.declared.fault.FaultKind.{FaultKind}
 use Rattle.schedule_replay.specs.declared.fault.FaultKind.TheVariants.{Read, Write, LineTooLong, TooManyLines, Json, Field, World, Memory}
 use Rattle.schedule_replay.specs.Lines.{lines_of, lines_limit}
 use Rattle.schedule_replay.specs.Replay.{nodes_text, WritesRun, ReplaysAll}
-use Rattle.schedule_replay.specs.CheckText.{AreRecorded, transcript_of, ChecksAll, ChecksUntil}
+use Rattle.schedule_replay.specs.CheckText.{AreRecorded, transcript_of, ChecksAll, ChecksUntil, Checks}
 
 -- Each line that tells an event within its ranges is within its own.
 abbrev pub EachToldLineIsRecorded : Premise → Type 0
@@ -53,8 +53,8 @@ EachRunIsTranscribed premise =
 -- And whatever verdict is answered over it, that accepts it, with the number of the run's reports.
 abbrev pub EachRunIsAccepted : Premise → Type 0
 EachRunIsAccepted premise =
-    (nodes : Network) (run : Run) (text held : List ℕ) (left now : Option (List ℕ)) (answer : Verdict) → premise nodes run → IsInRange nodes run
-    → WritesRun nodes run text → ChecksAll (nodes_text nodes ++ text) held left now answer → answer ≡ Accepted (reports_in nodes run)
+    (nodes : Network) (run : Run) (text : List ℕ) (left before after : Option (List ℕ)) (answer : Verdict) → premise nodes run → IsInRange nodes run
+    → WritesRun nodes run text → ChecksAll (nodes_text nodes ++ text) left before after answer → answer ≡ Accepted (reports_in nodes run)
 
 -- a fault that isn't in a text: of a device, or of memory
 abbrev pub IsOfDevice : FaultKind → Type 0
@@ -70,8 +70,8 @@ IsOfDevice Memory = ⊤
 -- Where there is no verdict over it, a device failed or memory was refused.
 abbrev pub EachRunIsChecked : Premise → Type 0
 EachRunIsChecked premise =
-    (nodes : Network) (run : Run) (text held : List ℕ) (left now : Option (List ℕ)) (stop : Fault) → first_clash nodes ≡ None → premise nodes run
-    → IsInRange nodes run → WritesRun nodes run text → ChecksUntil (nodes_text nodes ++ text) held left now stop → IsOfDevice stop.what
+    (nodes : Network) (run : Run) (text : List ℕ) (left before after : Option (List ℕ)) (stop : Fault) → first_clash nodes ≡ None → premise nodes run
+    → IsInRange nodes run → WritesRun nodes run text → ChecksUntil (nodes_text nodes ++ text) left before after stop → IsOfDevice stop.what
 
 -- an answer of `check_text`: it accepts, with so many reports, or a device failed or memory was refused
 abbrev pub AnswersAcceptance : ℕ → Result Verdict Fault → Type 0
@@ -80,8 +80,7 @@ AnswersAcceptance reports answer = MatchResult answer (λ verdict. verdict ≡ A
 -- So of what was replayed on Ok, whatever octets the schedule was.
 abbrev pub EachReplayIsAccepted : Premise → Type 0
 EachReplayIsAccepted premise =
-    (octets held : List ℕ) (left now : Option (List ℕ)) (events : ℕ) (replayed : ReplaysAll octets held left now events)
-    → premise replayed.nodes replayed.run → (held' : List ℕ) (left' now' : Option (List ℕ)) (answer : Result Verdict Fault)
-    → MatchResult answer (ChecksAll (nodes_text replayed.nodes ++ replayed.text) held' left' now')
-    (ChecksUntil (nodes_text replayed.nodes ++ replayed.text) held' left' now')
+    (octets : List ℕ) (left before after : Option (List ℕ)) (events : ℕ) (replayed : ReplaysAll octets left before after events)
+    → premise replayed.nodes replayed.run → (left' before' after' : Option (List ℕ)) (answer : Result Verdict Fault)
+    → Checks (nodes_text replayed.nodes ++ replayed.text) left' before' after' answer
     → AnswersAcceptance (reports_in replayed.nodes replayed.run) answer

@@ -1,6 +1,7 @@
 -- What `check_text` answers and writes, by the transcript that it reads.
 use Rattle.std.specs.Prelude.{◌≡◌, ◌≢◌, ◌⊎◌, ℕ, ◌+◌, ◌≤◌, List, [], ◌∷◌, ◌++◌, length, map, take, slice_get, codes, decimal, Option, Some, None, ok_or, MatchResult, Result, Ok, Err, ⊤}
 use Rattle.std.specs.Option.{ForSome}
+use Rattle.std.specs.Io.KnownBytes.{Appends, Keeps}
 use Rattle.serde_json.specs.Data.{Data}
 use Rattle.network_model.specs.Network.{Network}
 use Rattle.network_model.specs.Clash.{first_clash}
@@ -18,7 +19,7 @@ use Rattle.schedule_replay.specs.declared.fault.Fault.{Fault}
 use Rattle.schedule_replay.specs.declared.fault.FaultKind.{FaultKind}
 use Rattle.schedule_replay.specs.declared.fault.FaultKind.TheVariants.{Read, Write, LineTooLong, TooManyLines, Json, Field, World, Memory}
 use Rattle.schedule_replay.specs.Counted.{device_of}
-use Rattle.schedule_replay.specs.Lines.{lines_of, lfs_in, after_lines, without_cr, reading_fault, LeavesUnread}
+use Rattle.schedule_replay.specs.Lines.{lines_of, lfs_in, after_lines, without_cr, reading_fault, AreRead, LeavesUnread}
 use Rattle.schedule_replay.specs.Schedule.{value_in}
 use Rattle.schedule_replay.specs.Show.{WentOutAs}
 
@@ -33,11 +34,7 @@ recorded_in line = recorded_of_value (value_in line)
 
 -- lines, of which the first has this number, are these nodes and recorded events in turn
 abbrev pub AreRecorded : ℕ → List (List ℕ) → List TranscriptLine → Type 0
-AreRecorded number [] [] = ⊤
-AreRecorded number [] (entry ∷ others) = ⊥
-AreRecorded number (line ∷ lines) [] = ⊥
-AreRecorded number (line ∷ lines) (entry ∷ others) =
-    (reading_fault number line ≡ None) × (recorded_in (without_cr line) ≡ Ok entry) × AreRecorded (number + 1) lines others
+AreRecorded = AreRead recorded_in
 
 -- what was recorded of events, the oldest first, each with its place among them for a number
 abbrev pub numbered : Lines → List TranscriptLine
@@ -95,13 +92,13 @@ verdict_text (verdicts.Refused number why) =
 
 -- all lines of an input of these octets are a transcript, the answer is the verdict on its events, which went out, and the
 -- input is at its end
-pub record ChecksAll (octets held : List ℕ) (left now : Option (List ℕ)) (answer : Verdict) : Type 0 where
+pub record ChecksAll (octets : List ℕ) (left before after : Option (List ℕ)) (answer : Verdict) : Type 0 where
   pub nodes : Network
   pub lines : Lines
   pub transcript : AreRecorded 1 (lines_of octets) (transcript_of nodes lines)
   pub network : first_clash nodes ≡ None
   pub verdict_is : answer ≡ verdict nodes lines
-  pub output : now ≡ Some (held ++ verdict_text answer)
+  pub output : Appends before after (verdict_text answer)
   pub input : left ≡ Some []
 
 -- The fault is that of the line after these, which have their LFs, and of it and after it this is unread. Or it comes at the
@@ -114,22 +111,24 @@ StopsCheckAfter earlier nodes lines octets left stop =
 
 -- The lines before a fault are the beginning of a transcript, of a network where there is an event among them. Nothing went
 -- out, but where the writer failed.
-pub record ChecksUntil (octets held : List ℕ) (left now : Option (List ℕ)) (stop : Fault) : Type 0 where
+pub record ChecksUntil (octets : List ℕ) (left before after : Option (List ℕ)) (stop : Fault) : Type 0 where
   pub earlier : ℕ
   pub line : stop.line ≡ earlier + 1
   pub nodes : Network
   pub lines : Lines
   pub transcript : AreRecorded 1 (take earlier (lines_of octets)) (transcript_of nodes lines)
   pub network : lines ≢ [] → first_clash nodes ≡ None
-  pub output : WentOutAs stop.what (now ≡ Some held)
+  pub output : WentOutAs stop.what (Keeps before after)
   pub fault : StopsCheckAfter earlier nodes lines octets left stop
 
--- what an answer of `check_text` says of what was read and written, where the devices tell their octets
+-- what an answer of `check_text` over these octets says, of what is left of them and of what was written
+abbrev pub Checks : List ℕ → (left before after : Option (List ℕ)) → Result Verdict Fault → Type 0
+Checks octets left before after answer = MatchResult answer (ChecksAll octets left before after) (ChecksUntil octets left before after)
+
+-- what an answer of `check_text` says where the reader tells its octets: of lines and verdict whatever the writer is, and
+-- of what was written where the writer tells its octets, too
 abbrev pub ChecksAnswer : {R W : Type 0} → (R → Option (List ℕ)) → (W → Option (List ℕ)) → Result Verdict Fault
     → (input input' : Counted R) (output output' : Counted W) → Type 0
 ChecksAnswer remaining contents answer input input' output output' =
     ForSome (remaining (device_of input)) (λ octets.
-    ForSome (contents (device_of output)) (λ held.
-    let left = remaining (device_of input') in
-    let now = contents (device_of output') in
-    MatchResult answer (ChecksAll octets held left now) (ChecksUntil octets held left now)))
+    Checks octets (remaining (device_of input')) (contents (device_of output)) (contents (device_of output')) answer)

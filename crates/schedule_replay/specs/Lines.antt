@@ -1,10 +1,11 @@
 -- How an input is cut into lines, and what reading one of them answers.
-use Rattle.std.specs.Prelude.{◌≡◌, ◌≢◌, ℕ, zero, suc, ◌+◌, ◌*◌, ◌≤◌, nat_lt, List, [], ◌∷◌, length, take, drop, count_by, All, Bool, true, false, ◌==◌, if◌then◌else◌, Option, Some, None}
+use Rattle.std.specs.Prelude.{◌≡◌, ◌≢◌, ℕ, zero, suc, ◌+◌, ◌*◌, ◌≤◌, nat_lt, List, [], ◌∷◌, length, take, drop, count_by, All, Bool, true, false, ◌==◌, if◌then◌else◌, Option, Some, None, Result, Ok, ⊤}
+use Rattle.std.specs.Option.{ForSome}
 use Rattle.std.specs.Io.BufRead.{drop_through, strip_last}
 use Rattle.schedule_replay.specs.declared.counted.Counted.{Counted}
 use Rattle.schedule_replay.specs.declared.fault.FaultKind.{FaultKind}
 use Rattle.schedule_replay.specs.declared.fault.FaultKind.TheVariants.{Read, Write, LineTooLong, TooManyLines, Json, Field, World, Memory}
-use Rattle.schedule_replay.specs.Counted.{HasFailed, HasNotFailed}
+use Rattle.schedule_replay.specs.Counted.{device_of, HasFailed, HasNotFailed, HasGiven}
 
 -- an octet in front of the first line
 abbrev pub begin_line : ℕ → List (List ℕ) → List (List ℕ)
@@ -44,6 +45,14 @@ reading_fault number line =
     else if nat_lt line_limit (length line) then Some LineTooLong
     else None
 
+-- lines without a fault, of which the first has this number, are read as these entries in turn
+abbrev pub AreRead : {E : Type 0} → (List ℕ → Result E FaultKind) → ℕ → List (List ℕ) → List E → Type 0
+AreRead read number [] [] = ⊤
+AreRead read number [] (entry ∷ others) = ⊥
+AreRead read number (line ∷ lines) [] = ⊥
+AreRead read number (line ∷ lines) (entry ∷ others) =
+    (reading_fault number line ≡ None) × (read (without_cr line) ≡ Ok entry) × AreRead read (number + 1) lines others
+
 -- the most octets of the line of this number: none where no line is allowed any more
 abbrev pub room_of : ℕ → ℕ
 room_of number = if nat_lt lines_limit number then 0 else line_limit
@@ -76,9 +85,12 @@ ReadsLine true number line ended octets left =
     × (left ≡ Some (after_lines 1 octets)) × (ended ≡ false → lfs_in octets ≡ lfs_in (after_lines 1 octets) + 1)
 ReadsLine false number line ended octets left = (octets ≡ []) × (left ≡ Some [])
 
--- at most this many of the octets were read
-abbrev pub ReadsWithin : ℕ → List ℕ → Option (List ℕ) → Type 0
-ReadsWithin limit octets left = (count : ℕ) × (count ≤ limit) × (left ≡ Some (drop count octets))
+-- At most this many octets more were given, and so many were counted; where the reader tells its octets, these are gone.
+pub record GivesWithin {R : Type 0} (remaining : R → Option (List ℕ)) (limit : ℕ) (old new : Counted R) : Type 0 where
+  pub given : ℕ
+  pub within : given ≤ limit
+  pub counted : HasGiven given old new
+  pub gone : ForSome (remaining (device_of old)) (λ octets. remaining (device_of new) ≡ Some (drop given octets))
 
 -- the most octets that are read: each line that is allowed, with its LF, and one octet more
 abbrev pub input_limit : ℕ

@@ -1,6 +1,7 @@
 -- What `replay` writes, as a function of the schedule that it reads.
 use Rattle.std.specs.Prelude.{◌≡◌, ◌⊎◌, ℕ, ◌+◌, ◌≤◌, List, [], ◌∷◌, ◌++◌, length, take, slice_get, if◌then◌else◌, is_none, Option, Some, None, MatchResult, Result, ⊤}
 use Rattle.std.specs.Option.{ForSome}
+use Rattle.std.specs.Io.KnownBytes.{Appends}
 use Rattle.network_model.specs.declared.event.Event.{Event}
 use Rattle.network_model.specs.Network.{Network}
 use Rattle.network_model.specs.Run.{Run}
@@ -53,7 +54,7 @@ WentOutBefore kind nodes [] written = NodesWentOut kind nodes written
 WentOutBefore kind nodes (event ∷ earlier) written = (written ≡ nodes_text nodes) × (first_clash nodes ≡ None)
 
 -- all lines of an input of these octets were replayed, the answer is the number of events, and the input is at its end
-pub record ReplaysAll (octets held : List ℕ) (left now : Option (List ℕ)) (events : ℕ) : Type 0 where
+pub record ReplaysAll (octets : List ℕ) (left before after : Option (List ℕ)) (events : ℕ) : Type 0 where
   pub nodes : Network
   pub run : Run
   pub schedule : AreEntries 1 (lines_of octets) (schedule_of nodes run)
@@ -61,7 +62,7 @@ pub record ReplaysAll (octets held : List ℕ) (left now : Option (List ℕ)) (e
   pub count : events ≡ length run
   pub text : List ℕ
   pub transcript : WritesRun nodes run text
-  pub output : now ≡ Some (held ++ (nodes_text nodes ++ text))
+  pub output : Appends before after (nodes_text nodes ++ text)
   pub input : left ≡ Some []
 
 -- The fault is that of the line after these, which have their LFs, and of it and after it this is unread. Or it comes at the
@@ -73,7 +74,7 @@ StopsAfter earlier nodes run octets left stop =
     ⊎ ((earlier ≡ length (lines_of octets)) × (run ≡ []) × FaultsAtEnd stop.what nodes × (left ≡ Some []))
 
 -- the lines before a fault were replayed, and nothing else was written but what is said of the nodes' lines
-pub record ReplaysUntil (octets held : List ℕ) (left now : Option (List ℕ)) (stop : Fault) : Type 0 where
+pub record ReplaysUntil (octets : List ℕ) (left before after : Option (List ℕ)) (stop : Fault) : Type 0 where
   pub earlier : ℕ
   pub line : stop.line ≡ earlier + 1
   pub nodes : Network
@@ -83,15 +84,17 @@ pub record ReplaysUntil (octets held : List ℕ) (left now : Option (List ℕ)) 
   pub went_out : WentOutBefore stop.what nodes run begun
   pub text : List ℕ
   pub transcript : WritesRun nodes run text
-  pub output : WentOutAs stop.what (now ≡ Some (held ++ (begun ++ text)))
+  pub output : WentOutAs stop.what (Appends before after (begun ++ text))
   pub fault : StopsAfter earlier nodes run octets left stop
 
--- what an answer of `replay` says of what was read and written, where the devices tell their octets
+-- what an answer of `replay` over these octets says, of what is left of them and of what was written
+abbrev pub Replays : List ℕ → (left before after : Option (List ℕ)) → Result ℕ Fault → Type 0
+Replays octets left before after answer = MatchResult answer (ReplaysAll octets left before after) (ReplaysUntil octets left before after)
+
+-- what an answer of `replay` says where the reader tells its octets: of lines, nodes and events whatever the writer is, and
+-- of what was written where the writer tells its octets, too
 abbrev pub ReplaysAnswer : {R W : Type 0} → (R → Option (List ℕ)) → (W → Option (List ℕ)) → Result ℕ Fault
     → (input input' : Counted R) (output output' : Counted W) → Type 0
 ReplaysAnswer remaining contents answer input input' output output' =
     ForSome (remaining (device_of input)) (λ octets.
-    ForSome (contents (device_of output)) (λ held.
-    let left = remaining (device_of input') in
-    let now = contents (device_of output') in
-    MatchResult answer (ReplaysAll octets held left now) (ReplaysUntil octets held left now)))
+    Replays octets (remaining (device_of input')) (contents (device_of output)) (contents (device_of output')) answer)

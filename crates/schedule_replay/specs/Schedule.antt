@@ -17,7 +17,7 @@ use Rattle.schedule_lines.specs.declared.schedule.Line.TheVariants as entries
 use Rattle.schedule_lines.specs.Line.{line_of}
 use Rattle.schedule_replay.specs.declared.fault.FaultKind.{FaultKind}
 use Rattle.schedule_replay.specs.declared.fault.FaultKind.TheVariants.{Read, Write, LineTooLong, TooManyLines, Json, Field, World, Memory}
-use Rattle.schedule_replay.specs.Lines.{without_cr, reading_fault}
+use Rattle.schedule_replay.specs.Lines.{without_cr, reading_fault, AreRead}
 
 -- the JSON value that a line is; None where it isn't UTF-8 or isn't JSON
 abbrev pub value_in : List ℕ → Option Data
@@ -34,11 +34,7 @@ entry_in line = entry_of_value (value_in line)
 
 -- lines, of which the first has this number, are these nodes and events in turn
 abbrev pub AreEntries : ℕ → List (List ℕ) → List Line → Type 0
-AreEntries number [] [] = ⊤
-AreEntries number [] (entry ∷ others) = ⊥
-AreEntries number (line ∷ lines) [] = ⊥
-AreEntries number (line ∷ lines) (entry ∷ others) =
-    (reading_fault number line ≡ None) × (entry_in (without_cr line) ≡ Ok entry) × AreEntries (number + 1) lines others
+AreEntries = AreRead entry_in
 
 -- a schedule: its nodes, and then its events, the oldest first
 abbrev pub schedule_of : Network → Run → List Line

@@ -1,6 +1,7 @@
 -- What `show` writes, by the lines that it reads.
 use Rattle.std.specs.Prelude.{◌≡◌, ℕ, ◌+◌, ◌≤◌, List, [], ◌∷◌, ◌++◌, length, take, slice_get, is_ok, Option, Some, None, Ok, MatchResult, Result, ⊤, if◌then◌else◌}
 use Rattle.std.specs.Option.{ForSome, option_or}
+use Rattle.std.specs.Io.KnownBytes.{Appends}
 use Rattle.hex.specs.Hex.{decode_of}
 use Rattle.schedule_replay.specs.declared.counted.Counted.{Counted}
 use Rattle.schedule_replay.specs.declared.fault.Fault.{Fault}
@@ -50,35 +51,37 @@ abbrev pub WentOutAs : FaultKind → Type 0 → Type 0
 WentOutAs Write known = ⊤
 WentOutAs kind known = known
 
--- all lines of an input of these octets were shown after what the output held, and the input is at its end
-pub record ShowsAll (octets held : List ℕ) (left now : Option (List ℕ)) (lines : ℕ) : Type 0 where
+-- all lines of an input of these octets were shown, and the input is at its end
+pub record ShowsAll (octets : List ℕ) (left before after : Option (List ℕ)) (lines : ℕ) : Type 0 where
   pub count : lines ≡ length (lines_of octets)
   pub text : List ℕ
   pub shown : ShowsLines 1 (lines_of octets) text
-  pub output : now ≡ Some (held ++ text)
+  pub output : Appends before after text
   pub input : left ≡ Some []
 
--- The lines before a fault, each with its LF, were shown after what the output held, and nothing else. The fault is
--- that of the next line, of which and after which the rest is unread.
-pub record ShowsUntil (octets held : List ℕ) (left now : Option (List ℕ)) (stop : Fault) : Type 0 where
+-- The lines before a fault, each with its LF, were shown, and nothing else. The fault is that of the next line, of which
+-- and after which the rest is unread.
+pub record ShowsUntil (octets : List ℕ) (left before after : Option (List ℕ)) (stop : Fault) : Type 0 where
   pub earlier : ℕ
   pub line : stop.line ≡ earlier + 1
   pub ended : earlier ≤ lfs_in octets
   pub text : List ℕ
   pub shown : ShowsLines 1 (take earlier (lines_of octets)) text
-  pub output : WentOutAs stop.what (now ≡ Some (held ++ text))
+  pub output : WentOutAs stop.what (Appends before after text)
   pub fault : IsFaultAt stop.what stop.line (slice_get (lines_of octets) earlier)
   pub input : LeavesUnread stop.what stop.line (after_lines earlier octets) left
 
--- what an answer of `show` says of what was read and written, where the devices tell their octets
+-- what an answer of `show` over these octets says, of what is left of them and of what was written
+abbrev pub Shows : List ℕ → (left before after : Option (List ℕ)) → Result ℕ Fault → Type 0
+Shows octets left before after answer = MatchResult answer (ShowsAll octets left before after) (ShowsUntil octets left before after)
+
+-- what an answer of `show` says where the reader tells its octets: of the lines whatever the writer is, and of what was
+-- written where the writer tells its octets, too
 abbrev pub ShowsAnswer : {R W : Type 0} → (R → Option (List ℕ)) → (W → Option (List ℕ)) → Result ℕ Fault
     → (input input' : Counted R) (output output' : Counted W) → Type 0
 ShowsAnswer remaining contents answer input input' output output' =
     ForSome (remaining (device_of input)) (λ octets.
-    ForSome (contents (device_of output)) (λ held.
-    let left = remaining (device_of input') in
-    let now = contents (device_of output') in
-    MatchResult answer (ShowsAll octets held left now) (ShowsUntil octets held left now)))
+    Shows octets (remaining (device_of input')) (contents (device_of output)) (contents (device_of output')) answer)
 
 -- the kinds of fault in answering a line, of which one says that the writer failed
 abbrev pub IsFromAnswering : {W : Type 0} → FaultKind → Counted W → Counted W → Type 0

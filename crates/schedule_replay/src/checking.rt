@@ -6,7 +6,7 @@ ghost use Rattle.network_model.specs.Clash.{first_clash};
 ghost use Rattle.trace_model.specs.Verdict.{verdict};
 ghost use Rattle.schedule_replay.specs.Counted.{device_of, HasFailed, HasNotFailed};
 ghost use Rattle.schedule_replay.specs.Fault.{FailedWith};
-ghost use Rattle.schedule_replay.specs.Lines.{input_limit, ReadsWithin};
+ghost use Rattle.schedule_replay.specs.Lines.{input_limit, GivesWithin};
 ghost use Rattle.schedule_replay.specs.CheckText.{ChecksAnswer, recorded_in, verdict_text, MistakesIn, MistakesAtEnd};
 ghost use Rattle.schedule_replay.specs.Show.{WentOutAs};
 ghost use Rattle.schedule_replay.specs.Progress.{nodes_of, lines_so_far, IsProgress, HasNodes, HasEvents, TakesRecord, IsCheckerOf, StopsChecker, StopsRecord, IsOwnMistake, IsFromTelling};
@@ -191,9 +191,8 @@ pub fn check_text<R: Read, W: Write>(
     output: &mut Counted<W>,
 ) -> Result<Verdict, Fault>
     ensures checked { ChecksAnswer R.remaining W.contents result input.old input.new output.old output.new }
-    // However the writer is, only so much is read of a reader that tells its octets.
-    ensures bounded { ForSome (R.remaining (device_of input.old)) (λ octets.
-        ReadsWithin input_limit octets (R.remaining (device_of input.new))) }
+    // Of any reader only so much is read, whatever the writer is.
+    ensures bounded { GivesWithin R.remaining input_limit input.old input.new }
     ensures failures { FailedWith result input.old input.new output.old output.new }
 {
     let mut lines = Lines::new();

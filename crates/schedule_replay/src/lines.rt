@@ -2,7 +2,7 @@ ghost use Rattle.std.specs.Prelude.{◌≡◌, ℕ, List, false, IsTrue, ◌+◌
 ghost use Rattle.std.specs.Option.{ForSome};
 ghost use Rattle.std.specs.Io.KnownBytes.{Consumes, IsAtEnd, Keeps};
 ghost use Rattle.schedule_replay.specs.Counted.{device_of, HasFailed, HasNotFailed};
-ghost use Rattle.schedule_replay.specs.Lines.{line_limit, lines_limit, without_cr, ReadsLine, IsFromReading, StopsReading};
+ghost use Rattle.schedule_replay.specs.Lines.{line_limit, lines_limit, room_of, without_cr, GivesWithin, ReadsLine, IsFromReading, StopsReading};
 
 use crate::counted::Counted;
 use crate::fault::{Fault, FaultKind};
@@ -33,6 +33,7 @@ fn read_octet<R: Read>(input: &mut Counted<R>) -> Result<Option<u8>, FaultKind>
         (Consumes before after [] × IsAtEnd after)
         (λ octet. Consumes before after (octet ∷ [])))
         (λ _. Keeps before after) }
+    ensures given { GivesWithin R.remaining 1 input.old input.new }
     ensures failures { MatchResult result
         (λ _. HasNotFailed input.old input.new)
         (λ kind. (kind ≡ FaultKind.Read) × HasFailed input.old input.new) }
@@ -99,8 +100,9 @@ impl Lines {
     }
 
     /// Reads the next line, and answers whether there was one. A fault stands at that line, which
-    /// is partly read then; no more than one octet after the limits is read, and none after the
-    /// end of the input.
+    /// is partly read then; no more than one octet after the limits is read. Once a line was ended
+    /// by the end of the input, or there was none, the reader isn't asked again; only after the last
+    /// line that is allowed each call asks for the end.
     pub(crate) fn read_next<R: Read>(&mut self, input: &mut Counted<R>) -> Result<bool, Fault>
         requires { IsTrue self.old.ended → IsAtEnd (R.remaining (device_of input.old)) }
         ensures next { ForSome (R.remaining (device_of input.old)) (λ octets.
@@ -115,6 +117,7 @@ impl Lines {
         ensures before_end { MatchResult result
             (λ found. IsTrue found → self.old.ended ≡ false)
             (λ _. self.old.ended ≡ false) }
+        ensures given { GivesWithin R.remaining (room_of (self.old.count + 1) + 1) input.old input.new }
         ensures failures { MatchResult result
             (λ _. HasNotFailed input.old input.new)
             (λ fault. IsFromReading fault.what input.old input.new) }
@@ -144,6 +147,7 @@ impl Lines {
             (λ kind. StopsReading kind (self.old.count + 1) octets left)) }
         ensures count { self.new.count ≡ self.old.count }
         ensures ended { IsTrue self.new.ended → IsAtEnd (R.remaining (device_of input.new)) }
+        ensures given { GivesWithin R.remaining (line_limit + 1) input.old input.new }
         ensures failures { MatchResult result
             (λ _. HasNotFailed input.old input.new)
             (λ kind. IsFromReading kind input.old input.new) }
@@ -170,6 +174,7 @@ fn expect_end<R: Read>(input: &mut Counted<R>) -> Result<bool, FaultKind>
         (λ found. ReadsLine found (lines_limit + 1) line false octets left)
         (λ kind. StopsReading kind (lines_limit + 1) octets left)) }
     ensures none { IfOk result (λ found. found ≡ false) }
+    ensures given { GivesWithin R.remaining 1 input.old input.new }
     ensures failures { MatchResult result
         (λ _. HasNotFailed input.old input.new)
         (λ kind. IsFromReading kind input.old input.new) }

@@ -1,7 +1,7 @@
 ghost use Rattle.std.specs.Prelude.{◌≡◌, ◌≢◌, ◌⊎◌, map, string_bytes};
 ghost use Rattle.std.specs.Option.{ForSome};
 ghost use Rattle.schedule_replay.specs.Program.{AsksShow, AsksReplay, AsksCheck, AsksNothing, EndsRun, EndsUnread, status_of, check_status};
-ghost use Rattle.schedule_replay.specs.Lines.{input_limit, ReadsWithin};
+ghost use Rattle.schedule_replay.specs.Lines.{input_limit, GivesWithin};
 ghost use Rattle.schedule_replay.specs.Counted.{device_of};
 ghost use Rattle.schedule_replay.specs.Show.{ShowsAnswer};
 ghost use Rattle.schedule_replay.specs.Replay.{ReplaysAnswer};
@@ -43,9 +43,8 @@ pub fn command<R: Read, W: Write, E: Write>(
     ensures check { AsksCheck (map string_bytes words.now) →
         EndsRun check_status (λ answer. ChecksAnswer R.remaining W.contents answer input.old input.new output.old output.new)
         result input.old input.new output.old output.new }
-    // Whatever the arguments are, only so much is read of a reader that tells its octets.
-    ensures bounded { ForSome (R.remaining (device_of input.old)) (λ octets.
-        ReadsWithin input_limit octets (R.remaining (device_of input.new))) }
+    // Of any reader only so much is read, whatever the arguments and the writer are.
+    ensures bounded { GivesWithin R.remaining input_limit input.old input.new }
     // Other arguments read nothing. Which text help is, and what comes of arguments that begin with `help`, is clap's.
     ensures unread { NamesNothing (map string_bytes words.now) →
         (input.new ≡ input.old) × EndsUnread W.contents result output.old output.new }

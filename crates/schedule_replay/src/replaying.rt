@@ -9,7 +9,7 @@ ghost use Rattle.world_model.specs.State.{new_state, after};
 ghost use Rattle.schedule_lines.specs.Transcript.{line_text};
 ghost use Rattle.schedule_replay.specs.Counted.{device_of, HasNotFailed};
 ghost use Rattle.schedule_replay.specs.Fault.{FailedWith};
-ghost use Rattle.schedule_replay.specs.Lines.{input_limit, ReadsWithin};
+ghost use Rattle.schedule_replay.specs.Lines.{input_limit, GivesWithin};
 ghost use Rattle.schedule_replay.specs.Schedule.{entry_in, FaultsIn, FaultsAtEnd};
 ghost use Rattle.schedule_replay.specs.Replay.{nodes_text, NodesWentOut, IsEventLine, ReplaysAnswer};
 ghost use Rattle.schedule_replay.specs.Show.{WentOutAs};
@@ -205,9 +205,8 @@ pub fn replay<R: Read, W: Write>(
     output: &mut Counted<W>,
 ) -> Result<u64, Fault>
     ensures replayed { ReplaysAnswer R.remaining W.contents result input.old input.new output.old output.new }
-    // However the writer is, only so much is read of a reader that tells its octets.
-    ensures bounded { ForSome (R.remaining (device_of input.old)) (λ octets.
-        ReadsWithin input_limit octets (R.remaining (device_of input.new))) }
+    // Of any reader only so much is read, whatever the writer is.
+    ensures bounded { GivesWithin R.remaining input_limit input.old input.new }
     ensures failures { FailedWith result input.old input.new output.old output.new }
 {
     let mut lines = Lines::new();

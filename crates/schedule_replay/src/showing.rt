@@ -4,7 +4,7 @@ ghost use Rattle.std.specs.String.{string_bytes};
 ghost use Rattle.std.specs.Io.KnownBytes.{Appends, Keeps};
 ghost use Rattle.schedule_replay.specs.Counted.{device_of, HasNotFailed};
 ghost use Rattle.schedule_replay.specs.Fault.{FailedWith};
-ghost use Rattle.schedule_replay.specs.Lines.{input_limit, line_limit, ReadsWithin};
+ghost use Rattle.schedule_replay.specs.Lines.{input_limit, line_limit, GivesWithin};
 ghost use Rattle.schedule_replay.specs.Show.{IsAnswer, digits_fault, own_fault, WentOutAs, IsFromAnswering, ShowsAnswer};
 
 use crate::counted::Counted;
@@ -70,9 +70,8 @@ pub fn show<R: Read, W: Write>(
     output: &mut Counted<W>,
 ) -> Result<u64, Fault>
     ensures shown { ShowsAnswer R.remaining W.contents result input.old input.new output.old output.new }
-    // However the writer is, only so much is read of a reader that tells its octets.
-    ensures bounded { ForSome (R.remaining (device_of input.old)) (λ octets.
-        ReadsWithin input_limit octets (R.remaining (device_of input.new))) }
+    // Of any reader only so much is read, whatever the writer is.
+    ensures bounded { GivesWithin R.remaining input_limit input.old input.new }
     ensures failures { FailedWith result input.old input.new output.old output.new }
 {
     let mut lines = Lines::new();

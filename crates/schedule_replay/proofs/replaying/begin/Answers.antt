@@ -1,8 +1,18 @@
-use Rattle.std.proofs.Common.{◌<◌, length, arith, rules}
+use Rattle.std.proofs.Common.{◌<◌, inl, length, arith, rules}
 use Rattle.std.proofs.KnownBytes.{Appends-trans}
 use Rattle.std.proofs.lemmas.Result.{err_from_is_err_and}
-use Rattle.schedule_replay.proofs.NodeLines.{nodes_text-more, no_line, no_memory}
+use Rattle.schedule_replay.proofs.NodeLines.{nodes_text-more, no_line, no_memory, no_network}
 use Rattle.schedule_replay.proofs.replaying.begin.Goals as goal
+
+pub returns-in_err-network-clause-begun : goal.returns-in_err-network-clause-begun
+returns-in_err-network-clause-begun g c =
+    let e = err_from_is_err_and c.from_residual.result c.from_residual.ensures.1 in
+    rw (e.1, e.2) (no_network _ c.args.nodes.now _ c.in_err-network.ensures.decided)
+
+pub returns-in_err-world-clause-begun : goal.returns-in_err-world-clause-begun
+returns-in_err-world-clause-begun g c =
+    let e = err_from_is_err_and c.from_residual-in_err-world.result c.from_residual-in_err-world.ensures.1 in
+    rw (e.1, e.2) (no_network _ c.args.nodes.now _ (inl c.in_err-world.ensures.refused))
 
 pub returns-in_err-value-clause-begun : goal.returns-in_err-value-clause-begun
 returns-in_err-value-clause-begun g c =

@@ -1,41 +1,32 @@
 use Rattle.std.proofs.Common.{◌+◌, ◌∙◌, ap, ℕ, rules, arith}
 use Rattle.std.proofs.lemmas.Result.{err_from_is_err_and}
 use Rattle.schedule_replay.proofs.ReplayedLines.{replayed_all, replayed_more, stopped_reading, stopped_taking, stopped_at_end, at_line}
-use Rattle.schedule_replay.specs.Lines.{line_limit, room_of}
-use Rattle.schedule_replay.proofs.Bounds.{line_read, reads_less, reads_more, end_read, stop_read, within_limit}
+use Rattle.schedule_replay.proofs.Bounds.{line_more, input_within}
 use Rattle.schedule_replay.proofs.replaying.replay.Goals as goal
 
 pub returns-in_err-read_next-clause-replayed : goal.returns-in_err-read_next-clause-replayed
 returns-in_err-read_next-clause-replayed g c =
     let e = err_from_is_err_and c.from_residual.result c.from_residual.ensures.1 in
-    λ octets known held output.
-    let so_far = c.loop-stage.invariant.replayed octets known held output in
+    λ octets known.
+    let so_far = c.loop-stage.invariant.replayed octets known in
     let read = c.in_err-read_next.ensures in
-    rw (e.1, e.2) (at_line octets held _ _ _ _ read.count
-    (stopped_reading octets held _ c.loop-stage.stage _ _ _ _ _ _ c.loop-stage.invariant.stage (rw read.before_end at so_far) (read.next _ so_far.input) read.failures))
+    rw (e.1, e.2) (at_line octets _ _ _ _ _ read.count
+    (stopped_reading octets _ _ c.loop-stage.stage _ _ _ _ _ _ c.loop-stage.invariant.stage (rw read.before_end at so_far) (read.next _ so_far.input) read.failures))
 
 pub returns-in_err-read_next-clause-bounded : goal.returns-in_err-read_next-clause-bounded
-returns-in_err-read_next-clause-bounded g c = λ octets known.
-    let so_far = c.loop-stage.invariant.bounded octets known in
-    let read = c.in_err-read_next.ensures in
-    let bounded = reads_more _ (room_of (c.loop-stage.lines.count + 1) + 1) octets _ _ so_far (λ rest left. stop_read _ _ _ _ rest _ (read.next rest left) read.failures) in
-    reads_less _ _ octets _ bounded (within_limit c.loop-stage.lines.count (search rules))
+returns-in_err-read_next-clause-bounded g c = input_within _ c.loop-stage.lines.count _ _ _ (search rules) c.loop-stage.invariant.bounded c.in_err-read_next.ensures.given
 
 pub loop-stage-preserved : goal.loop-stage-preserved
 loop-stage-preserved g c = record {
-  replayed = λ octets known held output.
-      let so_far = c.loop-stage.invariant.replayed octets known held output in
+  replayed = λ octets known.
+      let so_far = c.loop-stage.invariant.replayed octets known in
       let read = c.in_ok-read_next.ensures in
       let count = rw c.if-branch.true at read.count in
       let line = rw c.if-branch.true at (read.next _ so_far.input) in
       let taken = c.in-Ok.ensures.taken in
-      rw count (replayed_more octets held _ _ c.loop-stage.stage c.in-Ok.next _ _ _ _ _ taken.0 (rw (read.before_end c.if-branch.true) at so_far) line
+      rw count (replayed_more octets _ _ _ c.loop-stage.stage c.in-Ok.next _ _ _ _ _ taken.0 (rw (read.before_end c.if-branch.true) at so_far) line
       (rw c.line.ensures.line at taken.1) taken.2);
-  bounded = λ octets known.
-      let so_far = c.loop-stage.invariant.bounded octets known in
-      let count = rw c.if-branch.true at c.in_ok-read_next.ensures.count in
-      let read = reads_more _ (line_limit + 1) octets _ _ so_far (λ rest left. line_read _ _ _ rest _ (rw c.if-branch.true at (c.in_ok-read_next.ensures.next rest left))) in
-      rw count (reads_less _ _ octets _ read (omega arith));
+  bounded = rw (rw c.if-branch.true at c.in_ok-read_next.ensures.count) (line_more _ _ _ _ _ c.loop-stage.invariant.bounded c.in_ok-read_next.ensures.given);
   stage = c.in-Ok.ensures.stage;
   reader = search rules;
   writer = search rules;
@@ -44,55 +35,41 @@ loop-stage-preserved g c = record {
 
 pub returns-in-Err-clause-replayed : goal.returns-in-Err-clause-replayed
 returns-in-Err-clause-replayed g c =
-    λ octets known held output.
-    let so_far = c.loop-stage.invariant.replayed octets known held output in
+    λ octets known.
+    let so_far = c.loop-stage.invariant.replayed octets known in
     let read = c.in_ok-read_next.ensures in
     let count = rw c.if-branch.true at read.count in
     let line = rw c.if-branch.true at (read.next _ so_far.input) in
     let stops = c.in-Err.ensures.taken in
-    at_line octets held _ _ _ _ (c.fault.ensures.line ∙ count) (rw c.fault.ensures.what
-    (stopped_taking octets held _ _ c.loop-stage.stage _ _ _ _ _ _ c.loop-stage.invariant.stage (rw (read.before_end c.if-branch.true) at so_far) line
+    at_line octets _ _ _ _ _ (c.fault.ensures.line ∙ count) (rw c.fault.ensures.what
+    (stopped_taking octets _ _ _ c.loop-stage.stage _ _ _ _ _ _ c.loop-stage.invariant.stage (rw (read.before_end c.if-branch.true) at so_far) line
     (rw c.line.ensures.line at stops.0) stops.1))
 
 pub returns-in-Err-clause-bounded : goal.returns-in-Err-clause-bounded
-returns-in-Err-clause-bounded g c = λ octets known.
-    let so_far = c.loop-stage.invariant.bounded octets known in
-    let count = rw c.if-branch.true at c.in_ok-read_next.ensures.count in
-    let read = reads_more _ (line_limit + 1) octets _ _ so_far (λ rest left. line_read _ _ _ rest _ (rw c.if-branch.true at (c.in_ok-read_next.ensures.next rest left))) in
-    reads_less _ _ octets _ read (omega arith)
+returns-in-Err-clause-bounded g c = input_within _ c.loop-stage.lines.count _ _ _ (search rules) c.loop-stage.invariant.bounded c.in_ok-read_next.ensures.given
 
 pub returns-in-Ok-into_world-clause-replayed : goal.returns-in-Ok-into_world-clause-replayed
 returns-in-Ok-into_world-clause-replayed g c =
-    λ octets known held output.
-    let so_far = c.loop-stage.invariant.replayed octets known held output in
+    λ octets known.
+    let so_far = c.loop-stage.invariant.replayed octets known in
     let end = rw c.if-branch.false at (c.in_ok-read_next.ensures.next _ so_far.input) in
     let began = c.in-Ok-into_world.ensures.world in
     rw c.len.ensures.value
-    (replayed_all octets held _ _ c.loop-stage.stage _ _ _ _ c.in-Ok-into_world.world so_far end.0 end.1 began.0 began.1)
+    (replayed_all octets _ _ _ c.loop-stage.stage _ _ _ _ c.in-Ok-into_world.world so_far end.0 end.1 began.0 began.1)
 
 pub returns-in-Ok-into_world-clause-bounded : goal.returns-in-Ok-into_world-clause-bounded
-returns-in-Ok-into_world-clause-bounded g c = λ octets known.
-    let so_far = c.loop-stage.invariant.bounded octets known in
-    let read = reads_more _ 0 octets _ _ so_far (λ rest left.
-    let end = rw c.if-branch.false at (c.in_ok-read_next.ensures.next rest left) in
-    end_read rest _ end.0 end.1) in
-    reads_less _ _ octets _ read (omega arith)
+returns-in-Ok-into_world-clause-bounded g c = input_within _ c.loop-stage.lines.count _ _ _ (search rules) c.loop-stage.invariant.bounded c.in_ok-read_next.ensures.given
 
 pub returns-in-Err-into_world-clause-replayed : goal.returns-in-Err-into_world-clause-replayed
 returns-in-Err-into_world-clause-replayed g c =
-    λ octets known held output.
-    let so_far = c.loop-stage.invariant.replayed octets known held output in
+    λ octets known.
+    let so_far = c.loop-stage.invariant.replayed octets known in
     let read = c.in_ok-read_next.ensures in
     let count = rw c.if-branch.false at read.count in
     let end = rw c.if-branch.false at (read.next _ so_far.input) in
     let stops = c.in-Err-into_world.ensures.world in
-    at_line octets held _ _ _ _ (c.fault_after.ensures.line ∙ ap (λ (n : ℕ). n + 1) count) (rw c.fault_after.ensures.what
-    (stopped_at_end octets held _ _ c.loop-stage.stage _ _ _ _ _ c.loop-stage.invariant.stage so_far end.0 end.1 stops.0 stops.1 stops.2))
+    at_line octets _ _ _ _ _ (c.fault_after.ensures.line ∙ ap (λ (n : ℕ). n + 1) count) (rw c.fault_after.ensures.what
+    (stopped_at_end octets _ _ _ c.loop-stage.stage _ _ _ _ _ c.loop-stage.invariant.stage so_far end.0 end.1 stops.0 stops.1 stops.2))
 
 pub returns-in-Err-into_world-clause-bounded : goal.returns-in-Err-into_world-clause-bounded
-returns-in-Err-into_world-clause-bounded g c = λ octets known.
-    let so_far = c.loop-stage.invariant.bounded octets known in
-    let read = reads_more _ 0 octets _ _ so_far (λ rest left.
-    let end = rw c.if-branch.false at (c.in_ok-read_next.ensures.next rest left) in
-    end_read rest _ end.0 end.1) in
-    reads_less _ _ octets _ read (omega arith)
+returns-in-Err-into_world-clause-bounded g c = input_within _ c.loop-stage.lines.count _ _ _ (search rules) c.loop-stage.invariant.bounded c.in_ok-read_next.ensures.given

@@ -3,17 +3,16 @@ use Rattle.std.proofs.Common.{◌≡◌, ℕ, List, ◌+◌, ◌-◌, ◌*◌, S
 use Rattle.std.specs.Prelude.{IsTrue}
 use Rattle.std.specs.Io.KnownBytes.{IsAtEnd}
 use Rattle.schedule_replay.specs.Counted.{device_of, HasNotFailed}
-use Rattle.schedule_replay.specs.Lines.{line_limit, lines_limit, ReadsWithin}
+use Rattle.schedule_replay.specs.Lines.{line_limit, lines_limit, GivesWithin}
 use Rattle.schedule_replay.specs.Stage.{IsStage}
 use Rattle.schedule_replay.proofs.ReplayedLines.{HasReplayed}
 use Rattle.schedule_replay.proofs.replaying.replay.Given as goal
 
 abbrev pub invariant-loop-stage : goal.invariant-loop-stage
 invariant-loop-stage g l = record {
-  replayed : (octets : List ℕ) → g.R.Read.remaining (device_of l.fn.input) ≡ Some octets → (held : List ℕ) → g.W.Write.contents (device_of l.fn.output) ≡ Some held
-      → HasReplayed octets held l.lines.count l.lines.ended l.stage (g.R.Read.remaining (device_of l.input)) (g.W.Write.contents (device_of l.output));
-  bounded : (octets : List ℕ) → g.R.Read.remaining (device_of l.fn.input) ≡ Some octets
-      → ReadsWithin (l.lines.count * (line_limit + 1)) octets (g.R.Read.remaining (device_of l.input));
+  replayed : (octets : List ℕ) → g.R.Read.remaining (device_of l.fn.input) ≡ Some octets
+      → HasReplayed octets (g.W.Write.contents (device_of l.fn.output)) l.lines.count l.lines.ended l.stage (g.R.Read.remaining (device_of l.input)) (g.W.Write.contents (device_of l.output));
+  bounded : GivesWithin g.R.Read.remaining (l.lines.count * (line_limit + 1)) l.fn.input l.input;
   stage : IsStage l.stage;
   reader : HasNotFailed l.fn.input l.input;
   writer : HasNotFailed l.fn.output l.output;

@@ -1,5 +1,7 @@
-use Rattle.std.proofs.Common.{rules}
+use Rattle.std.proofs.Common.{rules, arith}
+use Rattle.std.proofs.lemmas.Grind.{common_steps}
 use Rattle.std.proofs.lemmas.Result.{err_from_is_err_and}
+use Rattle.schedule_replay.proofs.Bounds.{line_within, gives_less, gives_more}
 use Rattle.schedule_replay.proofs.Reading.{line_ended, line_last, line_too_long, line_failed}
 use Rattle.schedule_replay.proofs.lines.Lines.read_line.Goals as goal
 
@@ -23,3 +25,26 @@ pub returns-clause-next : goal.returns-clause-next
 returns-clause-next g c = λ octets known.
     let last = rw c.in_default.is at c.in_ok-octet.ensures.octet in
     rw c.is_empty.ensures (line_last _ _ _ _ _ octets c.loop-octet.invariant.0 last.0 last.1 c.loop-octet.invariant.1 c.loop-octet.invariant.4 (search rules) known)
+
+pub returns-in_err-octet-clause-given : goal.returns-in_err-octet-clause-given
+returns-in_err-octet-clause-given g c = line_within _ _ _ _ _ c.loop-octet.invariant.4 c.loop-octet.invariant.6 c.in_err-octet.ensures.given
+
+pub returns-then-octet-eq10-clause-given : goal.returns-then-octet-eq10-clause-given
+returns-then-octet-eq10-clause-given g c = line_within _ _ _ _ _ c.loop-octet.invariant.4 c.loop-octet.invariant.6 c.in_ok-octet.ensures.given
+
+pub returns-then-is_err-clause-given : goal.returns-then-is_err-clause-given
+returns-then-is_err-clause-given g c = line_within _ _ _ _ _ c.loop-octet.invariant.4 c.loop-octet.invariant.6 c.in_ok-octet.ensures.given
+
+pub returns-clause-given : goal.returns-clause-given
+returns-clause-given g c = line_within _ _ _ _ _ c.loop-octet.invariant.4 c.loop-octet.invariant.6 c.in_ok-octet.ensures.given
+
+pub loop-octet-preserved : goal.loop-octet-preserved
+loop-octet-preserved g c = (
+  grind (arith, common_steps),
+  grind (arith, common_steps),
+  search rules,
+  search rules,
+  search rules,
+  search rules,
+  gives_less _ _ _ _ _ (gives_more _ _ _ _ _ _ c.loop-octet.invariant.6 c.in_ok-octet.ensures.given) (grind (arith, common_steps)),
+)

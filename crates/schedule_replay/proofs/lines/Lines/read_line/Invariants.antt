@@ -2,7 +2,7 @@
 use Rattle.std.proofs.Common.{◌≡◌, false, ◌-◌, ◌≤◌, length}
 use Rattle.std.specs.Io.KnownBytes.{Consumes}
 use Rattle.schedule_replay.specs.Counted.{device_of, HasNotFailed}
-use Rattle.schedule_replay.specs.Lines.{line_limit}
+use Rattle.schedule_replay.specs.Lines.{line_limit, GivesWithin}
 use Rattle.schedule_replay.proofs.Cutting.{IsUnended}
 use Rattle.schedule_replay.proofs.lines.Lines.read_line.Given as goal
 
@@ -11,6 +11,7 @@ invariant-loop-octet g l =
     Consumes (g.R.Read.remaining (device_of l.fn.input)) (g.R.Read.remaining (device_of l.input)) l.self.line.items
     × IsUnended l.self.line.items × (l.self.count ≡ l.fn.self.count)
     × HasNotFailed l.fn.input l.input × (length l.self.line.items ≤ line_limit) × (l.self.ended ≡ false)
+    × GivesWithin g.R.Read.remaining (length l.self.line.items) l.fn.input l.input
 
 abbrev pub decreases-loop-octet : goal.decreases-loop-octet
 decreases-loop-octet g l = line_limit - length l.self.line.items
