@@ -20,7 +20,7 @@ use Rattle.network_model.specs.SlaveHistory.{slave_setup, call_made, history_of}
 use Rattle.network_model.specs.Premises.{IsAcceptedRun, is_used}
 use Rattle.network_model.specs.Reported.{Reports}
 use Rattle.network_model.specs.Exact.{Arrives, HearsOf, IsMeasurement}
-use Rattle.network_model.specs.Evidence.{is_completing, HasOutcome, SyncWasUsed, TagsInOrder, WasStamped, ShareDomain, IsRepresented, HasSync, HasRequest, EachReportHasEvidence, EvidenceIsOfMeasurements, ShowsEvidence}
+use Rattle.network_model.specs.Evidence.{is_completing, HasOutcome, SyncWasUsed, TagsInOrder, WasStamped, ShareDomain, IsRepresented, IsOfKind, HasSync, HasRequest, EachReportHasEvidence, EvidenceIsOfMeasurements, ShowsEvidence}
 use Rattle.network_model.proofs.Places.{place_at-bound, IsIn-place_at, IsIn-within}
 use Rattle.network_model.proofs.Sites.{at_site}
 use Rattle.network_model.proofs.Journeys.{IsIn-last}
@@ -58,7 +58,7 @@ module _ (network : Network) (answered : Place) (report : Report) (premise : IsA
       ⊎ ((c : DelayCompletion) × (delay_completion (slave_setup port) (history_of network port (site_of answered.event) answered.earlier) call ≡ Some c))
       → IsHeardAt (tag_of answered) report
   by_completion port slave_is call made sync delay last last_delay is (inl (c, brought)) =
-      let shown = sync_shown network port (site_of answered.event) slave_is (until answered) premise.accepted answered (IsIn-last answered.event answered.earlier) refl call made c brought in
+      let shown = sync_shown network port (site_of answered.event) slave_is (until answered) premise answered (IsIn-last answered.event answered.earlier) refl call made c brought in
       let both : Some sync ≡ Some c = sym last ∙ sync_last (slave_setup port) (history_of network port (site_of answered.event) answered.earlier) call c brought in
       heard_by_sync (tag_of answered) report sync c delay is (cc) shown.completed_now
   by_completion port slave_is call made sync delay last last_delay is (inr (c, brought)) =
@@ -97,8 +97,8 @@ was_stamped network port slave run now c report request_tag response_tag shown =
 
 -- the Sync, of one domain and not too big
 has_sync : (network : Network) (port : PortSetup) (slave : NodeName) (run : Run) (now : ℕ) (c : SyncCompletion) (report : Report) → slave_at network slave ≡ Some port
-    → report.sync_tag ≡ c.sync_tag → IsSyncShown network port slave run now c → HasSync network run slave report
-has_sync network port slave run now c report slave_is tag shown = record {
+    → report.sync_tag ≡ c.sync_tag → report.follow_tag ≡ c.follow_tag → IsSyncShown network port slave run now c → HasSync network run slave report
+has_sync network port slave run now c report slave_is tag follow shown = record {
   arrival = shown.arrival;
   journey = shown.of_master.journey;
   arrives = record {
@@ -108,7 +108,8 @@ has_sync network port slave run now c report slave_is tag shown = record {
     event = shown.event;
     travelled = shown.of_master.made;
   };
-  drawn = shown.of_master.drawn;
+  kind = subst (λ (n : NodeName). IsOfKind run slave n report.follow_tag shown.of_master.journey.origin) (sym shown.of_master.site)
+      (subst (λ (o : Option ℕ). IsOfKind run slave shown.of_master.node o shown.of_master.journey.origin) (sym follow) shown.kind);
   domain = record {
     own = port;
     other = shown.of_master.master;
@@ -176,7 +177,7 @@ each_has_evidence network answered report premise reports =
     let run : Run = until answered in
     let slave : NodeName = site_of answered.event in
     let made = made_of network answered report premise.accepted reports in
-    let sync = sync_shown network made.port slave made.slave_is run premise.accepted made.sync_is.p made.sync_is.there made.sync_is.site made.sync_is.call made.sync_is.made made.sync made.sync_is.brought in
+    let sync = sync_shown network made.port slave made.slave_is run premise made.sync_is.p made.sync_is.there made.sync_is.site made.sync_is.call made.sync_is.made made.sync made.sync_is.brought in
     let request = request_shown network made.port slave made.slave_is run premise made.delay_is.p made.delay_is.there made.delay_is.site made.delay_is.call made.delay_is.made made.delay made.delay_is.brought in
     let request_tag = ap (λ (r : Report). r.request_tag) made.is in
     let response_tag = ap (λ (r : Report). r.response_tag) made.is in
@@ -184,7 +185,7 @@ each_has_evidence network answered report premise reports =
     let follow : IfSome report.follow_tag (HasOutcome network run is_used) = subst (λ (r : Report). IfSome r.follow_tag (HasOutcome network run is_used)) (sym made.is) sync.follow_used in
     let response : HasOutcome network run is_completing report.response_tag = subst (λ (r : Report). HasOutcome network run is_completing r.response_tag) (sym made.is) request.completing in
     let stamped = was_stamped network made.port slave run (tag_of made.delay_is.p) made.delay report request_tag response_tag request in
-    let arrived = has_sync network made.port slave run (tag_of made.sync_is.p) made.sync report made.slave_is (ap (λ (r : Report). r.sync_tag) made.is) sync in
+    let arrived = has_sync network made.port slave run (tag_of made.sync_is.p) made.sync report made.slave_is (ap (λ (r : Report). r.sync_tag) made.is) (ap (λ (r : Report). r.follow_tag) made.is) sync in
     record {
       order = tags_in_order network answered report used follow response arrived stamped (heard_now network answered report premise reports);
       sync_used = used;

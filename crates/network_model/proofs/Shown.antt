@@ -14,10 +14,10 @@ use Rattle.slave_port.specs.Kept.{criteria, held_syncs, held_follows, sync_compl
 use Rattle.slave_port.specs.Requests.{requests}
 use Rattle.slave_port.specs.Answer.{answer, used}
 use Rattle.slave_port.proofs.Uses.{HeardSync, HeardFollowUp, two_step_value, one_step_value, follow_value, IsSyncCompletion, BySync, Alone, ByFollowUp, sync_completion_of, delay_completion_of}
-use Rattle.network_model.specs.declared.event.Event.TheVariants.{Arrive}
+use Rattle.network_model.specs.declared.event.Event.TheVariants.{Follow, Arrive}
 use Rattle.network_model.specs.Network.{Network, NodeName, PortSetup}
 use Rattle.network_model.specs.Run.{Run, Place, place_at, tag_of, IsIn, site_of}
-use Rattle.network_model.specs.Kinds.{is_at, is_sync, is_one_step_sync, draws_sync, is_request}
+use Rattle.network_model.specs.Kinds.{is_at, is_sync, is_one_step_sync, is_request, is_set_master}
 use Rattle.network_model.specs.Clock.{reading}
 use Rattle.network_model.specs.Journey.{Journey, journey_of}
 use Rattle.network_model.specs.Truth.{master_at, slave_at, copy_of}
@@ -25,13 +25,13 @@ use Rattle.network_model.specs.SlaveHistory.{slave_setup, table_capacity, call_m
 use Rattle.network_model.specs.Outcome.{outcome_of, IsRun}
 use Rattle.network_model.specs.Premises.{IsAcceptedRun, is_used}
 use Rattle.network_model.specs.Exact.{HearsOf}
-use Rattle.network_model.specs.Evidence.{is_complete, is_completing, HasOutcome, SyncWasUsed, ShareDomain}
+use Rattle.network_model.specs.Evidence.{is_complete, is_completing, HasOutcome, SyncWasUsed, ShareDomain, IsOfKind}
 use Rattle.network_model.proofs.Places.{accepted-place_at, IsRun-place_at, IsIn-within}
-use Rattle.network_model.proofs.Sites.{at_kind, at_site}
+use Rattle.network_model.proofs.Sites.{at_site}
 use Rattle.network_model.proofs.Exactness.{small_request}
-use Rattle.network_model.proofs.Entries.{UsedAt, arrived, heard_by, two_step_copy, one_step_copy}
-use Rattle.network_model.proofs.Pairing.{found_in, two_step_draws, one_step_draws}
-use Rattle.network_model.proofs.HeldMessages.{IsHeldSync, IsHeldFollow, held_syncs_are, held_follows_are}
+use Rattle.network_model.proofs.Entries.{UsedAt, arrived, heard_by, two_step_copy, one_step_copy, follow_up_copy}
+use Rattle.network_model.proofs.Pairing.{found_in, from_master}
+use Rattle.network_model.proofs.HeldMessages.{IsHeldSync, IsHeldFollow, held_syncs_are, held_follows_are, same_told}
 use Rattle.network_model.proofs.OneSync.{tagged}
 use Rattle.network_model.proofs.OneRequest.{answer_to_slave}
 use Rattle.network_model.proofs.Completing.{hears, heard_outcome, sync_completes, delay_completes, sync_hears, delay_hears}
@@ -46,7 +46,6 @@ pub record IsOfMaster (network : Network) (run : Run) (copy : ℕ) (m : Contents
   pub master_is : master_at network node ≡ Some master
   pub domain : m.header.domain ≡ master.config.domain
   pub site : site_of journey.origin.event ≡ node
-  pub drawn : draws_sync journey.origin.event ≡ true
 
 -- what a run shows of the Sync's half of a report
 pub record IsSyncShown (network : Network) (port : PortSetup) (slave : NodeName) (run : Run) (now : ℕ) (c : SyncCompletion) : Type 0 where
@@ -58,6 +57,7 @@ pub record IsSyncShown (network : Network) (port : PortSetup) (slave : NodeName)
   pub event : arrival.event ≡ Arrive slave copy moment
   pub used : UsedAt network port slave arrival copy m
   pub of_master : IsOfMaster network arrival.earlier copy m
+  pub kind : IsOfKind run slave of_master.node c.follow_tag of_master.journey.origin
   pub sync_used : SyncWasUsed network run c.follow_tag c.sync_tag
   pub follow_used : IfSome c.follow_tag (HasOutcome network run is_used)
   pub completed_now : (c.sync_tag ≡ now) ⊎ (c.follow_tag ≡ Some now)
@@ -85,14 +85,14 @@ pub record IsRequestShown (network : Network) (slave : NodeName) (run : Run) (no
   pub domain : ShareDomain network slave node
 
 module _ (network : Network) (port : PortSetup) (slave : NodeName) (slave_is : slave_at network slave ≡ Some port)
-    (run : Run) (all : IsRun network run) (p : Place) (there : IsIn run p) (site : site_of p.event ≡ slave) (call : Call)
+    (run : Run) (premise : IsAcceptedRun network run) (p : Place) (there : IsIn run p) (site : site_of p.event ≡ slave) (call : Call)
     (made : call_made network port p.event p.earlier ≡ Some call)
     (answered : answer (slave_setup port) (history_of network port slave p.earlier) call ≡ used (slave_setup port) (history_of network port slave p.earlier) call) where
   before : IsRun network p.earlier
-  before = IsRun-place_at network run (tag_of p) p all there
+  before = IsRun-place_at network run (tag_of p) p premise.accepted there
 
   accepted : IsOk (outcome_of network p.earlier p.event)
-  accepted = accepted-place_at network run (tag_of p) p all there
+  accepted = accepted-place_at network run (tag_of p) p premise.accepted there
 
   -- an event at which something completes
   completes : hears call ≡ true → is_complete (used (slave_setup port) (history_of network port slave p.earlier) call) ≡ true
@@ -112,6 +112,11 @@ module _ (network : Network) (port : PortSetup) (slave : NodeName) (slave_is : s
       (held_follows_are network port slave slave_is p.earlier before) found in
       let held = e.1 in
       let value = sym e.3 ∙ ap (λ (e : Entry FollowValue). e.value) held.is in
+      let follow_in = tagged run held.p follow.tag (IsIn-within run p held.p there held.there) (ap (λ (f : FollowValue). f.tag) value) in
+      let of_now = from_master network slave p.earlier h.m.header.source drawn.node drawn.port premise.apart at.used.told drawn.port_is (ap (λ (m : Contents). m.header.source) drawn.is) in
+      let of_held = from_master network slave held.p.earlier held.m.header.source held.made.node held.made.port premise.apart held.used.told held.made.port_is
+      (ap (λ (m : Contents). m.header.source) held.made.is) in
+      let same = same_told network slave p.earlier held.p h.m.header.source held.m.header.source held.there (ap is_set_master held.event) held.window.masters at.used.told held.used.told in
       record {
         arrival = p;
         copy = at.copy;
@@ -128,12 +133,19 @@ module _ (network : Network) (port : PortSetup) (slave : NodeName) (slave_is : s
           master_is = drawn.port_is;
           domain = ap (λ (m : Contents). m.header.domain) drawn.is;
           site = at_site is_sync drawn.node drawn.journey.origin.event drawn.drawn;
-          drawn = at_kind draws_sync drawn.node drawn.journey.origin.event (two_step_draws drawn.node drawn.journey.origin.event drawn.drawn);
         };
+        kind = (
+          drawn.drawn,
+          record {
+            follow = held.made.made;
+            hears = record { hearing = held.p; copy = held.copy; there = follow_in; event = held.event; made_by = held.made.there };
+            event = held.made.event ∙ ap Follow (of_held.0 ∙ sym same.1 ∙ sym of_now.0);
+          },
+        );
         sync_used = record { p = p; there = tagged run p h.tag there at.tag_is; outcome = at.used.used };
         follow_used = record {
           p = held.p;
-          there = tagged run held.p follow.tag (IsIn-within run p held.p there held.there) (ap (λ (f : FollowValue). f.tag) value);
+          there = follow_in;
           outcome = held.used.used;
         };
         completed_now = inl at.tag_is;
@@ -150,6 +162,11 @@ module _ (network : Network) (port : PortSetup) (slave : NodeName) (slave_is : s
       let held = e.1 in
       let value = sym e.3 ∙ ap (λ (e : Entry SyncValue). e.value) held.is in
       let arrives = tagged run held.p sync.tag (IsIn-within run p held.p there held.there) (ap (λ (s : SyncValue). s.tag) value) in
+      let follow = follow_up_copy network p.earlier at.copy h.m h.precise at.used.m_is h.body in
+      let of_now = from_master network slave p.earlier h.m.header.source follow.node follow.port premise.apart at.used.told follow.port_is (ap (λ (m : Contents). m.header.source) follow.is) in
+      let of_held = from_master network slave held.p.earlier held.m.header.source held.drawn.node held.drawn.port premise.apart held.used.told held.drawn.port_is
+      (ap (λ (m : Contents). m.header.source) held.drawn.is) in
+      let same = same_told network slave p.earlier held.p h.m.header.source held.m.header.source held.there (ap is_set_master held.event) held.window.masters at.used.told held.used.told in
       record {
         arrival = held.p;
         copy = held.copy;
@@ -166,8 +183,15 @@ module _ (network : Network) (port : PortSetup) (slave : NodeName) (slave_is : s
           master_is = held.drawn.port_is;
           domain = ap (λ (m : Contents). m.header.domain) held.drawn.is;
           site = at_site is_sync held.drawn.node held.drawn.journey.origin.event held.drawn.drawn;
-          drawn = at_kind draws_sync held.drawn.node held.drawn.journey.origin.event (two_step_draws held.drawn.node held.drawn.journey.origin.event held.drawn.drawn);
         };
+        kind = (
+          held.drawn.drawn,
+          record {
+            follow = follow.made;
+            hears = record { hearing = p; copy = at.copy; there = tagged run p h.tag there at.tag_is; event = at.event; made_by = follow.there };
+            event = follow.event ∙ ap Follow (of_now.0 ∙ same.1 ∙ sym of_held.0);
+          },
+        );
         sync_used = record { p = held.p; there = arrives; outcome = held.used.used };
         follow_used = record { p = p; there = tagged run p h.tag there at.tag_is; outcome = at.used.used };
         completed_now = inr (ap (λ (tag : ℕ). Some tag) at.tag_is);
@@ -196,18 +220,18 @@ module _ (network : Network) (port : PortSetup) (slave : NodeName) (slave_is : s
           master_is = drawn.port_is;
           domain = ap (λ (m : Contents). m.header.domain) drawn.is;
           site = at_site is_one_step_sync drawn.node drawn.journey.origin.event drawn.drawn;
-          drawn = at_kind draws_sync drawn.node drawn.journey.origin.event (one_step_draws drawn.node drawn.journey.origin.event drawn.drawn);
         };
+        kind = drawn.drawn;
         sync_used = record { p = p; there = tagged run p h.tag there at.tag_is; outcome = completing };
         follow_used = tt;
         completed_now = inl at.tag_is;
       }
 
 -- each completion of a Sync
-pub sync_shown : (network : Network) (port : PortSetup) (slave : NodeName) → slave_at network slave ≡ Some port → (run : Run) → IsRun network run
+pub sync_shown : (network : Network) (port : PortSetup) (slave : NodeName) → slave_at network slave ≡ Some port → (run : Run) → IsAcceptedRun network run
     → (p : Place) → IsIn run p → site_of p.event ≡ slave → (call : Call) → call_made network port p.event p.earlier ≡ Some call
     → (c : SyncCompletion) → sync_completion (slave_setup port) (history_of network port slave p.earlier) call ≡ Some c → IsSyncShown network port slave run (tag_of p) c
-sync_shown network port slave slave_is run all p there site call made c brought =
+sync_shown network port slave slave_is run premise p there site call made c brought =
     let done = sync_completion_of (slave_setup port) (history_of network port slave p.earlier) call c brought in by done.0 done.1
   where
     by : IsSyncCompletion (slave_setup port) (history_of network port slave p.earlier) call c
@@ -215,16 +239,16 @@ sync_shown network port slave slave_is run all p there site call made c brought 
         → IsSyncShown network port slave run (tag_of p) c
     by (BySync h follow flag found is) answered =
         subst (λ (c : SyncCompletion). IsSyncShown network port slave run (tag_of p) c) (sym is)
-        (by_sync network port slave slave_is run all p there site call made answered h follow flag found)
+        (by_sync network port slave slave_is run premise p there site call made answered h follow flag found)
     by (Alone h flag is) answered =
         subst (λ (c : SyncCompletion). IsSyncShown network port slave run (tag_of p) c) (sym is)
-        (by_itself network port slave slave_is run all p there site call made answered h flag
-        (completes network port slave slave_is run all p there site call made answered
+        (by_itself network port slave slave_is run premise p there site call made answered h flag
+        (completes network port slave slave_is run premise p there site call made answered
         (sync_hears (slave_setup port) (history_of network port slave p.earlier) call c brought)
         (sync_completes (slave_setup port) (history_of network port slave p.earlier) call c brought)))
     by (ByFollowUp h sync found is) answered =
         subst (λ (c : SyncCompletion). IsSyncShown network port slave run (tag_of p) c) (sym is)
-        (by_follow_up network port slave slave_is run all p there site call made answered h sync found)
+        (by_follow_up network port slave slave_is run premise p there site call made answered h sync found)
 
 -- each completion of a request
 pub request_shown : (network : Network) (port : PortSetup) (slave : NodeName) → slave_at network slave ≡ Some port → (run : Run) → IsAcceptedRun network run
@@ -244,7 +268,7 @@ request_shown network port slave slave_is run premise p there site call made c b
       completing = record {
         p = p;
         there = tagged run p c.response_tag there response_tag;
-        outcome = completes network port slave slave_is run premise.accepted p there site call made done.used
+        outcome = completes network port slave slave_is run premise p there site call made done.used
             (delay_hears (slave_setup port) (history_of network port slave p.earlier) call c brought)
             (delay_completes (slave_setup port) (history_of network port slave p.earlier) call c brought);
       };
