@@ -256,4 +256,6 @@ evidence = record {
       small = refl;
     };
   };
+  present = refl;
+  one_master = refl;
 }

@@ -177,6 +177,8 @@ evidence = record {
       small = refl;
     };
   };
+  present = refl;
+  one_master = refl;
 }
 
 -- a one-step Sync that left at the greatest fraction, and stays in a clock for almost too long

@@ -16,6 +16,7 @@ use Rattle.network_model.specs.Kinds.{is_at, is_sync, is_one_step_sync, is_reque
 use Rattle.network_model.specs.Journey.{Journey}
 use Rattle.network_model.specs.Truth.{master_at, slave_at, travelled}
 use Rattle.network_model.specs.Outcome.{outcome_of, IsRun}
+use Rattle.network_model.specs.Present.{present_master}
 use Rattle.network_model.specs.Premises.{Premise, IsAcceptedRun, is_used}
 use Rattle.network_model.specs.Reported.{Reports}
 use Rattle.network_model.specs.Exact.{Arrives, HearsOf, IsMeasurement}
@@ -117,7 +118,7 @@ pub record HasRequest (network : Network) (run : Run) (slave : NodeName) (report
   pub domain : ShareDomain network slave master
   pub small : IsRepresented network journey
 
--- all this of a report that an event answers
+-- all this of a report that an event answers, and that both halves are of the slave's present master
 pub record HasEvidence (network : Network) (answered : Place) (slave : NodeName) (report : Report) : Type 0 where
   pub order : TagsInOrder (tag_of answered) report
   pub sync_used : SyncWasUsed network (until answered) report.follow_tag report.sync_tag
@@ -126,6 +127,8 @@ pub record HasEvidence (network : Network) (answered : Place) (slave : NodeName)
   pub stamped : WasStamped network (until answered) slave report
   pub sync : HasSync network (until answered) slave report
   pub request : HasRequest network (until answered) slave report
+  pub present : present_master slave (until answered) ≡ Some (site_of sync.journey.origin.event)
+  pub one_master : request.master ≡ site_of sync.journey.origin.event
 
 -- Each report has its evidence in the run.
 abbrev pub EachReportHasEvidence : Premise → Type 0
