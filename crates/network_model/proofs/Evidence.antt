@@ -1,7 +1,7 @@
 -- Each report of an accepted run has its evidence: the order of its tags, that its messages were used, how the slave learnt
 -- when the request left, the journeys of the Sync and the Delay_Req, one domain, and corrections that aren't too big.
 -- A measurement is of the same messages, and no stay in a clock is spent twice.
-use Rattle.std.proofs.Common.{◌≡◌, ◌∙◌, ℕ, ◌+◌, ◌≤◌, List, ◌∷◌, length, Option, Some, None, refl, sym, ap, subst, arith, inl, inr}
+use Rattle.std.proofs.Common.{◌≡◌, ◌∙◌, ℕ, ◌+◌, ◌≤◌, List, ◌∷◌, length, Option, Some, None, refl, sym, ap, subst, arith, inl, inr, false, option_and_then}
 use Rattle.std.specs.Prelude.{◌⊎◌, count_by, IfSome}
 use Rattle.slave_port.specs.declared.heard.Heard.TheVariants as answers
 use Rattle.slave_port.specs.declared.heard.Report.{Report}
@@ -13,18 +13,20 @@ use Rattle.slave_port.proofs.Uses.{report_parts}
 use Rattle.network_model.specs.declared.event.Event.TheVariants.{Arrive}
 use Rattle.network_model.specs.Network.{Network, NodeName, PortSetup}
 use Rattle.network_model.specs.Run.{Run, Place, place_at, tag_of, IsIn, until, site_of, events_after}
-use Rattle.network_model.specs.Kinds.{is_at, is_request, draws_sync}
+use Rattle.network_model.specs.Kinds.{is_at, is_request, draws_sync, is_set_master, named_master}
 use Rattle.network_model.specs.Journey.{Journey, journey_of}
 use Rattle.network_model.specs.Truth.{master_at, slave_at}
 use Rattle.network_model.specs.SlaveHistory.{slave_setup, call_made, history_of}
+use Rattle.network_model.specs.Present.{present_master}
 use Rattle.network_model.specs.Premises.{IsAcceptedRun, is_used}
 use Rattle.network_model.specs.Reported.{Reports}
 use Rattle.network_model.specs.Exact.{Arrives, HearsOf, IsMeasurement}
-use Rattle.network_model.specs.Evidence.{is_completing, HasOutcome, SyncWasUsed, TagsInOrder, WasStamped, ShareDomain, IsRepresented, HasSync, HasRequest, EachReportHasEvidence, EvidenceIsOfMeasurements, ShowsEvidence}
+use Rattle.network_model.specs.Evidence.{is_completing, HasOutcome, SyncWasUsed, TagsInOrder, WasStamped, ShareDomain, IsRepresented, IsOfKind, HasSync, HasRequest, EachReportHasEvidence, EvidenceIsOfMeasurements, ShowsEvidence}
 use Rattle.network_model.proofs.Places.{place_at-bound, IsIn-place_at, IsIn-within}
 use Rattle.network_model.proofs.Sites.{at_site}
 use Rattle.network_model.proofs.Journeys.{IsIn-last}
 use Rattle.network_model.proofs.Travelled.{copy_of-travelled}
+use Rattle.network_model.proofs.Masters.{last_set_master-since}
 use Rattle.network_model.proofs.Requests.{waiting_request-is}
 use Rattle.network_model.proofs.Answers.{answered_by}
 use Rattle.network_model.proofs.Reports.{made_of}
@@ -58,7 +60,7 @@ module _ (network : Network) (answered : Place) (report : Report) (premise : IsA
       ⊎ ((c : DelayCompletion) × (delay_completion (slave_setup port) (history_of network port (site_of answered.event) answered.earlier) call ≡ Some c))
       → IsHeardAt (tag_of answered) report
   by_completion port slave_is call made sync delay last last_delay is (inl (c, brought)) =
-      let shown = sync_shown network port (site_of answered.event) slave_is (until answered) premise.accepted answered (IsIn-last answered.event answered.earlier) refl call made c brought in
+      let shown = sync_shown network port (site_of answered.event) slave_is (until answered) premise answered (IsIn-last answered.event answered.earlier) refl call made c brought in
       let both : Some sync ≡ Some c = sym last ∙ sync_last (slave_setup port) (history_of network port (site_of answered.event) answered.earlier) call c brought in
       heard_by_sync (tag_of answered) report sync c delay is (cc) shown.completed_now
   by_completion port slave_is call made sync delay last last_delay is (inr (c, brought)) =
@@ -75,18 +77,18 @@ module _ (network : Network) (answered : Place) (report : Report) (premise : IsA
       by_completion by.port by.slave by.call by.made parts.0 parts.1 parts.2 parts.3 parts.4 (report_completes (slave_setup by.port) history by.call report (sym by.is))
 
 -- the event by which the slave learnt when the request left
-was_stamped : (network : Network) (port : PortSetup) (slave : NodeName) (run : Run) (now : ℕ) (c : DelayCompletion) (report : Report) → report.request_tag ≡ c.request_tag → report.response_tag ≡ c.response_tag
-    → IsRequestShown network slave run now c → WasStamped network run slave report
-was_stamped network port slave run now c report request_tag response_tag shown =
+was_stamped : (network : Network) (port : PortSetup) (slave : NodeName) (run : Run) (p : Place) (c : DelayCompletion) (report : Report) → report.request_tag ≡ c.request_tag → report.response_tag ≡ c.response_tag
+    → IsRequestShown network slave run p c → WasStamped network run slave report
+was_stamped network port slave run p c report request_tag response_tag shown =
     let learnt = shown.learnt in
     let waited = waiting_request-is port slave learnt.at.earlier learnt.request learnt.waiting in
     let after = place_at-bound learnt.at.earlier (tag_of learnt.request) learnt.request waited.0 in
-    let before = place_at-bound shown.p.earlier (tag_of learnt.at) learnt.at learnt.there in
+    let before = place_at-bound p.earlier (tag_of learnt.at) learnt.at learnt.there in
     let tag : report.request_tag ≡ tag_of learnt.request = request_tag ∙ learnt.tag_is in
-    let heard : report.response_tag ≡ tag_of shown.p = response_tag ∙ shown.completed_now ∙ shown.now_is in
+    let heard : report.response_tag ≡ tag_of p = response_tag ∙ shown.completed_now in
     record {
       stamped = learnt.at;
-      there = IsIn-within run shown.p learnt.at shown.there learnt.there;
+      there = IsIn-within run p learnt.at shown.there learnt.there;
       event = learnt.event;
       done = learnt.done;
       after_request = omega arith;
@@ -96,9 +98,9 @@ was_stamped network port slave run now c report request_tag response_tag shown =
     }
 
 -- the Sync, of one domain and not too big
-has_sync : (network : Network) (port : PortSetup) (slave : NodeName) (run : Run) (now : ℕ) (c : SyncCompletion) (report : Report) → slave_at network slave ≡ Some port
-    → report.sync_tag ≡ c.sync_tag → IsSyncShown network port slave run now c → HasSync network run slave report
-has_sync network port slave run now c report slave_is tag shown = record {
+abbrev has_sync : (network : Network) (port : PortSetup) (slave : NodeName) (run : Run) (p : Place) (c : SyncCompletion) (report : Report) → slave_at network slave ≡ Some port
+    → report.sync_tag ≡ c.sync_tag → report.follow_tag ≡ c.follow_tag → IsSyncShown network port slave run p c → HasSync network run slave report
+has_sync network port slave run p c report slave_is tag follow shown = record {
   arrival = shown.arrival;
   journey = shown.of_master.journey;
   arrives = record {
@@ -108,7 +110,8 @@ has_sync network port slave run now c report slave_is tag shown = record {
     event = shown.event;
     travelled = shown.of_master.made;
   };
-  drawn = shown.of_master.drawn;
+  kind = subst (λ (n : NodeName). IsOfKind run slave n report.follow_tag shown.of_master.journey.origin) (sym shown.of_master.site)
+      (subst (λ (o : Option ℕ). IsOfKind run slave shown.of_master.node o shown.of_master.journey.origin) (sym follow) shown.kind);
   domain = record {
     own = port;
     other = shown.of_master.master;
@@ -124,12 +127,12 @@ has_sync network port slave run now c report slave_is tag shown = record {
 }
 
 -- and the Delay_Req, which isn't too big either
-has_request : (network : Network) (port : PortSetup) (slave : NodeName) (run : Run) (now : ℕ) (c : DelayCompletion) (report : Report)
-    → report.request_tag ≡ c.request_tag → report.response_tag ≡ c.response_tag → IsRequestShown network slave run now c → HasRequest network run slave report
-has_request network port slave run now c report request_tag response_tag shown =
+abbrev has_request : (network : Network) (port : PortSetup) (slave : NodeName) (run : Run) (p : Place) (c : DelayCompletion) (report : Report)
+    → report.request_tag ≡ c.request_tag → report.response_tag ≡ c.response_tag → IsRequestShown network slave run p c → HasRequest network run slave report
+has_request network port slave run p c report request_tag response_tag shown =
     let learnt = shown.learnt in
     let waited = waiting_request-is port slave learnt.at.earlier learnt.request learnt.waiting in
-    let stamped_in : IsIn run learnt.at = IsIn-within run shown.p learnt.at shown.there learnt.there in
+    let stamped_in : IsIn run learnt.at = IsIn-within run p learnt.at shown.there learnt.there in
     let tag : report.request_tag ≡ tag_of learnt.request = request_tag ∙ learnt.tag_is in
     let hears : HearsOf run report.response_tag slave shown.made = subst (λ (t : ℕ). HearsOf run t slave shown.made) (sym response_tag) shown.hears in
     let made_in : IsIn hears.hearing.earlier shown.made = IsIn-place_at hears.hearing.earlier hears.copy shown.made hears.made_by in
@@ -170,21 +173,31 @@ tags_in_order network answered report used follow response sync stamped heard = 
   request = omega (arith, stamped.after_request, stamped.before_response);
 }
 
+-- the present master is that of an event after which the slave was told none
+still_present : (slave : NodeName) (run : Run) (p : Place) (node : NodeName) → IsIn run p → is_set_master p.event ≡ false
+    → count_by (is_at is_set_master slave) (events_after (tag_of p) run) ≡ 0 → present_master slave p.earlier ≡ Some node → present_master slave run ≡ Some node
+still_present slave run p node there unset none present =
+    ap (option_and_then (λ (set : Place). named_master set.event)) (last_set_master-since slave run p there unset none) ∙ present
+
 -- each report
 pub each_has_evidence : EachReportHasEvidence IsAcceptedRun
 each_has_evidence network answered report premise reports =
     let run : Run = until answered in
     let slave : NodeName = site_of answered.event in
     let made = made_of network answered report premise.accepted reports in
-    let sync = sync_shown network made.port slave made.slave_is run premise.accepted made.sync_is.p made.sync_is.there made.sync_is.site made.sync_is.call made.sync_is.made made.sync made.sync_is.brought in
+    let sync = sync_shown network made.port slave made.slave_is run premise made.sync_is.p made.sync_is.there made.sync_is.site made.sync_is.call made.sync_is.made made.sync made.sync_is.brought in
     let request = request_shown network made.port slave made.slave_is run premise made.delay_is.p made.delay_is.there made.delay_is.site made.delay_is.call made.delay_is.made made.delay made.delay_is.brought in
     let request_tag = ap (λ (r : Report). r.request_tag) made.is in
     let response_tag = ap (λ (r : Report). r.response_tag) made.is in
     let used : SyncWasUsed network run report.follow_tag report.sync_tag = subst (λ (r : Report). SyncWasUsed network run r.follow_tag r.sync_tag) (sym made.is) sync.sync_used in
     let follow : IfSome report.follow_tag (HasOutcome network run is_used) = subst (λ (r : Report). IfSome r.follow_tag (HasOutcome network run is_used)) (sym made.is) sync.follow_used in
     let response : HasOutcome network run is_completing report.response_tag = subst (λ (r : Report). HasOutcome network run is_completing r.response_tag) (sym made.is) request.completing in
-    let stamped = was_stamped network made.port slave run (tag_of made.delay_is.p) made.delay report request_tag response_tag request in
-    let arrived = has_sync network made.port slave run (tag_of made.sync_is.p) made.sync report made.slave_is (ap (λ (r : Report). r.sync_tag) made.is) sync in
+    let stamped = was_stamped network made.port slave run made.delay_is.p made.delay report request_tag response_tag request in
+    let arrived = has_sync network made.port slave run made.sync_is.p made.sync report made.slave_is (ap (λ (r : Report). r.sync_tag) made.is) (ap (λ (r : Report). r.follow_tag) made.is) sync in
+    let sync_present = still_present slave run made.sync_is.p sync.of_master.node made.sync_is.there sync.unset made.sync_is.no_master sync.under in
+    let request_present = still_present slave run made.delay_is.p request.node made.delay_is.there request.unset made.delay_is.no_master request.under in
+    let both : Some request.node ≡ Some sync.of_master.node = sym request_present ∙ sync_present in
+    let one : request.node ≡ sync.of_master.node = cc in
     record {
       order = tags_in_order network answered report used follow response arrived stamped (heard_now network answered report premise reports);
       sync_used = used;
@@ -192,7 +205,9 @@ each_has_evidence network answered report premise reports =
       response_completes = response;
       stamped = stamped;
       sync = arrived;
-      request = has_request network made.port slave run (tag_of made.delay_is.p) made.delay report request_tag response_tag request;
+      request = has_request network made.port slave run made.delay_is.p made.delay report request_tag response_tag request;
+      present = sync_present ∙ ap (λ (n : NodeName). Some n) (sym sync.of_master.site);
+      one_master = one ∙ sym sync.of_master.site;
     }
 
 -- two arrivals of one event are of one copy, at one node

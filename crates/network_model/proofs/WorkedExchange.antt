@@ -228,7 +228,14 @@ evidence = record {
     arrival = sync_arrival;
     journey = sync_journey;
     arrives = of_one_sync.sync.arrives;
-    drawn = refl;
+    kind = (
+      refl,
+      record {
+        follow = place (Follow m) (after 6);
+        hears = record { hearing = place (Hear s 6) (after 7); copy = 6; there = refl; event = refl; made_by = refl };
+        event = refl;
+      },
+    );
     domain = one_domain;
     small = record { message = with_correction (sync m_config 0) (record { 0 = pos 131072000 }); arrived = refl; small = refl };
   };
@@ -249,4 +256,6 @@ evidence = record {
       small = refl;
     };
   };
+  present = refl;
+  one_master = refl;
 }

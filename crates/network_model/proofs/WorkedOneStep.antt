@@ -156,7 +156,7 @@ evidence = record {
     arrival = arrival;
     journey = journey;
     arrives = record { copy = 4; moment = at 1 3000 0; there = refl; event = refl; travelled = refl };
-    drawn = refl;
+    kind = refl;
     domain = one_domain;
     small = record { message = one_step 0 131088384; arrived = refl; small = refl };
   };
@@ -177,6 +177,8 @@ evidence = record {
       small = refl;
     };
   };
+  present = refl;
+  one_master = refl;
 }
 
 -- a one-step Sync that left at the greatest fraction, and stays in a clock for almost too long

@@ -6,8 +6,9 @@ use Rattle.slave_port.specs.declared.heard.Report.{Report}
 use Rattle.network_model.specs.declared.event.Event.{Event}
 use Rattle.network_model.specs.declared.event.Event.TheVariants.{Sync, Follow, Arrive, Hear, Request, Stamped, Tick, SetMaster}
 use Rattle.network_model.specs.declared.stepped.Outcome.TheVariants.{Done, Made, Heard}
+use Rattle.network_model.specs.Network.{NodeName}
 use Rattle.network_model.specs.Run.{Run, place}
-use Rattle.network_model.specs.Premises.{ordered_limits, IsFreshAndTicked}
+use Rattle.network_model.specs.Premises.{syncs_since_tick, IsTickedAt, ordered_limits, IsFreshAndTicked}
 use Rattle.network_model.specs.Reported.{ReportedIn}
 use Rattle.network_model.specs.Order.{completed_at, IsOneWindow, IsInOrder}
 use Rattle.network_model.proofs.Accepted.{IsNetwork-test, IsRun-test}
@@ -76,3 +77,16 @@ by_law =
 -- and so they are: the second one is of a later Sync
 in_order : IsInOrder small_network whole (report 2 4) (report 11 13)
 in_order = record { earlier = 0; later = 1; of_first = refl; of_second = refl; order = omega arith }
+
+-- another slave that follows the master and doesn't tick: what it lets pass is no part of what is asked for S
+abbrev other : NodeName
+other = 90 ∷ []
+
+abbrev untended : Run
+untended = Sync m (at 1 0 0) ∷ SetMaster other m ∷ []
+
+other_is_late : syncs_since_tick other untended ≡ 1
+other_is_late = refl
+
+ticked_for_s : IsTickedAt 0 s untended
+ticked_for_s = (omega arith, (omega arith, tt))

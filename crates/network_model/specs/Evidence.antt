@@ -6,16 +6,17 @@ use Rattle.event_codec.specs.Packet.{Contents}
 use Rattle.slave_port.specs.declared.heard.Heard.{Heard}
 use Rattle.slave_port.specs.declared.heard.Heard.TheVariants as answers
 use Rattle.slave_port.specs.declared.heard.Report.{Report}
-use Rattle.network_model.specs.declared.event.Event.TheVariants.{Stamped}
+use Rattle.network_model.specs.declared.event.Event.TheVariants.{Follow, Stamped}
 use Rattle.network_model.specs.declared.refusal.WorldRefusal.{WorldRefusal}
 use Rattle.network_model.specs.declared.stepped.Outcome.{Outcome}
 use Rattle.network_model.specs.declared.stepped.Outcome.TheVariants as outcomes
 use Rattle.network_model.specs.Network.{Network, NodeName, PortSetup}
 use Rattle.network_model.specs.Run.{Run, Place, IsIn, place_at, tag_of, until, site_of, events_after}
-use Rattle.network_model.specs.Kinds.{is_at, draws_sync, is_request, spends}
+use Rattle.network_model.specs.Kinds.{is_at, is_sync, is_one_step_sync, is_request, spends}
 use Rattle.network_model.specs.Journey.{Journey}
 use Rattle.network_model.specs.Truth.{master_at, slave_at, travelled}
 use Rattle.network_model.specs.Outcome.{outcome_of, IsRun}
+use Rattle.network_model.specs.Present.{present_master}
 use Rattle.network_model.specs.Premises.{Premise, IsAcceptedRun, is_used}
 use Rattle.network_model.specs.Reported.{Reports}
 use Rattle.network_model.specs.Exact.{Arrives, HearsOf, IsMeasurement}
@@ -79,13 +80,25 @@ pub record IsRepresented (network : Network) (journey : Journey) : Type 0 where
   pub arrived : travelled network journey ≡ Some message
   pub small : IsTrue (int_lt message.header.correction.0 too_big)
 
+-- the event of this tag is the hearing of a Follow_Up of this master
+pub record HearsFollow (run : Run) (slave master : NodeName) (tag : ℕ) : Type 0 where
+  pub follow : Place
+  pub hears : HearsOf run tag slave follow
+  pub event : follow.event ≡ Follow master
+
+-- by which kind of messages a report's Sync of a master came: a two-step one with a Follow_Up of the same master, or a one-step one
+abbrev pub IsOfKind : Run → (slave master : NodeName) → Option ℕ → (origin : Place) → Type 0
+IsOfKind run slave master None origin = IsTrue (is_at is_one_step_sync master origin.event)
+IsOfKind run slave master (Some follow_tag) origin = IsTrue (is_at is_sync master origin.event) × HearsFollow run slave master follow_tag
+
 -- The Sync of a report's tag: a copy arrived at the slave, after this journey, of a Sync that a master of the slave's domain
--- drew, and its correction isn't too big.
+-- drew; it is a two-step one, and the Follow_Up of the report's tag is one of this master, or it is a one-step one; and its
+-- correction isn't too big.
 pub record HasSync (network : Network) (run : Run) (slave : NodeName) (report : Report) : Type 0 where
   pub arrival : Place
   pub journey : Journey
   pub arrives : Arrives run report.sync_tag slave arrival journey
-  pub drawn : IsTrue (draws_sync journey.origin.event)
+  pub kind : IsOfKind run slave (site_of journey.origin.event) report.follow_tag journey.origin
   pub domain : ShareDomain network slave (site_of journey.origin.event)
   pub small : IsRepresented network journey
 
@@ -105,7 +118,7 @@ pub record HasRequest (network : Network) (run : Run) (slave : NodeName) (report
   pub domain : ShareDomain network slave master
   pub small : IsRepresented network journey
 
--- all this of a report that an event answers
+-- all this of a report that an event answers, and that both halves are of the slave's present master
 pub record HasEvidence (network : Network) (answered : Place) (slave : NodeName) (report : Report) : Type 0 where
   pub order : TagsInOrder (tag_of answered) report
   pub sync_used : SyncWasUsed network (until answered) report.follow_tag report.sync_tag
@@ -114,6 +127,8 @@ pub record HasEvidence (network : Network) (answered : Place) (slave : NodeName)
   pub stamped : WasStamped network (until answered) slave report
   pub sync : HasSync network (until answered) slave report
   pub request : HasRequest network (until answered) slave report
+  pub present : present_master slave (until answered) ≡ Some (site_of sync.journey.origin.event)
+  pub one_master : request.master ≡ site_of sync.journey.origin.event
 
 -- Each report has its evidence in the run.
 abbrev pub EachReportHasEvidence : Premise → Type 0

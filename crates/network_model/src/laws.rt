@@ -48,10 +48,11 @@ pub fn reports_dont_go_back()
 /// Every accepted run shows the evidence of each of its reports, whether that is exact or not. The tags
 /// are in the order of their events and one of them is the report's own, and the messages were used. The
 /// slave learnt when the request left before it heard the answer, and sent no other request between. The
-/// Sync that arrived was drawn by a master of the slave's domain, the Delay_Resp answers a Delay_Req of
-/// the slave that arrived at such a master, and the corrections of both, at the end of their journeys,
-/// aren't too big. Where a report was measured, the measurement is of these messages. No stay in a clock
-/// ends twice.
+/// Sync that arrived was drawn by the slave's present master, which is of the slave's domain, and the
+/// Follow_Up, if the report has one, is of the same master. The Delay_Resp answers a Delay_Req of the slave
+/// that arrived there. The corrections of the Sync and the Delay_Req, at the end of their journeys, aren't
+/// too big. Where a report was measured, the measurement is of these messages. No stay in a clock ends
+/// twice.
 pub fn runs_show_evidence()
     ensures { ShowsEvidence }
 {}

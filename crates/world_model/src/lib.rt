@@ -12,9 +12,8 @@ mod turns;
 mod world;
 
 pub use network_model::{
-    Event, Name, NodeKind, NodeSpec, Nodes, Outcome, RunStop, Stepped, WorldRefusal,
+    Event, Name, NodeKind, NodeSpec, Nodes, Outcome, RunStop, Stepped, WorldRefusal, laws,
 };
 pub use slave_port::{Heard, Reason, Report};
-pub use network_model::laws;
 pub use turns::run;
 pub use world::World;

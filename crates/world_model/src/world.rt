@@ -63,7 +63,7 @@ impl World {
         // No two nodes have one name and no two ports one identity, and every event of the run was accepted.
         ensures network { IsNetwork self.new.network }
         ensures run { IsRun self.new.network self.new.run }
-        // A report is exact where no message that is used is too old and slaves tick often enough, or where no number came round.
+        // A report is exact where its slave uses no message that is too old and ticks often enough, or where no number came round.
         ensures exact { IfOk result (IsExactAnswer (IsTimely exact_limits) self.old event.now) }
         ensures exact_within_one_turn { IfOk result (IsExactAnswer (λ network slave run. IsWithinOneTurn run) self.old event.now) }
         ensures laws { RunsKeepLaws }
