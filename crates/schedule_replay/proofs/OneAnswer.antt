@@ -162,7 +162,7 @@ replays_one octets before left after left' after' (Ok events) (Ok events') one o
       ap Ok (other.count ∙ ap (λ (r : Run). length r) run ∙ sym one.count),
       other.input ∙ sym one.input,
       same_output before after after' (nodes_text one.nodes ++ one.text) (nodes_text other.nodes ++ other.text) one.output other.output
-      (λ i. nodes_text (nodes i) ++ text i),
+          (λ i. nodes_text (nodes i) ++ text i),
     )
 replays_one octets before left after left' after' (Ok events) (Err stop) one other sure sure' =
     let same = schedules.one_schedule_end (lines_of octets) None (Some stop.what) (all_replayed octets left before after events one) (replayed_until octets left' before after' stop other sure') in
@@ -182,7 +182,7 @@ replays_one octets before left after left' after' (Err stop) (Err stop') one oth
       ap Err stopped,
       replay_left octets (one.nodes, one.run) (other.nodes, other.run) left left' stop stop' one.earlier other.earlier sure sure' stopped same.0 one.fault other.fault,
       same_output before after after' (one.begun ++ one.text) (other.begun ++ other.text) (went_out stop.what sure one.output) (went_out stop'.what sure' other.output)
-      (λ i. begun i ++ text i),
+          (λ i. begun i ++ text i),
     )
 
 -- ---- `check_text`
@@ -335,5 +335,5 @@ shows_one octets before left after left' after' (Err stop) (Err stop') one other
       ap Err stopped,
       same_left stop stop' one.earlier other.earlier octets left left' sure stopped place one.input other.input,
       same_output before after after' one.text other.text (went_out stop.what sure one.output) (went_out stop'.what sure' other.output)
-      (one_shown 1 (take one.earlier (lines_of octets)) other.text one.text shown one.shown),
+          (one_shown 1 (take one.earlier (lines_of octets)) other.text one.text shown one.shown),
     )

@@ -118,10 +118,14 @@ node_before_events s t node rest whole =
 event_after : (s t : Played) (event : Event) (rest : List Line) → lines_of_played t ≡ lines_of_played s ++ entries.Event event ∷ rest
     → (t.0 ≡ s.0) × ((later : Run) × (t.1 ≡ later ++ event ∷ s.1))
 event_after s t event rest whole =
-    let (nodes, (more, is)) = next_event t.0 s.0 (reverse t.1) (reverse s.1) event rest (whole ∙ parted s (entries.Event event) rest) in
-    (nodes, (reverse more,
-    sym (reverse-reverse t.1) ∙ ap (λ (r : Run). reverse r) is ∙ reverse-append (reverse s.1) (event ∷ more)
-    ∙ (λ i. reverse-append (event ∷ []) more i ++ reverse-reverse s.1 i) ∙ append_assoc (reverse more) (event ∷ []) s.1))
+    let (nodes, (more, is)) = next_event t.0 s.0 (reverse t.1) (reverse s.1) event rest (whole ∙ parted s (entries.Event event) rest) in (
+      nodes,
+      (
+        reverse more,
+        sym (reverse-reverse t.1) ∙ ap (λ (r : Run). reverse r) is ∙ reverse-append (reverse s.1) (event ∷ more)
+            ∙ (λ i. reverse-append (event ∷ []) more i ++ reverse-reverse s.1 i) ∙ append_assoc (reverse more) (event ∷ []) s.1,
+      ),
+    )
 
 -- ---- faults
 
