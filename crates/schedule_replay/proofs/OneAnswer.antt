@@ -1,20 +1,19 @@
 -- Octets have one answer of `show`, `replay` and `check_text`, where no device failed and no memory was refused.
-use Rattle.std.proofs.Common.{◌≡◌, ◌≢◌, ◌∙◌, ◌⊎◌, inl, inr, ℕ, zero, suc, ◌+◌, ◌<◌, List, [], ◌∷◌, ◌++◌, length, take, Option, Some, None, Result, Ok, Err, refl, sym, ap, subst, arith}
-use Rattle.std.specs.Prelude.{slice_get, MatchResult}
+use Rattle.std.proofs.Common.{◌≡◌, ◌≢◌, ◌∙◌, ◌⊎◌, inl, inr, ℕ, ◌+◌, ◌<◌, List, [], ◌∷◌, ◌++◌, length, take, Option, Some, None, Ok, Err, refl, sym, ap, subst, arith}
+use Rattle.std.specs.Prelude.{slice_get}
 use Rattle.std.specs.Option.{ForSome}
 use Rattle.std.specs.Io.KnownBytes.{Appends, Keeps}
 use Rattle.network_model.specs.Network.{Network}
 use Rattle.network_model.specs.Run.{Run}
 use Rattle.network_model.specs.Clash.{first_clash}
 use Rattle.trace_model.specs.declared.verdict.Verdict.{Verdict}
-use Rattle.trace_model.specs.Line.{Lines}
 use Rattle.trace_model.specs.Verdict.{verdict}
 use Rattle.schedule_replay.specs.declared.fault.Fault.{Fault}
 use Rattle.schedule_replay.specs.declared.fault.FaultKind.{FaultKind}
 use Rattle.schedule_replay.specs.declared.fault.FaultKind.TheVariants.{Read, Write, LineTooLong, TooManyLines, Json, Field, World, Memory}
 use Rattle.schedule_replay.specs.Lines.{lines_of, after_lines, LeavesUnread, AreRead}
-use Rattle.schedule_replay.specs.Schedule.{entry_in, FaultsAt, FaultsAtEnd}
-use Rattle.schedule_replay.specs.Show.{ShowsAll, ShowsUntil, ShowsLines, Shows, IsFaultAt, WentOutAs, line_fault, own_fault}
+use Rattle.schedule_replay.specs.Schedule.{entry_in, FaultsAt}
+use Rattle.schedule_replay.specs.Show.{ShowsLines, Shows, IsFaultAt, WentOutAs, line_fault}
 use Rattle.schedule_replay.specs.Replay.{nodes_text, WritesRun, WentOutBefore, ReplaysAll, ReplaysUntil, Replays, StopsAfter}
 use Rattle.schedule_replay.specs.CheckText.{recorded_in, verdict_text, MistakesAt, ChecksAll, ChecksUntil, Checks, StopsCheckAfter}
 use Rattle.schedule_replay.specs.Accepted.{IsOfDevice}

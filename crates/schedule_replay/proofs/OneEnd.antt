@@ -1,11 +1,11 @@
 -- Where the reading of lines ends, and how, is one, where it isn't a device or memory that ends it.
-use Rattle.std.proofs.Common.{◌≡◌, ◌∙◌, ◌⊎◌, inl, inr, ℕ, zero, suc, ◌+◌, ◌<◌, ◌≤◌, List, [], ◌∷◌, ◌++◌, length, take, Option, Some, None, Result, Ok, refl, sym, ap, subst, arith, length-take-le}
+use Rattle.std.proofs.Common.{◌≡◌, ◌∙◌, ◌⊎◌, inl, inr, ℕ, zero, suc, ◌+◌, ◌<◌, ◌≤◌, List, [], ◌∷◌, ◌++◌, length, take, Option, Some, None, Result, Ok, refl, ap, subst, arith}
 use Rattle.std.specs.Prelude.{slice_get}
 use Rattle.std.proofs.lemmas.List.{take-take}
 use Rattle.schedule_replay.specs.declared.fault.FaultKind.{FaultKind}
 use Rattle.schedule_replay.specs.Lines.{without_cr, reading_fault, AreRead}
 use Rattle.schedule_replay.specs.Accepted.{IsOfDevice}
-use Rattle.schedule_replay.proofs.OneReading.{IsNext, same_entries, next_is}
+use Rattle.schedule_replay.proofs.OneReading.{same_entries, next_is}
 
 -- a place that a list has
 pub is_within : {A : Type 0} (xs : List A) (k : ℕ) (x : A) → slice_get xs k ≡ Some x → k < length xs

@@ -1,6 +1,6 @@
--- What is said of the answers of `show`, `replay` and `check_text` over octets leaves one, which `laws::octets_have_one_answer`
--- promises. Free is at which octet or line the reader fails (801), at which line the writer fails and how much of that line's
--- answer went out (802), and at which line memory is refused and how many of the nodes' lines went out then (808).
+-- Octets leave one answer of `show`, `replay` and `check_text` each, as `laws::octets_have_one_answer` promises, but where a device
+-- failed or memory was refused. Free is at which octet the reader fails (801); at which line the writer fails, and what went out
+-- (802); at which line memory is refused, and how many of the nodes' lines went out then (808).
 use Rattle.std.specs.Prelude.{◌≡◌, List, ℕ, Option, Result, MatchResult, ⊤}
 use Rattle.std.specs.Option.{ForSome}
 use Rattle.schedule_replay.specs.declared.fault.Fault.{Fault}
