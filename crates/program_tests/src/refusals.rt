@@ -305,7 +305,7 @@ fn of_lines(rt: HostRuntime) -> Result<(), Fail> {
             ),
             (
                 fault(FaultKind::World(WorldRefusal::NoNode)),
-                "fault 807 at line 3: the nodes are no network, or the event can't happen in it",
+                "fault 807 at line 3: no node has this name (603)",
             ),
             (
                 fault(FaultKind::Field),

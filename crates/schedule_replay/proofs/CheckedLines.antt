@@ -1,6 +1,5 @@
 -- How far the lines of a transcript were checked.
-use Rattle.std.proofs.Common.{◌≡◌, ◌≢◌, ◌⊎◌, inl, inr, ℕ, zero, suc, ◌+◌, ◌<◌, ◌≤◌, List, [], ◌∷◌, ◌++◌, Bool, true, false, length, take, drop, map, Option, Some, None, Ok, refl, sym, ap, ◌∙◌, subst, arith, append-nil, append_assoc, add-one, add-zero, add_comm, length-take-le, take_all, le_refl}
-use Rattle.std.specs.Prelude.{slice_get}
+use Rattle.std.proofs.Common.{◌≡◌, ◌≢◌, inl, inr, ℕ, suc, ◌+◌, ◌≤◌, List, [], ◌∷◌, ◌++◌, Bool, true, false, length, take, drop, map, Option, Some, None, Ok, refl, sym, ap, ◌∙◌, subst, arith, append-nil, append_assoc, add-zero, add_comm, length-take-le, take_all, le_refl}
 use Rattle.std.proofs.lemmas.List.{map-append}
 use Rattle.std.specs.Io.KnownBytes.{Appends, Keeps}
 use Rattle.network_model.specs.declared.node.NodeSpec.{NodeSpec}
@@ -18,9 +17,9 @@ use Rattle.schedule_replay.specs.declared.counted.Counted.{Counted}
 use Rattle.schedule_replay.specs.declared.fault.Fault.{Fault}
 use Rattle.schedule_replay.specs.declared.fault.FaultKind.{FaultKind}
 use Rattle.schedule_replay.specs.declared.fault.FaultKind.TheVariants.{Read, Write, LineTooLong, TooManyLines, Json, Field, World, Memory}
-use Rattle.schedule_replay.specs.Lines.{lines_of, lfs_in, after_lines, without_cr, reading_fault, LeavesUnread, StopsReading, ReadsLine, IsFromReading}
+use Rattle.schedule_replay.specs.Lines.{lines_of, lfs_in, after_lines, without_cr, reading_fault, StopsReading, ReadsLine, IsFromReading}
 use Rattle.schedule_replay.specs.Show.{WentOutAs}
-use Rattle.schedule_replay.specs.CheckText.{recorded_in, AreRecorded, numbered, transcript_of, MistakesIn, MistakesAt, MistakesAtEnd, StopsCheckAfter, verdict_text, ChecksAll, ChecksUntil}
+use Rattle.schedule_replay.specs.CheckText.{recorded_in, AreRecorded, numbered, transcript_of, MistakesIn, MistakesAtEnd, StopsCheckAfter, verdict_text, ChecksAll, ChecksUntil}
 use Rattle.schedule_replay.specs.Progress.{nodes_of, lines_so_far, IsProgress, Follows, TakesRecord}
 use Rattle.std.proofs.KnownBytes.{Keeps-refl}
 use Rattle.schedule_replay.proofs.ShownLines.{is_at, within_list, after_lines-more}

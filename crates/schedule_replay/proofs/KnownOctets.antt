@@ -1,6 +1,6 @@
--- What reads and writes do where the octets are known.
+-- What reads do where the octets are known.
 use Rattle.std.proofs.Common.{◌≡◌, ℕ, List, ◌++◌, Option, Some, None, refl}
-use Rattle.std.specs.Io.KnownBytes.{Consumes, Keeps, Appends}
+use Rattle.std.specs.Io.KnownBytes.{Consumes, Keeps}
 
 pub Consumes-known : (old new : Option (List ℕ)) (bs octets : List ℕ) → Consumes old new bs → old ≡ Some octets
     → (rest : List ℕ) × (new ≡ Some rest) × (octets ≡ bs ++ rest)
@@ -12,9 +12,3 @@ pub Keeps-known : (old new : Option (List ℕ)) (octets : List ℕ) → Keeps ol
 Keeps-known None new octets h e = absurd cc
 Keeps-known (Some xs) None octets h e = absurd h
 Keeps-known (Some xs) (Some ys) octets h e = cc
-
-pub Appends-known : (old new : Option (List ℕ)) (bs octets : List ℕ) → Appends old new bs → old ≡ Some octets
-    → (grown : List ℕ) × (new ≡ Some grown) × (grown ≡ octets ++ bs)
-Appends-known None new bs octets h e = absurd cc
-Appends-known (Some xs) None bs octets h e = absurd h
-Appends-known (Some xs) (Some ys) bs octets h e = (ys, refl, cc)

@@ -33,3 +33,7 @@ pub mod Invocations
 pub mod OneReading
 pub mod OneText
 pub mod OneLine
+pub mod OneEnd
+pub mod OneSchedule
+pub mod OneRecord
+pub mod OneAnswer

@@ -1,5 +1,5 @@
 -- Over what is written of a run, no line is a mistake: a fault is of a device or of memory.
-use Rattle.std.proofs.Common.{◌≡◌, ◌≢◌, ◌∙◌, inl, inr, ℕ, zero, suc, ◌+◌, List, [], ◌∷◌, ◌++◌, length, take, Option, Some, None, Ok, refl, sym, ap, subst, arith, append_assoc, append-nil, map}
+use Rattle.std.proofs.Common.{◌≡◌, ◌≢◌, ◌∙◌, inl, inr, ℕ, suc, ◌+◌, List, [], ◌∷◌, ◌++◌, length, take, Option, Some, None, Ok, refl, sym, ap, subst, arith, append_assoc, append-nil, map}
 use Rattle.std.specs.Prelude.{slice_get}
 use Rattle.network_model.specs.declared.refusal.WorldRefusal.{WorldRefusal}
 use Rattle.network_model.specs.Network.{Network}
@@ -87,7 +87,7 @@ some_after line earlier [] none = absurd cc
 some_after line earlier (recorded.Node node ∷ es) none = some_after line earlier es none
 some_after line earlier (recorded.Event number other ∷ es) none = some_after other (line ∷ earlier) es none
 
-module _ (nodes : Network) (lines : Lines) (network : lines ≢ [] → first_clash nodes ≡ None) (octets : List (List ℕ)) (recorded_all : AreRecorded 1 octets (transcript_of nodes lines)) where
+module _ (nodes : Network) (lines : Lines) (network : lines ≢ [] → first_clash nodes ≡ None) where
   -- the first event comes after all nodes
   clashes : (why : WorldRefusal) (nodes' : Network) (lines' : Lines) (line : List ℕ) (entry : TranscriptLine) (rest : List TranscriptLine)
       → transcript_of nodes lines ≡ transcript_of nodes' lines' ++ entry ∷ rest → recorded_in line ≡ Ok entry → MistakesIn (World why) nodes' lines' line → ⊥
@@ -109,7 +109,7 @@ module _ (nodes : Network) (lines : Lines) (network : lines ≢ [] → first_cla
       absurd (cc (clash, network some))
 
   -- where the nodes and events so far are those of the lines before it, the next line isn't a mistake
-  in_line : (kind : FaultKind) (nodes' : Network) (lines' : Lines) (line : List ℕ) (entry : TranscriptLine) (rest : List TranscriptLine)
+  pub in_line : (kind : FaultKind) (nodes' : Network) (lines' : Lines) (line : List ℕ) (entry : TranscriptLine) (rest : List TranscriptLine)
       → transcript_of nodes lines ≡ transcript_of nodes' lines' ++ entry ∷ rest → recorded_in line ≡ Ok entry → MistakesIn kind nodes' lines' line → IsOfDevice kind
   in_line Read nodes' lines' line entry rest whole is mistake = absurd mistake
   in_line Write nodes' lines' line entry rest whole is mistake = absurd mistake
@@ -124,13 +124,14 @@ module _ (nodes : Network) (lines : Lines) (network : lines ≢ [] → first_cla
   in_line (World why) nodes' lines' line entry rest whole is mistake = absurd (clashes why nodes' lines' line entry rest whole is mistake)
   in_line Memory nodes' lines' line entry rest whole is mistake = tt
 
+module _ (nodes : Network) (lines : Lines) (network : lines ≢ [] → first_clash nodes ≡ None) (octets : List (List ℕ)) (recorded_all : AreRecorded 1 octets (transcript_of nodes lines)) where
   -- so is no line that was read
   read_line : (kind : FaultKind) (earlier : ℕ) (nodes' : Network) (lines' : Lines) (line : List ℕ) → slice_get octets earlier ≡ Some line
       → AreRecorded 1 (take earlier octets) (transcript_of nodes' lines') → MistakesIn kind nodes' lines' (without_cr line) → IsOfDevice kind
   read_line kind earlier nodes' lines' line there before mistake =
       let next = next_is recorded_in 1 earlier octets line (transcript_of nodes lines) recorded_all there in
       let same = same_entries recorded_in 1 (take earlier octets) next.first (transcript_of nodes' lines') next.before before in
-      in_line kind nodes' lines' (without_cr line) next.entry next.rest (next.whole ∙ ap (λ (es : List TranscriptLine). es ++ next.entry ∷ next.rest) same) next.is mistake
+      in_line nodes lines network kind nodes' lines' (without_cr line) next.entry next.rest (next.whole ∙ ap (λ (es : List TranscriptLine). es ++ next.entry ∷ next.rest) same) next.is mistake
 
   -- and each can be read
   readable : (number earlier : ℕ) (line : List ℕ) → number ≡ earlier + 1 → slice_get octets earlier ≡ Some line → reading_fault number line ≡ None
@@ -138,7 +139,7 @@ module _ (nodes : Network) (lines : Lines) (network : lines ≢ [] → first_cla
       let next = next_is recorded_in 1 earlier octets line (transcript_of nodes lines) recorded_all there in
       subst (λ (n : ℕ). reading_fault n line ≡ None) (omega (arith, at)) next.readable
 
-  pub at_line : (kind : FaultKind) (number earlier : ℕ) (nodes' : Network) (lines' : Lines) (line : Option (List ℕ)) → number ≡ earlier + 1
+  at_line : (kind : FaultKind) (number earlier : ℕ) (nodes' : Network) (lines' : Lines) (line : Option (List ℕ)) → number ≡ earlier + 1
       → slice_get octets earlier ≡ line → AreRecorded 1 (take earlier octets) (transcript_of nodes' lines') → MistakesAt kind number nodes' lines' line → IsOfDevice kind
   at_line Read number earlier nodes' lines' line at there before mistake = tt
   at_line Memory number earlier nodes' lines' line at there before mistake = tt

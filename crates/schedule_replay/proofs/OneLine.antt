@@ -1,5 +1,5 @@
 -- An event after a run is told by one line, and so a run is written in one text.
-use Rattle.std.proofs.Common.{◌≡◌, ◌∙◌, ℕ, List, [], ◌∷◌, ◌++◌, length, Option, Some, None, Ok, Err, refl, sym, ap, subst}
+use Rattle.std.proofs.Common.{◌≡◌, ◌∙◌, ℕ, List, [], ◌∷◌, ◌++◌, length, Option, Some, None, Ok, refl, sym, ap, subst}
 use Rattle.std.specs.Prelude.{codes, option_map}
 use Rattle.serde_json.specs.Data.{Data, string, object, no_members}
 use Rattle.event_codec.specs.Packet.{Contents}

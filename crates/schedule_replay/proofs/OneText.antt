@@ -1,7 +1,6 @@
 -- A datagram is shown by one text, and lines are answered by one.
-use Rattle.std.proofs.Common.{◌≡◌, ℕ, zero, suc, ◌+◌, ◌<◌, List, [], ◌∷◌, ◌++◌, length, take, Option, Some, None, Ok, inl, inr, refl, sym, ap, ◌∙◌, subst, arith}
+use Rattle.std.proofs.Common.{◌≡◌, ℕ, zero, suc, ◌+◌, List, [], ◌∷◌, ◌++◌, take, Some, None, inl, inr, sym, ap, ◌∙◌, subst, arith}
 use Rattle.std.specs.Prelude.{slice_get}
-use Rattle.hex.specs.Hex.{decode_of}
 use Rattle.event_codec.proofs.Same.{contents_same, front_length, decode_refusal-message}
 use Rattle.schedule_replay.specs.Shown.{IsShownAs, ShowsMessage, ShowsRefusal}
 use Rattle.schedule_replay.specs.Lines.{without_cr}

@@ -1,5 +1,5 @@
 -- Lines are one transcript at the most, and the verdict over what is written of a run accepts it.
-use Rattle.std.proofs.Common.{◌≡◌, ◌∙◌, ℕ, ◌+◌, List, [], ◌∷◌, ◌++◌, length, refl, sym, ap, append_assoc, append-nil, map}
+use Rattle.std.proofs.Common.{◌≡◌, ◌∙◌, List, [], ◌∷◌, ◌++◌, length, refl, sym, ap, append_assoc, append-nil, map}
 use Rattle.network_model.specs.Network.{Network}
 use Rattle.network_model.specs.Premises.{Premise}
 use Rattle.trace_model.specs.Line.{Lines}
@@ -9,8 +9,7 @@ use Rattle.schedule_lines.specs.declared.traced.TranscriptLine.{TranscriptLine}
 use Rattle.schedule_lines.specs.declared.traced.TranscriptLine.TheVariants as recorded
 use Rattle.schedule_replay.specs.Lines.{lines_of}
 use Rattle.schedule_replay.specs.Replay.{nodes_text}
-use Rattle.schedule_replay.specs.CheckText.{recorded_in, AreRecorded, numbered, transcript_of}
-use Rattle.schedule_replay.specs.Lines.{without_cr}
+use Rattle.schedule_replay.specs.CheckText.{recorded_in, numbered, transcript_of}
 use Rattle.schedule_replay.specs.Accepted.{EachRunIsAccepted}
 use Rattle.schedule_replay.proofs.OneReading.{same_entries}
 use Rattle.schedule_replay.proofs.ToldLines.{IsExact}

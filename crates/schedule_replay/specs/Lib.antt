@@ -12,3 +12,4 @@ pub mod Program
 pub mod CheckText
 pub mod Accepted
 pub mod Progress
+pub mod OneAnswer

@@ -9,7 +9,7 @@ use Rattle.schedule_lines.specs.declared.traced.TranscriptLine.TheVariants as re
 use Rattle.schedule_replay.specs.declared.checking.Progress.{Progress}
 use Rattle.schedule_replay.specs.declared.checking.Progress.TheVariants.{Nodes, Events}
 use Rattle.schedule_replay.specs.declared.fault.FaultKind.{FaultKind}
-use Rattle.schedule_replay.specs.declared.fault.FaultKind.TheVariants.{Read, Write, LineTooLong, TooManyLines, Json, Field, World, Memory}
+use Rattle.schedule_replay.specs.declared.fault.FaultKind.TheVariants.{Write, Json, Field, World, Memory}
 use Rattle.schedule_replay.specs.declared.counted.Counted.{Counted}
 use Rattle.schedule_replay.specs.Counted.{HasFailed, HasNotFailed}
 use Rattle.schedule_replay.specs.CheckText.{recorded_in}

@@ -4,6 +4,8 @@ ghost use Rattle.schedule_replay.specs.declared.fault.FaultKind.TheVariants.{Mem
 use exchange_check::CheckFault;
 use network_model::WorldRefusal;
 use std::alloc::{AllocError, AllocFailed};
+use std::fmt;
+use std::fmt::{Display, Formatter};
 use thiserror::Error;
 
 /// A fault that ended the reading of lines, and where. The display text says both in words.
@@ -66,16 +68,28 @@ impl FaultKind {
     }
 
     /// What went wrong.
-    fn in_words(&self) -> &'static str {
-        match self {
-            FaultKind::Read => "the input can't be read",
-            FaultKind::Write => "the output can't be written",
-            FaultKind::LineTooLong => "the line has more than 4096 octets",
-            FaultKind::TooManyLines => "an octet comes after the last of 1048576 lines",
-            FaultKind::Json => "the line isn't JSON",
-            FaultKind::Field => "the line isn't what is asked for",
-            FaultKind::World(_) => "the nodes are no network, or the event can't happen in it",
-            FaultKind::Memory => "memory was refused",
+    fn in_words(&self) -> InWords {
+        InWords(*self)
+    }
+}
+
+/// A kind of fault, as words say it.
+#[derive(Clone, Copy)]
+struct InWords(FaultKind);
+
+impl Display for InWords {
+    fn fmt<W: fmt::Write>(&self, f: &mut Formatter<W>) -> fmt::Result {
+        match self.0 {
+            FaultKind::Read => f.write_str("the input can't be read"),
+            FaultKind::Write => f.write_str("the output can't be written"),
+            FaultKind::LineTooLong => f.write_str("the line has more than 4096 octets"),
+            FaultKind::TooManyLines => {
+                f.write_str("an octet comes after the last of 1048576 lines")
+            }
+            FaultKind::Json => f.write_str("the line isn't JSON"),
+            FaultKind::Field => f.write_str("the line isn't what is asked for"),
+            FaultKind::World(why) => write!(f, "{why} ({})", why.code()),
+            FaultKind::Memory => f.write_str("memory was refused"),
         }
     }
 }

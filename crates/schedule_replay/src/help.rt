@@ -133,7 +133,8 @@ nodes of a network, then its events with what came of each. Standard output has 
 Reasons, of which the first in this order is given:
   701  a tag of the report isn't the event that the report needs, or no event tells when the Delay_Req
        left
-  704  the way of the Sync or of the Delay_Req can't be followed back to where it was sent
+  704  the way of the Sync or of the Delay_Req can't be followed back to where it was sent, or a stay on
+       it was left twice
   702  the Sync isn't the one of the Follow_Up, or the Delay_Req isn't the one of the report
   703  a message isn't of the present master of the slave, or came before the slave was told this master
   705  a reading isn't that of the clock of its node, or falls while a message is in a clock

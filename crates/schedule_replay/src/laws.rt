@@ -3,6 +3,10 @@ ghost use Rattle.std.specs.Prelude.{◌≡◌, ℕ, List};
 ghost use Rattle.network_model.specs.Premises.{exact_limits, IsFreshAndTicked, IsWithinTurn};
 ghost use Rattle.schedule_replay.specs.Accepted.{EachToldLineIsRecorded, EachToldLineIsTagged, EachRunIsTranscribed, EachRunIsAccepted, EachRunIsChecked, EachReplayIsAccepted};
 ghost use Rattle.schedule_replay.specs.Shown.{IsShownAs};
+ghost use Rattle.schedule_replay.specs.Show.{Shows};
+ghost use Rattle.schedule_replay.specs.Replay.{Replays};
+ghost use Rattle.schedule_replay.specs.CheckText.{Checks};
+ghost use Rattle.schedule_replay.specs.OneAnswer.{HasOneAnswer};
 
 use event_codec::decode;
 
@@ -55,4 +59,13 @@ pub fn replayed_runs_are_accepted()
 pub fn replays_are_accepted()
     ensures fresh_and_ticked { EachReplayIsAccepted (IsFreshAndTicked exact_limits) }
     ensures within_turn { EachReplayIsAccepted IsWithinTurn }
+{}
+
+/// Octets have one answer: two answers over the same octets, of which neither is a fault of a device
+/// or of memory, are the same answer, leave the same octets unread and have written the same. A fault
+/// is the same fault at the same line then.
+pub fn octets_have_one_answer()
+    ensures show { HasOneAnswer Shows }
+    ensures replay { HasOneAnswer Replays }
+    ensures check_text { HasOneAnswer Checks }
 {}

@@ -100,9 +100,9 @@ impl Lines {
     }
 
     /// Reads the next line, and answers whether there was one. A fault stands at that line, which
-    /// is partly read then; no more than one octet after the limits is read. Once a line was ended
-    /// by the end of the input, or there was none, the reader isn't asked again; only after the last
-    /// line that is allowed each call asks for the end.
+    /// is partly read then; no more than one octet after the limits is read. Once the input ended in
+    /// place of an LF, the reader isn't asked again; after the LF of the last line that is allowed,
+    /// each call asks it for the end.
     pub(crate) fn read_next<R: Read>(&mut self, input: &mut Counted<R>) -> Result<bool, Fault>
         requires { IsTrue self.old.ended → IsAtEnd (R.remaining (device_of input.old)) }
         ensures next { ForSome (R.remaining (device_of input.old)) (λ octets.

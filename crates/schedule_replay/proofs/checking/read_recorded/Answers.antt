@@ -1,4 +1,4 @@
-use Rattle.std.proofs.Common.{◌∙◌, inl, inr, refl, sym, ap, true≢false}
+use Rattle.std.proofs.Common.{◌∙◌, inl, inr, refl, sym, true≢false}
 use Rattle.schedule_replay.proofs.Records.{record_read, no_record}
 use Rattle.schedule_replay.proofs.checking.read_recorded.Goals as goal
 

@@ -1,4 +1,4 @@
-use Rattle.std.proofs.Common.{◌+◌, ◌∙◌, ap, ℕ, rules, arith}
+use Rattle.std.proofs.Common.{◌+◌, ◌∙◌, ap, ℕ, rules}
 use Rattle.std.proofs.lemmas.Result.{err_from_is_err_and}
 use Rattle.schedule_replay.proofs.ReplayedLines.{replayed_all, replayed_more, stopped_reading, stopped_taking, stopped_at_end, at_line}
 use Rattle.schedule_replay.proofs.Bounds.{line_more, input_within}

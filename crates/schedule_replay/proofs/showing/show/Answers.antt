@@ -1,4 +1,4 @@
-use Rattle.std.proofs.Common.{◌+◌, rules, ◌∙◌, arith}
+use Rattle.std.proofs.Common.{rules, ◌∙◌}
 use Rattle.std.proofs.lemmas.Result.{err_from_is_err_and}
 use Rattle.schedule_replay.proofs.ShownLines.{shown_all, shown_more, stopped_reading, stopped_answering, at_line}
 use Rattle.schedule_replay.proofs.Bounds.{line_more, input_within}
