@@ -4,17 +4,25 @@
 - what was written ends in LF, or is nothing, and has as many lines as were answered;
 - with status 3 standard error has the one line of a fault, at a line that is there, and nothing else;
 - what `show` writes, and its fault, are those of the reader below, which was written apart from it;
-- no run takes more than 64 MiB of memory."""
+- what `replay` writes is what told.py says, but for what came of each event. `check` accepts it with all its reports, and refuses it
+  with 706 where one result is another;
+- what `check` accepts has as many reports as it says, and what it refuses is a report;
+- no run takes more than 64 MiB of memory.
+
+At the end each fault, each reason and a report must have been seen."""
 import collections
 import concurrent.futures
 import itertools
+import os
 import pathlib
+import random
 import re
 import resource
 import subprocess
 import sys
 
 import inputs
+import told
 
 SUBCOMMANDS = ['show', 'replay', 'check']
 
@@ -24,8 +32,20 @@ MEMORY = 64 * 1024
 AT_ONCE = 4
 
 TOP = pathlib.Path(__file__).resolve().parents[2]
-PROGRAM = TOP / 'crates/ptpx/out/ptpx'
-FAULT = re.compile(rb'ptpx: fault (80[1-8])(?: \((60[1-8])\))? at line ([1-9][0-9]*)\n')
+PROGRAM = os.environ.get('PTPX', TOP / 'crates/ptpx/out/ptpx')
+FAULT = re.compile(rb'ptpx: fault (80[1-8](?: \(60[1-8]\))?) at line ([1-9][0-9]*)\n')
+VERDICT = re.compile(rb'accepted ([0-9]+)\n|refused event ([0-9]+): (70[1-8])\n')
+
+# What must have been seen. 801, 802 and 808 don't come from inputs, and 804 needs a longer one.
+SEEN = {
+    'show': ['status 0', 'fault 803', 'fault 806'],
+    'replay': ['status 0', 'with reports', *[f'fault {number}' for number in (803, 805, 806)], *[f'fault 807 ({number})' for number in range(601, 609)]],
+    'check': ['accepted 0', 'accepted', *[f'refused {number}' for number in range(701, 709)],
+              'fault 803', 'fault 805', 'fault 806', 'fault 807 (601)', 'fault 807 (602)'],
+}
+
+# How many transcripts with reports `check` gets changed.
+TRANSCRIPTS = 40
 
 # What each message type is called, and how long its fields are.
 TYPES = {0: ('Sync', 44), 1: ('Delay_Req', 44), 8: ('Follow_Up', 44), 9: ('Delay_Resp', 54)}
@@ -87,9 +107,18 @@ def shown(text):
     return 0, ''.join(written).encode(), b''
 
 
+def answered_before(subcommand, text, fault, line):
+    """How many lines were written before a fault at this line."""
+    if subcommand == 'check':
+        return 0
+    if subcommand == 'replay' and fault < '807 (603)' and not any(told.is_event(before) for before in lines_of(text)[:line - 1]):
+        return 0
+    return line - 1
+
+
 def faults(subcommand, text, status, output, errors):
     """What is wrong with an answer, in words."""
-    answered = output.count(b'\n')
+    answers = lines_of(output)
     if status not in ([0, 1, 3] if subcommand == 'check' else [0, 3]):
         yield f'status {status}'
     if output and not output.endswith(b'\n'):
@@ -97,36 +126,88 @@ def faults(subcommand, text, status, output, errors):
     if status != 3:
         if errors:
             yield 'standard error has a text'
-        if answered != (1 if subcommand == 'check' else len(lines_of(text))):
-            yield f'{answered} lines were written'
-        return
-    fault = FAULT.fullmatch(errors)
-    if not fault:
-        yield f'standard error has {errors!r}'
-        return
-    line = int(fault[3])
-    # Names and identities that clash are found after the last line where there is no event.
-    if line > len(lines_of(text)) + (subcommand != 'show' and fault[1] == b'807'):
-        yield f'fault {fault[1].decode()} at line {line} of {len(lines_of(text))}'
-    if (fault[1] == b'807') != bool(fault[2]) or fault[1] in (b'801', b'802', b'804', b'808'):
-        yield f'fault {errors!r}'
-    # Nodes are written at the first event.
-    if answered not in {'show': [line - 1], 'replay': [0, line - 1], 'check': [0]}[subcommand]:
-        yield f'{answered} lines were written before fault {fault[1].decode()} at line {line}'
+        if len(answers) != (1 if subcommand == 'check' else len(lines_of(text))):
+            yield f'{len(answers)} lines were written'
+    else:
+        fault = FAULT.fullmatch(errors)
+        if not fault:
+            yield f'standard error has {errors!r}'
+            return
+        line, number = int(fault[2]), fault[1].decode()
+        # Names and identities that clash are found after the last line where there is no event.
+        if line > len(lines_of(text)) + (number in ('807 (601)', '807 (602)')):
+            yield f'fault {number} at line {line} of {len(lines_of(text))}'
+        if f'fault {number}' not in SEEN[subcommand]:
+            yield f'fault {number}'
+        if len(answers) != answered_before(subcommand, text, number, line):
+            yield f'{len(answers)} lines were written before fault {number} at line {line}'
+    if subcommand == 'show' and (status, output, errors) != shown(text):
+        yield 'another answer than that of the reader'
+    if subcommand == 'replay':
+        yield from told.mistold(lines_of(text), answers)
+    if subcommand == 'check' and status != 3:
+        yield from misjudged(text, status, output)
+
+
+def misjudged(text, status, output):
+    """What is wrong with a verdict on this transcript, in words."""
+    reports = [line['n'] for _, line in told.reports(lines_of(text))]
+    verdict = VERDICT.fullmatch(output)
+    if not verdict or bool(verdict[2]) != bool(status):
+        yield f'status {status} with {output!r}'
+    elif verdict[1] and int(verdict[1]) != len(reports):
+        yield f'{output!r} of {len(reports)} reports'
+    elif verdict[2] and int(verdict[2]) not in reports:
+        yield f'{output!r}, where no report is'
+
+
+def start(subcommand, text):
+    """The status, standard output and standard error of the program."""
+    ended = subprocess.run([PROGRAM, subcommand], input=text, capture_output=True, timeout=20)
+    return ended.returncode, ended.stdout, ended.stderr
+
+
+def rejudged(transcript):
+    """What is wrong with the verdicts on what was replayed, as it is and with one result that is another."""
+    lines = lines_of(transcript)
+    reports = told.reports(lines)
+    verdicts = [(0, f'accepted {len(reports)}\n', lines)]
+    if reports:
+        rng = random.Random(transcript)
+        place, report = rng.choice(reports)
+        report['offset2'] = str(int(report['offset2']) + rng.choice([-1, 1]))
+        changed = [*lines[:place], told.compact(report).encode(), *lines[place + 1:]]
+        verdicts.append((1, f'refused event {report["n"]}: 706\n', changed))
+    for status, said, lines in verdicts:
+        answer = start('check', b''.join(line + b'\n' for line in lines))
+        if answer != (status, said.encode(), b''):
+            yield f'check answers {answer} in place of {said!r} to what was replayed'
+
+
+def name_of(subcommand, answer):
+    """What an answer is called that is as it should be."""
+    status, output, errors = answer
+    fault, verdict = FAULT.fullmatch(errors), VERDICT.fullmatch(output)
+    if fault:
+        return f'fault {fault[1].decode()}'
+    if verdict and subcommand == 'check':
+        return f'refused {verdict[3].decode()}' if verdict[2] else 'accepted' if int(verdict[1]) else 'accepted 0'
+    return 'with reports' if b'"out":"report"' in output else f'status {status}'
 
 
 def run(subcommand, text):
-    """How the program answers this input: a name of the answer, and what is wrong with it."""
+    """How the program answers this input: a name of the answer, what is wrong with it, and a transcript with reports, if it wrote one."""
     try:
-        ended = subprocess.run([PROGRAM, subcommand], input=text, capture_output=True, timeout=20)
+        answer = start(subcommand, text)
+        wrong = list(faults(subcommand, text, *answer))
+        if subcommand == 'replay' and not wrong and answer[0] == 0:
+            wrong = list(rejudged(answer[1]))
     except subprocess.TimeoutExpired:
-        return 'no end', ['no end within 20 s']
-    answer = ended.returncode, ended.stdout, ended.stderr
-    wrong = list(faults(subcommand, text, *answer))
-    if subcommand == 'show' and not wrong and answer != shown(text):
-        wrong.append('another answer than that of the reader')
-    fault = FAULT.fullmatch(ended.stderr)
-    return f'fault {fault[1].decode()}' if fault else f'status {ended.returncode}', wrong
+        return 'no end', ['no end within 20 s'], b''
+    except (ArithmeticError, AttributeError, LookupError, TypeError, ValueError) as error:
+        return 'no answer', [f'lines that cannot be read: {error!r}'], b''
+    name = 'wrong' if wrong else name_of(subcommand, answer)
+    return name, wrong, answer[1] if name == 'with reports' else b''
 
 
 def files_for(subcommand):
@@ -136,26 +217,32 @@ def files_for(subcommand):
     return [text for text in texts if kinds[subcommand](text)]
 
 
-def try_all(subcommand, count):
-    """Runs so many inputs, and answers how many had which answer."""
-    maker = {'show': inputs.datagrams, 'replay': inputs.schedules, 'check': inputs.objects}[subcommand]
-    made = inputs.inputs(SEED, maker, files_for(subcommand), count)
-    seen = collections.Counter()
+def try_all(subcommand, count, files):
+    """Runs so many inputs, and answers how many had which answer, and some of what was written with reports."""
+    maker = {'show': inputs.datagrams, 'replay': inputs.schedules, 'check': inputs.transcripts}[subcommand]
+    made = inputs.inputs(SEED, maker, files, count)
+    seen, reported = collections.Counter(), []
     with concurrent.futures.ThreadPoolExecutor(AT_ONCE) as pool:
         # A few at a time, since a run's memory counts what this script holds when it begins.
-        while batch := list(itertools.islice(made, 200)):
-            for text, (name, wrong) in zip(batch, pool.map(lambda text: run(subcommand, text), batch)):
+        while batch := list(itertools.islice(made, 100)):
+            for text, (name, wrong, output) in zip(batch, pool.map(lambda text: run(subcommand, text), batch)):
                 if wrong:
                     kept = TOP / 'crates/ptpx/out/hostile'
                     kept.write_bytes(text)
-                    sys.exit(f'hostile: {subcommand}: {"; ".join(wrong)}; the input is {kept}')
+                    sys.exit(f'hostile: {subcommand}: {"; ".join(wrong[:3])}; the input is {kept}')
                 seen[name] += 1
-    return seen
+                if output and len(reported) < TRANSCRIPTS:
+                    reported.append(output)
+    unseen = [name for name in SEEN[subcommand] if name not in seen]
+    if unseen:
+        sys.exit(f'hostile: {subcommand}: no input had {", ".join(unseen)}, of {dict(seen)}')
+    return seen, reported
 
 
 def main():
+    reported = []
     for subcommand in SUBCOMMANDS:
-        seen = try_all(subcommand, INPUTS // len(SUBCOMMANDS))
+        seen, reported = try_all(subcommand, INPUTS // len(SUBCOMMANDS), files_for(subcommand) + reported)
         print(f'hostile: {subcommand}:', ', '.join(f'{count} {name}' for name, count in sorted(seen.items())))
     memory = resource.getrusage(resource.RUSAGE_CHILDREN).ru_maxrss
     if memory > MEMORY:

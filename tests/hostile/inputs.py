@@ -205,7 +205,15 @@ def happen(rng, kind, place, world):
     elif kind == 'setmaster':
         event['master'] = rng.choice('MN')
     elif kind == 'stepclock':
-        event['diff'] = rng.choice(['0', '1', '-1', '65536000', '-65536000'])
+        # The last two leave the clock without a moment that it could read, now and then.
+        event['diff'] = rng.choice(['0', '1', '-1', '65536000', '-65536000'] * 8 + ['-' + '9' * 17, '9' * 32])
+    return event
+
+
+def settle(rng, event, place, world):
+    """The event at its time, and the world after it."""
+    copies, _, waits, time = world
+    kind, node = event['ev'], event['node']
     if kind in ('sync', 'syncone', 'request', 'enter', 'leave', 'arrive'):
         event['at'] = [time // 10**9, time % 10**9, rng.randrange(65536)]
     if kind in ('sync', 'syncone', 'follow', 'request', 'leave') or kind == 'arrive' and node in 'MN':
@@ -217,13 +225,50 @@ def happen(rng, kind, place, world):
     return event
 
 
+def exchange(rng):
+    """The events of a whole exchange, in which copies and transits go by their places in it."""
+    master, slave = rng.choice('MN'), rng.choice('SR')
+    steps = [{'ev': 'setmaster', 'node': slave, 'master': master}]
+
+    def go(kind, sender, receiver):
+        steps.append({'ev': kind, 'node': sender})
+        for clock in rng.sample('TU', rng.randint(0, 2)):
+            steps.append({'ev': 'enter', 'node': clock, 'copy': len(steps) - 1})
+            steps.append({'ev': 'leave', 'node': clock, 'transit': len(steps) - 1})
+        steps.append({'ev': 'arrive', 'node': receiver, 'copy': len(steps) - 1})
+        return len(steps) - 1
+
+    kind = rng.choice(['sync', 'syncone'])
+    go(kind, master, slave)
+    if kind == 'sync':
+        steps.append({'ev': 'follow', 'node': master})
+        steps.append({'ev': 'hear', 'node': slave, 'copy': len(steps) - 1})
+    answer = go('request', slave, master)
+    return [*steps, {'ev': 'stamped', 'node': slave}, {'ev': 'hear', 'node': slave, 'copy': answer}]
+
+
 def walk(rng):
-    """A schedule in which most events can happen."""
-    lines, copies, stays, waits, time = list(NODES), [], [], set(), 10**9
-    for place in range(rng.choice([5, 20, 80])):
-        time += rng.choice([1, 500, 10**9])
-        lines.append(happen(rng, rng.choice(EVENTS), place, (copies, stays, waits, time)))
-    return [json.dumps(line).encode() for line in lines]
+    """A schedule in which most events can happen, with some whole exchanges among them."""
+    events, copies, stays, waits, time = [], [], [], set(), 10**9
+    for _ in range(rng.choice([5, 20, 80])):
+        steps, places = [None], []
+        if rng.random() < 0.1:
+            # Now and then another event is among them.
+            steps = [step for one in exchange(rng) for step in ([None, one] if rng.random() < 0.2 else [one])]
+        for step in steps:
+            time += rng.choice([1, 500, 10**9])
+            world, place = (copies, stays, waits, time), len(events)
+            if step:
+                event = step | {key: places[step[key]] for key in ('copy', 'transit') if key in step}
+                places.append(place)
+            else:
+                event = happen(rng, rng.choice(EVENTS), place, world)
+            events.append(settle(rng, event, place, world))
+    nodes = list(NODES)
+    if rng.random() < 0.02:
+        # Two nodes of one name, or two ports of one identity.
+        nodes.insert(rng.randint(0, 6), rng.choice(nodes[:4]) | rng.choice([{}, {'node': 'Z'}]))
+    return [json.dumps(line).encode() for line in nodes + events]
 
 
 def schedules(rng, files):
@@ -244,6 +289,44 @@ def objects(rng, files):
         lines.insert(rng.randint(0, len(lines)), b' ' * rng.choice([4095, 4096, 4097]))
     text = join(rng, lines, 0.1)
     return change_octets(rng, text) if rng.random() < 0.2 else text
+
+
+def retell(rng, line):
+    """A line of a transcript in which one value is another of its kind."""
+    line = json.loads(line)
+    keys = [key for key in ('at', 'copy', 'hex', 'id', 'master', 'offset2', 'path2', 'reading', 'tags', 'transit') if key in line]
+    key = rng.choice(keys or ['node'])
+    if key == 'at':
+        # The clock read what it was, so much later.
+        later = rng.choice([1, 150_000])
+        line['at'][0] += later
+        line['reading'][0] += later
+    elif key == 'reading':
+        line[key][2] ^= 1
+    elif key == 'hex':
+        place = rng.randrange(len(line[key]))
+        line[key] = line[key][:place] + rng.choice('0123456789abcdef') + line[key][place + 1:]
+    elif key == 'tags':
+        line[key][rng.randrange(4)] = rng.randrange(line['n'] + 1)
+    elif key in ('offset2', 'path2'):
+        line[key] = str(int(line[key]) + rng.choice([-1, 1, 2**16]))
+    elif key == 'master':
+        line[key] = rng.choice('MN')
+    elif key == 'id':
+        line[key] = line[key][:-1] + rng.choice('0123')
+    elif key in ('copy', 'transit'):
+        line[key] = rng.randrange(line['n'])
+    return json.dumps(line).encode()
+
+
+def transcripts(rng, files):
+    """A transcript in which one value is another, or one that is changed in any way."""
+    if rng.random() < 0.5:
+        return objects(rng, files)
+    lines = rng.choice(files).splitlines()
+    place = rng.randrange(len(lines))
+    lines[place] = retell(rng, lines[place])
+    return b'\n'.join(lines)
 
 
 def inputs(seed, maker, files, count):

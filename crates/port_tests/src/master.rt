@@ -235,6 +235,11 @@ fn takes_the_fraction_off_the_correction(rt: HostRuntime) -> Result<(), Fail> {
             .ok_or(MasterRefusal::CorrectionTooLow);
         assert_eq!(rt; answer, expected, "{correction} - {fraction}");
     }
+    // Too big stays too big, at 1 s and five units.
+    let answer = port.delay_req(&with_correction(DELAY_REQ, i64::MAX), moment(1, 0, 5)?);
+    let stamp = [(39, 0x01), (42, 0x00), (43, 0x00)];
+    let expected = changed(with_correction(DELAY_RESP, i64::MAX), &stamp);
+    assert_eq!(rt; answer, Ok(expected));
     Ok(())
 }
 

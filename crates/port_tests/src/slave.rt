@@ -506,11 +506,11 @@ fn octets_that_are_no_message_are_ignored(rt: HostRuntime) {
     assert_eq!(rt; code(heard), Some(501));
     octets[0] = 0x0b;
     octets[1] = 0x12;
-    let heard = slave_of(None).general(&octets, 1);
-    assert_eq!(rt;
-        heard,
-        Heard::Ignored(Reason::Decode(DecodeRefusal::OtherType(11)))
-    );
+    let other = Heard::Ignored(Reason::Decode(DecodeRefusal::OtherType(11)));
+    let heard = slave_of(None).sync(&octets, ScaledTime::default(), 1);
+    assert_eq!(rt; heard, other);
+    assert_eq!(rt; code(heard), Some(501));
+    assert_eq!(rt; slave_of(None).general(&octets, 1), other);
 }
 
 /// What a slave of this master answers to a message on its event port.
