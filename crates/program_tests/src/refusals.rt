@@ -250,7 +250,7 @@ fn of_the_checker(rt: HostRuntime) -> Result<(), Fail> {
             ),
             (
                 Why::BrokenJourney,
-                "the way of the Sync or of the Delay_Req can't be followed back to where it was sent",
+                "the way of the Sync or of the Delay_Req can't be followed back to where it was sent, or a stay on it was left twice",
             ),
             (
                 Why::WrongReading,

@@ -2,7 +2,8 @@ ghost use Rattle.std.specs.Prelude.{◌≡◌};
 
 use thiserror::Error;
 
-/// Why a report isn't sound. A line is called by the number of lines before it.
+/// Why a report isn't sound: the first of these that applies, tried in the order 701, 704, 702, 703,
+/// 705, 707, 706, 708. A line is called by the number of lines before it.
 #[derive(Clone, Copy, Debug, PartialEq, Eq, Error)]
 pub enum Why {
     /// A tag of the report isn't the number of a line as the report needs it, or no line tells when
@@ -15,8 +16,9 @@ pub enum Why {
     /// The messages aren't of the slave's present master, or came before it was told this master.
     #[error("a message isn't of the present master of the slave, or came before the slave was told this master")]
     OtherMaster,
-    /// The way of the Sync or of the Delay_Req can't be followed back to where it was sent.
-    #[error("the way of the Sync or of the Delay_Req can't be followed back to where it was sent")]
+    /// The way of the Sync or of the Delay_Req can't be followed back to where it was sent, or a stay
+    /// on it was left twice.
+    #[error("the way of the Sync or of the Delay_Req can't be followed back to where it was sent, or a stay on it was left twice")]
     BrokenJourney,
     /// A reading isn't the one of the node's clock, or isn't there, or a clock read less at the end
     /// of a stay than at its beginning.
