@@ -1,8 +1,7 @@
 -- Octets of a copy, as a port reads them.
-use Rattle.std.proofs.Common.{◌≡◌, ℕ, List, length, Option, Some, None, Ok, sym, ap, refl, subst, arith}
-use Rattle.std.proofs.lemmas.List.{length-drop, take_all}
+use Rattle.std.proofs.Common.{◌≡◌, ℕ, List, length, Option, Some, None, Ok, sym, refl, subst, arith}
+use Rattle.std.proofs.lemmas.List.{take_all}
 use Rattle.event_codec.specs.Packet.{Contents, Packet}
-use Rattle.event_codec.specs.Layout.{type_of, fields_length}
 use Rattle.event_codec.specs.Reading.{IsReading}
 use Rattle.event_codec.specs.Refusal.{message_length}
 use Rattle.event_codec.proofs.Lengths.{length-Packet}
