@@ -158,12 +158,11 @@ class Launcher(unittest.TestCase):
         self.assertEqual((ran.returncode, ran.stdout, self.calls()), (3, '', []))
         self.assertIn('less than 64 MiB', ran.stderr)
 
-    def test_refuses_a_folder_as_input(self):
-        folder = os.open('/', os.O_RDONLY)
-        ran = self.call('ptpx', 'show', input=None, stdin=folder)
-        os.close(folder)
-        self.assertEqual((ran.returncode, ran.stdout), (3, ''))
-        self.assertIn("can't be read", ran.stderr)
+    def test_refuses_input_that_cannot_be_read(self):
+        for input in ('/', '&-'):
+            ran = subprocess.run(['sh', '-c', f'./ptpx show <{input}'], cwd=self.top, env=self.environment(), capture_output=True, text=True)
+            self.assertEqual((ran.returncode, ran.stdout), (3, ''))
+            self.assertIn("standard input can't be read", ran.stderr)
 
     def test_says_that_output_is_full(self):
         with open('/dev/full', 'w') as full:
