@@ -1,6 +1,6 @@
 //! Devices that count their failures, the reader that reads ahead, and the numbers of faults.
 
-use crate::devices::{Failing, Full, Pieces};
+use crate::devices::{Failing, Full, Pieces, WRITE_FAILURES};
 use network_model::WorldRefusal;
 use schedule_replay::{Counted, FaultKind, OctetReader};
 use std::io::{ErrorKind, Read, Write};
@@ -8,27 +8,54 @@ use std::test::Fail;
 
 #[test]
 fn devices_count_their_failures(rt: HostRuntime) -> Result<(), Fail> {
-    let mut octets = [0; 3];
-    let mut reader = Counted::new(Failing::new(b"ab", ErrorKind::UnexpectedEof));
-    assert_eq!(rt; reader.read(&mut octets)?, 2);
-    assert_eq!(rt; octets, *b"ab\0");
-    assert_eq!(rt; reader.failures(), 0);
-    assert!(rt; reader.read(&mut octets).is_err());
-    assert!(rt; reader.read_exact(&mut octets).is_err());
-    assert_eq!(rt; reader.failures(), 2);
+    for kind in [ErrorKind::UnexpectedEof, ErrorKind::Interrupted] {
+        let mut octets = [0; 3];
+        let mut reader = Counted::new(Failing::new(b"abc", 2, kind));
+        assert_eq!(rt; reader.read(&mut octets)?, 2);
+        assert_eq!(rt; octets, *b"ab\0");
+        assert_eq!(rt; reader.failures(), 0);
+        assert!(rt; reader.read(&mut octets).is_err());
+        assert_eq!(rt; reader.failures(), 1);
+        assert_eq!(rt; reader.read(&mut octets)?, 1, "it goes on");
+        assert_eq!(rt; octets, *b"cb\0");
+        assert_eq!(rt; reader.failures(), 1);
+    }
 
     // An error, and a write that takes nothing; a flush isn't counted.
-    for kind in [Some(ErrorKind::BrokenPipe), None] {
+    for kind in WRITE_FAILURES {
         let mut writer = Counted::new(Full::new(Vec::new(rt.alloc()), 1, kind));
         assert_eq!(rt; writer.write(b"ab")?, 2);
         assert_eq!(rt; writer.failures(), 0);
         assert_eq!(rt; writer.write(b"cd").is_err(), kind.is_some());
         assert_eq!(rt; writer.failures(), 1);
-        assert!(rt; writer.write_all(b"cd").is_err());
-        assert_eq!(rt; writer.failures(), 2);
         assert_eq!(rt; writer.flush().is_err(), kind.is_some());
-        assert_eq!(rt; writer.failures(), 2);
-        assert_eq!(rt; writer.into_inner().text(), b"ab".as_slice());
+        assert_eq!(rt; writer.failures(), 1);
+        writer.write_all(b"ef")?;
+        assert_eq!(rt; writer.failures(), 1);
+        assert_eq!(rt; writer.into_inner().text(), b"abef".as_slice());
+
+        let mut writer = Counted::new(Full::new(Vec::new(rt.alloc()), 0, kind));
+        assert!(rt; writer.write_all(b"ab").is_err());
+        assert_eq!(rt; writer.failures(), 1);
+        assert_eq!(rt; writer.into_inner().text(), b"".as_slice());
+    }
+    Ok(())
+}
+
+#[test]
+fn an_octet_reader_fails_as_its_source_and_goes_on(rt: HostRuntime) -> Result<(), Fail> {
+    for kind in [ErrorKind::UnexpectedEof, ErrorKind::Interrupted] {
+        let mut source = Counted::new(Failing::new(b"abc", 2, kind));
+        let mut reader = OctetReader::new(&mut source);
+        let mut room = [0];
+        for octet in *b"ab" {
+            assert_eq!(rt; reader.read(&mut room)?, 1);
+            assert_eq!(rt; room[0], octet);
+        }
+        assert!(rt; reader.read(&mut room).is_err());
+        assert_eq!(rt; reader.read(&mut room)?, 1);
+        assert_eq!(rt; room[0], b'c');
+        assert_eq!(rt; source.failures(), 1);
     }
     Ok(())
 }

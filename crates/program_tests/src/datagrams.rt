@@ -166,13 +166,3 @@ pub(crate) const REFUSED: [(&str, &str); 9] = [
         "refused 206",
     ),
 ];
-
-/// Lines of an input, and what is written for them.
-pub(crate) const LINES: (&[u8], &[u8]) = (
-    b"0112002c0000000000000000000000000000000000aabbfffeccddee00010000017f00000000000000000000\n\
-    \n\
-    0912003600000000000000000dac000000000000001122fffe3344550001000003000000000000020000119400aabbfffeccddee0001\n",
-    b"Delay_Req sdo=000 version=2.1 domain=0 flags=0000 correction=0 specific=00000000 source=00aabbfffeccddee/1 seq=0 control=1 log=127 stamp=0.000000000 suffix=0 used=44\n\
-    refused 201\n\
-    Delay_Resp sdo=000 version=2.1 domain=0 flags=0000 correction=229376000 specific=00000000 source=001122fffe334455/1 seq=0 control=3 log=0 stamp=2.000004500 requesting=00aabbfffeccddee/1 suffix=0 used=54\n",
-);

@@ -3,25 +3,45 @@
 use std::io;
 use std::io::{Error, ErrorKind, Read, Write};
 
-/// Gives its octets and then fails.
+/// How many lines end in these octets.
+pub(crate) fn lines_in(octets: &[u8]) -> usize {
+    octets.iter().filter(|octet| **octet == b'\n').count()
+}
+
+/// Gives its octets, fails once, and goes on with the rest.
 #[derive(Drop)]
 pub(crate) struct Failing<'a> {
     octets: &'a [u8],
-    kind: ErrorKind,
+    rest: &'a [u8],
+    kind: Option<ErrorKind>,
 }
 
 impl<'a> Failing<'a> {
-    pub(crate) fn new(octets: &'a [u8], kind: ErrorKind) -> Self {
-        Failing { octets, kind }
+    /// Fails after so many octets.
+    pub(crate) fn new(octets: &'a [u8], given: usize, kind: ErrorKind) -> Self {
+        let (octets, rest) = octets.split_at_checked(given).unwrap_or((octets, &[]));
+        Failing {
+            octets,
+            rest,
+            kind: Some(kind),
+        }
+    }
+
+    /// What it has still to give.
+    pub(crate) fn left(&self) -> usize {
+        self.octets.len().saturating_add(self.rest.len())
     }
 }
 
 impl Read for Failing<'_> {
     fn read(&mut self, buf: &mut [u8]) -> io::Result<usize> {
-        if self.octets.is_empty() {
-            return Err(Error::from(self.kind));
+        if !self.octets.is_empty() {
+            return self.octets.read(buf);
         }
-        self.octets.read(buf)
+        match self.kind.take() {
+            Some(kind) => Err(Error::from(kind)),
+            None => self.rest.read(buf),
+        }
     }
 }
 
@@ -80,7 +100,14 @@ impl Read for Endless {
     }
 }
 
-/// Takes this many writes, and then fails or takes nothing.
+/// How a write fails: by an error, or by taking nothing.
+pub(crate) const WRITE_FAILURES: [Option<ErrorKind>; 3] = [
+    Some(ErrorKind::BrokenPipe),
+    Some(ErrorKind::Interrupted),
+    None,
+];
+
+/// Takes this many writes, then fails once or takes nothing once, and goes on.
 #[derive(Drop)]
 pub(crate) struct Full {
     text: Vec<u8>,
@@ -107,11 +134,12 @@ impl Full {
 
 impl Write for Full {
     fn write(&mut self, buf: &[u8]) -> io::Result<usize> {
-        if self.room > 0 {
-            self.room -= 1;
-            return self.text.write(buf);
+        if self.room == 0 {
+            self.room = usize::MAX;
+            return self.failure().map(|()| 0);
         }
-        self.failure().map(|()| 0)
+        self.room -= 1;
+        self.text.write(buf)
     }
 
     fn flush(&mut self) -> io::Result<()> {
@@ -142,45 +170,6 @@ impl Write for Tally<'_> {
             return Err(Error::from(ErrorKind::InvalidData));
         }
         self.count = self.count.saturating_add(1);
-        Ok(buf.len())
-    }
-
-    fn flush(&mut self) -> io::Result<()> {
-        Ok(())
-    }
-}
-
-/// Takes whole lines of one text, and fails at any others.
-#[derive(Drop)]
-pub(crate) struct Expecting<'a> {
-    rest: &'a [u8],
-    lines: u64,
-}
-
-impl<'a> Expecting<'a> {
-    pub(crate) fn new(text: &'a [u8]) -> Self {
-        Expecting {
-            rest: text,
-            lines: 0,
-        }
-    }
-
-    pub(crate) fn lines(&self) -> u64 {
-        self.lines
-    }
-
-    pub(crate) fn is_done(&self) -> bool {
-        self.rest.is_empty()
-    }
-}
-
-impl Write for Expecting<'_> {
-    fn write(&mut self, buf: &[u8]) -> io::Result<usize> {
-        let Some(rest) = self.rest.strip_prefix(buf) else {
-            return Err(Error::from(ErrorKind::InvalidData));
-        };
-        self.rest = rest;
-        self.lines = self.lines.saturating_add(1);
         Ok(buf.len())
     }
 

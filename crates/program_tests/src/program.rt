@@ -1,5 +1,6 @@
 //! The whole program: statuses, and where its texts go.
 
+use crate::devices::Full;
 use schedule_replay::{Counted, command};
 use std::alloc::Global;
 use std::io::{Error, ErrorKind, Read, Write};
@@ -35,13 +36,13 @@ impl Write for Broken {
 
 /// What the program answered and wrote.
 #[derive(Drop)]
-struct Ended {
-    status: u8,
-    output: Vec<u8>,
-    errors: Vec<u8>,
+pub(crate) struct Ended {
+    pub(crate) status: u8,
+    pub(crate) output: Vec<u8>,
+    pub(crate) errors: Vec<u8>,
 }
 
-fn run(alloc: Global, line: &str, input: &[u8]) -> Result<Ended, Fail> {
+pub(crate) fn run(alloc: Global, line: &str, input: &[u8]) -> Result<Ended, Fail> {
     let mut arguments = Vec::new(alloc);
     for argument in line.split(' ') {
         arguments.push(String::from_str(alloc, argument)?)?;
@@ -195,14 +196,20 @@ fn says_which_device_failed(rt: HostRuntime) -> Result<(), Fail> {
     );
 
     errors.clear();
+    let mut full = Counted::new(Full::new(Vec::new(alloc), 0, None));
     let status = command(
         alloc,
         &help,
         &mut Counted::new(SYNC),
-        &mut Counted::new(Broken),
+        &mut full,
         &mut errors,
     );
     assert_eq!(rt; status, 3);
+    assert_eq!(rt;
+        full.into_inner().text(),
+        b"".as_slice(),
+        "it isn't tried again"
+    );
     assert_eq!(rt;
         errors.as_slice(),
         b"ptpx: fault 802 at line 0\n".as_slice()

@@ -1,6 +1,6 @@
 //! `replay` over schedules and devices of all kinds.
 
-use crate::devices::{Endless, Failing, Full};
+use crate::devices::{Endless, Failing, Full, WRITE_FAILURES, lines_in};
 use network_model::WorldRefusal;
 use schedule_replay::{Counted, Fault, FaultKind, OctetReader, replay};
 use std::alloc::Global;
@@ -159,10 +159,12 @@ fn refuses_what_is_no_json(rt: HostRuntime) -> Result<(), Fail> {
 }
 
 #[test]
-fn refuses_deep_nesting(rt: HostRuntime) -> Result<(), Fail> {
+fn refuses_deep_nesting_and_blanks(rt: HostRuntime) -> Result<(), Fail> {
     let mut line = vec![in rt.alloc(); b'['; 200]?;
     line.extend_from_slice(vec![in rt.alloc(); b']'; 200]?.as_slice())?;
-    assert_replayed(&rt, line.as_slice(), &[], fault(1, FaultKind::Json))
+    assert_replayed(&rt, line.as_slice(), &[], fault(1, FaultKind::Json))?;
+    assert_replayed(&rt, &[b' '; 4096], &[], fault(1, FaultKind::Json))?;
+    assert_replayed(&rt, &[b' '; 4097], &[], fault(1, FaultKind::LineTooLong))
 }
 
 /// Lines that are neither nodes nor events.
@@ -288,21 +290,24 @@ fn stops_where_the_reader_fails(rt: HostRuntime) -> Result<(), Fail> {
     let text = joined(rt.alloc(), &SCHEDULE)?;
     let schedule = text.as_bytes();
     for given in 0..=schedule.len() {
-        let octets = &schedule[..given];
-        let ended = octets.iter().filter(|octet| **octet == b'\n').count();
-        let device = Failing::new(octets, ErrorKind::Interrupted);
-        let mut reader = Counted::new(OctetReader::new(device));
-        let mut writer = Counted::new(Vec::new(rt.alloc()));
-        let answer = replay(rt.alloc(), &mut reader, &mut writer);
-        let wanted = fault((ended as u64).saturating_add(1), FaultKind::Read);
-        assert_eq!(rt; answer, wanted, "{given}");
-        assert_eq!(rt; reader.failures(), 1, "{given}");
-        let lines = if ended > 3 { ended } else { 0 };
-        assert_eq!(rt;
-            writer.into_inner().as_slice(),
-            begun(rt.alloc(), lines)?.as_bytes(),
-            "{given}"
-        );
+        for kind in [ErrorKind::UnexpectedEof, ErrorKind::Interrupted] {
+            let ended = lines_in(&schedule[..given]);
+            let mut device = Failing::new(schedule, given, kind);
+            let mut reader = Counted::new(OctetReader::new(&mut device));
+            let mut writer = Counted::new(Vec::new(rt.alloc()));
+            let answer = replay(rt.alloc(), &mut reader, &mut writer);
+            let wanted = fault((ended as u64).saturating_add(1), FaultKind::Read);
+            assert_eq!(rt; answer, wanted, "{given}");
+            assert_eq!(rt; reader.failures(), 1, "{given}");
+            assert_eq!(rt; device.left(), schedule.len().saturating_sub(given));
+            let lines = if ended > 3 { ended } else { 0 };
+            let written = writer.into_inner();
+            assert_eq!(rt;
+                written.as_slice(),
+                begun(rt.alloc(), lines)?.as_bytes(),
+                "{given}"
+            );
+        }
     }
     Ok(())
 }
@@ -311,22 +316,24 @@ fn stops_where_the_reader_fails(rt: HostRuntime) -> Result<(), Fail> {
 fn stops_where_the_writer_fails(rt: HostRuntime) -> Result<(), Fail> {
     let schedule = joined(rt.alloc(), &SCHEDULE)?;
     for room in 0..=17usize {
-        let mut reader = Counted::new(schedule.as_bytes());
-        let mut writer = Counted::new(Full::new(Vec::new(rt.alloc()), room, None));
-        let answer = replay(rt.alloc(), &mut reader, &mut writer);
-        let wanted = if room < 17 {
-            fault((room as u64).max(3).saturating_add(1), FaultKind::Write)
-        } else {
-            Ok(14)
-        };
-        assert_eq!(rt; answer, wanted, "{room}");
-        assert_eq!(rt; writer.failures(), u64::from(room < 17), "{room}");
-        let written = writer.into_inner();
-        assert_eq!(rt;
-            written.text(),
-            begun(rt.alloc(), room)?.as_bytes(),
-            "{room}"
-        );
+        for kind in WRITE_FAILURES {
+            let mut reader = Counted::new(schedule.as_bytes());
+            let mut writer = Counted::new(Full::new(Vec::new(rt.alloc()), room, kind));
+            let answer = replay(rt.alloc(), &mut reader, &mut writer);
+            let wanted = if room < 17 {
+                fault((room as u64).max(3).saturating_add(1), FaultKind::Write)
+            } else {
+                Ok(14)
+            };
+            assert_eq!(rt; answer, wanted, "{room}");
+            assert_eq!(rt; writer.failures(), u64::from(room < 17), "{room}");
+            let written = writer.into_inner();
+            assert_eq!(rt;
+                written.text(),
+                begun(rt.alloc(), room)?.as_bytes(),
+                "{room}"
+            );
+        }
     }
     Ok(())
 }

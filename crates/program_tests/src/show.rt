@@ -1,10 +1,10 @@
 //! `show` over lines and devices of all kinds.
 
-use crate::datagrams::{EXCHANGE, FIELDS, LINES, RECORDED, REFUSED};
-use crate::devices::{Endless, Expecting, Failing, Full, Tally};
-use schedule_replay::{Counted, Fault, FaultKind, OctetReader, show};
+use crate::datagrams::{EXCHANGE, FIELDS, RECORDED, REFUSED};
+use crate::devices::{Endless, Failing, Full, Tally, WRITE_FAILURES, lines_in};
+use schedule_replay::{Counted, Fault, FaultKind, show};
 use std::alloc::Global;
-use std::io::{ErrorKind, Read};
+use std::io::ErrorKind;
 use std::process::Abort;
 use std::test::Fail;
 
@@ -251,38 +251,29 @@ fn ends_at_endless_lines(rt: HostRuntime) -> Result<(), Fail> {
 
 const SHORT: &[u8] = b"00\n\n\r\n0012\n0b\n";
 
-/// A reader that gives these octets and then fails is told as fault 801, after the lines that ended.
-fn assert_stops<R: Read + Drop>(
-    rt: &(impl Abort + AllocGlobal),
-    octets: &[u8],
-    reader: R,
-) -> Result<(), Fail> {
-    let ended = octets.iter().filter(|octet| **octet == b'\n').count();
-    let mut reader = Counted::new(reader);
-    let mut writer = Counted::new(Vec::new(rt.alloc()));
-    let answer = show(rt.alloc(), &mut reader, &mut writer);
-    let fault = Fault {
-        line: (ended as u64).saturating_add(1),
-        what: FaultKind::Read,
-    };
-    assert_eq!(rt; answer, Err(fault), "{octets:?}");
-    assert_eq!(rt; reader.failures(), 1, "{octets:?}");
-    assert_eq!(rt; writer.failures(), 0, "{octets:?}");
-    assert_eq!(rt;
-        writer.into_inner(),
-        short_answers(rt.alloc(), ended)?,
-        "{octets:?}"
-    );
-    Ok(())
-}
-
 #[test]
 fn stops_where_the_reader_fails(rt: HostRuntime) -> Result<(), Fail> {
     for given in 0..=SHORT.len() {
         for kind in [ErrorKind::UnexpectedEof, ErrorKind::Interrupted] {
-            let octets = &SHORT[..given];
-            assert_stops(&rt, octets, Failing::new(octets, kind))?;
-            assert_stops(&rt, octets, OctetReader::new(Failing::new(octets, kind)))?;
+            let ended = lines_in(&SHORT[..given]);
+            let mut device = Failing::new(SHORT, given, kind);
+            let mut reader = Counted::new(&mut device);
+            let mut writer = Counted::new(Vec::new(rt.alloc()));
+            let answer = show(rt.alloc(), &mut reader, &mut writer);
+            let line = (ended as u64).saturating_add(1);
+            assert_eq!(rt;
+                answer,
+                outcome_of(0, Some((line, FaultKind::Read))),
+                "{given}"
+            );
+            assert_eq!(rt; reader.failures(), 1, "{given}");
+            assert_eq!(rt; device.left(), SHORT.len().saturating_sub(given));
+            assert_eq!(rt; writer.failures(), 0, "{given}");
+            assert_eq!(rt;
+                writer.into_inner(),
+                short_answers(rt.alloc(), ended)?,
+                "{given}"
+            );
         }
     }
     Ok(())
@@ -291,11 +282,7 @@ fn stops_where_the_reader_fails(rt: HostRuntime) -> Result<(), Fail> {
 #[test]
 fn stops_where_the_writer_fails(rt: HostRuntime) -> Result<(), Fail> {
     for room in 0..=5 {
-        for kind in [
-            None,
-            Some(ErrorKind::BrokenPipe),
-            Some(ErrorKind::Interrupted),
-        ] {
+        for kind in WRITE_FAILURES {
             let mut reader = Counted::new(SHORT);
             let mut writer = Counted::new(Full::new(Vec::new(rt.alloc()), room, kind));
             let answer = show(rt.alloc(), &mut reader, &mut writer);
@@ -312,21 +299,4 @@ fn stops_where_the_writer_fails(rt: HostRuntime) -> Result<(), Fail> {
         }
     }
     Ok(())
-}
-
-/// Holds also where any one allocation is refused, as by `rt try --test --fail-alloc N`.
-#[test]
-fn refused_memory_is_a_fault_at_its_line(rt: HostRuntime) {
-    let (input, text) = LINES;
-    let mut reader = Counted::new(input);
-    let mut writer = Counted::new(Expecting::new(text));
-    let answer = show(rt.alloc(), &mut reader, &mut writer);
-    assert_eq!(rt; writer.failures(), 0);
-    let written = writer.into_inner();
-    let fault = Fault {
-        line: written.lines().saturating_add(1),
-        what: FaultKind::Memory,
-    };
-    let wanted = if written.is_done() { Ok(3) } else { Err(fault) };
-    assert_eq!(rt; answer, wanted);
 }

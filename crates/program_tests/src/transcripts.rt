@@ -1,12 +1,13 @@
 //! `check_text` over transcripts and devices of all kinds.
 
-use crate::devices::Full;
+use crate::devices::{Failing, Full, WRITE_FAILURES, lines_in};
+use crate::program::run;
 use crate::replay::{SCHEDULE, TRANSCRIPT, joined};
 use exchange_check::{Verdict, Why};
 use network_model::WorldRefusal;
 use schedule_replay::{Counted, Fault, FaultKind, check_text, replay};
 use std::alloc::Global;
-use std::process::Abort;
+use std::io::ErrorKind;
 use std::test::Fail;
 
 /// What `check_text` answers to these octets, and what it wrote.
@@ -66,51 +67,120 @@ fn accepts_where_nothing_is_reported(rt: HostRuntime) -> Result<(), Fail> {
     Ok(())
 }
 
+/// The place of a line, what is replaced in it by what, and the verdict on the exchange then.
+const CHANGES: [(usize, &str, &str, Why, &str); 14] = [
+    (
+        16,
+        "\"offset2\":\"131072000\"",
+        "\"offset2\":\"131072001\"",
+        Why::WrongValue,
+        "refused event 13: 706\n",
+    ),
+    (
+        16,
+        "\"offset2\":\"131072000\"",
+        "\"offset2\":\"131072002\"",
+        Why::WrongValue,
+        "refused event 13: 706\n",
+    ),
+    (
+        16,
+        "\"path2\":\"131072000\"",
+        "\"path2\":\"131071999\"",
+        Why::WrongValue,
+        "refused event 13: 706\n",
+    ),
+    (
+        16,
+        "[5,7,8,13]",
+        "[2,7,8,13]",
+        Why::NoSuchLine,
+        "refused event 13: 701\n",
+    ),
+    (
+        16,
+        "[5,7,8,13]",
+        "[5,7,8,18446744073709551615]",
+        Why::NoSuchLine,
+        "refused event 13: 701\n",
+    ),
+    (
+        4,
+        "\"M\"",
+        "\"T\"",
+        Why::OtherMaster,
+        "refused event 13: 703\n",
+    ),
+    (
+        6,
+        "\"copy\":2",
+        "\"copy\":4",
+        Why::BrokenJourney,
+        "refused event 13: 704\n",
+    ),
+    (
+        7,
+        "\"transit\":3",
+        "\"transit\":2",
+        Why::BrokenJourney,
+        "refused event 13: 704\n",
+    ),
+    (
+        13,
+        "\"transit\":9",
+        "\"transit\":3",
+        Why::BrokenJourney,
+        "refused event 13: 704\n",
+    ),
+    (
+        8,
+        "[1,4000,0]",
+        "[1,4001,0]",
+        Why::WrongReading,
+        "refused event 13: 705\n",
+    ),
+    (
+        7,
+        "07d00000",
+        "07d10000",
+        Why::Bytes,
+        "refused event 13: 708\n",
+    ),
+    (
+        9,
+        "0100000000",
+        "0200000000",
+        Why::Bytes,
+        "refused event 13: 708\n",
+    ),
+    (
+        7,
+        "[1,2500,0]",
+        "[140738,488355827,65535]",
+        Why::TooBig,
+        "refused event 13: 707\n",
+    ),
+    (
+        7,
+        "[1,2500,0]",
+        "[140738,488355827,65534]",
+        Why::WrongValue,
+        "refused event 13: 706\n",
+    ),
+];
+
 #[test]
 fn refuses_what_was_changed(rt: HostRuntime) -> Result<(), Fail> {
-    let cases: [(usize, &str, Why, &[u8]); 6] = [
-        (
-            6,
-            r#"{"at":[1,500,0],"copy":4,"ev":"enter","n":3,"node":"T","out":"entered","reading":[1,500,0]}"#,
-            Why::BrokenJourney,
-            b"refused event 13: 704\n",
-        ),
-        (
-            8,
-            r#"{"at":[1,3000,0],"copy":4,"ev":"arrive","n":5,"node":"S","out":"held","reading":[1,3000,0]}"#,
-            Why::WrongReading,
-            b"refused event 13: 705\n",
-        ),
-        (
-            9,
-            r#"{"ev":"follow","hex":"0812002c00000000000000000000000000000000001122fffe33445500010000020000000000000200000000","n":6,"node":"M","out":"made"}"#,
-            Why::Bytes,
-            b"refused event 13: 708\n",
-        ),
-        (
-            13,
-            r#"{"at":[2,4000,16384],"ev":"leave","hex":"0112002c00000000000000000dac40000000000000aabbfffeccddee00010000017f00000000000000000000","n":10,"node":"T","out":"made","reading":[2,4000,16384],"transit":3}"#,
-            Why::BrokenJourney,
-            b"refused event 13: 704\n",
-        ),
-        (
-            16,
-            r#"{"copy":11,"ev":"hear","n":13,"node":"S","offset2":"131072001","out":"report","path2":"131072000","tags":[5,7,8,13]}"#,
-            Why::WrongValue,
-            b"refused event 13: 706\n",
-        ),
-        (
-            16,
-            r#"{"copy":11,"ev":"hear","n":13,"node":"S","offset2":"131072000","out":"report","path2":"131072000","tags":[5,7,8,18446744073709551615]}"#,
-            Why::NoSuchLine,
-            b"refused event 13: 701\n",
-        ),
-    ];
-    for (place, other, why, said) in cases {
-        let transcript = changed(rt.alloc(), place, other)?;
+    for (place, old, new, why, said) in CHANGES {
+        let other = TRANSCRIPT[place].replace(rt.alloc(), old, new)?;
+        assert!(rt; other.as_str() != TRANSCRIPT[place], "{old}");
+        let transcript = changed(rt.alloc(), place, &other)?;
         let (answer, written) = checked(rt.alloc(), transcript.as_bytes());
-        assert_eq!(rt; answer, refused(why), "{other}");
-        assert_eq!(rt; written.as_slice(), said, "{other}");
+        assert_eq!(rt; answer, refused(why), "{new}");
+        assert_eq!(rt; written.as_slice(), said.as_bytes(), "{new}");
+        let ended = run(rt.alloc(), "ptpx check", transcript.as_bytes())?;
+        assert_eq!(rt; (ended.status, ended.errors.len()), (1, 0), "{new}");
+        assert_eq!(rt; ended.output.as_slice(), said.as_bytes(), "{new}");
     }
     Ok(())
 }
@@ -149,21 +219,47 @@ fn stops_at_ill_formed_lines(rt: HostRuntime) -> Result<(), Fail> {
 }
 
 #[test]
-fn refuses_deep_nesting(rt: HostRuntime) -> Result<(), Fail> {
+fn refuses_deep_nesting_and_blanks(rt: HostRuntime) -> Result<(), Fail> {
     let mut line = vec![in rt.alloc(); b'['; 200]?;
     line.extend_from_slice(vec![in rt.alloc(); b']'; 200]?.as_slice())?;
-    let (answer, written) = checked(rt.alloc(), line.as_slice());
-    assert_eq!(rt; answer, fault(1, FaultKind::Json));
-    assert_eq!(rt; written.len(), 0);
+    for octets in [line.as_slice(), &[b' '; 4096]] {
+        let (answer, written) = checked(rt.alloc(), octets);
+        assert_eq!(rt; answer, fault(1, FaultKind::Json));
+        assert_eq!(rt; written.len(), 0);
+    }
+    Ok(())
+}
+
+#[test]
+fn stops_where_the_reader_fails(rt: HostRuntime) -> Result<(), Fail> {
+    let text = joined(rt.alloc(), &TRANSCRIPT)?;
+    let transcript = text.as_bytes();
+    for given in (0..=transcript.len()).step_by(17) {
+        for kind in [ErrorKind::UnexpectedEof, ErrorKind::Interrupted] {
+            let line = (lines_in(&transcript[..given]) as u64).saturating_add(1);
+            let mut device = Failing::new(transcript, given, kind);
+            let mut reader = Counted::new(&mut device);
+            let mut writer = Counted::new(Vec::new(rt.alloc()));
+            let answer = check_text(rt.alloc(), &mut reader, &mut writer);
+            assert_eq!(rt; answer, fault(line, FaultKind::Read), "{given}");
+            assert_eq!(rt; reader.failures(), 1, "{given}");
+            assert_eq!(rt; device.left(), transcript.len().saturating_sub(given));
+            assert_eq!(rt; writer.into_inner().len(), 0, "{given}");
+        }
+    }
     Ok(())
 }
 
 #[test]
 fn stops_where_the_writer_fails(rt: HostRuntime) -> Result<(), Fail> {
     let transcript = joined(rt.alloc(), &TRANSCRIPT)?;
-    let mut reader = Counted::new(transcript.as_bytes());
-    let mut writer = Counted::new(Full::new(Vec::new(rt.alloc()), 0, None));
-    let answer = check_text(rt.alloc(), &mut reader, &mut writer);
-    assert_eq!(rt; answer, fault(18, FaultKind::Write));
+    for kind in WRITE_FAILURES {
+        let mut reader = Counted::new(transcript.as_bytes());
+        let mut writer = Counted::new(Full::new(Vec::new(rt.alloc()), 0, kind));
+        let answer = check_text(rt.alloc(), &mut reader, &mut writer);
+        assert_eq!(rt; answer, fault(18, FaultKind::Write));
+        assert_eq!(rt; writer.failures(), 1);
+        assert_eq!(rt; writer.into_inner().text(), b"".as_slice());
+    }
     Ok(())
 }
