@@ -49,7 +49,7 @@ slave S2 00aabbfffeccddff 0
 
 /// One exchange with a slave that is 1,000 ns ahead. The two cables take 500 ns, the clock 2,000 ns
 /// for the Sync and 3,500.25 ns for the Delay_Req.
-const ONE_EXCHANGE: &str = "
+pub(crate) const ONE_EXCHANGE: &str = "
 0 stepclock S 65536000 -> done
 1 setmaster S M -> done
 2 sync M [1,0,0] reads [1,0,0] -> made 0012002c00000200000000000000000000000000001122fffe33445500010000000000000000000000000000
@@ -67,7 +67,7 @@ const ONE_EXCHANGE: &str = "
 ";
 
 /// The Delay_Req takes a second way through the clock, which is slower, over a cable of 700 ns.
-const SECOND_ANSWER: &str = "
+pub(crate) const SECOND_ANSWER: &str = "
 14 enter T 8 [2,500,0] -> entered
 15 leave T 14 [2,9000,0] -> made
 16 arrive M 15 [2,9700,0] -> made

@@ -1,8 +1,9 @@
 //! Worked exchanges in a world, and runs that are too long for a script.
 
 use crate::exchanges::{
-    EXCHANGES, Exchange, LINE, PAIR, QUARTERS, REFUSED, SLAVES_AGREE, TICKED_IN_TIME,
-    TICKED_TOO_SELDOM, TURN_BEGINS, TURN_ENDS, TURN_ENDS_AFTER_TICKS, TWO_SLAVES, TWO_TICKS,
+    EXCHANGES, Exchange, LINE, ONE_EXCHANGE, PAIR, QUARTERS, REFUSED, SECOND_ANSWER, SLAVES_AGREE,
+    TICKED_IN_TIME, TICKED_TOO_SELDOM, TURN_BEGINS, TURN_ENDS, TURN_ENDS_AFTER_TICKS, TWO_SLAVES,
+    TWO_TICKS,
 };
 use crate::moments::moment;
 use crate::script::{nodes_of, read_row};
@@ -257,5 +258,42 @@ fn slaves_tell_the_true_time(rt: HostRuntime) -> Result<(), Fail> {
         let time = i128::try_from(moment(6, 0, 0)?.value())?;
         assert_eq!(rt; doubled.wrapping_sub(offset2), time, "{slave}");
     }
+    Ok(())
+}
+
+/// How long a message was on cables that was sent, came into a clock, left it and arrived by these events.
+fn on_cables(moments: &[i128], tags: [usize; 4]) -> Option<i128> {
+    let [sent, entered, left, arrived] = tags;
+    let stay = moments.get(left)?.wrapping_sub(*moments.get(entered)?);
+    let way = moments.get(arrived)?.wrapping_sub(*moments.get(sent)?);
+    Some(way.wrapping_sub(stay))
+}
+
+/// The Sync was 1,000 ns on cables, the Delay_Req of the second answer 1,200 ns, and the slave is
+/// 1,000 ns ahead.
+#[test]
+fn a_report_errs_by_the_difference_of_its_ways(rt: HostRuntime) -> Result<(), Fail> {
+    let mut world = world_of(rt.alloc(), LINE)?;
+    let mut moments = Vec::new(rt.alloc());
+    let mut last = None;
+    for script in [ONE_EXCHANGE, SECOND_ANSWER] {
+        for line in script.lines() {
+            if let Some((happens, _)) = line.split_once(" -> ") {
+                let event = read_row(happens)?.event;
+                let at = event.true_moment().unwrap_or_default();
+                moments.push(i128::try_from(at.value())?)?;
+                last = Some(world.step(&event)?.outcome);
+            }
+        }
+    }
+    let there = on_cables(&moments, [2, 3, 4, 5]).ok_or("no Sync")?;
+    let back = on_cables(&moments, [8, 14, 15, 16]).ok_or("no Delay_Req")?;
+    assert_eq!(rt; (there, back), (65_536_000, 78_643_200));
+    let Some(Outcome::Heard(Heard::Report(report))) = last else {
+        return Err(Fail::new("no report"));
+    };
+    let error = there.wrapping_sub(back);
+    assert_eq!(rt; report.offset2, i128::wrapping_add(131_072_000, error));
+    assert_eq!(rt; report.path2, there.wrapping_add(back));
     Ok(())
 }
