@@ -14,6 +14,8 @@ mod nodes;
 #[cfg(test)]
 mod script;
 #[cfg(test)]
+mod texts;
+#[cfg(test)]
 mod traces;
 #[cfg(test)]
 mod worlds;

@@ -150,7 +150,7 @@ fn plain(kind: &str, node: Name) -> Result<Event, Fail> {
     }
 }
 
-fn word<'a>(words: &mut Words<'a>) -> Result<&'a str, Fail> {
+pub(crate) fn word<'a>(words: &mut Words<'a>) -> Result<&'a str, Fail> {
     Ok(words.next().ok_or("a word is missing")?)
 }
 
