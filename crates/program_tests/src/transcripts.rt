@@ -172,8 +172,9 @@ const CHANGES: [(usize, &str, &str, Why, &str); 14] = [
 #[test]
 fn refuses_what_was_changed(rt: HostRuntime) -> Result<(), Fail> {
     for (place, old, new, why, said) in CHANGES {
-        let other = TRANSCRIPT[place].replace(rt.alloc(), old, new)?;
-        assert!(rt; other.as_str() != TRANSCRIPT[place], "{old}");
+        let line = TRANSCRIPT.get(place).ok_or("no line")?;
+        let other = line.replace(rt.alloc(), old, new)?;
+        assert!(rt; other.as_str() != *line, "{old}");
         let transcript = changed(rt.alloc(), place, &other)?;
         let (answer, written) = checked(rt.alloc(), transcript.as_bytes());
         assert_eq!(rt; answer, refused(why), "{new}");
