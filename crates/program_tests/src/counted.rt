@@ -16,9 +16,15 @@ fn devices_count_their_failures(rt: HostRuntime) -> Result<(), Fail> {
         assert_eq!(rt; reader.failures(), 0);
         assert!(rt; reader.read(&mut octets).is_err());
         assert_eq!(rt; reader.failures(), 1);
+        assert_eq!(rt;
+            reader.octets_given(),
+            2,
+            "and not those that were asked for"
+        );
         assert_eq!(rt; reader.read(&mut octets)?, 1, "it goes on");
         assert_eq!(rt; octets, *b"cb\0");
         assert_eq!(rt; reader.failures(), 1);
+        assert_eq!(rt; reader.octets_given(), 3);
     }
 
     // An error, and a write that takes nothing; a flush isn't counted.
