@@ -75,7 +75,7 @@ class Launcher(unittest.TestCase):
 
     def waits(self, holds):
         """Waits until that holds, but not for long."""
-        for _ in range(200):
+        for _ in range(1200):
             if holds():
                 return
             time.sleep(0.05)
@@ -188,7 +188,7 @@ class Launcher(unittest.TestCase):
         run.stdin.close()
         self.waits((self.stand_in / 'hangs').exists)
         os.killpg(run.pid, signal.SIGINT)
-        self.assertEqual((run.wait(timeout=20), run.stdout.read()), (130, ''))
+        self.assertEqual((run.wait(timeout=60), run.stdout.read()), (130, ''))
         self.assertEqual([it.read_text() for it in self.leftovers()], ['00\n'])
         run.stdout.close()
         run.stderr.close()
@@ -233,7 +233,7 @@ class Launcher(unittest.TestCase):
                 run = self.start('prove')
                 self.waits((self.stand_in / 'hangs').exists)
                 os.killpg(run.pid, number)
-                said = run.communicate(timeout=20)[0]
+                said = run.communicate(timeout=60)[0]
                 self.assertEqual(run.returncode, status)
                 self.assertEqual('goes on from here' in said, number != signal.SIGKILL)
         (self.stand_in / 'hang').unlink()
@@ -265,4 +265,6 @@ class Launcher(unittest.TestCase):
 
 
 if __name__ == '__main__':
+    # Where this runs in the background the shell has it ignore Ctrl-C, and what it starts would, too.
+    signal.signal(signal.SIGINT, signal.default_int_handler)
     unittest.main()
