@@ -216,22 +216,17 @@ fn exchanges_are_replayed_and_judged(rt: HostRuntime) -> Result<(), Fail> {
 }
 
 /// What happens before all numbers but one are drawn, and after; and the verdict, if it is a refusal.
-const TURNS: [(&[&str], &str, Option<&str>); 2] = [
-    (
-        &[TURN_BEGINS],
-        TURN_ENDS,
-        Some("refused event 65544: 702\n"),
-    ),
-    (&[TURN_BEGINS, TWO_TICKS], TURN_ENDS_AFTER_TICKS, None),
+const TURNS: [(&str, &str, Option<&str>); 2] = [
+    ("", TURN_ENDS, Some("refused event 65544: 702\n")),
+    (TWO_TICKS, TURN_ENDS_AFTER_TICKS, None),
 ];
 
 #[test]
 fn numbers_that_came_round_are_judged(rt: HostRuntime) -> Result<(), Fail> {
     for (before, after, verdict) in TURNS {
         let mut schedule = Schedule::new(rt.alloc(), PAIR)?;
-        for script in before {
-            schedule.tell(&rt, script)?;
-        }
+        schedule.tell(&rt, TURN_BEGINS)?;
+        schedule.tell(&rt, before)?;
         schedule.draw_syncs(65_535)?;
         schedule.tell(&rt, after)?;
         schedule.assert_judged(&rt, verdict)?;
