@@ -1,6 +1,8 @@
 """Holds ./ptpx and ./prove to their promises in a small repository, where the stand-in beside this is the command rt."""
+import contextlib
 import os
 import pty
+import re
 import shutil
 import signal
 import subprocess
@@ -26,6 +28,10 @@ echo "checked: no-answer: {}" >&2
 echo "run=no-answer proved=no" >&2
 exit 6
 """
+
+
+def free_memory():
+    return 1024 * int(re.search(r'MemAvailable:\s+(\d+)', Path('/proc/meminfo').read_text())[1])
 
 
 class Launcher(unittest.TestCase):
@@ -64,6 +70,10 @@ class Launcher(unittest.TestCase):
     def start(self, *words, **how):
         pipes = {'stdin': subprocess.PIPE, 'stdout': subprocess.PIPE, 'stderr': subprocess.PIPE, 'text': True}
         return subprocess.Popen([f'./{words[0]}', *words[1:]], cwd=self.top, env=self.environment(), start_new_session=True, **pipes, **how)
+
+    def kill(self, run):
+        with contextlib.suppress(ProcessLookupError):
+            os.killpg(run.pid, signal.SIGKILL)
 
     def calls(self):
         file = self.stand_in / 'calls'
@@ -186,6 +196,7 @@ class Launcher(unittest.TestCase):
         run = self.start('ptpx', 'show')
         run.stdin.write('00\n')
         run.stdin.close()
+        self.addCleanup(self.kill, run)
         self.waits((self.stand_in / 'hangs').exists)
         os.killpg(run.pid, signal.SIGINT)
         self.assertEqual((run.wait(timeout=60), run.stdout.read()), (130, ''))
@@ -194,6 +205,10 @@ class Launcher(unittest.TestCase):
         run.stderr.close()
 
     def test_proves_lowest_first_and_side_by_side(self):
+        if len(os.sched_getaffinity(0)) > 1 and free_memory() > 8e9:
+            (self.stand_in / 'meet').touch()
+        else:
+            print('passed over: side by side, which takes two processors and 8 GB of free memory')
         ran = self.call('prove')
         self.assertEqual(ran.returncode, 0, ran.stdout + ran.stderr)
         calls = self.calls()
@@ -231,11 +246,17 @@ class Launcher(unittest.TestCase):
                 (self.stand_in / 'hang').touch()
                 (self.stand_in / 'hangs').unlink(missing_ok=True)
                 run = self.start('prove')
+                self.addCleanup(self.kill, run)
                 self.waits((self.stand_in / 'hangs').exists)
+                # An impatient user presses Ctrl-C more than once.
+                os.killpg(run.pid, number)
                 os.killpg(run.pid, number)
                 said = run.communicate(timeout=60)[0]
                 self.assertEqual(run.returncode, status)
                 self.assertEqual('goes on from here' in said, number != signal.SIGKILL)
+                self.assertEqual((self.top / 'out/rooms').exists(), number == signal.SIGKILL)
+        self.assertEqual(self.call('prove', '--clear').returncode, 0)
+        self.assertFalse((self.top / 'out/rooms').exists())
         (self.stand_in / 'hang').unlink()
         (self.stand_in / 'calls').unlink()
         self.assertEqual(self.call('prove').returncode, 0)

@@ -1,7 +1,6 @@
 -- Octets have one answer of `show`, `replay` and `check_text`, where no device failed and no memory was refused.
-use Rattle.std.proofs.Common.{◌≡◌, ◌≢◌, ◌∙◌, ◌⊎◌, inl, inr, ℕ, ◌+◌, ◌<◌, List, [], ◌∷◌, ◌++◌, length, take, Option, Some, None, Ok, Err, refl, sym, ap, subst, arith}
+use Rattle.std.proofs.Common.{◌≡◌, ◌≢◌, ◌∙◌, ◌⊎◌, inl, inr, ℕ, ◌+◌, ◌<◌, List, [], ◌∷◌, ◌++◌, length, take, Option, Some, None, Ok, Err, append-nil, refl, sym, ap, subst, arith}
 use Rattle.std.specs.Prelude.{slice_get}
-use Rattle.std.specs.Option.{ForSome}
 use Rattle.std.specs.Io.KnownBytes.{Appends, Keeps}
 use Rattle.network_model.specs.Network.{Network}
 use Rattle.network_model.specs.Run.{Run}
@@ -17,7 +16,7 @@ use Rattle.schedule_replay.specs.Show.{ShowsLines, Shows, IsFaultAt, WentOutAs, 
 use Rattle.schedule_replay.specs.Replay.{nodes_text, WritesRun, WentOutBefore, ReplaysAll, ReplaysUntil, Replays, StopsAfter}
 use Rattle.schedule_replay.specs.CheckText.{recorded_in, verdict_text, MistakesAt, ChecksAll, ChecksUntil, Checks, StopsCheckAfter}
 use Rattle.schedule_replay.specs.Accepted.{IsOfDevice}
-use Rattle.schedule_replay.specs.OneAnswer.{HasOneAnswer}
+use Rattle.schedule_replay.specs.OneAnswer.{WroteOneText, HasOneAnswer}
 use Rattle.schedule_replay.proofs.OneReading.{all_taken}
 use Rattle.schedule_replay.proofs.OneText.{one_shown, faultless}
 use Rattle.schedule_replay.proofs.OneLine.{one_written}
@@ -27,18 +26,17 @@ use Rattle.schedule_replay.proofs.OneRecord as transcripts
 
 -- ---- what was written, and what is left
 
-same_output : (before after after' : Option (List ℕ)) (text text' : List ℕ) → Appends before after text → Appends before after' text' → text' ≡ text
-    → ForSome before (λ _. after' ≡ after)
-same_output None after after' text text' h k same = λ held known. absurd cc
-same_output (Some xs) None after' text text' h k same = absurd h
-same_output (Some xs) (Some ys) None text text' h k same = absurd k
-same_output (Some xs) (Some ys) (Some zs) text text' h k same = λ held known. ap Some (k ∙ ap (λ (t : List ℕ). xs ++ t) same ∙ sym h)
+same_output : (before after before' after' : Option (List ℕ)) (text text' : List ℕ) → Appends before after text → Appends before' after' text' → text' ≡ text
+    → WroteOneText before after before' after'
+same_output before after before' after' text text' h k same = (text, h, subst (Appends before' after') same k)
 
-same_kept : (before after after' : Option (List ℕ)) → Keeps before after → Keeps before after' → ForSome before (λ _. after' ≡ after)
-same_kept None after after' h k = λ held known. absurd cc
-same_kept (Some xs) None after' h k = absurd h
-same_kept (Some xs) (Some ys) None h k = absurd k
-same_kept (Some xs) (Some ys) (Some zs) h k = λ held known. ap Some (k ∙ sym h)
+nothing_appended : (before after : Option (List ℕ)) → Keeps before after → Appends before after []
+nothing_appended None after kept = kept
+nothing_appended (Some xs) None kept = kept
+nothing_appended (Some xs) (Some ys) kept = kept ∙ sym (append-nil xs)
+
+same_kept : (before after before' after' : Option (List ℕ)) → Keeps before after → Keeps before' after' → WroteOneText before after before' after'
+same_kept before after before' after' h k = ([], nothing_appended before after h, nothing_appended before' after' k)
 
 went_out : (kind : FaultKind) {A : Type 0} → (IsOfDevice kind → ⊥) → WentOutAs kind A → A
 went_out Write sure out = absurd (sure tt)
@@ -152,26 +150,26 @@ replay_left octets s t left left' stop stop' earlier earlier' sure sure' same pl
     absurd (omega (arith, inner, all, place))
 
 pub replays_one : HasOneAnswer Replays
-replays_one octets before left after left' after' (Ok events) (Ok events') one other sure sure' =
-    let same = schedules.one_schedule_end (lines_of octets) None None (all_replayed octets left before after events one) (all_replayed octets left' before after' events' other) in
+replays_one octets left before after left' before' after' (Ok events) (Ok events') one other sure sure' =
+    let same = schedules.one_schedule_end (lines_of octets) None None (all_replayed octets left before after events one) (all_replayed octets left' before' after' events' other) in
     let nodes : other.nodes ≡ one.nodes = ap (λ (s : schedules.Played). s.0) same.1 in
     let run : other.run ≡ one.run = ap (λ (s : schedules.Played). s.1) same.1 in
     let written = subst (λ (s : schedules.Played). WritesRun s.0 s.1 other.text) same.1 other.transcript in
     let text : other.text ≡ one.text = one_written one.nodes one.run other.text one.text written one.transcript in (
       ap Ok (other.count ∙ ap (λ (r : Run). length r) run ∙ sym one.count),
       other.input ∙ sym one.input,
-      same_output before after after' (nodes_text one.nodes ++ one.text) (nodes_text other.nodes ++ other.text) one.output other.output
+      same_output before after before' after' (nodes_text one.nodes ++ one.text) (nodes_text other.nodes ++ other.text) one.output other.output
           (λ i. nodes_text (nodes i) ++ text i),
     )
-replays_one octets before left after left' after' (Ok events) (Err stop) one other sure sure' =
-    let same = schedules.one_schedule_end (lines_of octets) None (Some stop.what) (all_replayed octets left before after events one) (replayed_until octets left' before after' stop other sure') in
+replays_one octets left before after left' before' after' (Ok events) (Err stop) one other sure sure' =
+    let same = schedules.one_schedule_end (lines_of octets) None (Some stop.what) (all_replayed octets left before after events one) (replayed_until octets left' before' after' stop other sure') in
     let end = same.2 in absurd cc
-replays_one octets before left after left' after' (Err stop) (Ok events) one other sure sure' =
-    let same = schedules.one_schedule_end (lines_of octets) (Some stop.what) None (replayed_until octets left before after stop one sure) (all_replayed octets left' before after' events other) in
+replays_one octets left before after left' before' after' (Err stop) (Ok events) one other sure sure' =
+    let same = schedules.one_schedule_end (lines_of octets) (Some stop.what) None (replayed_until octets left before after stop one sure) (all_replayed octets left' before' after' events other) in
     let end = same.2 in absurd cc
-replays_one octets before left after left' after' (Err stop) (Err stop') one other sure sure' =
+replays_one octets left before after left' before' after' (Err stop) (Err stop') one other sure sure' =
     let same = schedules.one_schedule_end (lines_of octets) (Some stop.what) (Some stop'.what) (replayed_until octets left before after stop one sure)
-    (replayed_until octets left' before after' stop' other sure') in
+    (replayed_until octets left' before' after' stop' other sure') in
     let what : stop'.what ≡ stop.what = kind_of stop.what stop'.what same.2 in
     let stopped : stop' ≡ stop = same_stop stop stop' one.earlier other.earlier one.line other.line same.0 what in
     let written = subst (λ (s : schedules.Played). WritesRun s.0 s.1 other.text) same.1 other.transcript in
@@ -180,7 +178,7 @@ replays_one octets before left after left' after' (Err stop) (Err stop') one oth
     let begun : other.begun ≡ one.begun = one_begun stop.what one.nodes one.run one.begun other.begun sure one.went_out went in (
       ap Err stopped,
       replay_left octets (one.nodes, one.run) (other.nodes, other.run) left left' stop stop' one.earlier other.earlier sure sure' stopped same.0 one.fault other.fault,
-      same_output before after after' (one.begun ++ one.text) (other.begun ++ other.text) (went_out stop.what sure one.output) (went_out stop'.what sure' other.output)
+      same_output before after before' after' (one.begun ++ one.text) (other.begun ++ other.text) (went_out stop.what sure one.output) (went_out stop'.what sure' other.output)
           (λ i. begun i ++ text i),
     )
 
@@ -242,29 +240,29 @@ check_left octets s t left left' stop stop' earlier earlier' sure sure' same pla
     absurd (omega (arith, inner, all, place))
 
 pub checks_one : HasOneAnswer Checks
-checks_one octets before left after left' after' (Ok answer) (Ok answer') one other sure sure' =
-    let same = transcripts.one_transcript_end (lines_of octets) None None (all_checked octets left before after answer one) (all_checked octets left' before after' answer' other) in
+checks_one octets left before after left' before' after' (Ok answer) (Ok answer') one other sure sure' =
+    let same = transcripts.one_transcript_end (lines_of octets) None None (all_checked octets left before after answer one) (all_checked octets left' before' after' answer' other) in
     let verdicts : answer' ≡ answer = other.verdict_is ∙ ap (λ (s : transcripts.Checked). verdict s.0 s.1) same.1 ∙ sym one.verdict_is in (
       ap Ok verdicts,
       other.input ∙ sym one.input,
-      same_output before after after' (verdict_text answer) (verdict_text answer') one.output other.output (ap verdict_text verdicts),
+      same_output before after before' after' (verdict_text answer) (verdict_text answer') one.output other.output (ap verdict_text verdicts),
     )
-checks_one octets before left after left' after' (Ok answer) (Err stop) one other sure sure' =
+checks_one octets left before after left' before' after' (Ok answer) (Err stop) one other sure sure' =
     let same = transcripts.one_transcript_end (lines_of octets) None (Some stop.what) (all_checked octets left before after answer one)
-    (checked_until octets left' before after' stop other sure') in
+    (checked_until octets left' before' after' stop other sure') in
     let end = same.2 in absurd cc
-checks_one octets before left after left' after' (Err stop) (Ok answer) one other sure sure' =
+checks_one octets left before after left' before' after' (Err stop) (Ok answer) one other sure sure' =
     let same = transcripts.one_transcript_end (lines_of octets) (Some stop.what) None (checked_until octets left before after stop one sure)
-    (all_checked octets left' before after' answer other) in
+    (all_checked octets left' before' after' answer other) in
     let end = same.2 in absurd cc
-checks_one octets before left after left' after' (Err stop) (Err stop') one other sure sure' =
+checks_one octets left before after left' before' after' (Err stop) (Err stop') one other sure sure' =
     let same = transcripts.one_transcript_end (lines_of octets) (Some stop.what) (Some stop'.what) (checked_until octets left before after stop one sure)
-    (checked_until octets left' before after' stop' other sure') in
+    (checked_until octets left' before' after' stop' other sure') in
     let what : stop'.what ≡ stop.what = kind_of stop.what stop'.what same.2 in
     let stopped : stop' ≡ stop = same_stop stop stop' one.earlier other.earlier one.line other.line same.0 what in (
       ap Err stopped,
       check_left octets (one.nodes, one.lines) (other.nodes, other.lines) left left' stop stop' one.earlier other.earlier sure sure' stopped same.0 one.fault other.fault,
-      same_kept before after after' (went_out stop.what sure one.output) (went_out stop'.what sure' other.output),
+      same_kept before after before' after' (went_out stop.what sure one.output) (went_out stop'.what sure' other.output),
     )
 
 -- ---- `show`
@@ -315,16 +313,16 @@ same_kind octets stop stop' earlier earlier' sure sure' place line line' fault f
     cc (its, both)
 
 pub shows_one : HasOneAnswer Shows
-shows_one octets before left after left' after' (Ok lines) (Ok lines') one other sure sure' = (
+shows_one octets left before after left' before' after' (Ok lines) (Ok lines') one other sure sure' = (
   ap Ok (other.count ∙ sym one.count),
   other.input ∙ sym one.input,
-  same_output before after after' one.text other.text one.output other.output (one_shown 1 (lines_of octets) other.text one.text other.shown one.shown),
+  same_output before after before' after' one.text other.text one.output other.output (one_shown 1 (lines_of octets) other.text one.text other.shown one.shown),
 )
-shows_one octets before left after left' after' (Ok lines) (Err stop) one other sure sure' =
+shows_one octets left before after left' before' after' (Ok lines) (Err stop) one other sure sure' =
     absurd (not_all_shown octets one.text other.earlier stop sure' other.line other.fault one.shown)
-shows_one octets before left after left' after' (Err stop) (Ok lines) one other sure sure' =
+shows_one octets left before after left' before' after' (Err stop) (Ok lines) one other sure sure' =
     absurd (not_all_shown octets other.text one.earlier stop sure one.line one.fault other.shown)
-shows_one octets before left after left' after' (Err stop) (Err stop') one other sure sure' =
+shows_one octets left before after left' before' after' (Err stop) (Err stop') one other sure sure' =
     let place : other.earlier ≡ one.earlier = neither_less other.earlier one.earlier
     (not_shown octets one.text other.earlier one.earlier stop' sure' other.line other.fault one.shown)
     (not_shown octets other.text one.earlier other.earlier stop sure one.line one.fault other.shown) in
@@ -333,6 +331,6 @@ shows_one octets before left after left' after' (Err stop) (Err stop') one other
     let shown = subst (λ (n : ℕ). ShowsLines 1 (take n (lines_of octets)) other.text) place other.shown in (
       ap Err stopped,
       same_left stop stop' one.earlier other.earlier octets left left' sure stopped place one.input other.input,
-      same_output before after after' one.text other.text (went_out stop.what sure one.output) (went_out stop'.what sure' other.output)
+      same_output before after before' after' one.text other.text (went_out stop.what sure one.output) (went_out stop'.what sure' other.output)
           (one_shown 1 (take one.earlier (lines_of octets)) other.text one.text shown one.shown),
     )
