@@ -10,7 +10,7 @@ use thiserror::Error;
 
 /// A fault that ended the reading of lines, and where. The display text says both in words.
 #[derive(Clone, Copy, Debug, PartialEq, Eq, Error)]
-#[error("fault {what} at line {line}: {}", .what.in_words())]
+#[error("fault {what} at line {line}: {}", InWords(*.what))]
 pub struct Fault {
     /// The line that was being read or answered, counted from 1. After the last line this is the
     /// number that the next one would have.
@@ -65,11 +65,6 @@ impl FaultKind {
             FaultKind::World(_) => 807,
             FaultKind::Memory => 808,
         }
-    }
-
-    /// What went wrong.
-    fn in_words(&self) -> InWords {
-        InWords(*self)
     }
 }
 

@@ -146,8 +146,12 @@ impl Schedule {
     ) -> Result<(), Fail> {
         let (answer, transcript) = replayed(rt.alloc(), &self.text);
         assert_eq!(rt; answer, Ok(self.told.len() as u64));
-        let answers = str::from_utf8(&transcript)?.lines().skip(self.nodes);
-        for (answer, line) in answers.zip(self.told.iter()) {
+        let lines = str::from_utf8(&transcript)?;
+        assert_eq!(rt;
+            lines.lines().count(),
+            self.nodes.saturating_add(self.told.len())
+        );
+        for (answer, line) in lines.lines().skip(self.nodes).zip(self.told.iter()) {
             assert_told(rt, answer, line)?;
         }
         let reports = self.told.iter().filter(|line| line.contains(" -> report "));
@@ -175,6 +179,14 @@ fn replayed(alloc: Global, text: &str) -> (Result<u64, Fault>, Vec<u8>) {
     (answer, writer.into_inner())
 }
 
+/// Whether a line has this key with this value, and not with a longer one.
+fn has_member(alloc: Global, line: &str, key: &str, value: &str) -> Result<bool, Fail> {
+    let member = member(alloc, key, value)?;
+    let between = format!(in alloc; "{member},")?;
+    let last = format!(in alloc; "{member}}}")?;
+    Ok(line.contains(between.as_str()) || line.contains(last.as_str()))
+}
+
 /// The line of a transcript has what a script says of the event.
 fn assert_told(rt: &(impl Abort + AllocGlobal), answer: &str, line: &str) -> Result<(), Fail> {
     let Some((happens, outcome)) = line.split_once(" -> ") else {
@@ -189,16 +201,22 @@ fn assert_told(rt: &(impl Abort + AllocGlobal), answer: &str, line: &str) -> Res
     };
     for key in keys {
         if let Some(value) = words.next() {
-            let member = member(rt.alloc(), key, value)?;
-            assert!(rt; answer.contains(member.as_str()), "{line}: {answer}");
+            assert!(rt;
+                has_member(rt.alloc(), answer, key, value)?,
+                "{line}: {answer}"
+            );
         }
     }
     let tag = happens.split_whitespace().next().ok_or("no tag")?;
-    let place = member(rt.alloc(), "n", tag)?;
-    assert!(rt; answer.contains(place.as_str()), "{line}: {answer}");
+    assert!(rt;
+        has_member(rt.alloc(), answer, "n", tag)?,
+        "{line}: {answer}"
+    );
     if let Some((_, reading)) = happens.split_once(" reads ") {
-        let reading = member(rt.alloc(), "reading", reading)?;
-        assert!(rt; answer.contains(reading.as_str()), "{line}: {answer}");
+        assert!(rt;
+            has_member(rt.alloc(), answer, "reading", reading)?,
+            "{line}: {answer}"
+        );
     }
     Ok(())
 }
