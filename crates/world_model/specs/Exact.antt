@@ -16,7 +16,7 @@ use Rattle.network_model.specs.Order.{ReportsDontGoBack}
 use Rattle.network_model.specs.Evidence.{ShowsEvidence}
 use Rattle.world_model.specs.State.{State, after}
 
--- no message of a run is too old where a slave uses it, and this slave ticks often enough
+-- in a run a slave uses no message that is too old, and ticks often enough
 pub record IsTimely (limits : Limits) (network : Network) (slave : NodeName) (run : Run) : Type 0 where
   pub fresh : IsFreshFor limits.late network slave run
   pub ticked : IsTickedAt limits.between_ticks slave run
