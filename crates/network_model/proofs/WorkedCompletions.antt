@@ -1,6 +1,6 @@
 -- What completes in one exchange through a clock, in the words of the law on pairs: a message finds its partner held and
 -- completes, or finds none and doesn't.
-use Rattle.std.proofs.Common.{◌≡◌, pos, false, List, [], ◌∷◌, refl, arith, inr, Some, Ok}
+use Rattle.std.proofs.Common.{◌≡◌, ◌≤◌, pos, false, List, [], ◌∷◌, length, refl, arith, inr, Some, Ok}
 use Rattle.std.specs.Prelude.{IsSome, Any}
 use Rattle.ptp_units.specs.Moment.{stamp}
 use Rattle.event_codec.specs.declared.message.Body.TheVariants.{DelayResp}
@@ -16,19 +16,19 @@ use Rattle.slave_port.specs.Kept.{usable_two_step_sync, usable_follow_up, usable
 use Rattle.slave_port.specs.Requests.{held_requests}
 use Rattle.network_model.specs.declared.event.Event.TheVariants.{Sync, Arrive, Hear, Request}
 use Rattle.network_model.specs.Network.{PortSetup}
-use Rattle.network_model.specs.Run.{Place, place}
+use Rattle.network_model.specs.Run.{Run, Place, place, tag_of}
 use Rattle.network_model.specs.Truth.{origin_heard}
 use Rattle.network_model.specs.SlaveHistory.{slave_setup}
-use Rattle.network_model.specs.Outcome.{outcome_of}
+use Rattle.network_model.specs.Outcome.{outcome_of, IsRun}
 use Rattle.network_model.specs.Premises.{exact_limits, IsFreshAndTicked}
 use Rattle.network_model.specs.Evidence.{is_completing}
-use Rattle.network_model.specs.Pairs.{HeardAt, IsOfOrigin, calls_before, Completes, sync_completed, IsPairOf, PairsSync}
+use Rattle.network_model.specs.Pairs.{HeardAt, IsOfOrigin, calls_before, Completes, sync_completed, IsPairOf, PairsSync, PairsRequest}
 use Rattle.network_model.proofs.Accepted.{IsNetwork-test, IsRun-test}
 use Rattle.network_model.proofs.Short.{IsFresh-short, IsTicked-short}
 use Rattle.network_model.proofs.Reach.{for_slave}
 use Rattle.network_model.proofs.Pairs.{no_pair_is_missed}
 use Rattle.network_model.proofs.Worked.{small_network, m_config, s_config, m, s, at}
-use Rattle.network_model.proofs.WorkedExchange.{after}
+use Rattle.network_model.proofs.WorkedExchange.{after, whole}
 
 -- the port of S, and what it was told before an event
 abbrev port : PortSetup
@@ -90,21 +90,6 @@ completed = refl
 of_one_event : IsPairOf (after 8) 7 sync_event completion
 of_one_event = record { follow_tag = 7; two_step = refl; now = inr refl; sync = refl; follow = refl }
 
--- the law speaks of this Follow_Up
-fresh_and_ticked : IsFreshAndTicked exact_limits small_network (after 8)
-fresh_and_ticked = record {
-  apart = IsNetwork-test small_network refl refl;
-  accepted = IsRun-test small_network (after 8) refl;
-  fresh = IsFresh-short 32768 small_network (after 8) (omega arith);
-  ticked = IsTicked-short 16384 (after 8) (omega arith);
-}
-
-by_law : PairsSync small_network hearing follow_up_heard
-    (λ origin. Any (λ held. IsOfOrigin (after 7) held.value.tag origin) (held_syncs (slave_setup port) (told_before hearing)))
-by_law =
-    no_pair_is_missed.follow_ups small_network hearing (for_slave exact_limits small_network s (after 8) fresh_and_ticked) follow_up_heard
-    follow_up_is_usable
-
 -- the Delay_Resp is heard while its request is held, and known to have left
 abbrev answered : Place
 answered = place (Hear s 11) (after 13)
@@ -130,3 +115,33 @@ request_held = (0, entry 0 (record { t3 = Some (at 2 1000 0); tag = 8 }), omega 
 
 response_completes : Completes small_network answered
 response_completes = refl
+
+-- the law speaks of all three
+fresh_and_ticked : (run : Run) → IsRun small_network run → length run ≤ 16384 → IsFreshAndTicked exact_limits small_network run
+fresh_and_ticked run accepted short = record {
+  apart = IsNetwork-test small_network refl refl;
+  accepted = accepted;
+  fresh = IsFresh-short 32768 small_network run (omega arith);
+  ticked = IsTicked-short 16384 run (omega arith);
+}
+
+sync_by_law : PairsSync small_network arriving sync_heard
+    (λ origin. Any (λ follow. IsOfOrigin (after 5) follow.value.tag origin) (held_follows (slave_setup port) (told_before arriving)))
+sync_by_law =
+    no_pair_is_missed.syncs small_network arriving
+    (for_slave exact_limits small_network s (after 6) (fresh_and_ticked (after 6) (IsRun-test small_network (after 6) refl) (omega arith)))
+    sync_heard sync_is_usable
+
+follow_up_by_law : PairsSync small_network hearing follow_up_heard
+    (λ origin. Any (λ held. IsOfOrigin (after 7) held.value.tag origin) (held_syncs (slave_setup port) (told_before hearing)))
+follow_up_by_law =
+    no_pair_is_missed.follow_ups small_network hearing
+    (for_slave exact_limits small_network s (after 8) (fresh_and_ticked (after 8) (IsRun-test small_network (after 8) refl) (omega arith)))
+    follow_up_heard follow_up_is_usable
+
+response_by_law : PairsRequest small_network answered response_heard
+    (λ origin. Any (λ request. (request.value.tag ≡ tag_of origin) × IsSome request.value.t3) (held_requests (slave_setup port) (told_before answered)))
+response_by_law =
+    no_pair_is_missed.delay_resps small_network answered
+    (for_slave exact_limits small_network s whole (fresh_and_ticked whole (IsRun-test small_network whole refl) (omega arith)))
+    response_heard response_is_usable
