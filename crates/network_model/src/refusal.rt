@@ -18,8 +18,8 @@ pub enum WorldRefusal {
     /// The event doesn't happen at nodes of this kind.
     #[error("the event doesn't happen at nodes of this kind")]
     WrongKind,
-    /// No event with this tag made a copy.
-    #[error("no event of this tag made a copy")]
+    /// No event of this tag sent a message.
+    #[error("no event of this tag sent a message")]
     NoCopy,
     /// No message that entered by the event with this tag is still in this node.
     #[error("no message that entered by the event of this tag is still in this clock")]
@@ -27,8 +27,8 @@ pub enum WorldRefusal {
     /// The node's clock would read no moment.
     #[error("the clock of the node would read no moment")]
     ReadingOutOfRange,
-    /// No message waits for its departure time.
-    #[error("no message waits for its departure time")]
+    /// No Sync waits for its Follow_Up, or no Delay_Req for its departure time.
+    #[error("no Sync waits for its Follow_Up, or no Delay_Req for its departure time")]
     NothingWaiting,
     /// Memory for a growth was refused.
     #[error("memory was refused")]

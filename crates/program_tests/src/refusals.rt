@@ -203,7 +203,7 @@ fn of_networks(rt: HostRuntime) -> Result<(), Fail> {
                 WorldRefusal::WrongKind,
                 "the event doesn't happen at nodes of this kind",
             ),
-            (WorldRefusal::NoCopy, "no event of this tag made a copy"),
+            (WorldRefusal::NoCopy, "no event of this tag sent a message"),
             (
                 WorldRefusal::NoTransit,
                 "no message that entered by the event of this tag is still in this clock",
@@ -214,7 +214,7 @@ fn of_networks(rt: HostRuntime) -> Result<(), Fail> {
             ),
             (
                 WorldRefusal::NothingWaiting,
-                "no message waits for its departure time",
+                "no Sync waits for its Follow_Up, or no Delay_Req for its departure time",
             ),
             (WorldRefusal::Memory, "memory was refused"),
         ],
@@ -226,7 +226,7 @@ fn of_networks(rt: HostRuntime) -> Result<(), Fail> {
                 done: 14,
                 why: WorldRefusal::NoCopy,
             },
-            "the run ended after 14 events: no event of this tag made a copy",
+            "the run ended after 14 events: no event of this tag sent a message",
         )],
     )
 }
@@ -238,7 +238,7 @@ fn of_the_checker(rt: HostRuntime) -> Result<(), Fail> {
         &[
             (
                 Why::NoSuchLine,
-                "a tag of the report isn't the line that the report needs, or no line tells when the Delay_Req left",
+                "a tag of the report isn't that of an event as the report needs it, or no event tells when the Delay_Req left",
             ),
             (
                 Why::OtherNumber,
@@ -250,7 +250,7 @@ fn of_the_checker(rt: HostRuntime) -> Result<(), Fail> {
             ),
             (
                 Why::BrokenJourney,
-                "the way of the Sync or of the Delay_Req can't be followed back to where it was sent, or a stay on it was left twice",
+                "the journey of the Sync or of the Delay_Req can't be followed back to where it was sent, or a stay on it was left twice",
             ),
             (
                 Why::WrongReading,
@@ -301,7 +301,7 @@ fn of_lines(rt: HostRuntime) -> Result<(), Fail> {
             ),
             (
                 fault(FaultKind::Json),
-                "fault 805 at line 3: the line isn't JSON",
+                "fault 805 at line 3: the line isn't UTF-8, or isn't JSON",
             ),
             (
                 fault(FaultKind::World(WorldRefusal::NoNode)),

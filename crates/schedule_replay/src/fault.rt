@@ -81,7 +81,7 @@ impl Display for InWords {
             FaultKind::TooManyLines => {
                 f.write_str("an octet comes after the last of 1048576 lines")
             }
-            FaultKind::Json => f.write_str("the line isn't JSON"),
+            FaultKind::Json => f.write_str("the line isn't UTF-8, or isn't JSON"),
             FaultKind::Field => f.write_str("the line isn't what is asked for"),
             FaultKind::World(why) => write!(f, "{why} ({})", why.code()),
             FaultKind::Memory => f.write_str("memory was refused"),

@@ -19,7 +19,7 @@ the count of octets after the fields, and used is messageLength. A Delay_Resp ha
 Refusals, each an answer to its line:
   refused 201          there are fewer than the 34 octets of a header
   refused 202          versionPTP isn't 2
-  refused 203 type 11  messageType, here 11, isn't Sync (0), Delay_Req (1), Follow_Up (8) or Delay_Resp (9)
+  refused 203 type 11  messageType 11 isn't Sync (0), Delay_Req (1), Follow_Up (8) or Delay_Resp (9)
   refused 204          messageLength is below 44, or 54 for a Delay_Resp
   refused 205          there are fewer octets than messageLength
   refused 206          the nanoseconds of the timestamp are 10^9 or more
@@ -28,9 +28,9 @@ Faults, each of which ends the run with 'ptpx: fault 806 at line 3' on standard 
 from 1, and what was written for those before stands. Line 0 is before all lines.
   801  the input can't be read
   802  the output can't be written
-  803  a line has more than 4096 octets
+  803  the line has more than 4096 octets
   804  an octet comes after the last of 1048576 lines
-  806  a line isn't pairs of hexadecimal digits
+  806  the line isn't pairs of hexadecimal digits
   808  memory was refused
 
 Exit statuses:
@@ -69,9 +69,9 @@ Events as ev, with their keys beside node:
   tick       a slave drops older messages
   setmaster  a slave is told its master: master
   stepclock  the clock of any node is set to true time and this difference: diff
-copy is the n of the event that made the message, transit the n of the event by which it entered. at is
-the true time as [seconds,nanoseconds,fraction], and diff a text of digits; a fraction and diff are in
-units of 2^-16 ns.
+copy is the tag of the event that sent the message, transit the tag of the event by which it entered: its
+place among the events, from 0 on, which is its n. at is the true time as [seconds,nanoseconds,fraction],
+and diff a text of digits; a fraction and diff are in units of 2^-16 ns.
 
 What came of an event, as out:
   done, entered, held, completed
@@ -80,39 +80,39 @@ What came of an event, as out:
            tags are the events by which Sync, Follow_Up, Delay_Req and Delay_Resp came or went
   refused  with the reason as code:
            303  at a master: the message is no Delay_Req
-           304  at a master: the message is of another domain
+           304  at a master: domainNumber isn't that of the master
            402  at a clock: the message is neither Sync nor Delay_Req
            403  at a clock: the clock reads less than when the message entered
-           511  at a slave: the Delay_Req isn't held any more
+           511  at a slave: no held Delay_Req has this number
   ignored  by a slave, with the reason as code:
-           502  the message is of a type that isn't heard so
-           503  the message is of another domain
+           502  the message is of another type than the ones that are heard here
+           503  domainNumber isn't that of the slave
            504  the slave has no master
-           505  the message isn't of the present master
+           505  sourcePortIdentity isn't that of the present master
            507  the correction is too big to be represented
-           508  the Delay_Resp is for another slave
-           509  the Delay_Resp is to a Delay_Req that isn't held
-           510  the Delay_Resp is to a Delay_Req of which it isn't known when it left
-           512  the Sync or Follow_Up is older than the last Sync that was completed
+           508  requestingPortIdentity isn't that of the slave
+           509  no held Delay_Req has this sequenceId
+           510  it isn't known when the Delay_Req of this sequenceId left
+           512  sequenceId is neither that of the last Sync that was completed nor newer
 
 Faults, each of which ends the run with 'ptpx: fault 806 at line 3', or 'ptpx: fault 807 (603) at line
 3', on standard error. Lines count from 1, and what was written for those before stands. Line 0 is
 before all lines.
   801  the input can't be read
   802  the output can't be written
-  803  a line has more than 4096 octets
+  803  the line has more than 4096 octets
   804  an octet comes after the last of 1048576 lines
-  805  a line isn't UTF-8, or isn't JSON
-  806  a line is neither a node nor an event as above, or a node comes after an event
+  805  the line isn't UTF-8, or isn't JSON
+  806  the line is neither a node nor an event as above, or a node comes after an event
   807  there is no such network, or the event can't happen in it:
        (601) two nodes have one name
        (602) two ports have one identity
        (603) no node has this name
        (604) the event doesn't happen at nodes of this kind
-       (605) no event with this n made a message
-       (606) no message that entered by the event with this n is still in this clock
+       (605) no event of this tag sent a message
+       (606) no message that entered by the event of this tag is still in this clock
        (607) the clock of the node would read no moment
-       (608) there is no Sync to be followed up, or no Delay_Req to be stamped
+       (608) no Sync waits for its Follow_Up, or no Delay_Req for its departure time
   808  memory was refused
 
 Exit statuses:
@@ -131,10 +131,10 @@ nodes of a network, then its events with what came of each. Standard output has 
   refused event 13: 706  the report with n 13 is the first that isn't sound, for this reason
 
 Reasons, of which the first in this order is given:
-  701  a tag of the report isn't the event that the report needs, or no event tells when the Delay_Req
-       left
-  704  the way of the Sync or of the Delay_Req can't be followed back to where it was sent, or a stay on
-       it was left twice
+  701  a tag of the report isn't that of an event as the report needs it, or no event tells when the
+       Delay_Req left
+  704  the journey of the Sync or of the Delay_Req can't be followed back to where it was sent, or a stay
+       on it was left twice
   702  the Sync isn't the one of the Follow_Up, or the Delay_Req isn't the one of the report
   703  a message isn't of the present master of the slave, or came before the slave was told this master
   705  a reading isn't that of the clock of its node, or falls while a message is in a clock
@@ -146,10 +146,10 @@ Faults, each of which ends the run with 'ptpx: fault 806 at line 3', or 'ptpx: f
 3', on standard error, and with no verdict. Lines count from 1. Line 0 is before all lines.
   801  the input can't be read
   802  the output can't be written
-  803  a line has more than 4096 octets
+  803  the line has more than 4096 octets
   804  an octet comes after the last of 1048576 lines
-  805  a line isn't UTF-8, or isn't JSON
-  806  a line is neither a node nor an event with what came of it, or a node comes after an event, or n
+  805  the line isn't UTF-8, or isn't JSON
+  806  the line is neither a node nor an event with what came of it, or a node comes after an event, or n
        isn't the place of the event, from 0 on
   807  there is no such network: (601) two nodes have one name, (602) two ports have one identity
   808  memory was refused

@@ -8,7 +8,7 @@ use thiserror::Error;
 pub enum Why {
     /// A tag of the report isn't the number of a line as the report needs it, or no line tells when
     /// the Delay_Req departed.
-    #[error("a tag of the report isn't the line that the report needs, or no line tells when the Delay_Req left")]
+    #[error("a tag of the report isn't that of an event as the report needs it, or no event tells when the Delay_Req left")]
     NoSuchLine,
     /// The Sync isn't the one that the Follow_Up follows, or the Delay_Req isn't the slave's request.
     #[error("the Sync isn't the one of the Follow_Up, or the Delay_Req isn't the one of the report")]
@@ -16,9 +16,9 @@ pub enum Why {
     /// The messages aren't of the slave's present master, or came before it was told this master.
     #[error("a message isn't of the present master of the slave, or came before the slave was told this master")]
     OtherMaster,
-    /// The way of the Sync or of the Delay_Req can't be followed back to where it was sent, or a stay
-    /// on it was left twice.
-    #[error("the way of the Sync or of the Delay_Req can't be followed back to where it was sent, or a stay on it was left twice")]
+    /// The journey of the Sync or of the Delay_Req can't be followed back to where it was sent, or a
+    /// stay on it was left twice.
+    #[error("the journey of the Sync or of the Delay_Req can't be followed back to where it was sent, or a stay on it was left twice")]
     BrokenJourney,
     /// A reading isn't the one of the node's clock, or isn't there, or a clock read less at the end
     /// of a stay than at its beginning.

@@ -1,0 +1,70 @@
+#!/usr/bin/env python3
+"""Compares what docs/NUMBERS.md and the help of ptpx say of each number with what the code says.
+
+The code's texts are those of the types whose `code` answers numbers: the attribute `error` of each variant, and of FaultKind, which
+shows its number alone, the words beside it. In docs/NUMBERS.md each number has one row, in the order in which the types try
+them. In the help a number stands in front of its text, which may go on in the lines below; what is said of 806 there is each
+subcommand's own, and 807 is followed by the refusals of a network.
+"""
+
+import re
+import sys
+from pathlib import Path
+
+TOP = Path(__file__).resolve().parents[2]
+SOURCES = sorted(it for it in TOP.glob("crates/*/src/**/*.rt") if "tests" not in it.parts[-3:-1])
+VARIANT = re.compile(r'#\[error\("((?:[^"\\]|\\.)*)"\)\]\s*(\w+)')
+ARM = re.compile(r"(\w+)::(\w+)(?:\([^)]*\))? => (\d{3}),")
+WORDS = re.compile(r'FaultKind::(\w+)(?:\(\w+\))? => (?:\{\s*)?(?:f\.write_str\("([^"]*)"\)|write!)')
+ROW = re.compile(r"^\| (\d{3}) \| (.*) \|$", re.M)
+SAID = re.compile(r"^ +(?:refused )?\(?(\d{3})\)?(?: type \d+)? +(\S.*(?:\n {7,}(?!refused|\(?\d{3}\)? |sync |ignored)\S.*)*)", re.M)
+OWN = {806, 807}
+
+
+def texts_of_code():
+    """The text of each number, as the types show it."""
+    texts = {}
+    for path in SOURCES:
+        source = path.read_text()
+        said = {name: text for text, name in VARIANT.findall(source)}
+        said.update({name: text for name, text in WORDS.findall(source)})
+        for kind, name, number in ARM.findall(source):
+            if name in said:
+                texts[int(number)] = said[name]
+    return texts
+
+
+def texts_of_help():
+    """What the help says of numbers: each number with each of its texts."""
+    for path in SOURCES:
+        if path.name == "help.rt":
+            for number, text in SAID.findall(path.read_text()):
+                yield int(number), re.sub(r"\s+", " ", text).rstrip('";#')
+
+
+def is_same(said, text):
+    """Whether this is the text, with any number in the place of a value."""
+    pattern = re.escape(text).replace(re.escape("{0}"), r"(\{0\}|\d+)")
+    return re.fullmatch(rf"(?:at a \w+: )?{pattern}\.?", said) is not None
+
+
+def main():
+    code = texts_of_code()
+    rows = ROW.findall((TOP / "docs/NUMBERS.md").read_text())
+    page = {int(number): text for number, text in rows}
+    wrong = [f"docs/NUMBERS.md has {number} twice" for number in page if [n for n, _ in rows].count(str(number)) > 1]
+    wrong += [f"docs/NUMBERS.md doesn't have {number}" for number in sorted(code.keys() - page.keys())]
+    wrong += [f"docs/NUMBERS.md has {number}, which no code answers" for number in sorted(page.keys() - code.keys())]
+    wrong += [f"docs/NUMBERS.md says of {n}: {page[n]}\n  and the code: {code[n]}"
+              for n in sorted(code.keys() & page.keys()) if n not in OWN and page[n] != code[n]]
+    helped = list(texts_of_help())
+    wrong += [f"help says of {n}: {text}\n  and the code: {code.get(n)}"
+              for n, text in helped if n not in OWN and not is_same(text, code.get(n, ""))]
+    for line in wrong:
+        print(line)
+    print(f"{len(page)} numbers, of which help says {len({n for n, _ in helped})}")
+    return 1 if wrong or not helped else 0
+
+
+if __name__ == "__main__":
+    sys.exit(main())
