@@ -16,7 +16,6 @@ ghost use Rattle.ptp_units.specs.Sequence.{of_count};
 ghost use Rattle.exchange_check.specs.Kept.{fact_in, site_in, travel_at, copy_entered_by, stayed, begun_by, travel_by, travelled_by, followed_by, answered_by, message_by, known_by, number_by, fact_known, fact_by, travel_left, written_travel, port_setup, contents_of};
 ghost use Rattle.trace_model.specs.Record.{is_reading};
 
-use crate::events::entered_copy;
 use crate::facts::{Fact, Known, Site, Travel};
 use crate::good::{completes, counts, is_made};
 use crate::octets::{
@@ -84,7 +83,7 @@ fn drawn(port: Option<Port>, count: Seq) -> Seq
 fn copy_entered(clock: &Name, entered: &Fact) -> Option<u64>
     ensures { result ≡ copy_entered_by clock.now entered.now }
 {
-    let copy = entered_copy(&entered.event)?;
+    let copy = entered.event.entered_copy()?;
     if entered.event.node() == *clock && copy < entered.line {
         Some(copy)
     } else {
@@ -326,7 +325,7 @@ impl Kept {
             return None;
         }
         let copy = match self.at(transit) {
-            Some(entered) => entered_copy(&entered.event)?,
+            Some(entered) => entered.event.entered_copy()?,
             None => return None,
         };
         if copy < number { Some(copy) } else { None }

@@ -57,6 +57,20 @@ step_of event = (parts event).difference
 abbrev pub is_step : Event → Bool
 is_step event = is_some (step_of event)
 
+-- a copy of an event message arrives at a master or at a slave
+abbrev pub is_arrival : Event → Bool
+is_arrival (Arrive node copy at) = true
+is_arrival _ = false
+
+-- a slave hears a copy of a general message
+abbrev pub is_hearing : Event → Bool
+is_hearing (Hear node copy) = true
+is_hearing _ = false
+
+-- the tag of the copy that an event takes
+abbrev pub named_copy : Event → Option ℕ
+named_copy event = (parts event).copy
+
 -- the copy that enters a clock
 abbrev pub entered_copy : Event → Option ℕ
 entered_copy (Enter node copy at) = Some copy

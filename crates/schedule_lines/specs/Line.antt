@@ -1,10 +1,12 @@
 -- Which node or event a line is, from its JSON value. Each form has just its keys: as many as it has, and each of these.
-use Rattle.std.specs.Prelude.{ℕ, List, codes, if◌then◌else◌, Option, Some, None, option_map, option_and_then, is_some}
+use Rattle.std.specs.Prelude.{ℕ, ◌+◌, List, codes, if◌then◌else◌, Option, Some, None, option_map, option_and_then, is_some}
 use Rattle.std.specs.Str.{bytes_eq}
 use Rattle.serde_json.specs.Data.{Data}
 use Rattle.serde_json.specs.Find.{get, as_str}
 use Rattle.event_codec.specs.declared.port.PortConfig.{PortConfig}
 use Rattle.ptp_units.specs.declared.sequence.Seq.{Seq}
+use Rattle.network_model.specs.Run.{true_moment}
+use Rattle.network_model.specs.Kinds.{named_copy, named_master, step_of, spent_transit}
 use Rattle.network_model.specs.declared.event.Event.{Event}
 use Rattle.network_model.specs.declared.event.Event.TheVariants as events
 use Rattle.network_model.specs.declared.node.NodeKind.{NodeKind}
@@ -63,20 +65,15 @@ abbrev pub event_in : Data → Option Event
 event_in d =
     option_and_then (λ kind. option_and_then (λ node. event_at kind node d) (node_in d)) (option_and_then kind_of (field as_str (codes "ev") d))
 
--- how many keys an event has, `ev` and `node` among them
+-- one key where there is a value
+abbrev pub one_if : {X : Type 0} → Option X → ℕ
+one_if None = 0
+one_if (Some x) = 1
+
+-- how many keys an event has: `ev`, `node`, and one for each thing that it names
 abbrev pub event_keys : Event → ℕ
-event_keys (events.Sync node at) = 3
-event_keys (events.SyncOne node at) = 3
-event_keys (events.Follow node) = 2
-event_keys (events.Enter node copy at) = 4
-event_keys (events.Leave node transit at) = 4
-event_keys (events.Arrive node copy at) = 4
-event_keys (events.Hear node copy) = 3
-event_keys (events.Request node at) = 3
-event_keys (events.Stamped node) = 2
-event_keys (events.Tick node) = 2
-event_keys (events.SetMaster node master) = 3
-event_keys (events.StepClock node diff) = 3
+event_keys event =
+    one_if (true_moment event) + one_if (named_copy event) + one_if (step_of event) + one_if (named_master event) + one_if (spent_transit event) + 2
 
 -- the event that an object with key `ev` is, with just its keys
 abbrev pub scheduled_in : Data → Option Event

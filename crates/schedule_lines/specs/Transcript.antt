@@ -1,6 +1,5 @@
 -- The values and the texts of the lines that are written.
 use Rattle.std.specs.Prelude.{ℕ, ℤ, List, [], ◌∷◌, ◌++◌, codes, Option, Some, None, option_map}
-use Rattle.std.specs.Option.{option_or}
 use Rattle.std.specs.Fmt.{signed_decimal}
 use Rattle.hex.specs.Hex.{encode_lower}
 use Rattle.serde_json.specs.Data.{Data, null, number, unsigned, string, array, object, item, no_items, Members, member, no_members, put}
@@ -16,7 +15,7 @@ use Rattle.network_model.specs.declared.node.NodeKind.{NodeKind}
 use Rattle.network_model.specs.declared.node.NodeKind.TheVariants as kinds
 use Rattle.network_model.specs.declared.node.NodeSpec.{NodeSpec}
 use Rattle.network_model.specs.Run.{site_of, true_moment}
-use Rattle.network_model.specs.Kinds.{named_master, step_of, entered_copy, heard_copy, spent_transit}
+use Rattle.network_model.specs.Kinds.{named_copy, named_master, step_of, spent_transit}
 use Rattle.trace_model.specs.declared.line.TraceLine.{TraceLine}
 use Rattle.trace_model.specs.declared.line.TraceOut.{TraceOut}
 use Rattle.trace_model.specs.declared.line.TraceOut.TheVariants as outs
@@ -73,10 +72,6 @@ event_text (Tick node) = codes "tick"
 event_text (SetMaster node master) = codes "setmaster"
 event_text (StepClock node diff) = codes "stepclock"
 
--- the tag of the copy that an event names
-abbrev pub named_copy : Event → Option ℕ
-named_copy event = option_or (entered_copy event) (heard_copy event)
-
 -- the keys that an event has in a schedule
 abbrev pub with_event : Event → Members → Members
 with_event event members =
@@ -105,36 +100,19 @@ out_text (outs.Refused code) = codes "refused"
 
 -- the octets of the message that was made
 abbrev pub made_octets : TraceOut → Option (List ℕ)
-made_octets outs.Done = None
 made_octets (outs.Made octets) = Some octets.items
-made_octets outs.Entered = None
-made_octets outs.Held = None
-made_octets outs.Completed = None
-made_octets (outs.Report report) = None
-made_octets (outs.Ignored code) = None
-made_octets (outs.Refused code) = None
+made_octets _ = None
 
 -- the number of a reason or a refusal
 abbrev pub out_code : TraceOut → Option ℕ
-out_code outs.Done = None
-out_code (outs.Made octets) = None
-out_code outs.Entered = None
-out_code outs.Held = None
-out_code outs.Completed = None
-out_code (outs.Report report) = None
 out_code (outs.Ignored code) = Some code
 out_code (outs.Refused code) = Some code
+out_code _ = None
 
 -- the report that a slave gave
 abbrev pub out_report : TraceOut → Option Report
-out_report outs.Done = None
-out_report (outs.Made octets) = None
-out_report outs.Entered = None
-out_report outs.Held = None
-out_report outs.Completed = None
 out_report (outs.Report report) = Some report
-out_report (outs.Ignored code) = None
-out_report (outs.Refused code) = None
+out_report _ = None
 
 -- the tag of a Follow_Up, or null after a one-step Sync
 abbrev pub follow_data : Option ℕ → Data

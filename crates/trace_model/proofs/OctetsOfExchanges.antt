@@ -15,11 +15,11 @@ use Rattle.network_model.specs.declared.stepped.Outcome.{Outcome}
 use Rattle.network_model.specs.declared.stepped.Outcome.TheVariants as outcomes
 use Rattle.network_model.specs.Network.{Network, NodeName}
 use Rattle.network_model.specs.Run.{Run, Place, place, until}
-use Rattle.network_model.specs.Kinds.{is_follow, is_request, draws_sync, heard_copy}
+use Rattle.network_model.specs.Kinds.{is_follow, is_request, draws_sync, heard_copy, is_arrival, is_hearing}
 use Rattle.network_model.specs.Truth.{copy_of}
 use Rattle.trace_model.specs.declared.line.TraceLine.{TraceLine}
 use Rattle.trace_model.specs.declared.line.TraceOut.{TraceOut}
-use Rattle.trace_model.specs.Line.{Lines, is_made, is_refused, is_ignored, is_master, is_slave, is_clock, is_arrival, completes, is_hearing, may_happen, counts}
+use Rattle.trace_model.specs.Line.{Lines, is_made, is_refused, is_ignored, is_master, is_slave, is_clock, completes, may_happen, counts}
 use Rattle.trace_model.specs.Record.{LinePlace, line_place, event_of, site, line_number, line_at, events}
 use Rattle.trace_model.specs.Journey.{Journey, Stay, begun, with_stay, copy_entered, left_from, journey_made, journey_of, left_once}
 use Rattle.trace_model.specs.Octets.{writes_right}

@@ -5,7 +5,7 @@ use Rattle.event_codec.specs.Packet.{Contents, Packet}
 use Rattle.transparent_clock.specs.declared.refusal.ClockRefusal.{ClockRefusal}
 use Rattle.transparent_clock.specs.Forwarding.{forwarded}
 use Rattle.network_model.specs.declared.event.Event.{Event}
-use Rattle.network_model.specs.declared.event.Event.TheVariants.{Sync, SyncOne, Follow, Enter, Leave, Arrive, Hear, Request, Stamped, Tick, SetMaster, StepClock}
+use Rattle.network_model.specs.declared.event.Event.TheVariants.{Leave}
 use Rattle.network_model.specs.declared.node.NodeKind.{NodeKind}
 use Rattle.network_model.specs.declared.stepped.Outcome.{Outcome}
 use Rattle.network_model.specs.declared.refusal.WorldRefusal.{WorldRefusal}
@@ -122,15 +122,5 @@ copy_inside entries clock tag =
 
 -- the entries after an event, before its own comes: a Leave event ends a stay
 abbrev pub entries_after : Event → List Entry → List Entry
-entries_after (Sync node at) entries = entries
-entries_after (SyncOne node at) entries = entries
-entries_after (Follow node) entries = entries
-entries_after (Enter node copy at) entries = entries
 entries_after (Leave node transit at) entries = spent transit entries
-entries_after (Arrive node copy at) entries = entries
-entries_after (Hear node copy) entries = entries
-entries_after (Request node at) entries = entries
-entries_after (Stamped node) entries = entries
-entries_after (Tick node) entries = entries
-entries_after (SetMaster node master) entries = entries
-entries_after (StepClock node diff) entries = entries
+entries_after _ entries = entries
