@@ -20,4 +20,5 @@ pub use encoding::encode;
 pub use message::{Body, Header, Message};
 pub use nibble::Nibble;
 pub use port::{PortConfig, PortIdentity};
+pub use profile::Written;
 pub use refusal::{DecodeRefusal, EncodeRefusal};

@@ -20,7 +20,6 @@ use Rattle.exchange_check.specs.declared.facts.Site.{Site}
 use Rattle.exchange_check.specs.declared.facts.Travel.{Travel}
 use Rattle.trace_model.specs.declared.line.TraceLine.{TraceLine}
 use Rattle.exchange_check.specs.declared.octets.Port.{Port}
-use Rattle.exchange_check.specs.declared.octets.Written.{Written}
 use Rattle.trace_model.specs.Line.{counts, is_made, completes}
 use Rattle.trace_model.specs.Record.{is_reading}
 use Rattle.trace_model.specs.Octets.{drawing_port, message_sent, is_written}
@@ -28,10 +27,6 @@ use Rattle.trace_model.specs.Octets.{drawing_port, message_sent, is_written}
 -- a port's configuration and first number, as a network has them
 abbrev pub port_setup : Port → PortSetup
 port_setup port = record { config = port.config; first = port.first.0 }
-
--- a message that has no suffix
-abbrev pub contents_of : Written → Contents
-contents_of message = record { header = message.header; body = message.body; suffix = [] }
 
 -- what is kept of the line of each number, where it tells of something done
 abbrev pub Facts : Type 0

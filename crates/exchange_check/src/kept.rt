@@ -13,16 +13,17 @@ ghost use Rattle.std.specs.Option.{option_map_or, option_or};
 ghost use Rattle.network_model.specs.Network.{NodeName};
 ghost use Rattle.exchange_check.specs.Kept.{Leaves, moved, moved_at, stamped, sites_after, leaves_after, stamps_after};
 ghost use Rattle.ptp_units.specs.Sequence.{of_count};
-ghost use Rattle.exchange_check.specs.Kept.{fact_in, site_in, travel_at, copy_entered_by, stayed, begun_by, travel_by, travelled_by, followed_by, answered_by, message_by, known_by, number_by, fact_known, fact_by, travel_left, written_travel, port_setup, contents_of};
+ghost use Rattle.exchange_check.specs.Kept.{fact_in, site_in, travel_at, copy_entered_by, stayed, begun_by, travel_by, travelled_by, followed_by, answered_by, message_by, known_by, number_by, fact_known, fact_by, travel_left, written_travel, port_setup};
+ghost use Rattle.event_codec.specs.Profile.{contents_of};
 ghost use Rattle.trace_model.specs.Record.{is_reading};
 
 use crate::facts::{Fact, Known, Site, Travel};
 use crate::good::{completes, counts, is_made};
-use crate::octets::{
-    Port, Written, delay_resp, follow_up, is_written, master_at, resided, sent, slave_at,
-};
+use crate::octets::{Port, delay_resp, is_written, master_at, resided, sent, slave_at};
 use crate::refusal::CheckFault;
 use crate::stays::Stays;
+use event_codec::Written;
+use master_port::follow_up;
 use network_model::{Event, Name, Nodes};
 use ptp_units::{ScaledTime, Seq};
 use std::alloc::Global;
@@ -256,7 +257,7 @@ impl Kept {
         ensures { option_map contents_of result ≡ answered_by nodes.now (fact_in self.now.facts.items) (port_setup port.now) now travel }
     {
         let request = self.travelled(nodes, &travel?)?;
-        Some(delay_resp(&port.config, &request.header, now))
+        delay_resp(&port.config, &request.header, now)
     }
 
     /// The message that a line makes.

@@ -15,22 +15,11 @@ use crate::held::{HeldFollow, HeldRequest, HeldSync};
 use crate::reason::{Reason, SlaveRefusal};
 use crate::usable::{Criteria, event_use, general_use};
 use crate::used::{Response, Used};
+use crate::written::delay_req;
 use event_codec::{Message, PortConfig, PortIdentity, decode};
 use pairing::PairTable;
-use ptp_units::{Interval, ScaledTime, Seq, Timestamp};
+use ptp_units::{ScaledTime, Seq};
 use std::marker::Model;
-
-/// logMessageInterval of a Delay_Req (IEEE 1588-2019, 13.3.2.14).
-const LOG_DELAY_REQ: i8 = 0x7f;
-
-/// The octets of the Delay_Req of this number.
-fn delay_req(config: &PortConfig, number: Seq) -> [u8; 44]
-    ensures { Packet (delay_req config.now number.0) result }
-{
-    let header = config.header([0, 0], Interval(0), number, 1, LOG_DELAY_REQ);
-    let origin = Timestamp::default();
-    header.delay_req(origin)
-}
 
 /// A slave port, with a table each for the Syncs, the Follow_Ups and the requests that it holds.
 #[derive(Drop)]
@@ -134,7 +123,7 @@ where
         let number = self.next;
         self.next = number.next();
         self.requests.push(number, HeldRequest { t3: None, tag });
-        (delay_req(&self.config, number), number)
+        (delay_req(&self.config, number).octets(), number)
     }
 
     /// The request of this number has left at `t3`: the newest that is held, also where it was known
