@@ -13,15 +13,12 @@ ghost use Rattle.exchange_check.specs.Kept.{fact_in, site_in, port_setup};
 ghost use Rattle.exchange_check.specs.Stays.{once_in};
 ghost use Rattle.exchange_check.specs.Judged.{line_of_by, sender_by, sync_by, follow_by, follows_by, arrival_by, completion_by, is_here, is_stamped_by, found_by, way_at, way_from, way_to, is_followed_by, paired_by, is_told, of_master_by, readings_by, fraction_by, fits_by, bracket_by, results_by, octets_by, ways_reason, both_ways, found_reason, fact_reason, reason_by};
 
-use crate::facts::{Fact, Found, Site, Way};
+use crate::facts::{Fact, Found, LONGEST, Site, Way};
 use crate::kept::Kept;
 use crate::octets::{Port, master_at, slave_at};
 use network_model::{Event, Name, Nodes, Report};
 use ptp_units::{ScaledTime, offset2, path2};
 use trace_model::Why;
-
-/// The longest residence that is counted exactly is below this, in units of 2^-16 ns.
-const LONGEST: u64 = (1 << 63) - 1;
 
 /// Whether a report is of the line of this number.
 fn is_of_line(number: u64, report: &Report) -> bool

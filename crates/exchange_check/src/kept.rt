@@ -17,7 +17,7 @@ ghost use Rattle.exchange_check.specs.Kept.{fact_in, site_in, travel_at, copy_en
 ghost use Rattle.event_codec.specs.Profile.{contents_of};
 ghost use Rattle.trace_model.specs.Record.{is_reading};
 
-use crate::facts::{Fact, Known, Site, Travel};
+use crate::facts::{Fact, Known, LONGEST, Site, Travel};
 use crate::good::{completes, counts, is_made};
 use crate::octets::{Port, delay_resp, is_written, master_at, resided, sent, slave_at};
 use crate::refusal::CheckFault;
@@ -29,9 +29,6 @@ use ptp_units::{ScaledTime, Seq};
 use std::alloc::Global;
 use std::collections::{BTreeMap, HashMap};
 use trace_model::{TraceLine, TraceOut, Verdict};
-
-/// The longest residence that is counted exactly is below this, in units of 2^-16 ns.
-const LONGEST: u128 = (1 << 63) - 1;
 
 /// What is kept of the lines so far.
 #[derive(Drop)]
@@ -100,7 +97,7 @@ fn stayed(known: &Known, entered: &Fact, before: &Travel) -> Travel
         .reading
         .value()
         .saturating_sub(entered.reading.value());
-    let residence = (u128::from(before.residence) + stay).min(LONGEST);
+    let residence = (u128::from(before.residence) + stay).min(u128::from(LONGEST));
     let rises = known.reading.value() >= entered.reading.value();
     Travel {
         origin: before.origin,
