@@ -17,7 +17,7 @@ mod refusal;
 pub use correction::patch_correction;
 pub use decoding::decode;
 pub use encoding::encode;
-pub use message::{Body, Header, Message};
+pub use message::{Body, Header, Message, TWO_STEP};
 pub use nibble::Nibble;
 pub use port::{PortConfig, PortIdentity};
 pub use profile::Written;

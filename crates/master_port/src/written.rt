@@ -5,11 +5,8 @@ ghost use Rattle.event_codec.specs.Profile.{contents_of};
 ghost use Rattle.master_port.specs.Written.{sync, one_step_sync, follow_up, delay_resp, responded};
 
 use crate::refusal::MasterRefusal;
-use event_codec::{Body, Header, PortConfig, Written};
+use event_codec::{Body, Header, PortConfig, TWO_STEP, Written};
 use ptp_units::{Interval, ScaledTime, Seq, Timestamp};
-
-/// The twoStepFlag alone (IEEE 1588-2019, 13.3.2.8).
-const TWO_STEP: [u8; 2] = [2, 0];
 
 const NO_FLAGS: [u8; 2] = [0, 0];
 

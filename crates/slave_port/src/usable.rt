@@ -7,12 +7,9 @@ ghost use Rattle.slave_port.specs.Usable.{first_reason, is_two_step, is_not_newe
 use crate::held::{HeldFollow, HeldSync};
 use crate::reason::Reason;
 use crate::used::{OneStepSync, Response, Used};
-use event_codec::{Body, Header, Message, PortConfig, PortIdentity};
+use event_codec::{Body, Header, Message, PortConfig, PortIdentity, TWO_STEP};
 use ptp_units::{ScaledTime, Seq, Timestamp};
 use std::marker::Model;
-
-/// twoStepFlag, in the first octet of flagField (IEEE 1588-2019, 13.3.2.8).
-const TWO_STEP: u8 = 0x02;
 
 /// By what a port judges a message.
 #[derive(Drop)]
@@ -36,7 +33,7 @@ impl Model for Criteria {
 fn is_two_step(header: &Header) -> bool
     ensures { result ≡ is_two_step header.now }
 {
-    header.flags[0] & TWO_STEP != 0
+    header.flags[0] & TWO_STEP[0] != 0
 }
 
 /// Whether it is another number than the last one, and not newer.
