@@ -6,7 +6,7 @@ use Rattle.std.proofs.lemmas.Bool.{ne_eqb, eq-eqb}
 use Rattle.event_codec.specs.Packet.{Contents}
 use Rattle.slave_port.specs.History as calls
 use Rattle.slave_port.specs.History.{Call}
-use Rattle.slave_port.proofs.Uses.{some_image}
+use Rattle.slave_port.proofs.Options.{some_image}
 use Rattle.network_model.specs.declared.event.Event.{Event}
 use Rattle.network_model.specs.declared.event.Event.TheVariants.{Arrive, Hear, Request, Stamped, Tick, SetMaster}
 use Rattle.network_model.specs.declared.refusal.WorldRefusal.TheVariants.{NoNode, WrongKind}
@@ -81,7 +81,7 @@ call_kind network port (SetMaster node master) earlier call made =
 call_kind network port _ earlier call made = cc
 
 -- the master that an accepted SetMaster event names is one
-pub named_is_master : (network : Network) (earlier : Run) (node master : NodeName) → IsOk (outcome_of network earlier (SetMaster node master))
+named_is_master : (network : Network) (earlier : Run) (node master : NodeName) → IsOk (outcome_of network earlier (SetMaster node master))
     → (port : PortSetup) × (master_at network master ≡ Some port)
 named_is_master network earlier node master accepted =
     let outcome = ok_value (outcome_of network earlier (SetMaster node master)) accepted in

@@ -16,7 +16,7 @@ use Rattle.master_port.specs.declared.refusal.MasterRefusal.TheVariants.{OtherDo
 use Rattle.master_port.specs.Written.{sync, one_step_sync, delay_resp, answer_to}
 use Rattle.slave_port.specs.Written.{delay_req}
 use Rattle.transparent_clock.specs.Forwarding.{resided}
-use Rattle.slave_port.proofs.Uses.{some_step, some_image}
+use Rattle.slave_port.proofs.Options.{some_step, some_image}
 use Rattle.network_model.specs.declared.event.Event.{Event}
 use Rattle.network_model.specs.declared.event.Event.TheVariants.{Sync, SyncOne, Follow, Leave, Arrive, Request}
 use Rattle.network_model.specs.Network.{Network, NodeName, PortSetup}

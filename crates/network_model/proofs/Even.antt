@@ -18,7 +18,7 @@ use Rattle.network_model.specs.Journey.{Journey, Stay, begun, journey_made, jour
 use Rattle.network_model.specs.Truth.{copy_made, copy_of}
 use Rattle.network_model.specs.Outcome.{◌>>=◌, node_as, clock_of, reads, outcome_of, IsRun}
 use Rattle.network_model.specs.Level.{Crossing, crossing, crossing_to, crossings_in, crossings_of, is_same_way, is_same_cable, is_even, are_even, time_of, time_on}
-use Rattle.slave_port.proofs.Uses.{some_step}
+use Rattle.slave_port.proofs.Options.{some_step}
 use Rattle.network_model.proofs.Options.{ok_value, ok_step, ok_some}
 use Rattle.network_model.proofs.Places.{accepted-place_at, place_at-within, IsIn-place_at, IsIn-within}
 use Rattle.network_model.proofs.Made.{copy_of-place_at, journey_of-place_at}

@@ -5,7 +5,7 @@ use Rattle.std.specs.Prelude.{count_by, ◌&&◌, ◌||◌, IfSome, ◌==◌}
 use Rattle.std.specs.Option.{option_map_or}
 use Rattle.std.proofs.lemmas.Bool.{false_from_ne_true}
 use Rattle.ptp_units.specs.Sequence.{of_count}
-use Rattle.slave_port.proofs.Uses.{some_step}
+use Rattle.slave_port.proofs.Options.{some_step}
 use Rattle.network_model.specs.declared.event.Event.{Event}
 use Rattle.network_model.specs.declared.event.Event.TheVariants.{Sync, SyncOne, Arrive, Hear, Request, Tick}
 use Rattle.network_model.specs.Network.{Network, NodeName, is_named}

@@ -4,7 +4,7 @@ use Rattle.std.proofs.Common.{◌≡◌, ◌∙◌, ℕ, ℤ, pos, negsuc, Bool,
 use Rattle.std.specs.Prelude.{ok_or, unwrap_or, nat_lt, is_some}
 use Rattle.ptp_units.specs.Moment.{bound}
 use Rattle.transparent_clock.specs.Forwarding.{forwarded}
-use Rattle.slave_port.proofs.Uses.{some_step}
+use Rattle.slave_port.proofs.Options.{some_step}
 use Rattle.network_model.specs.declared.event.Event.{Event}
 use Rattle.network_model.specs.declared.event.Event.TheVariants.{Sync, SyncOne, Enter, Leave, Arrive, Request}
 use Rattle.network_model.specs.declared.stepped.Outcome.TheVariants as outcomes

@@ -44,6 +44,3 @@ answer_fields n line =
 -- the keys of an event's line
 abbrev pub line_fields : ℕ → TraceLine → List Field
 line_fields n line = event_fields line.event (answer_fields n line)
-
-pub event_data-by_fields : (n : ℕ) (line : TraceLine) → event_data n line ≡ object (members_of (line_fields n line))
-event_data-by_fields n line = refl

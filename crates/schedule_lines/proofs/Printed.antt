@@ -33,10 +33,6 @@ moment_readable time h =
       shallow = omega arith;
     }
 
-follow_readable : (tag : Option ℕ) → IfSome tag IsTag → IsReadable (follow_data tag)
-follow_readable None h = record { same = refl; numbers = tt; shallow = omega arith }
-follow_readable (Some tag) h = whole_readable tag h
-
 tags_at : (sync request response : ℕ) (follow : Option ℕ) → IsTag sync → IfSome follow IsTag → IsTag request → IsTag response
     → (offset2 path2 : ℤ) → IsReadable (tags_data (record { offset2 = offset2; path2 = path2; sync_tag = sync; follow_tag = follow; request_tag = request; response_tag = response }))
 tags_at sync request response None s f q r offset2 path2 = record {
