@@ -8,8 +8,8 @@ ghost use Rattle.world_model.specs.State.{new_state, after, IsRefused};
 ghost use Rattle.world_model.specs.Exact.{IsTimely, IsExactAnswer, RunsKeepLaws};
 
 use crate::entry::{Entry, octets_of};
-use crate::happen::step;
 use crate::station::{Station, stations_of};
+use crate::stepping::step;
 use network_model::{Event, Nodes, Stepped, WorldRefusal};
 use std::alloc::Global;
 use std::marker::Model;
