@@ -6,7 +6,8 @@ use Rattle.event_codec.specs.declared.profile.Written.{Written}
 use Rattle.event_codec.specs.Packet.{Contents}
 
 -- sdoId 0, version 2.1, messageTypeSpecific 0, and domain and identity of the port
-abbrev pub header_of : PortConfig → (flags : List ℕ) → (correction : ℤ) → (number : ℕ) → (control : ℕ) → (log : ℤ) → Header
+abbrev pub header_of : PortConfig → (flags : List ℕ) → (correction : ℤ) → (number : ℕ) → (control : ℕ) → (log : ℤ)
+    → Header
 header_of config flags correction number control log = record {
   major_sdo = 0;
   minor_version = 1;

@@ -10,7 +10,8 @@ use Rattle.event_codec.specs.Packet.{Contents}
 use Rattle.event_codec.specs.Profile.{header_of}
 use Rattle.event_codec.specs.Reading.{Reading}
 use Rattle.master_port.specs.declared.refusal.MasterRefusal.{MasterRefusal}
-use Rattle.master_port.specs.declared.refusal.MasterRefusal.TheVariants.{Decode, NotRequest, OtherDomain, CorrectionTooLow}
+use Rattle.master_port.specs.declared.refusal.MasterRefusal.TheVariants.{Decode, NotRequest, OtherDomain}
+use Rattle.master_port.specs.declared.refusal.MasterRefusal.TheVariants.{CorrectionTooLow}
 
 -- the two-step Sync of this number: its time comes with the Follow_Up
 abbrev pub sync : PortConfig → (number : ℕ) → Contents
@@ -28,7 +29,8 @@ one_step_sync config number t1 = record {
   suffix = [];
 }
 
--- the Follow_Up of the Sync of this number, which left at the moment t1: its timestamp has no fraction, its correction has
+-- the Follow_Up of the Sync of this number, which left at the moment t1: its timestamp has no fraction, its correction
+-- has
 abbrev pub follow_up : PortConfig → ℕ → ℕ → Contents
 follow_up config number t1 = record {
   header = header_of config (0 ∷ 0 ∷ []) (pos (fraction_of t1)) number 2 config.log;
@@ -36,10 +38,12 @@ follow_up config number t1 = record {
   suffix = [];
 }
 
--- the Delay_Resp to a Delay_Req with this header that arrived at the moment t4: the fraction of t4 is taken off the correction
+-- the Delay_Resp to a Delay_Req with this header that arrived at the moment t4: the fraction of t4 is taken off the
+-- correction
 abbrev pub delay_resp : PortConfig → Header → ℕ → Contents
 delay_resp config request t4 = record {
-  header = header_of config (0 ∷ 0 ∷ []) (less_fraction request.correction.0 (fraction_of t4)) request.sequence.0 3 config.log;
+  header = header_of config (0 ∷ 0 ∷ [])
+      (less_fraction request.correction.0 (fraction_of t4)) request.sequence.0 3 config.log;
   body = DelayResp (stamp_of t4) request.source;
   suffix = [];
 }
@@ -47,11 +51,13 @@ delay_resp config request t4 = record {
 -- the same, where its correction is in range
 abbrev pub responded : PortConfig → Header → ℕ → Result Contents MasterRefusal
 responded config request t4 =
-    if int_lt (less_fraction request.correction.0 (fraction_of t4)) least then Err CorrectionTooLow else Ok (delay_resp config request t4)
+    if int_lt (less_fraction request.correction.0 (fraction_of t4)) least then Err CorrectionTooLow
+    else Ok (delay_resp config request t4)
 
 -- the answer to a Delay_Req with this header: it has to be of the master's domain
 abbrev pub answer_to_request : PortConfig → Header → ℕ → Result Contents MasterRefusal
-answer_to_request config request t4 = if request.domain == config.domain then responded config request t4 else Err OtherDomain
+answer_to_request config request t4 =
+    if request.domain == config.domain then responded config request t4 else Err OtherDomain
 
 -- the answer to a message with this body and header
 abbrev pub answer_to : PortConfig → Body → Header → ℕ → Result Contents MasterRefusal

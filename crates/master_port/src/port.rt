@@ -45,7 +45,8 @@ impl MasterPort {
     pub fn next_sync(&mut self) -> ([u8; 44], Seq)
         ensures octets { Packet (sync self.old.config self.old.next) result.0 }
         ensures number { result.1.0 ≡ self.old.next }
-        ensures port { self.new ≡ record { config = self.old.config; next = next self.old.next; waiting = Some self.old.next } }
+        ensures port { self.new
+            ≡ record { config = self.old.config; next = next self.old.next; waiting = Some self.old.next } }
     {
         let waiting = self.draw();
         self.waiting = Some(waiting);
@@ -107,7 +108,8 @@ impl MasterPort {
     /// The Delay_Resp to a message that arrived at t4.
     fn answer(&self, request: &Message<'_>, t4: ScaledTime) -> Result<[u8; 54], MasterRefusal>
         ensures { MatchResult result
-            (λ written. (resp : Contents) × (answer self.now.config (Ok (contents request.now)) t4 ≡ Ok resp) × Packet resp written)
+            (λ written. (resp : Contents) × (answer self.now.config (Ok (contents request.now)) t4 ≡ Ok resp)
+            × Packet resp written)
             (λ refusal. answer self.now.config (Ok (contents request.now)) t4 ≡ Err refusal) }
     {
         let Body::DelayReq { .. } = request.body else {

@@ -2,7 +2,8 @@
 use Rattle.std.specs.Prelude.{ℕ, ℤ, Bool, true, false, ◌&&◌, ◌||◌, ◌==◌, is_some, Option, Some, None}
 use Rattle.std.specs.Option.{option_map_or}
 use Rattle.network_model.specs.declared.event.Event.{Event}
-use Rattle.network_model.specs.declared.event.Event.TheVariants.{Sync, SyncOne, Follow, Enter, Arrive, Hear, Request, Stamped, Tick}
+use Rattle.network_model.specs.declared.event.Event.TheVariants.{Sync, SyncOne, Follow, Enter, Arrive, Hear, Request}
+use Rattle.network_model.specs.declared.event.Event.TheVariants.{Stamped, Tick}
 use Rattle.network_model.specs.Network.{NodeName, is_named}
 use Rattle.network_model.specs.Parts.{parts}
 use Rattle.network_model.specs.Run.{site_of}

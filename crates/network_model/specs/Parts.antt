@@ -1,11 +1,12 @@
 -- What each event has, beside its kind. A definition that asks for it asks this one table.
 use Rattle.std.specs.Prelude.{ℕ, ℤ, Option, Some, None}
 use Rattle.network_model.specs.declared.event.Event.{Event}
-use Rattle.network_model.specs.declared.event.Event.TheVariants.{Sync, SyncOne, Follow, Enter, Leave, Arrive, Hear, Request, Stamped, Tick, SetMaster, StepClock}
+use Rattle.network_model.specs.declared.event.Event.TheVariants.{Sync, SyncOne, Follow, Enter, Leave, Arrive, Hear}
+use Rattle.network_model.specs.declared.event.Event.TheVariants.{Request, Stamped, Tick, SetMaster, StepClock}
 use Rattle.network_model.specs.Network.{NodeName}
 
--- the node at which an event happens, and what else it names: its true moment, the copy that it takes, the stay that it ends,
--- the master that it tells, the difference that it sets
+-- the node at which an event happens, and what else it names: its true moment, the copy that it takes, the stay that it
+-- ends, the master that it tells, the difference that it sets
 pub record Parts : Type 0 where
   pub node : NodeName
   pub moment : Option ℕ

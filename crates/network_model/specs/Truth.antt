@@ -1,5 +1,6 @@
 -- Which message each copy is, by the readings and the numbers of the run.
-use Rattle.std.specs.Prelude.{ℕ, List, [], ◌∷◌, length, ◌==◌, if◌then◌else◌, Option, Some, None, Ok, option_and_then, option_map}
+use Rattle.std.specs.Prelude.{ℕ, List, [], ◌∷◌, length, ◌==◌, if◌then◌else◌, Option, Some, None, Ok, option_and_then}
+use Rattle.std.specs.Prelude.{option_map}
 use Rattle.std.specs.Result.{result_ok}
 use Rattle.ptp_units.specs.Sequence.{of_count}
 use Rattle.event_codec.specs.Packet.{Contents, Packet}
@@ -26,11 +27,14 @@ slave_at network name = option_and_then slave_port (kind_of network name)
 -- the message that an event draws: a Sync, a one-step Sync with its reading as t1, or a Delay_Req
 abbrev pub drawn : Network → Event → Run → Option Contents
 drawn network (Sync node at) earlier =
-    option_map (λ port. sync port.config (of_count (number_of port (place (Sync node at) earlier)))) (master_at network node)
+    option_map (λ port. sync port.config (of_count (number_of port (place (Sync node at) earlier))))
+    (master_at network node)
 drawn network (SyncOne node at) earlier =
-    option_map (λ port. one_step_sync port.config (of_count (number_of port (place (SyncOne node at) earlier))) (reading (place (SyncOne node at) earlier))) (master_at network node)
+    option_map (λ port. one_step_sync port.config (of_count (number_of port (place (SyncOne node at) earlier)))
+    (reading (place (SyncOne node at) earlier))) (master_at network node)
 drawn network (Request node at) earlier =
-    option_map (λ port. delay_req port.config (of_count (number_of port (place (Request node at) earlier)))) (slave_at network node)
+    option_map (λ port. delay_req port.config (of_count (number_of port (place (Request node at) earlier))))
+    (slave_at network node)
 drawn network _ earlier = None
 
 -- a message at the end of its journey: as it was drawn, with the residence of the journey added to its correction
@@ -55,7 +59,8 @@ copy_made network (Follow node) earlier copies =
 copy_made network (Leave node transit at) earlier copies =
     option_and_then (travelled network) (journey_made (Leave node transit at) earlier (journey_of earlier))
 copy_made network (Arrive node copy at) earlier copies =
-    option_and_then (λ port. option_and_then (responded port (reading (place (Arrive node copy at) earlier))) (copies copy)) (master_at network node)
+    option_and_then (λ port. option_and_then (responded port (reading (place (Arrive node copy at) earlier)))
+    (copies copy)) (master_at network node)
 copy_made network (Request node at) earlier copies = drawn network (Request node at) earlier
 copy_made network _ earlier copies = None
 
@@ -63,7 +68,8 @@ copy_made network _ earlier copies = None
 abbrev pub copy_of : Network → Run → ℕ → Option Contents
 copy_of network [] tag = None
 copy_of network (event ∷ earlier) tag =
-    if length earlier == tag then copy_made network event earlier (copy_of network earlier) else copy_of network earlier tag
+    if length earlier == tag then copy_made network event earlier (copy_of network earlier)
+    else copy_of network earlier tag
 
 -- what is kept of a tag: the octets of its copy's message, or nothing where there is no copy
 abbrev pub TellsTruth : Option Contents → Option (List ℕ) → Type 0
@@ -72,8 +78,8 @@ TellsTruth (Some m) (Some octets) = Packet m octets
 TellsTruth None (Some octets) = ⊥
 TellsTruth (Some m) None = ⊥
 
--- The event that drew the number of a copy: a Follow_Up has its Sync's, a Delay_Resp its Delay_Req's. Said of each arrival,
--- also of one that no master answered and that made no copy.
+-- The event that drew the number of a copy: a Follow_Up has its Sync's, a Delay_Resp its Delay_Req's. Said of each
+-- arrival, also of one that no master answered and that made no copy.
 abbrev pub origin_made : Event → Run → (ℕ → Option Place) → Option Place
 origin_made (Sync node at) earlier origins = Some (place (Sync node at) earlier)
 origin_made (SyncOne node at) earlier origins = Some (place (SyncOne node at) earlier)

@@ -1,6 +1,7 @@
 ghost use Rattle.std.specs.Prelude.{◌≡◌};
 ghost use Rattle.network_model.specs.Run.{site_of, true_moment};
-ghost use Rattle.network_model.specs.Kinds.{is_one_step_sync, draws_sync, is_follow, is_request, is_arrival, is_hearing};
+ghost use Rattle.network_model.specs.Kinds.{is_one_step_sync, draws_sync, is_follow, is_request, is_arrival};
+ghost use Rattle.network_model.specs.Kinds.{is_hearing};
 ghost use Rattle.network_model.specs.Kinds.{named_copy, entered_copy, heard_copy, spent_transit, named_master, step_of};
 
 use crate::name::Name;

@@ -2,7 +2,9 @@
 ghost use Rattle.std.specs.Prelude.{◌≡◌, false, IfOk, OnOk, Some, string_bytes};
 ghost use Rattle.serde_json.specs.Written.{has_float};
 ghost use Rattle.serde_json.specs.View.{view, members_view};
-ghost use Rattle.schedule_lines.specs.Transcript.{node_data, port_data, event_data, line_text, event_text, out_text, out_code, follow_data, tags_data, with_event, with_answer, with_report};
+ghost use Rattle.schedule_lines.specs.Transcript.{node_data, port_data, event_data, line_text, event_text, out_text};
+ghost use Rattle.schedule_lines.specs.Transcript.{out_code, follow_data, tags_data, with_event, with_answer};
+ghost use Rattle.schedule_lines.specs.Transcript.{with_report};
 
 use crate::members::{put_difference, put_moment, put_octets, put_text, put_whole};
 use event_codec::PortConfig;
@@ -115,7 +117,8 @@ fn put_report(
     alloc: Global,
     report: &Report,
 ) -> Result<(), AllocError>
-    ensures { OnOk result (members_view members.new.entries ≡ with_report (Some report.now) (members_view members.old.entries)) }
+    ensures { OnOk result
+        (members_view members.new.entries ≡ with_report (Some report.now) (members_view members.old.entries)) }
 {
     put(members, alloc, "tags", tags_value(alloc, report)?)?;
     put_difference(members, alloc, "path2", Some(report.path2))?;

@@ -1,5 +1,6 @@
 -- The message that each line made, if its octets are those that ports and clocks write.
-use Rattle.std.specs.Prelude.{◌↔◌, ℕ, ◌+◌, ◌*◌, ◌^◌, Bool, true, false, ◌&&◌, not, List, length, drop, nat_lt, ◌==◌, slice_index, slice_range, IsTrue, Option, Some, None, option_map, option_and_then}
+use Rattle.std.specs.Prelude.{◌↔◌, ℕ, ◌+◌, ◌*◌, ◌^◌, Bool, true, false, ◌&&◌, not, List, length, drop, nat_lt, ◌==◌}
+use Rattle.std.specs.Prelude.{slice_index, slice_range, IsTrue, Option, Some, None, option_map, option_and_then}
 use Rattle.std.specs.Int.{w8, w64, cast_signed}
 use Rattle.std.specs.List.{list_all}
 use Rattle.std.specs.Ordering.{int_eq}
@@ -57,7 +58,8 @@ is_packet m b =
     && is_requesting m.body b
     && bytes_eq m.suffix (drop (fields_length (type_of m.body)) b)
 
--- The test holds of just those octets that are the message by the layout's one relation. `laws::each_packet_is_tested` promises it.
+-- The test holds of just those octets that are the message by the layout's one relation. `laws::each_packet_is_tested`
+-- promises it.
 abbrev pub EachPacketIsTested : Type 0
 EachPacketIsTested = (m : Contents) (b : List ℕ) → IsTrue (is_packet m b) ↔ Packet m b
 
@@ -89,7 +91,8 @@ travelled network journey = option_map (λ m. resided m (residence journey)) (se
 abbrev pub followed : Network → PortSetup → (last : LinePlace) → Contents
 followed network port last = follow_up port.config (sequence network port last) (reading last)
 
--- the Delay_Resp that a master sends to a Delay_Req that arrived after this journey, t4 being the reading of the arrival
+-- the Delay_Resp that a master sends to a Delay_Req that arrived after this journey, t4 being the reading of the
+-- arrival
 abbrev pub answered : Network → PortSetup → (arrival : LinePlace) → Journey → Option Contents
 answered network port arrival journey =
     option_map (λ request. delay_resp port.config request.header (reading arrival)) (travelled network journey)

@@ -99,7 +99,8 @@ pub(crate) fn depart(
     shown: Shown,
     room: Room,
 ) -> Result<Happened, WorldRefusal>
-    ensures departs { (m : Contents) (entered : ℕ) → Packet m (listed octets) → stay_at entries.old transit ≡ Some entered → Departs m entered shown room result }
+    ensures departs { (m : Contents) (entered : ℕ) → Packet m (listed octets)
+        → stay_at entries.old transit ≡ Some entered → Departs m entered shown room result }
     ensures spent { OnOk result (entries.new ≡ spent transit entries.old) }
     ensures kept { OnErr result (entries.new ≡ entries.old) }
 {

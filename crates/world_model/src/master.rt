@@ -11,7 +11,8 @@ use ptp_units::ScaledTime;
 impl Master {
     /// Draws a Sync, which waits for its Follow_Up from then on.
     pub(crate) fn sync(&mut self, shown: Shown, room: Room) -> Result<Happened, WorldRefusal>
-        ensures { (node : NodeName) (at : ℕ) → MasterActs (Event.Sync node at) (Reads (Event.Sync node at) shown) self.old self.new room result }
+        ensures { (node : NodeName) (at : ℕ) → MasterActs (Event.Sync node at)
+            (Reads (Event.Sync node at) shown) self.old self.new room result }
     {
         let now = shown?;
         room?;
@@ -30,7 +31,8 @@ impl Master {
         shown: Shown,
         room: Room,
     ) -> Result<Happened, WorldRefusal>
-        ensures { (node : NodeName) (at : ℕ) → MasterActs (Event.SyncOne node at) (Reads (Event.SyncOne node at) shown) self.old self.new room result }
+        ensures { (node : NodeName) (at : ℕ) → MasterActs (Event.SyncOne node at)
+            (Reads (Event.SyncOne node at) shown) self.old self.new room result }
     {
         let now = shown?;
         room?;
@@ -69,7 +71,8 @@ impl Master {
         room: Room,
     ) -> Result<Happened, WorldRefusal>
         ensures { (node : NodeName) (copy at : ℕ) → MasterActs (Event.Arrive node copy at)
-            (λ network run. IsCopy copy (option_map (λ octets. octets.now) heard.entry) network run × Reads (Event.Arrive node copy at) shown network run)
+            (λ network run. IsCopy copy (option_map (λ octets. octets.now) heard.entry) network run
+            × Reads (Event.Arrive node copy at) shown network run)
             self.now self.now room result }
     {
         let Some(octets) = heard else {

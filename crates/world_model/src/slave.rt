@@ -42,7 +42,8 @@ impl Slave {
         room: Room,
     ) -> Result<Happened, WorldRefusal>
         ensures { (node : NodeName) (copy : ℕ) → SlaveActs (Event.Hear node copy)
-            (λ network run. IsCopy copy (option_map (λ octets. octets.now) heard.entry) network run × IsNext tag network run)
+            (λ network run. IsCopy copy (option_map (λ octets. octets.now) heard.entry) network run
+            × IsNext tag network run)
             self.old self.new room result }
     {
         let Some(octets) = heard else {
@@ -64,7 +65,8 @@ impl Slave {
         room: Room,
     ) -> Result<Happened, WorldRefusal>
         ensures { (node : NodeName) (at : ℕ) → SlaveActs (Event.Request node at)
-            (λ network run. Reads (Event.Request node at) shown network run × IsNext tag network run) self.old self.new room result }
+            (λ network run. Reads (Event.Request node at) shown network run
+            × IsNext tag network run) self.old self.new room result }
     {
         let now = shown?;
         room?;
@@ -116,7 +118,8 @@ impl Slave {
         other: NodeKind,
         room: Room,
     ) -> Result<Happened, WorldRefusal>
-        ensures { (node master : NodeName) → SlaveActs (Event.SetMaster node master) (IsKind master other) self.old self.new room result }
+        ensures { (node master : NodeName) → SlaveActs (Event.SetMaster node master)
+            (IsKind master other) self.old self.new room result }
     {
         let NodeKind::Master { config, .. } = other else {
             return Err(WorldRefusal::WrongKind);

@@ -124,7 +124,8 @@ impl Station {
 
     /// A master sends a Sync.
     fn sync(&mut self, at: ScaledTime, room: Room) -> Result<Happened, WorldRefusal>
-        ensures { (node : NodeName) (entries : List Entry) → Acts (Event.Sync node at) entries self.old self.new room result }
+        ensures { (node : NodeName) (entries : List Entry)
+            → Acts (Event.Sync node at) entries self.old self.new room result }
     {
         let shown = self.shown(at);
         let Port::Master(master) = &mut self.port else {
@@ -135,7 +136,8 @@ impl Station {
 
     /// A master sends a one-step Sync.
     fn one_step_sync(&mut self, at: ScaledTime, room: Room) -> Result<Happened, WorldRefusal>
-        ensures { (node : NodeName) (entries : List Entry) → Acts (Event.SyncOne node at) entries self.old self.new room result }
+        ensures { (node : NodeName) (entries : List Entry)
+            → Acts (Event.SyncOne node at) entries self.old self.new room result }
     {
         let shown = self.shown(at);
         let Port::Master(master) = &mut self.port else {
@@ -146,7 +148,8 @@ impl Station {
 
     /// A master sends the Follow_Up of the Sync that waits for it.
     fn follow(&mut self, room: Room) -> Result<Happened, WorldRefusal>
-        ensures { (node : NodeName) (entries : List Entry) → Acts (Event.Follow node) entries self.old self.new room result }
+        ensures { (node : NodeName) (entries : List Entry)
+            → Acts (Event.Follow node) entries self.old self.new room result }
     {
         let Port::Master(master) = &mut self.port else {
             return Err(WorldRefusal::WrongKind);
@@ -253,7 +256,8 @@ impl Station {
 
     /// A slave learns when its waiting Delay_Req departed.
     fn stamped(&mut self, room: Room) -> Result<Happened, WorldRefusal>
-        ensures { (node : NodeName) (entries : List Entry) → Acts (Event.Stamped node) entries self.old self.new room result }
+        ensures { (node : NodeName) (entries : List Entry)
+            → Acts (Event.Stamped node) entries self.old self.new room result }
     {
         let Port::Slave(slave) = &mut self.port else {
             return Err(WorldRefusal::WrongKind);
@@ -263,7 +267,8 @@ impl Station {
 
     /// A slave's hold timer runs out.
     fn tick(&mut self, room: Room) -> Result<Happened, WorldRefusal>
-        ensures { (node : NodeName) (entries : List Entry) → Acts (Event.Tick node) entries self.old self.new room result }
+        ensures { (node : NodeName) (entries : List Entry)
+            → Acts (Event.Tick node) entries self.old self.new room result }
     {
         let Port::Slave(slave) = &mut self.port else {
             return Err(WorldRefusal::WrongKind);
@@ -278,7 +283,8 @@ impl Station {
         master: &Name,
         room: Room,
     ) -> Result<Happened, WorldRefusal>
-        ensures { (node : NodeName) (entries : List Entry) → ActsIn nodes.now (Event.SetMaster node master.now) entries self.old self.new room result }
+        ensures { (node : NodeName) (entries : List Entry)
+            → ActsIn nodes.now (Event.SetMaster node master.now) entries self.old self.new room result }
     {
         let Some(other) = nodes.get(master) else {
             return Err(WorldRefusal::NoNode);
@@ -291,7 +297,8 @@ impl Station {
 
     /// The clock is set.
     fn step_clock(&mut self, diff: &i128, room: Room) -> Result<Happened, WorldRefusal>
-        ensures { (node : NodeName) (entries : List Entry) → Acts (Event.StepClock node diff.now) entries self.old self.new room result }
+        ensures { (node : NodeName) (entries : List Entry)
+            → Acts (Event.StepClock node diff.now) entries self.old self.new room result }
     {
         if diff.unsigned_abs() >= BOUND {
             return Err(WorldRefusal::ReadingOutOfRange);
