@@ -37,18 +37,5 @@ eight a b c d e f g h = omega arith
 pub number-to_be_bytes_2 : (n : ℕ) → n < 2 ^ 16 → number (to_be_bytes w16 n) 0 2 ≡ n
 number-to_be_bytes_2 n lt = two _ _ ∙ from_be_bytes-to_be_bytes_2 n lt
 
-pub number-to_be_bytes_4 : (n : ℕ) → n < 2 ^ 32 → number (to_be_bytes w32 n) 0 4 ≡ n
-number-to_be_bytes_4 n lt = four _ _ _ _ ∙ from_be_bytes-to_be_bytes_4 n lt
-
 pub number-to_be_bytes_8 : (n : ℕ) → n < 2 ^ 64 → number (to_be_bytes w64 n) 0 8 ≡ n
 number-to_be_bytes_8 n lt = eight _ _ _ _ _ _ _ _ ∙ from_be_bytes-to_be_bytes_8 n lt
-
--- 48 bits, in the last six octets of eight
-pub number-to_be_bytes_6 : (n : ℕ) → n < 2 ^ 48 → number (drop 2 (to_be_bytes w64 n)) 0 6 ≡ n
-number-to_be_bytes_6 n lt =
-    let first : 0 ≡ n / 256 ^ 7 % 256 = omega arith in
-    let second : 0 ≡ n / 256 ^ 6 % 256 = omega arith in
-    let rest : List ℕ = drop 2 (to_be_bytes w64 n) in
-    let whole : from_be_bytes w64 (0 ∷ 0 ∷ rest) ≡ from_be_bytes w64 (to_be_bytes w64 n) =
-    ap (λ (x : ℕ). from_be_bytes w64 (x ∷ 0 ∷ rest)) first ∙ ap (λ (x : ℕ). from_be_bytes w64 ((n / 256 ^ 7 % 256) ∷ x ∷ rest)) second in
-    six _ _ _ _ _ _ ∙ whole ∙ from_be_bytes-to_be_bytes_8 n (omega arith)

@@ -27,7 +27,8 @@ number_of types.DelayResp = 9
 
 -- the one of the four types that has this number
 abbrev pub type_numbered : ℕ → Option MessageType
-type_numbered number = find (λ kind. number_of kind == number) (types.Sync ∷ types.DelayReq ∷ types.FollowUp ∷ types.DelayResp ∷ [])
+type_numbered number =
+    find (λ kind. number_of kind == number) (types.Sync ∷ types.DelayReq ∷ types.FollowUp ∷ types.DelayResp ∷ [])
 
 -- how many octets the fields of a message take; its suffix begins after them
 abbrev pub fields_length : MessageType → ℕ

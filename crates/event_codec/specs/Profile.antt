@@ -1,10 +1,13 @@
--- The header that this profile's ports write.
+-- The messages that this profile's ports write.
 use Rattle.std.specs.Prelude.{ℕ, ℤ, List, [], ◌∷◌}
 use Rattle.event_codec.specs.declared.message.Header.{Header}
 use Rattle.event_codec.specs.declared.port.PortConfig.{PortConfig}
+use Rattle.event_codec.specs.declared.profile.Written.{Written}
+use Rattle.event_codec.specs.Packet.{Contents}
 
 -- sdoId 0, version 2.1, messageTypeSpecific 0, and domain and identity of the port
-abbrev pub header_of : PortConfig → (flags : List ℕ) → (correction : ℤ) → (number : ℕ) → (control : ℕ) → (log : ℤ) → Header
+abbrev pub header_of : PortConfig → (flags : List ℕ) → (correction : ℤ) → (number : ℕ) → (control : ℕ) → (log : ℤ)
+    → Header
 header_of config flags correction number control log = record {
   major_sdo = 0;
   minor_version = 1;
@@ -18,3 +21,7 @@ header_of config flags correction number control log = record {
   control = control;
   log = log;
 }
+
+-- a message that has no suffix
+abbrev pub contents_of : Written → Contents
+contents_of message = record { header = message.header; body = message.body; suffix = [] }

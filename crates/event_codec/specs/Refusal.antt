@@ -1,8 +1,10 @@
 -- The numbers of the refusals of octets, and the first one that applies.
-use Rattle.std.specs.Prelude.{ℕ, ◌+◌, ◌%◌, ◌^◌, List, length, slice_index, nat_lt, ◌==◌, if◌then◌else◌, Option, Some, None}
+use Rattle.std.specs.Prelude.{ℕ, ◌+◌, ◌%◌, ◌^◌, List, length, slice_index, nat_lt, ◌==◌, if◌then◌else◌, Option, Some}
+use Rattle.std.specs.Prelude.{None}
 use Rattle.event_codec.specs.declared.message_type.MessageType.{MessageType}
 use Rattle.event_codec.specs.declared.refusal.DecodeRefusal.{DecodeRefusal}
-use Rattle.event_codec.specs.declared.refusal.DecodeRefusal.TheVariants.{Short, Version, OtherType, LengthField, Truncated, Nanoseconds}
+use Rattle.event_codec.specs.declared.refusal.DecodeRefusal.TheVariants.{Short, Version, OtherType, LengthField}
+use Rattle.event_codec.specs.declared.refusal.DecodeRefusal.TheVariants.{Truncated, Nanoseconds}
 use Rattle.event_codec.specs.Layout.{number, type_of, type_numbered, fields_length}
 use Rattle.event_codec.specs.Packet.{Contents}
 

@@ -1,7 +1,9 @@
-ghost use Rattle.std.specs.Prelude.{◌≡◌, ◌<◌, ◌≤◌, ◌+◌, ◌/◌, ◌%◌, ◌^◌, ℕ, length, take, slice_index, slice_range, IfOk, IfSome, MatchResult, IsOkAnd, Some, None};
+ghost use Rattle.std.specs.Prelude.{◌≡◌, ◌<◌, ◌≤◌, ◌+◌, ◌/◌, ◌%◌, ◌^◌, ℕ, length, take, slice_index, slice_range, IfOk};
+ghost use Rattle.std.specs.Prelude.{IfSome, MatchResult, IsOkAnd, Some, None};
 ghost use Rattle.std.specs.Int.{w8, w64, cast_signed};
 ghost use Rattle.event_codec.specs.Layout.{number, number_of, type_of, fields_length, stamp_in};
-ghost use Rattle.event_codec.specs.Packet.{Contents, Packet, IsHeader, IsIdentityAt, IsTimestampAt, IsRequesting, contents};
+ghost use Rattle.event_codec.specs.Packet.{Contents, Packet, IsHeader, IsIdentityAt, IsTimestampAt, IsRequesting};
+ghost use Rattle.event_codec.specs.Packet.{contents};
 ghost use Rattle.event_codec.specs.Reading.{Reading, IsReading, Answers};
 ghost use Rattle.event_codec.specs.Refusal.{decode_refusal};
 
@@ -125,7 +127,8 @@ fn message_of(kind: MessageType, timestamp: Timestamp, octets: &[u8]) -> Message
 #[tactic(auto, unfolding(crate::specs::Refusal::decode_refusal))]
 fn message_type_of(octets: &[u8]) -> Result<MessageType, DecodeRefusal>
     ensures { MatchResult result
-        (λ kind. (34 ≤ length octets.now) × (slice_index octets.now 1 % 16 ≡ 2) × (slice_index octets.now 0 % 16 ≡ number_of kind))
+        (λ kind. (34 ≤ length octets.now) × (slice_index octets.now 1 % 16 ≡ 2)
+        × (slice_index octets.now 0 % 16 ≡ number_of kind))
         (λ e. decode_refusal octets.now ≡ Some e) }
 {
     if octets.len() < HEADER_LENGTH {

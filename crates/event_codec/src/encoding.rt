@@ -1,4 +1,5 @@
-ghost use Rattle.std.specs.Prelude.{◌≡◌, ◌<◌, ◌≤◌, ◌+◌, ◌*◌, ◌^◌, ◌++◌, ℕ, List, length, take, drop, slice_index, slice_range, IfOk, OnErr, MatchResult, Some, None};
+ghost use Rattle.std.specs.Prelude.{◌≡◌, ◌<◌, ◌≤◌, ◌+◌, ◌*◌, ◌^◌, ◌++◌, ℕ, List, length, take, drop, slice_index};
+ghost use Rattle.std.specs.Prelude.{slice_range, IfOk, OnErr, MatchResult, Some, None};
 ghost use Rattle.std.specs.Int.{w8, w16, w64, cast_signed, to_be_bytes};
 ghost use Rattle.event_codec.specs.Layout.{number, number_of, type_of, fields_length, stamp_in};
 ghost use Rattle.event_codec.specs.Packet.{Packet, IsHeader, IsIdentityAt, IsTimestampAt, IsRequesting, contents};
@@ -71,7 +72,8 @@ fn put_fields(buffer: &mut [u8], message: &Message<'_>, message_length: u16)
     ensures header { IsHeader message.now.header (number_of (type_of message.now.body)) message_length buffer.new }
     ensures timestamp { IsTimestampAt (stamp_in message.now.body) buffer.new 34 }
     ensures requesting { IsRequesting message.now.body buffer.new }
-    ensures after { drop (fields_length (type_of message.now.body)) buffer.new ≡ drop (fields_length (type_of message.now.body)) buffer.old }
+    ensures after { drop (fields_length (type_of message.now.body)) buffer.new
+        ≡ drop (fields_length (type_of message.now.body)) buffer.old }
 {
     let Message { header, body, .. } = message;
     put(

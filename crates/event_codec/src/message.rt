@@ -8,6 +8,9 @@ use ptp_units::{Interval, Seq, Timestamp};
 /// versionPTP of every message.
 pub(crate) const VERSION: u8 = 2;
 
+/// flagField with the twoStepFlag alone (IEEE 1588-2019, 13.3.2.8).
+pub const TWO_STEP: [u8; 2] = [0x02, 0x00];
+
 /// The fields that all messages have in common, but for messageType, versionPTP and messageLength
 /// (IEEE 1588-2019, 13.3).
 #[derive(Clone, Copy, Debug, PartialEq, Eq)]
@@ -20,7 +23,7 @@ pub struct Header {
     pub domain: u8,
     /// minorSdoId.
     pub minor_sdo: u8,
-    /// flagField; twoStepFlag is 0x02 of the first octet.
+    /// flagField.
     pub flags: [u8; 2],
     /// correctionField, in units of 2^-16 ns.
     pub correction: Interval,

@@ -1,7 +1,7 @@
 ghost use Rattle.std.specs.Prelude.{◌≡◌, []};
 ghost use Rattle.event_codec.specs.Layout.{type_of, fields_length};
 ghost use Rattle.event_codec.specs.Packet.{Packet};
-ghost use Rattle.event_codec.specs.Profile.{header_of};
+ghost use Rattle.event_codec.specs.Profile.{header_of, contents_of};
 
 use crate::encoding::encode;
 use crate::message::{Body, Header, Message};
@@ -38,26 +38,53 @@ impl PortConfig {
     }
 }
 
+/// A message without suffix, as this profile's ports write them.
+#[derive(Clone, Copy, Debug, PartialEq, Eq)]
+pub struct Written {
+    /// The fields that all messages have.
+    pub header: Header,
+    /// The fields of the message's own type.
+    pub body: Body,
+}
+
+impl Written {
+    /// Its octets: N is 54 for a Delay_Resp, and 44 for the other types.
+    pub fn octets<const N: usize>(self) -> [u8; N]
+        requires { fields_length (type_of self.body) ≡ N }
+        ensures { Packet (contents_of self) result }
+    {
+        let mut octets = [0; N];
+        let message = Message {
+            header: self.header,
+            body: self.body,
+            suffix: &[],
+        };
+        let written = encode(&message, &mut octets);
+        prove!(written.is_ok());
+        octets
+    }
+}
+
 impl Header {
     /// The octets of the Sync that has this header, and no suffix.
     pub fn sync(self, origin: Timestamp) -> [u8; 44]
         ensures { Packet (record { header = self; body = Body.Sync origin; suffix = [] }) result }
     {
-        octets_of(self, Body::Sync { origin })
+        self.with(Body::Sync { origin }).octets()
     }
 
     /// The octets of the Delay_Req that has this header, and no suffix.
     pub fn delay_req(self, origin: Timestamp) -> [u8; 44]
         ensures { Packet (record { header = self; body = Body.DelayReq origin; suffix = [] }) result }
     {
-        octets_of(self, Body::DelayReq { origin })
+        self.with(Body::DelayReq { origin }).octets()
     }
 
     /// The octets of the Follow_Up that has this header, and no suffix.
     pub fn follow_up(self, precise: Timestamp) -> [u8; 44]
         ensures { Packet (record { header = self; body = Body.FollowUp precise; suffix = [] }) result }
     {
-        octets_of(self, Body::FollowUp { precise })
+        self.with(Body::FollowUp { precise }).octets()
     }
 
     /// The octets of the Delay_Resp that has this header, and no suffix.
@@ -68,22 +95,13 @@ impl Header {
             receive,
             requesting,
         };
-        octets_of(self, body)
+        self.with(body).octets()
     }
-}
 
-/// The octets of a message without suffix, whose fields take N of them.
-fn octets_of<const N: usize>(header: Header, body: Body) -> [u8; N]
-    requires { fields_length (type_of body) ≡ N }
-    ensures { Packet (record { header = header; body = body; suffix = [] }) result }
-{
-    let mut octets = [0; N];
-    let message = Message {
-        header,
-        body,
-        suffix: &[],
-    };
-    let written = encode(&message, &mut octets);
-    prove!(written.is_ok());
-    octets
+    /// The message with this header and this body.
+    pub fn with(self, body: Body) -> Written
+        ensures { result ≡ record { header = self; body = body } }
+    {
+        Written { header: self, body }
+    }
 }

@@ -4,8 +4,8 @@ use Rattle.std.specs.Prelude.{option_and_then, is_some}
 use Rattle.std.proofs.lemmas.Option.{same_Some, none-some}
 use Rattle.slave_port.specs.declared.heard.Report.{Report}
 use Rattle.network_model.specs.Network.{Network, NodeName}
-use Rattle.network_model.specs.Kinds.{is_at, heard_copy}
-use Rattle.trace_model.specs.Line.{Lines, is_arrival, is_hearing, is_made, completes}
+use Rattle.network_model.specs.Kinds.{is_at, heard_copy, is_arrival, is_hearing}
+use Rattle.trace_model.specs.Line.{Lines, is_made, completes}
 use Rattle.trace_model.specs.Record.{LinePlace, line_number, event_of, line_at}
 use Rattle.trace_model.specs.Sound.{where_passes, below, Exchange, line_of, sender, sync_line, arrival_line}
 use Rattle.trace_model.proofs.OctetsOfExchanges.{passed}

@@ -4,12 +4,12 @@ use Rattle.std.specs.Prelude.{option_map, option_and_then, nat_lt, is_some}
 use Rattle.slave_port.specs.declared.heard.Report.{Report}
 use Rattle.network_model.specs.declared.event.Event.{Event}
 use Rattle.network_model.specs.Network.{Network, NodeName}
-use Rattle.network_model.specs.Kinds.{is_at, is_follow, heard_copy}
+use Rattle.network_model.specs.Kinds.{is_at, is_follow, heard_copy, is_arrival, is_hearing}
 use Rattle.exchange_check.specs.declared.facts.Fact.{Fact}
 use Rattle.exchange_check.specs.declared.facts.Found.{Found}
 use Rattle.exchange_check.specs.declared.facts.Travel.{Travel}
 use Rattle.exchange_check.specs.declared.facts.Way.{Way}
-use Rattle.trace_model.specs.Line.{Lines, completes, is_arrival, is_hearing}
+use Rattle.trace_model.specs.Line.{Lines, completes}
 use Rattle.trace_model.specs.Record.{LinePlace, line_number, event_of, line_at}
 use Rattle.trace_model.specs.Journey.{Journey, journey_of}
 use Rattle.trace_model.specs.Sound.{where_passes, below, Exchange, line_of, sender, sync_line, follow_line, follow_lines, arrival_line}

@@ -9,7 +9,7 @@ use Rattle.slave_port.specs.declared.heard.Report.{Report}
 use Rattle.network_model.specs.declared.event.Event.{Event}
 use Rattle.network_model.specs.Network.{Network, NodeName, is_named}
 use Rattle.network_model.specs.Run.{site_of}
-use Rattle.network_model.specs.Kinds.{is_at, is_one_step_sync, draws_sync, is_follow, is_request, heard_copy}
+use Rattle.network_model.specs.Kinds.{is_at, is_one_step_sync, draws_sync, is_follow, is_request, heard_copy, is_arrival, is_hearing}
 use Rattle.network_model.specs.Truth.{master_at, slave_at}
 use Rattle.exchange_check.specs.declared.facts.Fact.{Fact}
 use Rattle.exchange_check.specs.declared.facts.Found.{Found}
@@ -17,7 +17,6 @@ use Rattle.exchange_check.specs.declared.facts.Site.{Site}
 use Rattle.exchange_check.specs.declared.facts.Way.{Way}
 use Rattle.trace_model.specs.declared.verdict.Why.{Why}
 use Rattle.trace_model.specs.declared.verdict.Why.TheVariants.{NoSuchLine, OtherNumber, OtherMaster, BrokenJourney, WrongReading, WrongValue, TooBig, Bytes}
-use Rattle.trace_model.specs.Line.{is_arrival, is_hearing}
 use Rattle.trace_model.specs.Sound.{where_passes, below, are_later, is_domain, is_of_line}
 use Rattle.exchange_check.specs.Kept.{Facts, Stamps, Sites, travel_at, longest}
 use Rattle.exchange_check.specs.Stays.{Once}

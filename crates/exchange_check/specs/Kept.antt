@@ -1,6 +1,6 @@
 -- What the checker keeps of lines, so that it searches for nothing. Its own functions cite these; what its callers are told is
 -- said by the lines alone.
-use Rattle.std.specs.Prelude.{ℕ, ◌+◌, ◌-◌, ◌^◌, ℤ, pos, ◌+ℤ◌, Bool, true, false, ◌&&◌, not, List, [], min, nat_lt, slice_get, unwrap_or, ◌==◌, is_some, if◌then◌else◌, Option, Some, None, option_map, option_and_then}
+use Rattle.std.specs.Prelude.{ℕ, ◌+◌, ◌-◌, ◌^◌, ℤ, pos, ◌+ℤ◌, Bool, true, false, ◌&&◌, not, List, min, nat_lt, slice_get, unwrap_or, ◌==◌, is_some, if◌then◌else◌, Option, Some, None, option_map, option_and_then}
 use Rattle.std.specs.HashMap.{HashMap, get}
 use Rattle.std.specs.Str.{bytes_eq}
 use Rattle.std.specs.Option.{option_or, option_map_or}
@@ -20,7 +20,6 @@ use Rattle.exchange_check.specs.declared.facts.Site.{Site}
 use Rattle.exchange_check.specs.declared.facts.Travel.{Travel}
 use Rattle.trace_model.specs.declared.line.TraceLine.{TraceLine}
 use Rattle.exchange_check.specs.declared.octets.Port.{Port}
-use Rattle.exchange_check.specs.declared.octets.Written.{Written}
 use Rattle.trace_model.specs.Line.{counts, is_made, completes}
 use Rattle.trace_model.specs.Record.{is_reading}
 use Rattle.trace_model.specs.Octets.{drawing_port, message_sent, is_written}
@@ -28,10 +27,6 @@ use Rattle.trace_model.specs.Octets.{drawing_port, message_sent, is_written}
 -- a port's configuration and first number, as a network has them
 abbrev pub port_setup : Port → PortSetup
 port_setup port = record { config = port.config; first = port.first.0 }
-
--- a message that has no suffix
-abbrev pub contents_of : Written → Contents
-contents_of message = record { header = message.header; body = message.body; suffix = [] }
 
 -- what is kept of the line of each number, where it tells of something done
 abbrev pub Facts : Type 0

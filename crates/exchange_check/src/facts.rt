@@ -3,12 +3,15 @@
 use network_model::{Event, Name};
 use ptp_units::{ScaledTime, Seq};
 
+/// The longest residence that is counted exactly is below this, in units of 2^-16 ns.
+pub(crate) const LONGEST: u64 = (1 << 63) - 1;
+
 /// The way of a copy of an event message from the line that sent it.
 #[derive(Clone, Copy, Debug, PartialEq, Eq)]
 pub(crate) struct Travel {
     /// The number of the line that sent it.
     pub(crate) origin: u64,
-    /// How long it was in clocks, in units of 2^-16 ns; 2^63 - 1 stands for more as well.
+    /// How long it was in clocks, in units of 2^-16 ns; [`LONGEST`] stands for more as well.
     pub(crate) residence: u64,
     /// Whether all readings on the way are right.
     pub(crate) reads_right: bool,

@@ -6,26 +6,19 @@ ghost use Rattle.std.specs.Ordering.{nat_cmp};
 ghost use Rattle.ptp_units.specs.Exchange.{IsBracket, offset2, path2};
 ghost use Rattle.std.specs.Ordering.{int_eq};
 ghost use Rattle.ptp_units.specs.Moment.{bound};
-ghost use Rattle.network_model.specs.Kinds.{draws_sync, is_request};
+ghost use Rattle.network_model.specs.Kinds.{draws_sync, is_request, is_arrival, is_hearing};
 ghost use Rattle.network_model.specs.Run.{site_of};
-ghost use Rattle.trace_model.specs.Line.{is_arrival, is_hearing};
 ghost use Rattle.trace_model.specs.Sound.{is_of_line, is_domain, are_later, below};
 ghost use Rattle.exchange_check.specs.Kept.{fact_in, site_in, port_setup};
 ghost use Rattle.exchange_check.specs.Stays.{once_in};
 ghost use Rattle.exchange_check.specs.Judged.{line_of_by, sender_by, sync_by, follow_by, follows_by, arrival_by, completion_by, is_here, is_stamped_by, found_by, way_at, way_from, way_to, is_followed_by, paired_by, is_told, of_master_by, readings_by, fraction_by, fits_by, bracket_by, results_by, octets_by, ways_reason, both_ways, found_reason, fact_reason, reason_by};
 
-use crate::events::{
-    draws_sync, heard_copy, is_arrival, is_follow, is_hearing, is_one_step_sync, is_request,
-};
-use crate::facts::{Fact, Found, Site, Way};
+use crate::facts::{Fact, Found, LONGEST, Site, Way};
 use crate::kept::Kept;
 use crate::octets::{Port, master_at, slave_at};
 use network_model::{Event, Name, Nodes, Report};
 use ptp_units::{ScaledTime, offset2, path2};
 use trace_model::Why;
-
-/// The longest residence that is counted exactly is below this, in units of 2^-16 ns.
-const LONGEST: u64 = (1 << 63) - 1;
 
 /// Whether a report is of the line of this number.
 fn is_of_line(number: u64, report: &Report) -> bool
@@ -68,7 +61,7 @@ fn is_followed(follow: &Option<Fact>, origin: &Fact) -> bool
             Some(last) => last == origin.line,
             None => false,
         },
-        None => is_one_step_sync(&origin.event),
+        None => origin.event.is_one_step_sync(),
     }
 }
 
@@ -120,7 +113,7 @@ fn are_readings(found: &Found, sync: &Way, request: &Way) -> bool
 fn fraction_sent(origin: &Fact) -> u16
     ensures { result ≡ fraction_by origin.now }
 {
-    if is_one_step_sync(&origin.event) {
+    if origin.event.is_one_step_sync() {
         origin.reading.split().1
     } else {
         0
@@ -240,7 +233,7 @@ impl Kept {
         ensures { result ≡ line_of_by (fact_in self.now.facts.items) is_arrival slave.now number }
     {
         match self.at(number) {
-            Some(fact) if is_here(is_arrival(&fact.event), &fact.event, slave) => Some(fact),
+            Some(fact) if is_here(fact.event.is_arrival(), &fact.event, slave) => Some(fact),
             _ => None,
         }
     }
@@ -250,7 +243,7 @@ impl Kept {
         ensures { result ≡ line_of_by (fact_in self.now.facts.items) is_hearing slave.now number }
     {
         match self.at(number) {
-            Some(fact) if is_here(is_hearing(&fact.event), &fact.event, slave) => Some(fact),
+            Some(fact) if is_here(fact.event.is_hearing(), &fact.event, slave) => Some(fact),
             _ => None,
         }
     }
@@ -260,7 +253,7 @@ impl Kept {
         ensures { result ≡ line_of_by (fact_in self.now.facts.items) is_request slave.now number }
     {
         match self.at(number) {
-            Some(fact) if is_here(is_request(&fact.event), &fact.event, slave) => Some(fact),
+            Some(fact) if is_here(fact.event.is_request(), &fact.event, slave) => Some(fact),
             _ => None,
         }
     }
@@ -269,7 +262,7 @@ impl Kept {
     fn sender(&self, fact: &Fact) -> Option<Fact>
         ensures { result ≡ sender_by (fact_in self.now.facts.items) fact.now }
     {
-        let copy = heard_copy(&fact.event)?;
+        let copy = fact.event.heard_copy()?;
         if copy < fact.line {
             self.at(copy)
         } else {
@@ -296,7 +289,7 @@ impl Kept {
             None => None,
         };
         match sender {
-            Some(fact) if is_follow(&fact.event) => Some(fact),
+            Some(fact) if fact.event.is_follow() => Some(fact),
             _ => None,
         }
     }
@@ -333,7 +326,7 @@ impl Kept {
             None => None,
         };
         match sender {
-            Some(fact) if is_arrival(&fact.event) && fact.made => Some(fact),
+            Some(fact) if fact.event.is_arrival() && fact.made => Some(fact),
             _ => None,
         }
     }
@@ -389,12 +382,12 @@ impl Kept {
     fn sync_way(&self, arrival: &Fact) -> Option<Way>
         ensures { result ≡ way_to (fact_in self.now.facts.items) (once_in self.now.stays) draws_sync arrival.now }
     {
-        let copy = heard_copy(&arrival.event)?;
+        let copy = arrival.event.heard_copy()?;
         if copy >= arrival.line {
             return None;
         }
         match self.way_at(copy) {
-            Some(way) if draws_sync(&way.origin.event) && self.stays.once(copy) => Some(way),
+            Some(way) if way.origin.event.draws_sync() && self.stays.once(copy) => Some(way),
             _ => None,
         }
     }
@@ -403,12 +396,12 @@ impl Kept {
     fn request_way(&self, arrival: &Fact) -> Option<Way>
         ensures { result ≡ way_to (fact_in self.now.facts.items) (once_in self.now.stays) is_request arrival.now }
     {
-        let copy = heard_copy(&arrival.event)?;
+        let copy = arrival.event.heard_copy()?;
         if copy >= arrival.line {
             return None;
         }
         match self.way_at(copy) {
-            Some(way) if is_request(&way.origin.event) && self.stays.once(copy) => Some(way),
+            Some(way) if way.origin.event.is_request() && self.stays.once(copy) => Some(way),
             _ => None,
         }
     }

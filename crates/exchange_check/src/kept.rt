@@ -13,25 +13,22 @@ ghost use Rattle.std.specs.Option.{option_map_or, option_or};
 ghost use Rattle.network_model.specs.Network.{NodeName};
 ghost use Rattle.exchange_check.specs.Kept.{Leaves, moved, moved_at, stamped, sites_after, leaves_after, stamps_after};
 ghost use Rattle.ptp_units.specs.Sequence.{of_count};
-ghost use Rattle.exchange_check.specs.Kept.{fact_in, site_in, travel_at, copy_entered_by, stayed, begun_by, travel_by, travelled_by, followed_by, answered_by, message_by, known_by, number_by, fact_known, fact_by, travel_left, written_travel, port_setup, contents_of};
+ghost use Rattle.exchange_check.specs.Kept.{fact_in, site_in, travel_at, copy_entered_by, stayed, begun_by, travel_by, travelled_by, followed_by, answered_by, message_by, known_by, number_by, fact_known, fact_by, travel_left, written_travel, port_setup};
+ghost use Rattle.event_codec.specs.Profile.{contents_of};
 ghost use Rattle.trace_model.specs.Record.{is_reading};
 
-use crate::events::entered_copy;
-use crate::facts::{Fact, Known, Site, Travel};
+use crate::facts::{Fact, Known, LONGEST, Site, Travel};
 use crate::good::{completes, counts, is_made};
-use crate::octets::{
-    Port, Written, delay_resp, follow_up, is_written, master_at, resided, sent, slave_at,
-};
+use crate::octets::{Port, delay_resp, is_written, master_at, resided, sent, slave_at};
 use crate::refusal::CheckFault;
 use crate::stays::Stays;
+use event_codec::Written;
+use master_port::follow_up;
 use network_model::{Event, Name, Nodes};
 use ptp_units::{ScaledTime, Seq};
 use std::alloc::Global;
 use std::collections::{BTreeMap, HashMap};
 use trace_model::{TraceLine, TraceOut, Verdict};
-
-/// The longest residence that is counted exactly is below this, in units of 2^-16 ns.
-const LONGEST: u128 = (1 << 63) - 1;
 
 /// What is kept of the lines so far.
 #[derive(Drop)]
@@ -84,7 +81,7 @@ fn drawn(port: Option<Port>, count: Seq) -> Seq
 fn copy_entered(clock: &Name, entered: &Fact) -> Option<u64>
     ensures { result ≡ copy_entered_by clock.now entered.now }
 {
-    let copy = entered_copy(&entered.event)?;
+    let copy = entered.event.entered_copy()?;
     if entered.event.node() == *clock && copy < entered.line {
         Some(copy)
     } else {
@@ -100,7 +97,7 @@ fn stayed(known: &Known, entered: &Fact, before: &Travel) -> Travel
         .reading
         .value()
         .saturating_sub(entered.reading.value());
-    let residence = (u128::from(before.residence) + stay).min(LONGEST);
+    let residence = (u128::from(before.residence) + stay).min(u128::from(LONGEST));
     let rises = known.reading.value() >= entered.reading.value();
     Travel {
         origin: before.origin,
@@ -257,7 +254,7 @@ impl Kept {
         ensures { option_map contents_of result ≡ answered_by nodes.now (fact_in self.now.facts.items) (port_setup port.now) now travel }
     {
         let request = self.travelled(nodes, &travel?)?;
-        Some(delay_resp(&port.config, &request.header, now))
+        delay_resp(&port.config, &request.header, now)
     }
 
     /// The message that a line makes.
@@ -326,7 +323,7 @@ impl Kept {
             return None;
         }
         let copy = match self.at(transit) {
-            Some(entered) => entered_copy(&entered.event)?,
+            Some(entered) => entered.event.entered_copy()?,
             None => return None,
         };
         if copy < number { Some(copy) } else { None }

@@ -3,7 +3,6 @@
 #![tactic(auto)]
 
 mod checker;
-mod events;
 mod facts;
 mod good;
 mod judging;

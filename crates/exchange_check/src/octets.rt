@@ -1,24 +1,21 @@
 //! The octets that ports and clocks write.
 
-ghost use Rattle.std.specs.Prelude.{◌≡◌, ◌≤◌, ◌≤ℤ◌, pos, [], length, option_map, IfSome};
+ghost use Rattle.std.specs.Prelude.{◌≡◌, ◌≤◌, ◌≤ℤ◌, pos, [], length, option_map, IfSome, Some};
 ghost use Rattle.event_codec.specs.Packet.{Contents, contents};
-ghost use Rattle.master_port.specs.Written.{follow_up, delay_resp};
+ghost use Rattle.event_codec.specs.Profile.{contents_of};
+ghost use Rattle.master_port.specs.Written.{delay_resp};
 ghost use Rattle.transparent_clock.specs.Forwarding.{resided};
 ghost use Rattle.network_model.specs.Network.{PortSetup};
 ghost use Rattle.network_model.specs.Truth.{master_at, slave_at};
-ghost use Rattle.exchange_check.specs.Kept.{sent_by, port_setup, contents_of};
+ghost use Rattle.exchange_check.specs.Kept.{sent_by, port_setup};
 ghost use Rattle.trace_model.specs.Octets.{is_packet, is_written, drawing_port, message_sent};
 
-use event_codec::{Body, Header, Message, PortConfig, encode};
+use event_codec::{Header, Message, PortConfig, Written, encode};
+use master_port::{one_step_sync, sync};
 use network_model::{Event, Name, NodeKind, Nodes};
-use ptp_units::{Interval, ScaledTime, Seq, Timestamp};
+use ptp_units::{ScaledTime, Seq};
+use slave_port::delay_req;
 use trace_model::TraceOut;
-
-/// flagField of a two-step Sync.
-const TWO_STEP: [u8; 2] = [0x02, 0x00];
-
-/// flagField of the other messages.
-const NO_FLAGS: [u8; 2] = [0x00, 0x00];
 
 /// The configuration of a port, and the first number of its pool.
 #[derive(Clone, Copy)]
@@ -58,43 +55,15 @@ pub(crate) fn drawing_port(nodes: &Nodes, event: &Event) -> Option<Port>
     }
 }
 
-/// A message without suffix.
-#[derive(Clone, Copy)]
-pub(crate) struct Written {
-    pub(crate) header: Header,
-    pub(crate) body: Body,
-}
-
 /// The message that a port sends at an event, under this number and at this reading.
 fn message_sent(config: &PortConfig, event: &Event, number: Seq, now: ScaledTime) -> Option<Written>
     ensures value { option_map contents_of result ≡ message_sent config.now event.now number.0 now }
     ensures sign { IfSome result (λ m. pos 0 ≤ℤ m.header.correction.0) }
 {
-    let origin = Timestamp::default();
     match event {
-        Event::Sync { .. } => {
-            let header = config.header(TWO_STEP, Interval(0), number, 0, config.log);
-            Some(Written {
-                header,
-                body: Body::Sync { origin },
-            })
-        }
-        Event::SyncOne { .. } => {
-            let (origin, fraction) = now.split();
-            let correction = Interval(i64::from(fraction));
-            let header = config.header(NO_FLAGS, correction, number, 0, config.log);
-            Some(Written {
-                header,
-                body: Body::Sync { origin },
-            })
-        }
-        Event::Request { .. } => {
-            let header = config.header(NO_FLAGS, Interval(0), number, 1, 127);
-            Some(Written {
-                header,
-                body: Body::DelayReq { origin },
-            })
-        }
+        Event::Sync { .. } => Some(sync(config, number)),
+        Event::SyncOne { .. } => Some(one_step_sync(config, number, now)),
+        Event::Request { .. } => Some(delay_req(config, number)),
         _ => None,
     }
 }
@@ -116,38 +85,18 @@ pub(crate) fn resided(message: &Written, time: u64) -> Written
 {
     let mut header = message.header;
     header.correction = header.correction.plus_residence(u128::from(time));
-    Written {
-        header,
-        body: message.body,
-    }
-}
-
-/// The Follow_Up of the Sync of this number, which left at t1.
-pub(crate) fn follow_up(config: &PortConfig, number: Seq, t1: ScaledTime) -> Written
-    ensures { contents_of result ≡ follow_up config.now number.0 t1 }
-{
-    let (precise, fraction) = t1.split();
-    let correction = Interval(i64::from(fraction));
-    let header = config.header(NO_FLAGS, correction, number, 2, config.log);
-    Written {
-        header,
-        body: Body::FollowUp { precise },
-    }
+    header.with(message.body)
 }
 
 /// The Delay_Resp to a Delay_Req that arrived at t4.
-pub(crate) fn delay_resp(config: &PortConfig, request: &Header, t4: ScaledTime) -> Written
+pub(crate) fn delay_resp(config: &PortConfig, request: &Header, t4: ScaledTime) -> Option<Written>
     requires { pos 0 ≤ℤ request.now.correction.0 }
-    ensures { contents_of result ≡ delay_resp config.now request.now t4 }
+    ensures { option_map contents_of result ≡ Some (delay_resp config.now request.now t4) }
 {
-    let (receive, fraction) = t4.split();
-    let correction = request.correction.minus_fraction(fraction).unwrap();
-    let header = config.header(NO_FLAGS, correction, request.sequence, 3, config.log);
-    let body = Body::DelayResp {
-        receive,
-        requesting: request.source,
-    };
-    Written { header, body }
+    match master_port::delay_resp(config, request, t4) {
+        Ok(message) => Some(message),
+        Err(_) => None,
+    }
 }
 
 /// Whether octets are a message, octet for octet.

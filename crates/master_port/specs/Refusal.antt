@@ -1,7 +1,8 @@
 -- The numbers of a master's refusals.
 use Rattle.std.specs.Prelude.{ℕ}
 use Rattle.master_port.specs.declared.refusal.MasterRefusal.{MasterRefusal}
-use Rattle.master_port.specs.declared.refusal.MasterRefusal.TheVariants.{NotWaiting, Decode, NotRequest, OtherDomain, CorrectionTooLow}
+use Rattle.master_port.specs.declared.refusal.MasterRefusal.TheVariants.{NotWaiting, Decode, NotRequest, OtherDomain}
+use Rattle.master_port.specs.declared.refusal.MasterRefusal.TheVariants.{CorrectionTooLow}
 
 abbrev pub code_of : MasterRefusal → ℕ
 code_of NotWaiting = 301

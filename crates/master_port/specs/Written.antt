@@ -1,6 +1,6 @@
 -- What a master writes, from its configuration, a number and a time (IEEE 1588-2019, 11.3 and 13.6 to 13.8).
-use Rattle.std.specs.Prelude.{ℕ, ℤ, pos, List, int_lt, [], ◌∷◌, ◌==◌, if◌then◌else◌, Ok, Err, Result}
-use Rattle.ptp_units.specs.Moment.{Stamp, stamp, stamp_of, fraction_of}
+use Rattle.std.specs.Prelude.{ℕ, pos, int_lt, [], ◌∷◌, ◌==◌, if◌then◌else◌, Ok, Err, Result}
+use Rattle.ptp_units.specs.Moment.{stamp, stamp_of, fraction_of}
 use Rattle.ptp_units.specs.Interval.{least, less_fraction}
 use Rattle.event_codec.specs.declared.message.Header.{Header}
 use Rattle.event_codec.specs.declared.message.Body.{Body}
@@ -10,25 +10,27 @@ use Rattle.event_codec.specs.Packet.{Contents}
 use Rattle.event_codec.specs.Profile.{header_of}
 use Rattle.event_codec.specs.Reading.{Reading}
 use Rattle.master_port.specs.declared.refusal.MasterRefusal.{MasterRefusal}
-use Rattle.master_port.specs.declared.refusal.MasterRefusal.TheVariants.{Decode, NotRequest, OtherDomain, CorrectionTooLow}
-
--- a Sync with these flags, this correction, this number and this originTimestamp
-abbrev pub sync_with : PortConfig → (flags : List ℕ) → (correction : ℤ) → (number : ℕ) → (origin : Stamp) → Contents
-sync_with config flags correction number origin = record {
-  header = header_of config flags correction number 0 config.log;
-  body = Sync origin;
-  suffix = [];
-}
+use Rattle.master_port.specs.declared.refusal.MasterRefusal.TheVariants.{Decode, NotRequest, OtherDomain}
+use Rattle.master_port.specs.declared.refusal.MasterRefusal.TheVariants.{CorrectionTooLow}
 
 -- the two-step Sync of this number: its time comes with the Follow_Up
 abbrev pub sync : PortConfig → (number : ℕ) → Contents
-sync config number = sync_with config (2 ∷ 0 ∷ []) (pos 0) number (stamp 0 0)
+sync config number = record {
+  header = header_of config (2 ∷ 0 ∷ []) (pos 0) number 0 config.log;
+  body = Sync (stamp 0 0);
+  suffix = [];
+}
 
 -- the one-step Sync of this number, which leaves at the moment t1: its timestamp has no fraction, its correction has
 abbrev pub one_step_sync : PortConfig → (number t1 : ℕ) → Contents
-one_step_sync config number t1 = sync_with config (0 ∷ 0 ∷ []) (pos (fraction_of t1)) number (stamp_of t1)
+one_step_sync config number t1 = record {
+  header = header_of config (0 ∷ 0 ∷ []) (pos (fraction_of t1)) number 0 config.log;
+  body = Sync (stamp_of t1);
+  suffix = [];
+}
 
--- the Follow_Up of the Sync of this number, which left at the moment t1: its timestamp has no fraction, its correction has
+-- the Follow_Up of the Sync of this number, which left at the moment t1: its timestamp has no fraction, its correction
+-- has
 abbrev pub follow_up : PortConfig → ℕ → ℕ → Contents
 follow_up config number t1 = record {
   header = header_of config (0 ∷ 0 ∷ []) (pos (fraction_of t1)) number 2 config.log;
@@ -36,20 +38,26 @@ follow_up config number t1 = record {
   suffix = [];
 }
 
--- the Delay_Resp to a Delay_Req with this header that arrived at the moment t4: the fraction of t4 is taken off the correction
+-- the Delay_Resp to a Delay_Req with this header that arrived at the moment t4: the fraction of t4 is taken off the
+-- correction
 abbrev pub delay_resp : PortConfig → Header → ℕ → Contents
 delay_resp config request t4 = record {
-  header = header_of config (0 ∷ 0 ∷ []) (less_fraction request.correction.0 (fraction_of t4)) request.sequence.0 3 config.log;
+  header = header_of config (0 ∷ 0 ∷ [])
+      (less_fraction request.correction.0 (fraction_of t4)) request.sequence.0 3 config.log;
   body = DelayResp (stamp_of t4) request.source;
   suffix = [];
 }
 
--- the answer to a Delay_Req with this header: it has to be of the master's domain, and the Delay_Resp's correction in range
+-- the same, where its correction is in range
+abbrev pub responded : PortConfig → Header → ℕ → Result Contents MasterRefusal
+responded config request t4 =
+    if int_lt (less_fraction request.correction.0 (fraction_of t4)) least then Err CorrectionTooLow
+    else Ok (delay_resp config request t4)
+
+-- the answer to a Delay_Req with this header: it has to be of the master's domain
 abbrev pub answer_to_request : PortConfig → Header → ℕ → Result Contents MasterRefusal
 answer_to_request config request t4 =
-    if request.domain == config.domain
-    then (if int_lt (less_fraction request.correction.0 (fraction_of t4)) least then Err CorrectionTooLow else Ok (delay_resp config request t4))
-    else Err OtherDomain
+    if request.domain == config.domain then responded config request t4 else Err OtherDomain
 
 -- the answer to a message with this body and header
 abbrev pub answer_to : PortConfig → Body → Header → ℕ → Result Contents MasterRefusal

@@ -4,6 +4,8 @@
 
 mod port;
 mod refusal;
+mod written;
 
 pub use port::MasterPort;
 pub use refusal::MasterRefusal;
+pub use written::{delay_resp, follow_up, one_step_sync, sync};

@@ -3,17 +3,13 @@ ghost use Rattle.ptp_units.specs.Sequence.{next};
 ghost use Rattle.event_codec.specs.Packet.{Contents, Packet, contents};
 ghost use Rattle.event_codec.specs.Reading.{Reading, IsReading};
 ghost use Rattle.master_port.specs.Port.{new_port};
-ghost use Rattle.master_port.specs.Written.{sync_with, sync, one_step_sync, follow_up, answer};
+ghost use Rattle.master_port.specs.Written.{sync, one_step_sync, follow_up, answer};
 
 use crate::refusal::MasterRefusal;
+use crate::written::{delay_resp, follow_up, one_step_sync, sync};
 use event_codec::{Body, Message, PortConfig, decode};
-use ptp_units::{Interval, ScaledTime, Seq, Timestamp};
+use ptp_units::{ScaledTime, Seq};
 use std::marker::Model;
-
-/// The twoStepFlag alone (IEEE 1588-2019, 13.3.2.8).
-const TWO_STEP: [u8; 2] = [2, 0];
-
-const NO_FLAGS: [u8; 2] = [0, 0];
 
 /// A master port, which sends two-step and one-step Syncs.
 #[derive(Debug, Drop)]
@@ -49,12 +45,12 @@ impl MasterPort {
     pub fn next_sync(&mut self) -> ([u8; 44], Seq)
         ensures octets { Packet (sync self.old.config self.old.next) result.0 }
         ensures number { result.1.0 ≡ self.old.next }
-        ensures port { self.new ≡ record { config = self.old.config; next = next self.old.next; waiting = Some self.old.next } }
+        ensures port { self.new
+            ≡ record { config = self.old.config; next = next self.old.next; waiting = Some self.old.next } }
     {
         let waiting = self.draw();
         self.waiting = Some(waiting);
-        let origin = Timestamp::default();
-        (self.sync(TWO_STEP, Interval(0), waiting, origin), waiting)
+        (sync(&self.config, waiting).octets(), waiting)
     }
 
     /// Draws a number from the same pool: the octets of its one-step Sync, which leaves at t1, and the
@@ -65,9 +61,7 @@ impl MasterPort {
         ensures port { self.new ≡ record self.old { next = next self.old.next } }
     {
         let number = self.draw();
-        let (origin, fraction) = t1.split();
-        let correction = Interval(i64::from(fraction));
-        (self.sync(NO_FLAGS, correction, number, origin), number)
+        (one_step_sync(&self.config, number, t1).octets(), number)
     }
 
     /// Draws the next number of the pool of Syncs.
@@ -78,15 +72,6 @@ impl MasterPort {
         let number = self.next;
         self.next = number.next();
         number
-    }
-
-    /// The octets of a Sync.
-    fn sync(&self, flags: [u8; 2], correction: Interval, number: Seq, origin: Timestamp) -> [u8; 44]
-        ensures { Packet (sync_with self.now.config flags correction.0 number.0 origin) result }
-    {
-        let config = self.config;
-        let header = config.header(flags, correction, number, 0, config.log);
-        header.sync(origin)
     }
 
     /// The Follow_Up of the waiting Sync, which left at t1; no Sync waits then. Refused with 301
@@ -102,18 +87,7 @@ impl MasterPort {
             return Err(MasterRefusal::NotWaiting);
         }
         self.waiting = None;
-        Ok(self.follow_up(number, t1))
-    }
-
-    /// The Follow_Up of the Sync of this number, which left at t1.
-    fn follow_up(&self, number: Seq, t1: ScaledTime) -> [u8; 44]
-        ensures { Packet (follow_up self.now.config number.0 t1) result }
-    {
-        let config = self.config;
-        let (precise, fraction) = t1.split();
-        let correction = Interval(i64::from(fraction));
-        let header = config.header(NO_FLAGS, correction, number, 2, config.log);
-        header.follow_up(precise)
+        Ok(follow_up(&self.config, number, t1).octets())
     }
 
     /// The Delay_Resp to a Delay_Req that arrived at t4. Refused with the first of 302 to 305 that
@@ -134,22 +108,16 @@ impl MasterPort {
     /// The Delay_Resp to a message that arrived at t4.
     fn answer(&self, request: &Message<'_>, t4: ScaledTime) -> Result<[u8; 54], MasterRefusal>
         ensures { MatchResult result
-            (λ written. (resp : Contents) × (answer self.now.config (Ok (contents request.now)) t4 ≡ Ok resp) × Packet resp written)
+            (λ written. (resp : Contents) × (answer self.now.config (Ok (contents request.now)) t4 ≡ Ok resp)
+            × Packet resp written)
             (λ refusal. answer self.now.config (Ok (contents request.now)) t4 ≡ Err refusal) }
     {
         let Body::DelayReq { .. } = request.body else {
             return Err(MasterRefusal::NotRequest);
         };
-        let config = self.config;
-        if request.header.domain != config.domain {
+        if request.header.domain != self.config.domain {
             return Err(MasterRefusal::OtherDomain);
         }
-        let (receive, fraction) = t4.split();
-        let Ok(correction) = request.header.correction.minus_fraction(fraction) else {
-            return Err(MasterRefusal::CorrectionTooLow);
-        };
-        let sequence = request.header.sequence;
-        let header = config.header(NO_FLAGS, correction, sequence, 3, config.log);
-        Ok(header.delay_resp(receive, request.header.source))
+        Ok(delay_resp(&self.config, &request.header, t4)?.octets())
     }
 }

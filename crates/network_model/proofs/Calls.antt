@@ -6,9 +6,9 @@ use Rattle.std.proofs.lemmas.Bool.{ne_eqb, eq-eqb}
 use Rattle.event_codec.specs.Packet.{Contents}
 use Rattle.slave_port.specs.History as calls
 use Rattle.slave_port.specs.History.{Call}
-use Rattle.slave_port.proofs.Uses.{some_image}
+use Rattle.slave_port.proofs.Options.{some_image}
 use Rattle.network_model.specs.declared.event.Event.{Event}
-use Rattle.network_model.specs.declared.event.Event.TheVariants.{Sync, SyncOne, Follow, Enter, Leave, Arrive, Hear, Request, Stamped, Tick, SetMaster, StepClock}
+use Rattle.network_model.specs.declared.event.Event.TheVariants.{Arrive, Hear, Request, Stamped, Tick, SetMaster}
 use Rattle.network_model.specs.declared.refusal.WorldRefusal.TheVariants.{NoNode, WrongKind}
 use Rattle.network_model.specs.declared.stepped.Outcome.TheVariants.{Done}
 use Rattle.network_model.specs.Network.{Network, NodeName, PortSetup, kind_of, master_port, slave_port, is_named}
@@ -78,15 +78,10 @@ call_kind network port (Stamped node) earlier call made =
 call_kind network port (Tick node) earlier call made = let same : calls.Tick ≡ call = cc in (ap ticks same, ap sets same)
 call_kind network port (SetMaster node master) earlier call made =
     let by = some_image (λ (other : PortSetup). calls.SetMaster other.config.identity) (master_at network master) made in (ap ticks by.2, ap sets by.2)
-call_kind network port (Sync node at) earlier call made = cc
-call_kind network port (SyncOne node at) earlier call made = cc
-call_kind network port (Follow node) earlier call made = cc
-call_kind network port (Enter node copy at) earlier call made = cc
-call_kind network port (Leave node transit at) earlier call made = cc
-call_kind network port (StepClock node diff) earlier call made = cc
+call_kind network port _ earlier call made = cc
 
 -- the master that an accepted SetMaster event names is one
-pub named_is_master : (network : Network) (earlier : Run) (node master : NodeName) → IsOk (outcome_of network earlier (SetMaster node master))
+named_is_master : (network : Network) (earlier : Run) (node master : NodeName) → IsOk (outcome_of network earlier (SetMaster node master))
     → (port : PortSetup) × (master_at network master ≡ Some port)
 named_is_master network earlier node master accepted =
     let outcome = ok_value (outcome_of network earlier (SetMaster node master)) accepted in
@@ -107,16 +102,7 @@ silent network port (SetMaster node master) earlier accepted none =
     ap (option_map (λ (other : PortSetup). calls.SetMaster other.config.identity)) told.1 in
     cc
 silent network port (Tick node) earlier accepted none = cc
-silent network port (Sync node at) earlier accepted none = (refl, refl)
-silent network port (SyncOne node at) earlier accepted none = (refl, refl)
-silent network port (Follow node) earlier accepted none = (refl, refl)
-silent network port (Enter node copy at) earlier accepted none = (refl, refl)
-silent network port (Leave node transit at) earlier accepted none = (refl, refl)
-silent network port (Arrive node copy at) earlier accepted none = (refl, refl)
-silent network port (Hear node copy) earlier accepted none = (refl, refl)
-silent network port (Request node at) earlier accepted none = (refl, refl)
-silent network port (Stamped node) earlier accepted none = (refl, refl)
-silent network port (StepClock node diff) earlier accepted none = (refl, refl)
+silent network port _ earlier accepted none = (refl, refl)
 
 -- each call of a slave is made by an event of one kind
 pub data IsCallOf (network : Network) (port : PortSetup) (event : Event) (earlier : Run) (call : Call) : Type 0 where
@@ -146,9 +132,4 @@ call_of network port (Tick node) earlier call made = Ticks node refl cc
 call_of network port (SetMaster node master) earlier call made =
     let by = some_image (λ (other : PortSetup). calls.SetMaster other.config.identity) (master_at network master) made in
     Sets node master by.0 refl by.1 (sym by.2)
-call_of network port (Sync node at) earlier call made = cc
-call_of network port (SyncOne node at) earlier call made = cc
-call_of network port (Follow node) earlier call made = cc
-call_of network port (Enter node copy at) earlier call made = cc
-call_of network port (Leave node transit at) earlier call made = cc
-call_of network port (StepClock node diff) earlier call made = cc
+call_of network port _ earlier call made = cc

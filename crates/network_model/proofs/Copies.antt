@@ -16,9 +16,9 @@ use Rattle.master_port.specs.declared.refusal.MasterRefusal.TheVariants.{OtherDo
 use Rattle.master_port.specs.Written.{sync, one_step_sync, delay_resp, answer_to}
 use Rattle.slave_port.specs.Written.{delay_req}
 use Rattle.transparent_clock.specs.Forwarding.{resided}
-use Rattle.slave_port.proofs.Uses.{some_step, some_image}
+use Rattle.slave_port.proofs.Options.{some_step, some_image}
 use Rattle.network_model.specs.declared.event.Event.{Event}
-use Rattle.network_model.specs.declared.event.Event.TheVariants.{Sync, SyncOne, Follow, Enter, Leave, Arrive, Hear, Request, Stamped, Tick, SetMaster, StepClock}
+use Rattle.network_model.specs.declared.event.Event.TheVariants.{Sync, SyncOne, Follow, Leave, Arrive, Request}
 use Rattle.network_model.specs.Network.{Network, NodeName, PortSetup}
 use Rattle.network_model.specs.Run.{Run, Place, place, place_at, IsIn}
 use Rattle.network_model.specs.Kinds.{is_at, is_sync, is_one_step_sync, is_request}
@@ -152,15 +152,7 @@ module _ (network : Network) (run : Run) (copy : ℕ) (m : Contents) where
         port_is = port.1;
         is = sym whole.2 ∙ ap (λ (d : Contents). resided d (residence journey)) (sym port.2);
       })
-  with_journey (Follow node) earlier stays made is = cc
-  with_journey (Enter node c at) earlier stays made is = cc
-  with_journey (Leave node c at) earlier stays made is = cc
-  with_journey (Arrive node c at) earlier stays made is = cc
-  with_journey (Hear node c) earlier stays made is = cc
-  with_journey (Stamped node) earlier stays made is = cc
-  with_journey (Tick node) earlier stays made is = cc
-  with_journey (SetMaster node other) earlier stays made is = cc
-  with_journey (StepClock node diff) earlier stays made is = cc
+  with_journey _ earlier stays made is = cc
 
   travelled_copy : (journey : Journey) → journey_of run copy ≡ Some journey → copy_of network run copy ≡ Some m → IsCopy network run copy m
   travelled_copy journey made is =
@@ -208,12 +200,7 @@ module _ (network : Network) (run : Run) (copy : ℕ) (m : Contents) where
         is_request = said.0;
         is = said.1;
       })
-  made_copy (Enter node c at) earlier there made is journey = cc
-  made_copy (Hear node c) earlier there made is journey = cc
-  made_copy (Stamped node) earlier there made is journey = cc
-  made_copy (Tick node) earlier there made is journey = cc
-  made_copy (SetMaster node other) earlier there made is journey = cc
-  made_copy (StepClock node diff) earlier there made is journey = cc
+  made_copy _ earlier there made is journey = cc
 
   -- each copy is of one of these kinds
   pub copy_kind : copy_of network run copy ≡ Some m → IsCopy network run copy m

@@ -42,11 +42,11 @@ pub record IsLearnt (network : Network) (slave : NodeName) (run : Run) (tag : �
   pub tag_is : tag ≡ tag_of request
 
 -- a request whose departure is known was stamped
-abbrev pub IsStampedFor : Network → NodeName → Run → RequestValue → Type 0
+abbrev IsStampedFor : Network → NodeName → Run → RequestValue → Type 0
 IsStampedFor network slave run v = (t : ℕ) → v.t3 ≡ Some t → IsLearnt network slave run v.tag
 
 -- the same of each entry
-abbrev pub AreStamped : Network → NodeName → Run → List (Entry RequestValue) → Type 0
+abbrev AreStamped : Network → NodeName → Run → List (Entry RequestValue) → Type 0
 AreStamped network slave run [] = Unit {0}
 AreStamped network slave run (e ∷ others) = IsStampedFor network slave run e.value × AreStamped network slave run others
 

@@ -8,7 +8,7 @@ use Rattle.std.proofs.lemmas.Grind.{reverse_onto}
 use Rattle.std.proofs.lemmas.Bool.Decides.{Decides-int_eq}
 use Rattle.std.proofs.lemmas.Int.{ints}
 use Rattle.network_model.specs.declared.event.Event.{Event}
-use Rattle.network_model.specs.declared.event.Event.TheVariants.{Sync, SyncOne, Follow, Enter, Leave, Arrive, Hear, Request, Stamped, Tick, SetMaster, StepClock}
+use Rattle.network_model.specs.declared.event.Event.TheVariants.{Sync, SyncOne, Enter, Leave, Request}
 use Rattle.network_model.specs.declared.stepped.Outcome.TheVariants as outcomes
 use Rattle.network_model.specs.declared.refusal.WorldRefusal.TheVariants.{NoCopy}
 use Rattle.network_model.specs.Network.{Network, NodeName, is_named}
@@ -18,7 +18,7 @@ use Rattle.network_model.specs.Journey.{Journey, Stay, begun, journey_made, jour
 use Rattle.network_model.specs.Truth.{copy_made, copy_of}
 use Rattle.network_model.specs.Outcome.{◌>>=◌, node_as, clock_of, reads, outcome_of, IsRun}
 use Rattle.network_model.specs.Level.{Crossing, crossing, crossing_to, crossings_in, crossings_of, is_same_way, is_same_cable, is_even, are_even, time_of, time_on}
-use Rattle.slave_port.proofs.Uses.{some_step}
+use Rattle.slave_port.proofs.Options.{some_step}
 use Rattle.network_model.proofs.Options.{ok_value, ok_step, ok_some}
 use Rattle.network_model.proofs.Places.{accepted-place_at, place_at-within, IsIn-place_at, IsIn-within}
 use Rattle.network_model.proofs.Made.{copy_of-place_at, journey_of-place_at}
@@ -181,14 +181,7 @@ maker_of run copy journey made =
         let from = continued left earlier transit journey is in
         let on = gone_on left from.0 from.2 journey from.6 in
         Leaves left from.0 from.1 from.2 there on.1 (same_origin left from.0 from.2 journey from.6) (IsIn-place_at earlier transit from.0 from.3) from.4 from.5
-    by (Follow node) earlier there is = cc
-    by (Enter node c at) earlier there is = cc
-    by (Arrive node c at) earlier there is = cc
-    by (Hear node c) earlier there is = cc
-    by (Stamped node) earlier there is = cc
-    by (Tick node) earlier there is = cc
-    by (SetMaster node master) earlier there is = cc
-    by (StepClock node diff) earlier there is = cc
+    by _ earlier there is = cc
 
 -- a copy that entered was there before
 entered_there : (network : Network) (event : Event) (earlier : Run) (copy : ℕ) → IsOk (outcome_of network earlier event) → entered_copy event ≡ Some copy
@@ -202,17 +195,7 @@ entered_there network (Enter node c at) earlier copy accepted is =
     let made = some_step (λ (p : Place). copy_made network p.event p.earlier (copy_of network p.earlier)) (place_at earlier c)
     (sym (copy_of-place_at network earlier c) ∙ ok_some (copy_of network earlier c) NoCopy {x = message.0} message.1) in
     (is, (made.0, subst (λ (t : ℕ). place_at earlier t ≡ Some made.0) same made.1))
-entered_there network (Sync node at) earlier copy accepted is = cc
-entered_there network (SyncOne node at) earlier copy accepted is = cc
-entered_there network (Follow node) earlier copy accepted is = cc
-entered_there network (Leave node transit at) earlier copy accepted is = cc
-entered_there network (Arrive node c at) earlier copy accepted is = cc
-entered_there network (Hear node c) earlier copy accepted is = cc
-entered_there network (Request node at) earlier copy accepted is = cc
-entered_there network (Stamped node) earlier copy accepted is = cc
-entered_there network (Tick node) earlier copy accepted is = cc
-entered_there network (SetMaster node master) earlier copy accepted is = cc
-entered_there network (StepClock node diff) earlier copy accepted is = cc
+entered_there network _ earlier copy accepted is = cc
 
 -- a copy's journey doesn't change
 same_journey : (run : Run) (entered : Place) (copy : ℕ) (q : Place) → IsIn run entered → place_at entered.earlier copy ≡ Some q → journey_of run copy ≡ journey_of entered.earlier copy

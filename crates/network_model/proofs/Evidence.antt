@@ -219,7 +219,7 @@ one_answer run p q node other j k one first second =
     (cc, cc)
 
 -- what there is evidence of is what was measured
-pub evidence_is_measured : EvidenceIsOfMeasurements
+evidence_is_measured : EvidenceIsOfMeasurements
 evidence_is_measured network run slave report sync request measured =
     let of_sync = measured.one_sync.sync in
     let of_request = measured.one_request.request in

@@ -6,7 +6,7 @@ use Rattle.event_codec.specs.Packet.{Contents}
 use Rattle.slave_port.specs.History as calls
 use Rattle.slave_port.specs.History.{Call}
 use Rattle.network_model.specs.declared.event.Event.{Event}
-use Rattle.network_model.specs.declared.event.Event.TheVariants.{Sync, SyncOne, Follow, Enter, Leave, Arrive, Hear, Request, Stamped, Tick, SetMaster, StepClock}
+use Rattle.network_model.specs.declared.event.Event.TheVariants.{Arrive, Hear}
 use Rattle.network_model.specs.declared.refusal.WorldRefusal.TheVariants.{NoCopy}
 use Rattle.network_model.specs.Network.{Network, PortSetup, slave_port}
 use Rattle.network_model.specs.Run.{Run, Place, place, site_of}
@@ -67,16 +67,7 @@ told network port (Hear node copy) earlier accepted is =
       made = ap (option_map (λ (m : Contents). calls.General (Ok m) (length earlier))) m_is;
       heard = refl;
     }
-told network port (Sync node at) earlier accepted is = cc
-told network port (SyncOne node at) earlier accepted is = cc
-told network port (Follow node) earlier accepted is = cc
-told network port (Enter node copy at) earlier accepted is = cc
-told network port (Leave node transit at) earlier accepted is = cc
-told network port (Request node at) earlier accepted is = cc
-told network port (Stamped node) earlier accepted is = cc
-told network port (Tick node) earlier accepted is = cc
-told network port (SetMaster node master) earlier accepted is = cc
-told network port (StepClock node diff) earlier accepted is = cc
+told network port _ earlier accepted is = cc
 
 -- an event drew the number of each message
 origin_known : (network : Network) (run : Run) (copy : ℕ) (m : Contents) → copy_of network run copy ≡ Some m → (origin : Place) × (origin_of run copy ≡ Some origin)

@@ -3,9 +3,9 @@
 use Rattle.std.proofs.Common.{◌≡◌, ◌∙◌, ℕ, Bool, true, false, [], ◌∷◌, length, Some, None, option_map, option_and_then, refl, sym, ap, subst, if◌then◌else◌}
 use Rattle.std.specs.Prelude.{◌==◌, nat_lt}
 use Rattle.std.proofs.lemmas.Bool.{eq-eqb}
-use Rattle.slave_port.proofs.Uses.{some_step}
+use Rattle.slave_port.proofs.Options.{some_step}
 use Rattle.network_model.specs.declared.event.Event.{Event}
-use Rattle.network_model.specs.declared.event.Event.TheVariants.{Sync, SyncOne, Follow, Enter, Leave, Arrive, Hear, Request, Stamped, Tick, SetMaster, StepClock}
+use Rattle.network_model.specs.declared.event.Event.TheVariants.{Sync, SyncOne, Leave, Request}
 use Rattle.network_model.specs.Run.{Run, Place, place, place_at, tag_of, IsIn}
 use Rattle.network_model.specs.Kinds.{entered_copy}
 use Rattle.network_model.specs.Clock.{reading}
@@ -61,14 +61,7 @@ IsIn-origin (event ∷ earlier) tag journey made = at (length earlier == tag) ma
     made_by (Leave node transit at) is made rest =
         let from = continued (place (Leave node transit at) earlier) earlier transit journey made in
         subst (λ (o : Place). IsIn (event ∷ earlier) o) (same_origin (place (Leave node transit at) earlier) from.0 from.2 journey from.6) (rest from.1 from.2 from.5)
-    made_by (Follow node) is made rest = cc
-    made_by (Enter node copy at) is made rest = cc
-    made_by (Arrive node copy at) is made rest = cc
-    made_by (Hear node copy) is made rest = cc
-    made_by (Stamped node) is made rest = cc
-    made_by (Tick node) is made rest = cc
-    made_by (SetMaster node master) is made rest = cc
-    made_by (StepClock node diff) is made rest = cc
+    made_by _ is made rest = cc
 
     at : (same : Bool) → (if same then journey_made event earlier (journey_of earlier) else journey_of earlier tag) ≡ Some journey
         → ((t : ℕ) (j : Journey) → journey_of earlier t ≡ Some j → drew j) → drew journey
@@ -86,11 +79,4 @@ origin_of-journey run tag journey made =
     by_kind (SyncOne node at) earlier made = let same : begun (SyncOne node at) earlier ≡ journey = cc in ap (λ (j : Journey). Some j.origin) same
     by_kind (Request node at) earlier made = let same : begun (Request node at) earlier ≡ journey = cc in ap (λ (j : Journey). Some j.origin) same
     by_kind (Leave node transit at) earlier made = ap (option_map (λ (j : Journey). j.origin)) made
-    by_kind (Follow node) earlier made = cc
-    by_kind (Enter node copy at) earlier made = cc
-    by_kind (Arrive node copy at) earlier made = cc
-    by_kind (Hear node copy) earlier made = cc
-    by_kind (Stamped node) earlier made = cc
-    by_kind (Tick node) earlier made = cc
-    by_kind (SetMaster node master) earlier made = cc
-    by_kind (StepClock node diff) earlier made = cc
+    by_kind _ earlier made = cc

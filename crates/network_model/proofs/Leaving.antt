@@ -204,17 +204,12 @@ unspent network (Leave node transit at ∷ earlier) tag accepted ahead =
     grind (arith, nat_tests)
 unspent network (_ ∷ earlier) tag accepted ahead = unspent network earlier tag accepted.1 (omega arith)
 
--- no event of a run has a tag that it hasn't reached, nor made a copy of it
-pub place_at-ahead : (run : Run) (tag : ℕ) → length run ≤ tag → place_at run tag ≡ None
-place_at-ahead [] tag ahead = refl
-place_at-ahead (event ∷ earlier) tag ahead = grind (arith, nat_tests, place_at-ahead earlier tag)
-
 pub copy_of-ahead : (network : Network) (run : Run) (tag : ℕ) → length run ≤ tag → copy_of network run tag ≡ None
 copy_of-ahead network [] tag ahead = refl
 copy_of-ahead network (event ∷ earlier) tag ahead = grind (arith, nat_tests, copy_of-ahead network earlier tag)
 
 -- a copy stays what it is
-pub copy_of-later : (network : Network) (event : Event) (run : Run) (copy : ℕ) (m : Contents)
+copy_of-later : (network : Network) (event : Event) (run : Run) (copy : ℕ) (m : Contents)
     → copy_of network run copy ≡ Some m → copy_of network (event ∷ run) copy ≡ Some m
 copy_of-later network event run copy m is = grind (arith, nat_tests, copy_of-ahead network run copy)
 

@@ -16,7 +16,7 @@ use Rattle.slave_port.specs.Completion.{DelayCompletion}
 use Rattle.slave_port.specs.Kept.{delay_completion}
 use Rattle.slave_port.proofs.Uses.{delay_completion_of}
 use Rattle.network_model.specs.declared.event.Event.{Event}
-use Rattle.network_model.specs.declared.event.Event.TheVariants.{Sync, SyncOne, Follow, Enter, Leave, Arrive, Hear, Request, Stamped, Tick, SetMaster, StepClock}
+use Rattle.network_model.specs.declared.event.Event.TheVariants.{Arrive, Request}
 use Rattle.network_model.specs.Network.{Network, NodeName, PortSetup, IsNetwork}
 use Rattle.network_model.specs.Run.{Run, Place, place_at, tag_of, IsIn, site_of}
 use Rattle.network_model.specs.Kinds.{is_at, is_request, is_set_master}
@@ -43,17 +43,7 @@ use Rattle.network_model.proofs.Requests.{requests_are, request_found}
 -- a request is no SetMaster
 request_sets_none : (event : Event) → is_request event ≡ true → is_set_master event ≡ false
 request_sets_none (Request node at) is = refl
-request_sets_none (Sync node at) is = cc
-request_sets_none (SyncOne node at) is = cc
-request_sets_none (Follow node) is = cc
-request_sets_none (Enter node copy at) is = cc
-request_sets_none (Leave node transit at) is = cc
-request_sets_none (Arrive node copy at) is = cc
-request_sets_none (Hear node copy) is = cc
-request_sets_none (Stamped node) is = cc
-request_sets_none (Tick node) is = cc
-request_sets_none (SetMaster node master) is = cc
-request_sets_none (StepClock node diff) is = cc
+request_sets_none _ is = cc
 
 -- a Delay_Resp to this slave: the arrival that made it, the Delay_Req that arrived, and the Request event that drew that
 pub record IsAnswer (network : Network) (port : PortSetup) (slave : NodeName) (run : Run) (copy : ℕ) (m : Contents) (receive : Stamp) : Type 0 where

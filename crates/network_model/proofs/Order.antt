@@ -106,10 +106,6 @@ module _ (network : Network) (port : PortSetup) (slave : NodeName) (slave_is : s
 abbrev FirstIs : Run → NodeName → ℕ → List SyncCompletion → Type 0
 FirstIs run master least es = (c : SyncCompletion) × (slice_get es 0 ≡ Some c) × IsAtLeast run master least c
 
-first_append : (run : Run) (master : NodeName) (least : ℕ) (xs ys : List SyncCompletion) → FirstIs run master least xs → FirstIs run master least (xs ++ ys)
-first_append run master least [] ys first = let is = first.1 in cc
-first_append run master least (x ∷ xs) ys first = first
-
 -- after so many ticks a window still has it
 abbrev Has : Run → NodeName → ℕ → ℕ → Window SyncCompletion → Type 0
 Has run master least count window =

@@ -71,19 +71,6 @@ one_sync_event master port run o other here there drawn drawn_too near near_too 
     number : (o : Place) → is_at draws_sync master o.event ≡ true → of_count (number_of port o) ≡ of_count (port.first + count_by (is_at draws_sync master) o.earlier)
     number o drawn = ap (λ (kind : Event → Bool). of_count (port.first + count_by kind o.earlier)) (draws_with-sync master o.event drawn)
 
--- the same of requests
-pub one_request_event : (slave : NodeName) (port : PortSetup) (run : Run) (o other : Place) → IsIn run o → IsIn run other
-    → is_at is_request slave o.event ≡ true → is_at is_request slave other.event ≡ true
-    → count_by (is_at is_request slave) run - (count_by (is_at is_request slave) o.earlier + 1) < 65536
-    → count_by (is_at is_request slave) run - (count_by (is_at is_request slave) other.earlier + 1) < 65536
-    → of_count (number_of port o) ≡ of_count (number_of port other) → o ≡ other
-one_request_event slave port run o other here there drawn drawn_too near near_too same =
-    one_origin (is_at is_request slave) port.first run o other here there drawn drawn_too near near_too
-    (sym (number o drawn) ∙ same ∙ number other drawn_too)
-  where
-    number : (o : Place) → is_at is_request slave o.event ≡ true → of_count (number_of port o) ≡ of_count (port.first + count_by (is_at is_request slave) o.earlier)
-    number o drawn = ap (λ (kind : Event → Bool). of_count (port.first + count_by kind o.earlier)) (draws_with-request slave o.event drawn)
-
 -- a number used now lies within the reach of its sequence
 pub used_near : (master : NodeName) (run : Run) (origin : Place) (reach : ℕ) → is_at draws_sync master origin.event ≡ true → drawn_later origin run < reach
     → count_by (is_at draws_sync master) run - (count_by (is_at draws_sync master) origin.earlier + 1) < reach
@@ -96,7 +83,7 @@ used_near_request slave run origin reach drawn low =
     subst (λ (n : ℕ). n < reach) (ap (λ (kind : Event → Bool). count_by kind run - (count_by kind origin.earlier + 1)) (draws_with-request slave origin.event drawn)) low
 
 -- what holds of a run and of each that it goes on from
-pub before_each : (P : Run → Type 0) → ((event : Event) (earlier : Run) → P (event ∷ earlier) → P earlier) → (run : Run) (p : Place) → IsIn run p → P run → P p.earlier
+before_each : (P : Run → Type 0) → ((event : Event) (earlier : Run) → P (event ∷ earlier) → P earlier) → (run : Run) (p : Place) → IsIn run p → P run → P p.earlier
 before_each P step [] p there is = cc
 before_each P step (event ∷ earlier) p there is = at (length earlier == tag_of p) there (λ within. before_each P step earlier p within (step event earlier is))
   where

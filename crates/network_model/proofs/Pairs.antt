@@ -17,7 +17,8 @@ use Rattle.slave_port.specs.Requests.{requests, held_requests}
 use Rattle.slave_port.specs.Completion.{SyncCompletion, DelayCompletion, pair, answered}
 use Rattle.slave_port.specs.Kept.{criteria, usable_two_step_sync, usable_follow_up, usable_delay_resp, held_syncs, held_follows}
 use Rattle.slave_port.specs.Answer.{answer, used}
-use Rattle.slave_port.proofs.Uses.{HeardDelayResp, some_image, two_step_value, follow_value, response_value, two_step_entry, follow_entry, response_entry, IsSyncCompletion, BySync, Alone, ByFollowUp, sync_completion_of, delay_completion_of}
+use Rattle.slave_port.proofs.Options.{some_image}
+use Rattle.slave_port.proofs.Uses.{HeardDelayResp, two_step_value, follow_value, response_value, two_step_entry, follow_entry, response_entry, IsSyncCompletion, BySync, Alone, ByFollowUp, sync_completion_of, delay_completion_of}
 use Rattle.network_model.specs.declared.event.Event.{Event}
 use Rattle.network_model.specs.Network.{Network, NodeName, PortSetup}
 use Rattle.network_model.specs.Run.{Run, Place, place_at, tag_of, IsIn, until, site_of}

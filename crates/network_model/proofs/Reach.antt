@@ -5,9 +5,9 @@ use Rattle.std.specs.Prelude.{count_by, ◌&&◌, ◌||◌, IfSome, ◌==◌}
 use Rattle.std.specs.Option.{option_map_or}
 use Rattle.std.proofs.lemmas.Bool.{false_from_ne_true}
 use Rattle.ptp_units.specs.Sequence.{of_count}
-use Rattle.slave_port.proofs.Uses.{some_step}
+use Rattle.slave_port.proofs.Options.{some_step}
 use Rattle.network_model.specs.declared.event.Event.{Event}
-use Rattle.network_model.specs.declared.event.Event.TheVariants.{Sync, SyncOne, Follow, Enter, Leave, Arrive, Hear, Request, Stamped, Tick, SetMaster, StepClock}
+use Rattle.network_model.specs.declared.event.Event.TheVariants.{Sync, SyncOne, Arrive, Hear, Request, Tick}
 use Rattle.network_model.specs.Network.{Network, NodeName, is_named}
 use Rattle.network_model.specs.Run.{Run, Place, place, place_at, tag_of, IsIn, site_of, events_after}
 use Rattle.network_model.specs.Kinds.{is_at, draws_sync, is_request, is_tick, is_set_master, named_master, heard_copy}
@@ -34,30 +34,11 @@ one_origin kind first run o other here there drawn drawn_too near near_too same 
 pub draws_with-sync : (node : NodeName) (event : Event) → is_at draws_sync node event ≡ true → draws_with event ≡ is_at draws_sync node
 draws_with-sync node (Sync other at) is = ap (is_at draws_sync) (at_site draws_sync node (Sync other at) is)
 draws_with-sync node (SyncOne other at) is = ap (is_at draws_sync) (at_site draws_sync node (SyncOne other at) is)
-draws_with-sync node (Follow other) is = cc
-draws_with-sync node (Enter other copy at) is = cc
-draws_with-sync node (Leave other transit at) is = cc
-draws_with-sync node (Arrive other copy at) is = cc
-draws_with-sync node (Hear other copy) is = cc
-draws_with-sync node (Request other at) is = cc
-draws_with-sync node (Stamped other) is = cc
-draws_with-sync node (Tick other) is = cc
-draws_with-sync node (SetMaster other master) is = cc
-draws_with-sync node (StepClock other diff) is = cc
+draws_with-sync node _ is = cc
 
 pub draws_with-request : (node : NodeName) (event : Event) → is_at is_request node event ≡ true → draws_with event ≡ is_at is_request node
 draws_with-request node (Request other at) is = ap (is_at is_request) (at_site is_request node (Request other at) is)
-draws_with-request node (Sync other at) is = cc
-draws_with-request node (SyncOne other at) is = cc
-draws_with-request node (Follow other) is = cc
-draws_with-request node (Enter other copy at) is = cc
-draws_with-request node (Leave other transit at) is = cc
-draws_with-request node (Arrive other copy at) is = cc
-draws_with-request node (Hear other copy) is = cc
-draws_with-request node (Stamped other) is = cc
-draws_with-request node (Tick other) is = cc
-draws_with-request node (SetMaster other master) is = cc
-draws_with-request node (StepClock other diff) is = cc
+draws_with-request node _ is = cc
 
 -- the master that a slave follows at the end of the run, over an event that is no SetMaster of it
 pub last_set_master-later : (slave : NodeName) (event : Event) (earlier : Run) → is_at is_set_master slave event ≡ false
@@ -73,30 +54,11 @@ present_master-later slave event earlier unset =
 heard_draws_none : (event : Event) (copy : ℕ) → heard_copy event ≡ Some copy → draws_sync event ≡ false
 heard_draws_none (Arrive other c at) copy is = refl
 heard_draws_none (Hear other c) copy is = refl
-heard_draws_none (Sync other at) copy is = cc
-heard_draws_none (SyncOne other at) copy is = cc
-heard_draws_none (Follow other) copy is = cc
-heard_draws_none (Enter other c at) copy is = cc
-heard_draws_none (Leave other transit at) copy is = cc
-heard_draws_none (Request other at) copy is = cc
-heard_draws_none (Stamped other) copy is = cc
-heard_draws_none (Tick other) copy is = cc
-heard_draws_none (SetMaster other master) copy is = cc
-heard_draws_none (StepClock other diff) copy is = cc
+heard_draws_none _ copy is = cc
 
 tick_draws_none : (event : Event) → is_tick event ≡ true → draws_sync event ≡ false
 tick_draws_none (Tick other) is = refl
-tick_draws_none (Sync other at) is = cc
-tick_draws_none (SyncOne other at) is = cc
-tick_draws_none (Follow other) is = cc
-tick_draws_none (Enter other c at) is = cc
-tick_draws_none (Leave other transit at) is = cc
-tick_draws_none (Arrive other c at) is = cc
-tick_draws_none (Hear other c) is = cc
-tick_draws_none (Request other at) is = cc
-tick_draws_none (Stamped other) is = cc
-tick_draws_none (SetMaster other master) is = cc
-tick_draws_none (StepClock other diff) is = cc
+tick_draws_none _ is = cc
 
 -- How many Syncs a slave's present master drew after the one of a message: of a message that the slave used, and after which
 -- it had at most one tick and was told no master, fewer than `reach`.
@@ -277,15 +239,7 @@ few_drawn : (network : Network) (run : Run) → IsWithinTurn network run → (ea
 few_drawn network run premise earlier (Sync node at) fewer = let few = premise.one_turn.syncs node in omega (arith, fewer (is_at draws_sync node))
 few_drawn network run premise earlier (SyncOne node at) fewer = let few = premise.one_turn.syncs node in omega (arith, fewer (is_at draws_sync node))
 few_drawn network run premise earlier (Request node at) fewer = let few = premise.one_turn.requests node in omega (arith, fewer (is_at is_request node))
-few_drawn network run premise earlier (Follow node) fewer = omega (arith, count-none earlier)
-few_drawn network run premise earlier (Enter node copy at) fewer = omega (arith, count-none earlier)
-few_drawn network run premise earlier (Leave node transit at) fewer = omega (arith, count-none earlier)
-few_drawn network run premise earlier (Arrive node copy at) fewer = omega (arith, count-none earlier)
-few_drawn network run premise earlier (Hear node copy) fewer = omega (arith, count-none earlier)
-few_drawn network run premise earlier (Stamped node) fewer = omega (arith, count-none earlier)
-few_drawn network run premise earlier (Tick node) fewer = omega (arith, count-none earlier)
-few_drawn network run premise earlier (SetMaster node master) fewer = omega (arith, count-none earlier)
-few_drawn network run premise earlier (StepClock node diff) fewer = omega (arith, count-none earlier)
+few_drawn network run premise earlier _ fewer = omega (arith, count-none earlier)
 
 -- runs in which no number has come round
 pub reach-one_turn : (network : Network) (slave : NodeName) (run : Run) → IsWithinTurn network run → IsWithinReach 65536 network slave run

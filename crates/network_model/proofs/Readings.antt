@@ -4,9 +4,9 @@ use Rattle.std.proofs.Common.{◌≡◌, ◌∙◌, ℕ, ℤ, pos, negsuc, Bool,
 use Rattle.std.specs.Prelude.{ok_or, unwrap_or, nat_lt, is_some}
 use Rattle.ptp_units.specs.Moment.{bound}
 use Rattle.transparent_clock.specs.Forwarding.{forwarded}
-use Rattle.slave_port.proofs.Uses.{some_step}
+use Rattle.slave_port.proofs.Options.{some_step}
 use Rattle.network_model.specs.declared.event.Event.{Event}
-use Rattle.network_model.specs.declared.event.Event.TheVariants.{Sync, SyncOne, Follow, Enter, Leave, Arrive, Hear, Request, Stamped, Tick, SetMaster, StepClock}
+use Rattle.network_model.specs.declared.event.Event.TheVariants.{Sync, SyncOne, Enter, Leave, Arrive, Request}
 use Rattle.network_model.specs.declared.stepped.Outcome.TheVariants as outcomes
 use Rattle.network_model.specs.declared.refusal.WorldRefusal.TheVariants.{NoCopy, NoTransit, ReadingOutOfRange}
 use Rattle.network_model.specs.Network.{Network, master_port, slave_port}
@@ -58,12 +58,7 @@ read_at network (Arrive node copy at) earlier accepted timed =
     let message = ok_step (ok_or (copy_of network earlier copy) NoCopy)
     (λ m. reads (Arrive node copy at) earlier >>= (λ now. Ok (arrived_outcome network kind.0 node earlier now m))) kind.2 in
     let now = ok_step (reads (Arrive node copy at) earlier) (λ now. Ok (arrived_outcome network kind.0 node earlier now message.0)) message.2 in (now.0, now.1)
-read_at network (Follow node) earlier accepted timed = cc
-read_at network (Hear node copy) earlier accepted timed = cc
-read_at network (Stamped node) earlier accepted timed = cc
-read_at network (Tick node) earlier accepted timed = cc
-read_at network (SetMaster node master) earlier accepted timed = cc
-read_at network (StepClock node diff) earlier accepted timed = cc
+read_at network _ earlier accepted timed = cc
 
 -- the moment shown is the number shown
 shown_number : (shown : ℤ) (now : ℕ) → moment_of shown ≡ Some now → shown ≡ pos now
@@ -87,27 +82,8 @@ shown_reading network run p accepted there timed =
 pub sync_timed : (event : Event) → draws_sync event ≡ true → is_some (true_moment event) ≡ true
 sync_timed (Sync node at) is = refl
 sync_timed (SyncOne node at) is = refl
-sync_timed (Follow node) is = cc
-sync_timed (Enter node copy at) is = cc
-sync_timed (Leave node transit at) is = cc
-sync_timed (Arrive node copy at) is = cc
-sync_timed (Hear node copy) is = cc
-sync_timed (Request node at) is = cc
-sync_timed (Stamped node) is = cc
-sync_timed (Tick node) is = cc
-sync_timed (SetMaster node master) is = cc
-sync_timed (StepClock node diff) is = cc
+sync_timed _ is = cc
 
 pub request_timed : (event : Event) → is_request event ≡ true → is_some (true_moment event) ≡ true
 request_timed (Request node at) is = refl
-request_timed (Sync node at) is = cc
-request_timed (SyncOne node at) is = cc
-request_timed (Follow node) is = cc
-request_timed (Enter node copy at) is = cc
-request_timed (Leave node transit at) is = cc
-request_timed (Arrive node copy at) is = cc
-request_timed (Hear node copy) is = cc
-request_timed (Stamped node) is = cc
-request_timed (Tick node) is = cc
-request_timed (SetMaster node master) is = cc
-request_timed (StepClock node diff) is = cc
+request_timed _ is = cc

@@ -10,7 +10,7 @@ use Rattle.slave_port.specs.History.{Call, requests_drawn, next_number}
 use Rattle.slave_port.specs.Values.{RequestValue}
 use Rattle.slave_port.specs.Requests.{requests, stamped}
 use Rattle.network_model.specs.declared.event.Event.{Event}
-use Rattle.network_model.specs.declared.event.Event.TheVariants.{Sync, SyncOne, Follow, Enter, Leave, Arrive, Hear, Request, Stamped, Tick, SetMaster, StepClock}
+use Rattle.network_model.specs.declared.event.Event.TheVariants.{Request}
 use Rattle.network_model.specs.Network.{Network, NodeName, PortSetup, is_named}
 use Rattle.network_model.specs.Run.{Run, Place, place, tag_of, IsIn, site_of, events_after}
 use Rattle.network_model.specs.Kinds.{is_at, is_request, is_stamped, is_set_master}
@@ -109,17 +109,7 @@ draws_kind network port event earlier call (Sets node master other e p is) = ap 
 -- an event that makes no call is no request
 no_request : (network : Network) (port : PortSetup) (event : Event) (earlier : Run) → call_made network port event earlier ≡ None → is_request event ≡ false
 no_request network port (Request node at) earlier none = cc
-no_request network port (Sync node at) earlier none = refl
-no_request network port (SyncOne node at) earlier none = refl
-no_request network port (Follow node) earlier none = refl
-no_request network port (Enter node copy at) earlier none = refl
-no_request network port (Leave node transit at) earlier none = refl
-no_request network port (Arrive node copy at) earlier none = refl
-no_request network port (Hear node copy) earlier none = refl
-no_request network port (Stamped node) earlier none = refl
-no_request network port (Tick node) earlier none = refl
-no_request network port (SetMaster node master) earlier none = refl
-no_request network port (StepClock node diff) earlier none = refl
+no_request network port _ earlier none = refl
 
 drawn-more : (call : Call) (history : List Call) → requests_drawn (call ∷ history) ≡ (if draws call then requests_drawn history + 1 else requests_drawn history)
 drawn-more (calls.SetMaster master) history = refl

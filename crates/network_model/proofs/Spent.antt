@@ -34,7 +34,7 @@ leaves_open node earlier transit (Ok c) (Some p) rest accepted =
     is_open (is_some (entered_copy p.event)) (is_named (site_of p.event) node) (list_any (spends transit) earlier) p rest accepted
 
 -- a Leave event that is accepted is the first one of its transit
-pub first_leave : (network : Network) (earlier : Run) (node : NodeName) (transit at : ℕ)
+first_leave : (network : Network) (earlier : Run) (node : NodeName) (transit at : ℕ)
     → IsOk (outcome_of network earlier (Leave node transit at)) → list_any (spends transit) earlier ≡ false
 first_leave network earlier node transit at accepted =
     leaves_open node earlier transit (node_as clock_of network node) (place_at earlier transit)

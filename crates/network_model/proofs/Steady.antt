@@ -36,7 +36,7 @@ all_steps (event ∷ earlier) tag p all there =
     at false there now rest = rest there
 
 -- no clock is stepped after an event that steps none
-pub steady_difference : (node : NodeName) (run : Run) (tag : ℕ) (p : Place) → is_steady run ≡ true → place_at run tag ≡ Some p → is_step p.event ≡ false
+steady_difference : (node : NodeName) (run : Run) (tag : ℕ) (p : Place) → is_steady run ≡ true → place_at run tag ≡ Some p → is_step p.event ≡ false
     → difference node run ≡ difference node p.earlier
 steady_difference node [] tag p steady there none = cc
 steady_difference node (event ∷ earlier) tag p steady there none =

@@ -6,7 +6,7 @@ use Rattle.std.proofs.lemmas.Int.{ints}
 use Rattle.ptp_units.specs.Exchange.{offset2, path2}
 use Rattle.slave_port.specs.declared.heard.Report.{Report}
 use Rattle.network_model.specs.declared.event.Event.{Event}
-use Rattle.network_model.specs.declared.event.Event.TheVariants.{Sync, SyncOne, Follow, Enter, Leave, Arrive, Hear, Request, Stamped, Tick, SetMaster, StepClock}
+use Rattle.network_model.specs.declared.event.Event.TheVariants.{Sync, SyncOne, Arrive, Request}
 use Rattle.network_model.specs.Network.{Network, NodeName, is_named}
 use Rattle.network_model.specs.Run.{Run, Place, place_at, tag_of, IsIn, until, site_of, true_moment}
 use Rattle.network_model.specs.Kinds.{is_at, draws_sync, is_request, is_set_master, is_step, named_master, timed_copy, heard_copy}
@@ -53,30 +53,11 @@ stays-within run p (stay ∷ stays) there are = (
 sync_steps_none : (event : Event) → draws_sync event ≡ true → is_step event ≡ false
 sync_steps_none (Sync node at) is = refl
 sync_steps_none (SyncOne node at) is = refl
-sync_steps_none (Follow node) is = cc
-sync_steps_none (Enter node copy at) is = cc
-sync_steps_none (Leave node transit at) is = cc
-sync_steps_none (Arrive node copy at) is = cc
-sync_steps_none (Hear node copy) is = cc
-sync_steps_none (Request node at) is = cc
-sync_steps_none (Stamped node) is = cc
-sync_steps_none (Tick node) is = cc
-sync_steps_none (SetMaster node master) is = cc
-sync_steps_none (StepClock node diff) is = cc
+sync_steps_none _ is = cc
 
 request_steps_none : (event : Event) → is_request event ≡ true → is_step event ≡ false
-request_steps_none (Sync node at) is = cc
-request_steps_none (SyncOne node at) is = cc
-request_steps_none (Follow node) is = cc
-request_steps_none (Enter node copy at) is = cc
-request_steps_none (Leave node transit at) is = cc
-request_steps_none (Arrive node copy at) is = cc
-request_steps_none (Hear node copy) is = cc
 request_steps_none (Request node at) is = refl
-request_steps_none (Stamped node) is = cc
-request_steps_none (Tick node) is = cc
-request_steps_none (SetMaster node master) is = cc
-request_steps_none (StepClock node diff) is = cc
+request_steps_none _ is = cc
 
 -- each bracket is the time on the way and the difference of the clocks
 bracket_is : (network : Network) (run : Run) (arrival : Place) (journey : Journey) (copy moment : ℕ) (here there : NodeName) (a : ℤ) → IsRun network run → IsSteady run

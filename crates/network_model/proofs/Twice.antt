@@ -76,7 +76,7 @@ pub record IsTimedBy (run : Run) (slave : NodeName) (tag : ℕ) (t1 : ℕ) : Typ
   pub is : t1 ≡ reading origin
 
 -- when a completion takes its Sync to have left
-abbrev pub TakesDeparture : Run → NodeName → Option ℕ → Place → ℕ → Type 0
+abbrev TakesDeparture : Run → NodeName → Option ℕ → Place → ℕ → Type 0
 TakesDeparture run slave None origin t1 = t1 ≡ reading origin
 TakesDeparture run slave (Some tag) origin t1 = IsTimedBy run slave tag t1
 
@@ -90,10 +90,6 @@ pub record IsTimedSync (run : Run) (slave : NodeName) (c : SyncCompletion) : Typ
   pub arrives : Arrives run c.sync_tag slave arrival journey
   pub departs : TakesDeparture run slave c.follow_tag journey.origin t1
   pub is : c.bracket ≡ (pos (reading arrival) -ℤ pos t1) -ℤ pos (residence journey)
-
--- the residence that a two-step Sync brings
-two_step_correction : (network : Network) (run : Run) (copy : ℕ) (m : Contents) → (drawn : IsTwoStep network run copy m) → m.header.correction.0 ≡ with_residence (pos 0) (residence drawn.journey)
-two_step_correction network run copy m drawn = ap (λ (m : Contents). m.header.correction.0) drawn.is
 
 -- what a Follow_Up brings
 follow_parts : {precise other : Stamp} → ◌≡◌ {A = Body} (bodies.FollowUp precise) (bodies.FollowUp other) → precise ≡ other
@@ -294,7 +290,7 @@ timed_request network port slave slave_is run premise p there site call made c b
     }
 
 -- the reading at which the Sync of a report left
-pub departure_is : (run : Run) (slave master : NodeName) (tag : Option ℕ) (origin : Place) (t1 : ℕ) → LearnsDeparture run slave master tag origin → TakesDeparture run slave tag origin t1
+departure_is : (run : Run) (slave master : NodeName) (tag : Option ℕ) (origin : Place) (t1 : ℕ) → LearnsDeparture run slave master tag origin → TakesDeparture run slave tag origin t1
     → (is_at draws_sync master origin.event ≡ true) × (t1 ≡ reading origin)
 departure_is run slave master None origin t1 learns takes = (one_step_draws master origin.event learns, takes)
 departure_is run slave master (Some tag) origin t1 learns takes =

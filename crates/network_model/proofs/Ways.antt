@@ -8,7 +8,7 @@ use Rattle.std.proofs.lemmas.Int.{ints}
 use Rattle.std.proofs.lemmas.List.Sums.{sum_by-cons}
 use Rattle.transparent_clock.specs.Forwarding.{forwarded}
 use Rattle.network_model.specs.declared.event.Event.{Event}
-use Rattle.network_model.specs.declared.event.Event.TheVariants.{Sync, SyncOne, Follow, Enter, Leave, Arrive, Hear, Request, Stamped, Tick, SetMaster, StepClock}
+use Rattle.network_model.specs.declared.event.Event.TheVariants.{Sync, SyncOne, Enter, Leave, Request}
 use Rattle.network_model.specs.declared.refusal.WorldRefusal.TheVariants.{NoTransit}
 use Rattle.network_model.specs.Network.{Network, NodeName, is_named}
 use Rattle.network_model.specs.Run.{Run, Place, place, place_at, tag_of, IsIn, site_of, true_moment}
@@ -62,17 +62,7 @@ stays-later event earlier (stay ∷ stays) are = (
 -- an event by which a copy enters has a true moment, and steps no clock
 enters : (event : Event) (copy : ℕ) → entered_copy event ≡ Some copy → (is_some (true_moment event) ≡ true) × (is_step event ≡ false)
 enters (Enter node c at) copy is = (refl, refl)
-enters (Sync node at) copy is = cc
-enters (SyncOne node at) copy is = cc
-enters (Follow node) copy is = cc
-enters (Leave node transit at) copy is = cc
-enters (Arrive node c at) copy is = cc
-enters (Hear node c) copy is = cc
-enters (Request node at) copy is = cc
-enters (Stamped node) copy is = cc
-enters (Tick node) copy is = cc
-enters (SetMaster node master) copy is = cc
-enters (StepClock node diff) copy is = cc
+enters _ copy is = cc
 
 -- a Leave that was accepted is at the clock at which the copy entered
 left_where : (network : Network) (node : NodeName) (transit at : ℕ) (earlier : Run) (entered : Place) → IsOk (outcome_of network earlier (Leave node transit at))
@@ -144,14 +134,7 @@ stays_are network (event ∷ earlier) tag journey accepted made = at (length ear
           },
           rest from.1 from.2 from.5,
         )
-    made_by (Follow node) is accepted made rest = cc
-    made_by (Enter node copy at) is accepted made rest = cc
-    made_by (Arrive node copy at) is accepted made rest = cc
-    made_by (Hear node copy) is accepted made rest = cc
-    made_by (Stamped node) is accepted made rest = cc
-    made_by (Tick node) is accepted made rest = cc
-    made_by (SetMaster node master) is accepted made rest = cc
-    made_by (StepClock node diff) is accepted made rest = cc
+    made_by _ is accepted made rest = cc
 
     at : (same : Bool) → (if same then journey_made event earlier (journey_of earlier) else journey_of earlier tag) ≡ Some journey
         → ((t : ℕ) (j : Journey) → journey_of earlier t ≡ Some j → AreStays (event ∷ earlier) j.stays) → AreStays (event ∷ earlier) journey.stays

@@ -25,7 +25,7 @@ use Rattle.network_model.proofs.Short.{IsFresh-short, IsTicked-short, IsWithinOn
 use Rattle.network_model.proofs.Worked.{small_network, m_config, s_config, m, s, t, at, answers_after}
 
 -- all but the last event, for a slave that is so far ahead and a Sync that arrives at this moment
-abbrev pub exchange_with : ℤ → ℕ → List Event
+abbrev exchange_with : ℤ → ℕ → List Event
 exchange_with diff arrival =
     StepClock s diff ∷ SetMaster s m ∷ Sync m (at 1 0 0) ∷ Enter t 2 (at 1 500 0) ∷ Leave t 3 (at 1 2500 0)
     ∷ Arrive s 4 arrival ∷ Follow m ∷ Hear s 6 ∷ Request s (at 2 0 0) ∷ Enter t 8 (at 2 500 0)

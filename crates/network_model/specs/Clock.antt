@@ -9,7 +9,8 @@ use Rattle.network_model.specs.Kinds.{step_of}
 abbrev pub difference : NodeName → Run → ℤ
 difference node [] = pos 0
 difference node (event ∷ earlier) =
-    if is_named (site_of event) node then unwrap_or (step_of event) (difference node earlier) else difference node earlier
+    if is_named (site_of event) node then unwrap_or (step_of event) (difference node earlier)
+    else difference node earlier
 
 -- what a node's clock shows at a true moment
 abbrev pub clock_shows : NodeName → Run → ℕ → ℤ

@@ -1,6 +1,7 @@
--- What an accepted run shows of each report, exact or not: the order of the events that its tags name, and of what they are.
--- `laws::runs_show_evidence` promises it.
-use Rattle.std.specs.Prelude.{◌≡◌, ℕ, ◌<◌, ◌≤◌, ◌⊎◌, int_lt, Bool, true, false, count_by, Option, Some, None, IfSome, IsTrue, Ok, Err, Result}
+-- What an accepted run shows of each report, exact or not: the order of the events that its tags name, and of what they
+-- are. `laws::runs_show_evidence` promises it.
+use Rattle.std.specs.Prelude.{◌≡◌, ℕ, ◌<◌, ◌≤◌, ◌⊎◌, int_lt, Bool, true, false, count_by, Option, Some, None, IfSome}
+use Rattle.std.specs.Prelude.{IsTrue, Ok, Err, Result}
 use Rattle.ptp_units.specs.Interval.{too_big}
 use Rattle.event_codec.specs.Packet.{Contents}
 use Rattle.slave_port.specs.declared.heard.Heard.{Heard}
@@ -48,7 +49,8 @@ abbrev pub SyncWasUsed : Network → Run → Option ℕ → (sync_tag : ℕ) →
 SyncWasUsed network run None sync_tag = HasOutcome network run is_completing sync_tag
 SyncWasUsed network run (Some follow_tag) sync_tag = HasOutcome network run is_used sync_tag
 
--- a report's tags aren't later than its own event, one of its messages is heard there, and the request is before the Delay_Resp
+-- a report's tags aren't later than its own event, one of its messages is heard there, and the request is before the
+-- Delay_Resp
 pub record TagsInOrder (tag : ℕ) (report : Report) : Type 0 where
   pub sync : report.sync_tag ≤ tag
   pub follow : IfSome report.follow_tag (λ follow. follow ≤ tag)
@@ -56,7 +58,8 @@ pub record TagsInOrder (tag : ℕ) (report : Report) : Type 0 where
   pub heard_now : (report.sync_tag ≡ tag) ⊎ ((report.follow_tag ≡ Some tag) ⊎ (report.response_tag ≡ tag))
   pub request : report.request_tag < report.response_tag
 
--- between a request and its Delay_Resp the slave learnt when the request departed, and it sent no other request before that
+-- between a request and its Delay_Resp the slave learnt when the request departed, and it sent no other request before
+-- that
 pub record WasStamped (network : Network) (run : Run) (slave : NodeName) (report : Report) : Type 0 where
   pub stamped : Place
   pub there : IsIn run stamped
@@ -86,14 +89,16 @@ pub record HearsFollow (run : Run) (slave master : NodeName) (tag : ℕ) : Type 
   pub hears : HearsOf run tag slave follow
   pub event : follow.event ≡ Follow master
 
--- by which kind of messages a report's Sync of a master came: a two-step one with a Follow_Up of the same master, or a one-step one
+-- by which kind of messages a report's Sync of a master came: a two-step one with a Follow_Up of the same master, or a
+-- one-step one
 abbrev pub IsOfKind : Run → (slave master : NodeName) → Option ℕ → (origin : Place) → Type 0
 IsOfKind run slave master None origin = IsTrue (is_at is_one_step_sync master origin.event)
-IsOfKind run slave master (Some follow_tag) origin = IsTrue (is_at is_sync master origin.event) × HearsFollow run slave master follow_tag
+IsOfKind run slave master (Some follow_tag) origin =
+    IsTrue (is_at is_sync master origin.event) × HearsFollow run slave master follow_tag
 
--- The Sync of a report's tag: a copy arrived at the slave, after this journey, of a Sync that a master of the slave's domain
--- drew; it is a two-step one, and the Follow_Up of the report's tag is one of this master, or it is a one-step one; and its
--- correction isn't too big.
+-- The Sync of a report's tag: a copy arrived at the slave, after this journey, of a Sync that a master of the slave's
+-- domain drew; it is a two-step one, and the Follow_Up of the report's tag is one of this master, or it is a one-step
+-- one; and its correction isn't too big.
 pub record HasSync (network : Network) (run : Run) (slave : NodeName) (report : Report) : Type 0 where
   pub arrival : Place
   pub journey : Journey
@@ -102,9 +107,9 @@ pub record HasSync (network : Network) (run : Run) (slave : NodeName) (report : 
   pub domain : ShareDomain network slave (site_of journey.origin.event)
   pub small : IsRepresented network journey
 
--- The Delay_Req of a report's tags: the event of the request's tag is a Request of the slave. The Delay_Resp was made by the
--- arrival of a Delay_Req of the slave, after this journey, at a master of the slave's domain, and the correction of that
--- Delay_Req isn't too big.
+-- The Delay_Req of a report's tags: the event of the request's tag is a Request of the slave. The Delay_Resp was made
+-- by the arrival of a Delay_Req of the slave, after this journey, at a master of the slave's domain, and the correction
+-- of that Delay_Req isn't too big.
 pub record HasRequest (network : Network) (run : Run) (slave : NodeName) (report : Report) : Type 0 where
   pub requested : Place
   pub there : place_at run report.request_tag ≡ Some requested

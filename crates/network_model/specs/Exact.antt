@@ -1,4 +1,5 @@
--- When a report is exact: of one Sync and one Delay_Req, and twice the standard's two results (IEEE 1588-2019, 11.2, 11.3).
+-- When a report is exact: of one Sync and one Delay_Req, and twice the standard's two results (IEEE 1588-2019, 11.2,
+-- 11.3).
 use Rattle.std.specs.Prelude.{◌≡◌, ℕ, ◌<◌, ℤ, pos, ◌-ℤ◌, Option, Some, None, IfSome, IsTrue}
 use Rattle.ptp_units.specs.Exchange.{offset2, path2}
 use Rattle.slave_port.specs.declared.heard.Report.{Report}
@@ -49,14 +50,14 @@ pub record HearsFollowUp (run : Run) (slave master : NodeName) (tag : ℕ) (orig
   pub follows : follow.event ≡ Follow master
   pub followed : waiting_sync master follow.earlier ≡ Some origin
 
--- How a slave learns when a Sync of the master left: the Follow_Up of that same Sync is the one of this tag, or there is no
--- such tag and the Sync is a one-step one.
+-- How a slave learns when a Sync of the master left: the Follow_Up of that same Sync is the one of this tag, or there
+-- is no such tag and the Sync is a one-step one.
 abbrev pub LearnsDeparture : Run → (slave master : NodeName) → Option ℕ → Place → Type 0
 LearnsDeparture run slave master None origin = IsTrue (is_at is_one_step_sync master origin.event)
 LearnsDeparture run slave master (Some tag) origin = HearsFollowUp run slave master tag origin
 
--- The report's Sync is one Sync of the master: its copy arrived after this journey, and the report's Follow_Up, if it has
--- one, is that of the same Sync.
+-- The report's Sync is one Sync of the master: its copy arrived after this journey, and the report's Follow_Up, if it
+-- has one, is that of the same Sync.
 pub record OfOneSync (run : Run) (slave master : NodeName) (report : Report) (arrival : Place) (journey : Journey) : Type 0 where
   pub arrives : Arrives run report.sync_tag slave arrival journey
   pub departure : LearnsDeparture run slave master report.follow_tag journey.origin

@@ -1,9 +1,10 @@
--- The headline, in three claims: each report is of one Sync, of one Delay_Req, and exact. `laws::each_report_is_exact` and
--- `laws::each_report_is_exact_within_one_turn` promise them.
+-- The headline, in three claims: each report is of one Sync, of one Delay_Req, and exact. `laws::each_report_is_exact`
+-- and `laws::each_report_is_exact_within_one_turn` promise them.
 use Rattle.slave_port.specs.declared.heard.Report.{Report}
 use Rattle.network_model.specs.Network.{Network}
 use Rattle.network_model.specs.Run.{Place, until, site_of}
-use Rattle.network_model.specs.Premises.{Premise, SlavePremise, whichever, exact_limits, IsAcceptedRun, IsFreshAndTickedFor, IsWithinTurn}
+use Rattle.network_model.specs.Premises.{Premise, SlavePremise, whichever, exact_limits, IsAcceptedRun}
+use Rattle.network_model.specs.Premises.{IsFreshAndTickedFor, IsWithinTurn}
 use Rattle.network_model.specs.Reported.{Reports}
 use Rattle.network_model.specs.Exact.{IsOfOneSync, IsOfOneRequest, IsTwice, IsMeasurement}
 
@@ -30,16 +31,16 @@ EachReportIsTwice premise =
     → (request : IsOfOneRequest (until answered) (site_of answered.event) report)
     → IsTwice sync.arrival sync.journey request.arrival request.journey report
 
--- Each report is exact: of one Sync and one Delay_Req, those that its tags name, and twice the standard's two results by
--- what the clocks showed when these messages left and arrived, and by how long they stayed in clocks.
+-- Each report is exact: of one Sync and one Delay_Req, those that its tags name, and twice the standard's two results
+-- by what the clocks showed when these messages left and arrived, and by how long they stayed in clocks.
 abbrev pub EachReportIsExact : Premise → Type 0
 EachReportIsExact premise =
     (network : Network) (answered : Place) (report : Report)
     → premise network (until answered) → Reports network answered report
     → IsMeasurement (until answered) (site_of answered.event) report
 
--- The headline: over runs of any length that are fresh and ticked for the slave that reports, each report is exact. That it is
--- twice the two results follows for all accepted runs, once it is of one Sync and of one Delay_Req.
+-- The headline: over runs of any length that are fresh and ticked for the slave that reports, each report is exact.
+-- That it is twice the two results follows for all accepted runs, once it is of one Sync and of one Delay_Req.
 pub record Headline : Type 0 where
   pub one_sync : EachReportIsOfOneSync (IsFreshAndTickedFor exact_limits)
   pub one_request : EachReportIsOfOneRequest (IsFreshAndTickedFor exact_limits)

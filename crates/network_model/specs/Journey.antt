@@ -1,7 +1,8 @@
 -- Journeys: the way of a copy of an event message from the event that drew it, through clocks (IEEE 1588-2019, 10.2).
-use Rattle.std.specs.Prelude.{ℕ, ◌-◌, List, [], ◌∷◌, length, sum_by, nat_lt, ◌==◌, if◌then◌else◌, Option, Some, None, option_and_then}
+use Rattle.std.specs.Prelude.{ℕ, ◌-◌, List, [], ◌∷◌, length, sum_by, nat_lt, ◌==◌, if◌then◌else◌, Option, Some, None}
+use Rattle.std.specs.Prelude.{option_and_then}
 use Rattle.network_model.specs.declared.event.Event.{Event}
-use Rattle.network_model.specs.declared.event.Event.TheVariants.{Sync, SyncOne, Follow, Enter, Leave, Arrive, Hear, Request, Stamped, Tick, SetMaster, StepClock}
+use Rattle.network_model.specs.declared.event.Event.TheVariants.{Sync, SyncOne, Leave, Request}
 use Rattle.network_model.specs.Run.{Run, Place, place, place_at}
 use Rattle.network_model.specs.Kinds.{entered_copy}
 use Rattle.network_model.specs.Clock.{reading}
@@ -43,17 +44,10 @@ left_from left journeys entered =
 abbrev pub journey_made : Event → Run → (ℕ → Option Journey) → Option Journey
 journey_made (Sync node at) earlier journeys = Some (begun (Sync node at) earlier)
 journey_made (SyncOne node at) earlier journeys = Some (begun (SyncOne node at) earlier)
-journey_made (Follow node) earlier journeys = None
-journey_made (Enter node copy at) earlier journeys = None
 journey_made (Leave node transit at) earlier journeys =
     option_and_then (left_from (place (Leave node transit at) earlier) journeys) (place_at earlier transit)
-journey_made (Arrive node copy at) earlier journeys = None
-journey_made (Hear node copy) earlier journeys = None
 journey_made (Request node at) earlier journeys = Some (begun (Request node at) earlier)
-journey_made (Stamped node) earlier journeys = None
-journey_made (Tick node) earlier journeys = None
-journey_made (SetMaster node master) earlier journeys = None
-journey_made (StepClock node diff) earlier journeys = None
+journey_made _ earlier journeys = None
 
 -- the journey of the copy of this tag, where that is an event message
 abbrev pub journey_of : Run → ℕ → Option Journey

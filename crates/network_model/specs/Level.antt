@@ -1,5 +1,7 @@
 -- True time: crossings of cables, runs whose clocks are steady, and networks that are level (IEEE 1588-2019, 7.4.2).
-use Rattle.std.specs.Prelude.{◌≡◌, ℤ, pos, ◌+ℤ◌, ◌-ℤ◌, Bool, true, ◌&&◌, ◌||◌, not, List, [], ◌∷◌, ◌++◌, reverse, fold, Option, Some, unwrap_or, option_and_then, option_map, option_to_list, if◌then◌else◌, IsTrue}
+use Rattle.std.specs.Prelude.{◌≡◌, ℤ, pos, ◌+ℤ◌, ◌-ℤ◌, Bool, true, ◌&&◌, ◌||◌, not, List, [], ◌∷◌, ◌++◌, reverse, fold}
+use Rattle.std.specs.Prelude.{Option, Some, unwrap_or, option_and_then, option_map, option_to_list, if◌then◌else◌}
+use Rattle.std.specs.Prelude.{IsTrue}
 use Rattle.std.specs.List.{AllZip, list_all}
 use Rattle.std.specs.Ordering.{int_eq}
 use Rattle.slave_port.specs.declared.heard.Report.{Report}
@@ -100,8 +102,8 @@ time_on way = fold (λ total c. total +ℤ time_of c) (pos 0) way
 abbrev pub GoesBackOver : (way back : List Crossing) → Type 0
 GoesBackOver way back = AllZip (λ c d. IsTrue (is_same_cable c d)) back (reverse way)
 
--- A level network, for a report: the clocks are steady, a cable takes one time whenever and whichever way it is crossed, and
--- the report's Delay_Req went back over the cables of its Sync.
+-- A level network, for a report: the clocks are steady, a cable takes one time whenever and whichever way it is
+-- crossed, and the report's Delay_Req went back over the cables of its Sync.
 pub record IsLevelFor (run : Run) (report : Report) : Type 0 where
   pub there : List Crossing
   pub back : List Crossing

@@ -3,6 +3,7 @@ pub mod Network
 pub mod Clash
 pub mod Index
 pub mod Refusal
+pub mod Parts
 pub mod Run
 pub mod Kinds
 pub mod Clock

@@ -1,7 +1,7 @@
 -- The true numbers of Syncs and requests, which the messages carry modulo 65,536 (IEEE 1588-2019, 7.3.7).
 use Rattle.std.specs.Prelude.{ℕ, ◌+◌, ◌-◌, Bool, false, [], ◌∷◌, count_by, if◌then◌else◌, Option, Some, None}
 use Rattle.network_model.specs.declared.event.Event.{Event}
-use Rattle.network_model.specs.declared.event.Event.TheVariants.{Sync, SyncOne, Follow, Enter, Leave, Arrive, Hear, Request, Stamped, Tick, SetMaster, StepClock}
+use Rattle.network_model.specs.declared.event.Event.TheVariants.{Sync, SyncOne, Request}
 use Rattle.network_model.specs.Network.{NodeName, PortSetup}
 use Rattle.network_model.specs.Run.{Run, Place, place}
 use Rattle.network_model.specs.Kinds.{is_at, is_sync, draws_sync, is_follow, is_request, is_stamped}
@@ -10,16 +10,8 @@ use Rattle.network_model.specs.Kinds.{is_at, is_sync, draws_sync, is_follow, is_
 abbrev pub draws_with : Event → Event → Bool
 draws_with (Sync node at) event = is_at draws_sync node event
 draws_with (SyncOne node at) event = is_at draws_sync node event
-draws_with (Follow node) event = false
-draws_with (Enter node copy at) event = false
-draws_with (Leave node transit at) event = false
-draws_with (Arrive node copy at) event = false
-draws_with (Hear node copy) event = false
 draws_with (Request node at) event = is_at is_request node event
-draws_with (Stamped node) event = false
-draws_with (Tick node) event = false
-draws_with (SetMaster node master) event = false
-draws_with (StepClock node diff) event = false
+draws_with _ event = false
 
 -- how many numbers of its sequence were drawn before an event that draws one
 abbrev pub drawn_before : Place → ℕ

@@ -33,8 +33,8 @@ pub record IsInOrder (network : Network) (run : Run) (first second : Report) : T
   pub of_second : sync_number network run second ≡ Some later
   pub order : earlier ≤ later
 
--- The second of two reports of a slave is of no older Sync, by true numbers, than the first, as long as the slave was told no
--- master and ticked at most once between the completion of the first one's Sync and the second report.
+-- The second of two reports of a slave is of no older Sync, by true numbers, than the first, as long as the slave was
+-- told no master and ticked at most once between the completion of the first one's Sync and the second report.
 abbrev pub ReportsKeepOrder : SlavePremise → Type 0
 ReportsKeepOrder premise =
     (network : Network) (run : Run) (slave : NodeName) (first second : Report)
@@ -44,7 +44,7 @@ ReportsKeepOrder premise =
     → IsOneWindow reported_later.answered.earlier slave (completed_at first)
     → IsInOrder network run first second
 
--- A slave's reports don't go back in runs, of whatever length, that are fresh and ticked for this slave, within half of the
--- limits.
+-- A slave's reports don't go back in runs, of whatever length, that are fresh and ticked for this slave, within half of
+-- the limits.
 abbrev pub ReportsDontGoBack : Type 0
 ReportsDontGoBack = ReportsKeepOrder (IsFreshAndTickedFor ordered_limits)

@@ -1,5 +1,6 @@
 -- Which events a world accepts after a run, with which outcome, and which refusal the others meet first.
-use Rattle.std.specs.Prelude.{◌≡◌, ℕ, not, ◌&&◌, [], ◌∷◌, length, nat_lt, is_some, if◌then◌else◌, Option, Some, None, Ok, Err, Result, IsOk, unsigned_abs, ok_or, option_and_then}
+use Rattle.std.specs.Prelude.{◌≡◌, ℕ, not, ◌&&◌, [], ◌∷◌, length, nat_lt, is_some, if◌then◌else◌, Option, Some, None}
+use Rattle.std.specs.Prelude.{Ok, Err, Result, IsOk, unsigned_abs, ok_or, option_and_then}
 use Rattle.std.specs.List.{list_any}
 use Rattle.ptp_units.specs.Moment.{bound}
 use Rattle.event_codec.specs.Packet.{Contents}
@@ -16,14 +17,16 @@ use Rattle.slave_port.specs.History.{Call}
 use Rattle.slave_port.specs.Answer as slaves
 use Rattle.slave_port.specs.Requests.{is_held}
 use Rattle.network_model.specs.declared.event.Event.{Event}
-use Rattle.network_model.specs.declared.event.Event.TheVariants.{Sync, SyncOne, Follow, Enter, Leave, Arrive, Hear, Request, Stamped, Tick, SetMaster, StepClock}
+use Rattle.network_model.specs.declared.event.Event.TheVariants.{Sync, SyncOne, Follow, Enter, Leave, Arrive, Hear}
+use Rattle.network_model.specs.declared.event.Event.TheVariants.{Request, Stamped, Tick, SetMaster, StepClock}
 use Rattle.network_model.specs.declared.node.NodeKind.{NodeKind}
 use Rattle.network_model.specs.declared.node.NodeKind.TheVariants as kinds
 use Rattle.network_model.specs.declared.stepped.Stepped.{Stepped}
 use Rattle.network_model.specs.declared.stepped.Outcome.{Outcome}
 use Rattle.network_model.specs.declared.stepped.Outcome.TheVariants.{Done, Made, Entered, Heard, Refused}
 use Rattle.network_model.specs.declared.refusal.WorldRefusal.{WorldRefusal}
-use Rattle.network_model.specs.declared.refusal.WorldRefusal.TheVariants.{NoNode, WrongKind, NoCopy, NoTransit, ReadingOutOfRange, NothingWaiting}
+use Rattle.network_model.specs.declared.refusal.WorldRefusal.TheVariants.{NoNode, WrongKind, NoCopy, NoTransit}
+use Rattle.network_model.specs.declared.refusal.WorldRefusal.TheVariants.{ReadingOutOfRange, NothingWaiting}
 use Rattle.network_model.specs.Network.{Network, NodeName, PortSetup, kind_of, master_port, slave_port, is_named}
 use Rattle.network_model.specs.Run.{Run, Place, place, place_at, site_of}
 use Rattle.network_model.specs.Kinds.{entered_copy, spends}
@@ -63,7 +66,8 @@ reads event earlier = ok_or (reading_of (place event earlier)) ReadingOutOfRange
 -- the Enter event of this transit, where it was at this node and no Leave event spent the transit
 abbrev pub open_transit : NodeName → Run → ℕ → Place → Option Place
 open_transit node earlier transit entered =
-    if is_some (entered_copy entered.event) && is_named (site_of entered.event) node && not (list_any (spends transit) earlier)
+    if is_some (entered_copy entered.event) && is_named (site_of entered.event) node
+    && not (list_any (spends transit) earlier)
     then Some entered
     else None
 
@@ -83,7 +87,8 @@ answered_outcome (Err refusal) = Refused (master_code refusal)
 
 -- what a slave answers to a message
 abbrev pub heard : Network → PortSetup → NodeName → Run → Call → Outcome
-heard network port node earlier call = Heard (slaves.answer (slave_setup port) (history_of network port node earlier) call)
+heard network port node earlier call =
+    Heard (slaves.answer (slave_setup port) (history_of network port node earlier) call)
 
 -- the outcome of an arrival at a port, at this reading
 abbrev pub arrived_outcome : Network → NodeKind → NodeName → Run → ℕ → Contents → Outcome

@@ -2,7 +2,8 @@
 use Rattle.std.specs.Prelude.{◌≡◌, ◌↔◌, ◌⊎◌, ℕ, Option, Some, Ok, List, IsSome, IfSome, IsTrue, Any, option_and_then}
 use Rattle.slave_port.specs.History.{Call}
 use Rattle.slave_port.specs.Completion.{SyncCompletion, DelayCompletion}
-use Rattle.slave_port.specs.Kept.{usable_two_step_sync, usable_follow_up, usable_delay_resp, held_syncs, held_follows, sync_completion, delay_completion}
+use Rattle.slave_port.specs.Kept.{usable_two_step_sync, usable_follow_up, usable_delay_resp, held_syncs, held_follows}
+use Rattle.slave_port.specs.Kept.{sync_completion, delay_completion}
 use Rattle.slave_port.specs.Requests.{held_requests}
 use Rattle.slave_port.specs.Answer.{answer}
 use Rattle.network_model.specs.declared.stepped.Outcome.TheVariants as outcomes
@@ -30,8 +31,8 @@ IsOfOrigin run tag origin = option_and_then origin_heard (place_at run tag) ≡ 
 abbrev pub calls_before : Network → PortSetup → Place → List Call
 calls_before network port p = history_of network port (site_of p.event) p.earlier
 
--- a message that a slave hears: what its port is told, that the port's answer is the event's outcome, and the event that drew
--- the message's number
+-- a message that a slave hears: what its port is told, that the port's answer is the event's outcome, and the event
+-- that drew the message's number
 pub record IsHeard (network : Network) (p : Place) : Type 0 where
   pub told : HeardAt network p
   pub answered : outcome_of network p.earlier p.event
@@ -56,7 +57,8 @@ sync_completed network p heard = sync_completion (slave_setup heard.port) (calls
 
 -- the completion of a request that the message of an event brings
 abbrev pub delay_completed : (network : Network) (p : Place) → HeardAt network p → Option DelayCompletion
-delay_completed network p heard = delay_completion (slave_setup heard.port) (calls_before network heard.port p) heard.call
+delay_completed network p heard =
+    delay_completion (slave_setup heard.port) (calls_before network heard.port p) heard.call
 
 -- a completion is of the Sync and the Follow_Up of one Sync event, and one of them is heard at the event of this tag
 pub record IsPairOf (run : Run) (tag : ℕ) (origin : Place) (completion : SyncCompletion) : Type 0 where
@@ -66,8 +68,8 @@ pub record IsPairOf (run : Run) (tag : ℕ) (origin : Place) (completion : SyncC
   pub sync : IsOfOrigin run completion.sync_tag origin
   pub follow : IsOfOrigin run follow_tag origin
 
--- What comes of a message of a Sync event: the outcome is that it completes something exactly where it completes a Sync, it does
--- so exactly where a partner of this Sync event is held, and then with a message of this Sync event.
+-- What comes of a message of a Sync event: the outcome is that it completes something exactly where it completes a
+-- Sync, it does so exactly where a partner of this Sync event is held, and then with a message of this Sync event.
 pub record PairsSync (network : Network) (p : Place) (heard : HeardAt network p) (IsHeld : Place → Type 0) : Type 0 where
   pub origin : Place
   pub drawn : origin_heard p ≡ Some origin
@@ -80,8 +82,8 @@ pub record IsAnswerTo (tag : ℕ) (origin : Place) (completion : DelayCompletion
   pub request : completion.request_tag ≡ tag_of origin
   pub now : completion.response_tag ≡ tag
 
--- What comes of a Delay_Resp: the outcome is that it completes something exactly where it completes a request, it does so
--- exactly where its own request is held and known to have left, and then that request.
+-- What comes of a Delay_Resp: the outcome is that it completes something exactly where it completes a request, it does
+-- so exactly where its own request is held and known to have left, and then that request.
 pub record PairsRequest (network : Network) (p : Place) (heard : HeardAt network p) (IsHeld : Place → Type 0) : Type 0 where
   pub origin : Place
   pub drawn : origin_heard p ≡ Some origin
@@ -89,7 +91,8 @@ pub record PairsRequest (network : Network) (p : Place) (heard : HeardAt network
   pub partner : IsSome (delay_completed network p heard) ↔ IsHeld origin
   pub pair : IfSome (delay_completed network p heard) (IsAnswerTo (tag_of p) origin)
 
--- A usable two-step Sync completes exactly where the slave holds a Follow_Up of the same Sync event, and with such a one.
+-- A usable two-step Sync completes exactly where the slave holds a Follow_Up of the same Sync event, and with such a
+-- one.
 abbrev pub EachSyncPairs : SlavePremise → Type 0
 EachSyncPairs premise =
     (network : Network) (p : Place) → premise network (site_of p.event) (until p) → (heard : HeardAt network p)
@@ -105,12 +108,14 @@ EachFollowUpPairs premise =
     → PairsSync network p heard (λ origin. Any (λ sync. IsOfOrigin p.earlier sync.value.tag origin)
     (held_syncs (slave_setup heard.port) (calls_before network heard.port p)))
 
--- A usable Delay_Resp completes exactly where the slave holds its own request, and knows when that left, and completes that one.
+-- A usable Delay_Resp completes exactly where the slave holds its own request, and knows when that left, and completes
+-- that one.
 abbrev pub EachDelayRespPairs : SlavePremise → Type 0
 EachDelayRespPairs premise =
     (network : Network) (p : Place) → premise network (site_of p.event) (until p) → (heard : HeardAt network p)
     → IsSome (usable_delay_resp (slave_setup heard.port) (calls_before network heard.port p) heard.call)
-    → PairsRequest network p heard (λ origin. Any (λ request. (request.value.tag ≡ tag_of origin) × IsSome request.value.t3)
+    → PairsRequest network p heard
+    (λ origin. Any (λ request. (request.value.tag ≡ tag_of origin) × IsSome request.value.t3)
     (held_requests (slave_setup heard.port) (calls_before network heard.port p)))
 
 -- No pair is missed, over runs of any length that are fresh and ticked for the slave.

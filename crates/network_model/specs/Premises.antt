@@ -1,5 +1,6 @@
 -- What is asked of a run whose reports are exact: no number is too old when it is heard, and slaves tick often enough.
-use Rattle.std.specs.Prelude.{◌≡◌, ℕ, ◌+◌, ◌<◌, ◌≤◌, Bool, ◌||◌, true, false, [], ◌∷◌, count_by, if◌then◌else◌, IsTrue, Ok, Err, Result, IfSome}
+use Rattle.std.specs.Prelude.{◌≡◌, ℕ, ◌+◌, ◌<◌, ◌≤◌, Bool, ◌||◌, true, false, [], ◌∷◌, count_by, if◌then◌else◌, IsTrue}
+use Rattle.std.specs.Prelude.{Ok, Err, Result, IfSome}
 use Rattle.std.specs.Option.{option_map_or}
 use Rattle.slave_port.specs.declared.heard.Heard.{Heard}
 use Rattle.slave_port.specs.declared.heard.Heard.TheVariants as answers
@@ -43,8 +44,8 @@ is_used (Ok (outcomes.Heard heard)) = is_of_use heard
 is_used (Ok (outcomes.Refused code)) = false
 is_used (Err refusal) = false
 
--- How old a message may be and how many Syncs may pass without a tick: a message that is used has fewer than `late` later
--- numbers in its sequence, and between ticks a present master draws at most `between_ticks` Syncs.
+-- How old a message may be and how many Syncs may pass without a tick: a message that is used has fewer than `late`
+-- later numbers in its sequence, and between ticks a present master draws at most `between_ticks` Syncs.
 pub record Limits : Type 0 where
   pub late : ℕ
   pub between_ticks : ℕ
@@ -80,7 +81,8 @@ IsFreshFor late network slave (event ∷ earlier) =
 
 -- whether an event draws a Sync of a slave's present master
 abbrev pub draws_present : NodeName → Run → Event → Bool
-draws_present slave earlier event = option_map_or (λ master. is_at draws_sync master event) (present_master slave earlier) false
+draws_present slave earlier event =
+    option_map_or (λ master. is_at draws_sync master event) (present_master slave earlier) false
 
 -- how many Syncs a slave's present master drew since the slave's last Tick or SetMaster
 abbrev pub syncs_since_tick : NodeName → Run → ℕ
@@ -90,7 +92,8 @@ syncs_since_tick slave (event ∷ earlier) =
     else if draws_present slave earlier event then syncs_since_tick slave earlier + 1
     else syncs_since_tick slave earlier
 
--- at no point of the run did a slave's present master draw more Syncs than this since the slave's last Tick or SetMaster
+-- at no point of the run did a slave's present master draw more Syncs than this since the slave's last Tick or
+-- SetMaster
 abbrev pub IsTickedAt : ℕ → NodeName → Run → Type 0
 IsTickedAt between_ticks slave [] = Unit {0}
 IsTickedAt between_ticks slave (event ∷ earlier) =

@@ -1,8 +1,8 @@
 -- A run: the accepted events, newest first. An event's tag is the number of events before it.
 use Rattle.std.specs.Prelude.{◌≡◌, ℕ, List, [], ◌∷◌, length, ◌==◌, if◌then◌else◌, Option, Some, None}
 use Rattle.network_model.specs.declared.event.Event.{Event}
-use Rattle.network_model.specs.declared.event.Event.TheVariants.{Sync, SyncOne, Follow, Enter, Leave, Arrive, Hear, Request, Stamped, Tick, SetMaster, StepClock}
 use Rattle.network_model.specs.Network.{NodeName}
+use Rattle.network_model.specs.Parts.{parts}
 
 -- the events, newest first
 abbrev pub Run : Type 0
@@ -41,30 +41,8 @@ events_after tag (event ∷ earlier) = if length earlier == tag then [] else eve
 
 -- the node at which an event happens
 abbrev pub site_of : Event → NodeName
-site_of (Sync node at) = node
-site_of (SyncOne node at) = node
-site_of (Follow node) = node
-site_of (Enter node copy at) = node
-site_of (Leave node transit at) = node
-site_of (Arrive node copy at) = node
-site_of (Hear node copy) = node
-site_of (Request node at) = node
-site_of (Stamped node) = node
-site_of (Tick node) = node
-site_of (SetMaster node master) = node
-site_of (StepClock node diff) = node
+site_of event = (parts event).node
 
 -- the true moment of an event that has one
 abbrev pub true_moment : Event → Option ℕ
-true_moment (Sync node at) = Some at
-true_moment (SyncOne node at) = Some at
-true_moment (Follow node) = None
-true_moment (Enter node copy at) = Some at
-true_moment (Leave node transit at) = Some at
-true_moment (Arrive node copy at) = Some at
-true_moment (Hear node copy) = None
-true_moment (Request node at) = Some at
-true_moment (Stamped node) = None
-true_moment (Tick node) = None
-true_moment (SetMaster node master) = None
-true_moment (StepClock node diff) = None
+true_moment event = (parts event).moment

@@ -41,7 +41,8 @@ WaysAreEven premise =
     → premise network run → ReportedIn network run slave report
     → (level : IsLevelFor run report) → time_on level.there ≡ time_on level.back
 
--- twice what a slave's clock shows at a true moment, less twice a report's offset, is twice what the master's clock shows
+-- twice what a slave's clock shows at a true moment, less twice a report's offset, is twice what the master's clock
+-- shows
 abbrev pub KnowsMaster : Run → (slave master : NodeName) → Report → (moment : ℕ) → Type 0
 KnowsMaster run slave master report moment =
     twice (clock_shows slave run moment) -ℤ report.offset2 ≡ twice (clock_shows master run moment)
@@ -57,8 +58,8 @@ SlavesAgree premise =
     → IsLevelFor run first → IsLevelFor run second
     → KnowsMaster run one master first moment × KnowsMaster run other master second moment
 
--- What reports say of true time, over runs of any length that are fresh and ticked for the slaves that report. That the ways of
--- a level network take one time is so in all accepted runs.
+-- What reports say of true time, over runs of any length that are fresh and ticked for the slaves that report. That the
+-- ways of a level network take one time is so in all accepted runs.
 pub record TellsTrueTime : Type 0 where
   pub error : ErrorIsAsymmetry (IsFreshAndTickedFor exact_limits)
   pub even : WaysAreEven IsAcceptedRun

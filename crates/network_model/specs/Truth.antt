@@ -1,5 +1,6 @@
 -- Which message each copy is, by the readings and the numbers of the run.
-use Rattle.std.specs.Prelude.{ℕ, List, [], ◌∷◌, length, ◌==◌, if◌then◌else◌, Option, Some, None, Ok, option_and_then, option_map}
+use Rattle.std.specs.Prelude.{ℕ, List, [], ◌∷◌, length, ◌==◌, if◌then◌else◌, Option, Some, None, Ok, option_and_then}
+use Rattle.std.specs.Prelude.{option_map}
 use Rattle.std.specs.Result.{result_ok}
 use Rattle.ptp_units.specs.Sequence.{of_count}
 use Rattle.event_codec.specs.Packet.{Contents, Packet}
@@ -7,7 +8,7 @@ use Rattle.master_port.specs.Written.{sync, one_step_sync, follow_up, answer}
 use Rattle.transparent_clock.specs.Forwarding.{resided}
 use Rattle.slave_port.specs.Written.{delay_req}
 use Rattle.network_model.specs.declared.event.Event.{Event}
-use Rattle.network_model.specs.declared.event.Event.TheVariants.{Sync, SyncOne, Follow, Enter, Leave, Arrive, Hear, Request, Stamped, Tick, SetMaster, StepClock}
+use Rattle.network_model.specs.declared.event.Event.TheVariants.{Sync, SyncOne, Follow, Leave, Arrive, Request}
 use Rattle.network_model.specs.Network.{Network, NodeName, PortSetup, kind_of, master_port, slave_port}
 use Rattle.network_model.specs.Run.{Run, Place, place}
 use Rattle.network_model.specs.Kinds.{heard_copy}
@@ -26,20 +27,15 @@ slave_at network name = option_and_then slave_port (kind_of network name)
 -- the message that an event draws: a Sync, a one-step Sync with its reading as t1, or a Delay_Req
 abbrev pub drawn : Network → Event → Run → Option Contents
 drawn network (Sync node at) earlier =
-    option_map (λ port. sync port.config (of_count (number_of port (place (Sync node at) earlier)))) (master_at network node)
+    option_map (λ port. sync port.config (of_count (number_of port (place (Sync node at) earlier))))
+    (master_at network node)
 drawn network (SyncOne node at) earlier =
-    option_map (λ port. one_step_sync port.config (of_count (number_of port (place (SyncOne node at) earlier))) (reading (place (SyncOne node at) earlier))) (master_at network node)
-drawn network (Follow node) earlier = None
-drawn network (Enter node copy at) earlier = None
-drawn network (Leave node transit at) earlier = None
-drawn network (Arrive node copy at) earlier = None
-drawn network (Hear node copy) earlier = None
+    option_map (λ port. one_step_sync port.config (of_count (number_of port (place (SyncOne node at) earlier)))
+    (reading (place (SyncOne node at) earlier))) (master_at network node)
 drawn network (Request node at) earlier =
-    option_map (λ port. delay_req port.config (of_count (number_of port (place (Request node at) earlier)))) (slave_at network node)
-drawn network (Stamped node) earlier = None
-drawn network (Tick node) earlier = None
-drawn network (SetMaster node master) earlier = None
-drawn network (StepClock node diff) earlier = None
+    option_map (λ port. delay_req port.config (of_count (number_of port (place (Request node at) earlier))))
+    (slave_at network node)
+drawn network _ earlier = None
 
 -- a message at the end of its journey: as it was drawn, with the residence of the journey added to its correction
 abbrev pub travelled : Network → Journey → Option Contents
@@ -60,23 +56,20 @@ copy_made network (Sync node at) earlier copies = drawn network (Sync node at) e
 copy_made network (SyncOne node at) earlier copies = drawn network (SyncOne node at) earlier
 copy_made network (Follow node) earlier copies =
     option_and_then (λ port. option_map (followed port) (waiting_sync node earlier)) (master_at network node)
-copy_made network (Enter node copy at) earlier copies = None
 copy_made network (Leave node transit at) earlier copies =
     option_and_then (travelled network) (journey_made (Leave node transit at) earlier (journey_of earlier))
 copy_made network (Arrive node copy at) earlier copies =
-    option_and_then (λ port. option_and_then (responded port (reading (place (Arrive node copy at) earlier))) (copies copy)) (master_at network node)
-copy_made network (Hear node copy) earlier copies = None
+    option_and_then (λ port. option_and_then (responded port (reading (place (Arrive node copy at) earlier)))
+    (copies copy)) (master_at network node)
 copy_made network (Request node at) earlier copies = drawn network (Request node at) earlier
-copy_made network (Stamped node) earlier copies = None
-copy_made network (Tick node) earlier copies = None
-copy_made network (SetMaster node master) earlier copies = None
-copy_made network (StepClock node diff) earlier copies = None
+copy_made network _ earlier copies = None
 
 -- the message of the copy of this tag, where the event of this tag made one
 abbrev pub copy_of : Network → Run → ℕ → Option Contents
 copy_of network [] tag = None
 copy_of network (event ∷ earlier) tag =
-    if length earlier == tag then copy_made network event earlier (copy_of network earlier) else copy_of network earlier tag
+    if length earlier == tag then copy_made network event earlier (copy_of network earlier)
+    else copy_of network earlier tag
 
 -- what is kept of a tag: the octets of its copy's message, or nothing where there is no copy
 abbrev pub TellsTruth : Option Contents → Option (List ℕ) → Type 0
@@ -85,22 +78,17 @@ TellsTruth (Some m) (Some octets) = Packet m octets
 TellsTruth None (Some octets) = ⊥
 TellsTruth (Some m) None = ⊥
 
--- The event that drew the number of a copy: a Follow_Up has its Sync's, a Delay_Resp its Delay_Req's. Said of each arrival,
--- also of one that no master answered and that made no copy.
+-- The event that drew the number of a copy: a Follow_Up has its Sync's, a Delay_Resp its Delay_Req's. Said of each
+-- arrival, also of one that no master answered and that made no copy.
 abbrev pub origin_made : Event → Run → (ℕ → Option Place) → Option Place
 origin_made (Sync node at) earlier origins = Some (place (Sync node at) earlier)
 origin_made (SyncOne node at) earlier origins = Some (place (SyncOne node at) earlier)
 origin_made (Follow node) earlier origins = waiting_sync node earlier
-origin_made (Enter node copy at) earlier origins = None
 origin_made (Leave node transit at) earlier origins =
     option_map (λ journey. journey.origin) (journey_made (Leave node transit at) earlier (journey_of earlier))
 origin_made (Arrive node copy at) earlier origins = origins copy
-origin_made (Hear node copy) earlier origins = None
 origin_made (Request node at) earlier origins = Some (place (Request node at) earlier)
-origin_made (Stamped node) earlier origins = None
-origin_made (Tick node) earlier origins = None
-origin_made (SetMaster node master) earlier origins = None
-origin_made (StepClock node diff) earlier origins = None
+origin_made _ earlier origins = None
 
 -- the event that drew the number of the copy of this tag; None where there is no copy, but for arrivals that made none
 abbrev pub origin_of : Run → ℕ → Option Place

@@ -1,5 +1,8 @@
 ghost use Rattle.std.specs.Prelude.{◌≡◌};
 ghost use Rattle.network_model.specs.Run.{site_of, true_moment};
+ghost use Rattle.network_model.specs.Kinds.{is_one_step_sync, draws_sync, is_follow, is_request, is_arrival};
+ghost use Rattle.network_model.specs.Kinds.{is_hearing};
+ghost use Rattle.network_model.specs.Kinds.{named_copy, entered_copy, heard_copy, spent_transit, named_master, step_of};
 
 use crate::name::Name;
 use ptp_units::ScaledTime;
@@ -129,12 +132,111 @@ impl Event {
             | Event::Leave { at, .. }
             | Event::Arrive { at, .. }
             | Event::Request { at, .. } => Some(*at),
-            Event::Follow { .. }
-            | Event::Hear { .. }
-            | Event::Stamped { .. }
-            | Event::Tick { .. }
-            | Event::SetMaster { .. }
-            | Event::StepClock { .. } => None,
+            _ => None,
         }
+    }
+
+    /// The copy that it takes, by its tag: one that enters a clock, arrives at a port or is heard.
+    pub fn copy(&self) -> Option<u64>
+        ensures { result ≡ named_copy self.now }
+    {
+        match self {
+            Event::Enter { copy, .. } | Event::Arrive { copy, .. } | Event::Hear { copy, .. } => {
+                Some(*copy)
+            }
+            _ => None,
+        }
+    }
+
+    /// The copy that enters a clock, by its tag.
+    pub fn entered_copy(&self) -> Option<u64>
+        ensures { result ≡ entered_copy self.now }
+    {
+        match self {
+            Event::Enter { copy, .. } => Some(*copy),
+            _ => None,
+        }
+    }
+
+    /// The copy that a port hears, by its tag: of an event message that arrives, or of a general one.
+    pub fn heard_copy(&self) -> Option<u64>
+        ensures { result ≡ heard_copy self.now }
+    {
+        match self {
+            Event::Arrive { copy, .. } | Event::Hear { copy, .. } => Some(*copy),
+            _ => None,
+        }
+    }
+
+    /// The stay in a clock that it ends, by the tag of the event by which the message entered.
+    pub fn transit(&self) -> Option<u64>
+        ensures { result ≡ spent_transit self.now }
+    {
+        match self {
+            Event::Leave { transit, .. } => Some(*transit),
+            _ => None,
+        }
+    }
+
+    /// The master that a slave is told.
+    pub fn master(&self) -> Option<Name>
+        ensures { result ≡ named_master self.now }
+    {
+        match self {
+            Event::SetMaster { master, .. } => Some(*master),
+            _ => None,
+        }
+    }
+
+    /// The difference that it sets, in units of 2^-16 ns.
+    pub fn difference(&self) -> Option<i128>
+        ensures { result ≡ step_of self.now }
+    {
+        match self {
+            Event::StepClock { diff, .. } => Some(*diff),
+            _ => None,
+        }
+    }
+
+    /// Whether it is a master's one-step Sync.
+    pub fn is_one_step_sync(&self) -> bool
+        ensures { result ≡ is_one_step_sync self.now }
+    {
+        matches!(self, Event::SyncOne { .. })
+    }
+
+    /// Whether it draws a number for a Sync, two-step or one-step.
+    pub fn draws_sync(&self) -> bool
+        ensures { result ≡ draws_sync self.now }
+    {
+        matches!(self, Event::Sync { .. } | Event::SyncOne { .. })
+    }
+
+    /// Whether it is a master's Follow_Up.
+    pub fn is_follow(&self) -> bool
+        ensures { result ≡ is_follow self.now }
+    {
+        matches!(self, Event::Follow { .. })
+    }
+
+    /// Whether it is a slave's Delay_Req.
+    pub fn is_request(&self) -> bool
+        ensures { result ≡ is_request self.now }
+    {
+        matches!(self, Event::Request { .. })
+    }
+
+    /// Whether it is an arrival of an event message at a master or a slave.
+    pub fn is_arrival(&self) -> bool
+        ensures { result ≡ is_arrival self.now }
+    {
+        matches!(self, Event::Arrive { .. })
+    }
+
+    /// Whether it is the hearing of a general message by a slave.
+    pub fn is_hearing(&self) -> bool
+        ensures { result ≡ is_hearing self.now }
+    {
+        matches!(self, Event::Hear { .. })
     }
 }

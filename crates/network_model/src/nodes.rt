@@ -1,4 +1,5 @@
-ghost use Rattle.std.specs.Prelude.{◌≡◌, ◌⊎◌, ◌++◌, ◌∷◌, [], None, Some, length, slice_get, is_some, IsTrue, IfSome, ◌↔◌, MatchResult, OnOk};
+ghost use Rattle.std.specs.Prelude.{◌≡◌, ◌⊎◌, ◌++◌, ◌∷◌, [], None, Some, length, slice_get, is_some, IsTrue, IfSome};
+ghost use Rattle.std.specs.Prelude.{◌↔◌, MatchResult, OnOk};
 ghost use Rattle.std.specs.Option.{option_copied, option_to_list};
 ghost use Rattle.network_model.specs.Network.{Network, IsNetwork, AllDiffer, node_of, identities, identity_of};
 ghost use Rattle.network_model.specs.Clash.{clash, first_clash, identity_clash};

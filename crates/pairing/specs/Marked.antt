@@ -1,5 +1,6 @@
 -- Numbered values in the order in which they came, of which some of the oldest may be marked: what a table means.
-use Rattle.std.specs.Prelude.{ℕ, ◌-◌, ◌≤◌, List, [], ◌∷◌, ◌++◌, length, drop, reverse, nat_eq, Option, option_map, find as first_passing, if◌then◌else◌}
+use Rattle.std.specs.Prelude.{ℕ, ◌-◌, ◌≤◌, List, [], ◌∷◌, ◌++◌, length, drop, reverse, nat_eq, Option, option_map}
+use Rattle.std.specs.Prelude.{find as first_passing, if◌then◌else◌}
 
 -- a value under a sequenceId (IEEE 1588-2019, 7.3.7)
 pub record Entry (V : Type 0) : Type 0 where

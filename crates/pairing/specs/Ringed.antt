@@ -1,5 +1,6 @@
 -- What the slots of a ring stand for, and how those of one bucket are linked. No public clause rests on it.
-use Rattle.std.specs.Prelude.{◌≡◌, ℕ, ◌+◌, ◌-◌, ◌%◌, ◌<◌, ◌≤◌, List, ◌++◌, take, drop, map, Option, Some, None, unwrap_or, nat_lt, if◌then◌else◌, slice_index, slice_index_or}
+use Rattle.std.specs.Prelude.{◌≡◌, ℕ, ◌+◌, ◌-◌, ◌%◌, ◌<◌, ◌≤◌, List, ◌++◌, take, drop, map, Option, Some, None}
+use Rattle.std.specs.Prelude.{unwrap_or, nat_lt, if◌then◌else◌, slice_index, slice_index_or}
 use Rattle.ptp_units.specs.declared.sequence.Seq.{Seq}
 
 -- the slot that is so many places after the oldest, around the end
@@ -31,7 +32,8 @@ place_at capacity oldest (Some slot) = place_of capacity oldest slot
 
 -- where a slot of the bucket is older than the place, the link is to the newest of these
 abbrev pub LeadsBack : (capacity oldest : ℕ) (numbers : List ℕ) (link : Option ℕ) (place bucket : ℕ) → Type 0
-LeadsBack capacity oldest numbers link place bucket = (slot : ℕ) → slot < capacity → place_of capacity oldest slot < place
+LeadsBack capacity oldest numbers link place bucket =
+    (slot : ℕ) → slot < capacity → place_of capacity oldest slot < place
     → slice_index numbers slot % capacity ≡ bucket
     → (place_of capacity oldest slot ≤ place_at capacity oldest link) × (place_at capacity oldest link < place)
     × (slice_index numbers (slot_of link) % capacity ≡ bucket)
@@ -42,4 +44,5 @@ pub record IsLinked (capacity oldest count : ℕ) (numbers : List ℕ) (older ne
   pub older_in : (slot : ℕ) → slot_of (slice_index_or older slot None) < capacity
   pub newest_leads : (bucket : ℕ) → LeadsBack capacity oldest numbers (slice_index_or newest bucket None) count bucket
   pub older_leads : (slot : ℕ) → slot < capacity → place_of capacity oldest slot < count
-      → LeadsBack capacity oldest numbers (slice_index_or older slot None) (place_of capacity oldest slot) (slice_index numbers slot % capacity)
+      → LeadsBack capacity oldest numbers (slice_index_or older slot None) (place_of capacity oldest slot)
+      (slice_index numbers slot % capacity)

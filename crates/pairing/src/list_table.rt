@@ -1,4 +1,5 @@
-ghost use Rattle.std.specs.Prelude.{◌≡◌, ◌≤◌, length, reverse, nat_eq, is_some, option_copied, option_map, find, position};
+ghost use Rattle.std.specs.Prelude.{◌≡◌, ◌≤◌, length, reverse, nat_eq, is_some, option_copied, option_map, find};
+ghost use Rattle.std.specs.Prelude.{position};
 ghost use Rattle.pairing.specs.Marked.{first_value, replace_first};
 ghost use Rattle.pairing.specs.Listed.{entries_of};
 

@@ -1,4 +1,5 @@
-ghost use Rattle.std.specs.Prelude.{◌≡◌, ◌+◌, ◌-◌, ◌<◌, ◌≤◌, [], ◌∷◌, ◌++◌, length, reverse, drop, nat_eq, position, option_map, slice_index, slice_set, IfSome};
+ghost use Rattle.std.specs.Prelude.{◌≡◌, ◌+◌, ◌-◌, ◌<◌, ◌≤◌, [], ◌∷◌, ◌++◌, length, reverse, drop, nat_eq, position};
+ghost use Rattle.std.specs.Prelude.{option_map, slice_index, slice_set, IfSome};
 ghost use Rattle.pairing.specs.Ringed.{IsLinked, numbers_of, place_of, slot_at, place_at, members};
 
 use crate::pair_table::PairTable;
@@ -135,7 +136,8 @@ impl<V: Copy + Default, const N: usize> RingTable<V, N> {
         ensures within { IfSome result (λ slot. (slot < N) × (place_of N self.now.oldest slot < self.now.count)
             × (slice_index (numbers_of self.now.slots.items) slot ≡ number.0)) }
         ensures newest { option_map (λ slot. self.now.count - 1 - place_of N self.now.oldest slot) result
-            ≡ position (λ p. nat_eq p.0.0 number.0) (reverse (members self.now.oldest self.now.count self.now.slots.items)) }
+            ≡ position (λ p. nat_eq p.0.0 number.0)
+            (reverse (members self.now.oldest self.now.count self.now.slots.items)) }
     {
         let bucket = usize::from(number.0) % N;
         let mut link = self.newest[bucket];

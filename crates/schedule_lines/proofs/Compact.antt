@@ -18,7 +18,7 @@ use Rattle.schedule_lines.specs.Transcript.{whole, with_some}
 use Rattle.schedule_lines.proofs.Keys.{Field, members_of}
 
 -- what is read of a text that was printed
-pub read_compact : (d : Data) → of_json (outline d) ≡ Some d → HasNumbers (outline d) → tree.depth (outline d) ≤ max_depth → read (compact_text d) ≡ Some d
+read_compact : (d : Data) → of_json (outline d) ≡ Some d → HasNumbers (outline d) → tree.depth (outline d) ≤ max_depth → read (compact_text d) ≡ Some d
 read_compact d same numbers shallow =
     let ts = json_tokens (outline d) in
     ap read (sym (print-outline d))
@@ -35,18 +35,18 @@ pub record IsReadable (d : Data) : Type 0 where
 
 -- ---- keys that ascend
 
-abbrev pub IsBefore : List ℕ → List ℕ → Type 0
+abbrev IsBefore : List ℕ → List ℕ → Type 0
 IsBefore k l = slice_cmp nat_cmp k l ≡ Less
 
-abbrev pub IsBelow : List ℕ → Members → Type 0
+abbrev IsBelow : List ℕ → Members → Type 0
 IsBelow k no_members = Unit {0}
 IsBelow k (member l e ms) = IsBefore k l × IsBelow k ms
 
-abbrev pub AreAscending : Members → Type 0
+abbrev AreAscending : Members → Type 0
 AreAscending no_members = Unit {0}
 AreAscending (member k d ms) = IsBelow k ms × AreAscending ms
 
-abbrev pub AreReadable : Members → Type 0
+abbrev AreReadable : Members → Type 0
 AreReadable no_members = Unit {0}
 AreReadable (member k d ms) = IsReadable d × AreReadable ms
 

@@ -1,11 +1,11 @@
 -- The keys of a line, as a list.
-use Rattle.std.proofs.Common.{◌≡◌, ℕ, List, [], ◌∷◌, codes, Option, Some, option_map, refl}
-use Rattle.serde_json.specs.Data.{Data, string, object, Members, no_members}
+use Rattle.std.proofs.Common.{ℕ, List, [], ◌∷◌, codes, Option, Some, option_map}
+use Rattle.serde_json.specs.Data.{Data, string, Members, no_members}
 use Rattle.network_model.specs.Run.{site_of, true_moment}
-use Rattle.network_model.specs.Kinds.{named_master, step_of, spent_transit}
+use Rattle.network_model.specs.Kinds.{named_master, step_of, spent_transit, named_copy}
 use Rattle.network_model.specs.declared.event.Event.{Event}
 use Rattle.trace_model.specs.declared.line.TraceLine.{TraceLine}
-use Rattle.schedule_lines.specs.Transcript.{whole, moment_data, difference_data, octets_data, tags_data, with_some, named_copy, event_text, made_octets, out_text, out_code, out_report, event_data}
+use Rattle.schedule_lines.specs.Transcript.{whole, moment_data, difference_data, octets_data, tags_data, with_some, event_text, made_octets, out_text, out_code, out_report}
 
 -- a key, and its value where there is one
 abbrev pub Field : Type 0
@@ -44,6 +44,3 @@ answer_fields n line =
 -- the keys of an event's line
 abbrev pub line_fields : ℕ → TraceLine → List Field
 line_fields n line = event_fields line.event (answer_fields n line)
-
-pub event_data-by_fields : (n : ℕ) (line : TraceLine) → event_data n line ≡ object (members_of (line_fields n line))
-event_data-by_fields n line = refl

@@ -8,6 +8,7 @@ use Rattle.serde_json.specs.Data.{Data, Members, no_members, member, put}
 use Rattle.serde_json.specs.Events.{members_len}
 use Rattle.serde_json.specs.Find.{get_member}
 use Rattle.serde_json.proofs.Views.{get_member-put, get_member-put_other}
+use Rattle.schedule_lines.specs.Line.{one_if}
 use Rattle.schedule_lines.specs.Transcript.{with_some}
 use Rattle.schedule_lines.proofs.Keys.{Field, members_of}
 
@@ -44,11 +45,6 @@ get_member-members_of q (f ∷ fs) =
 pub option_or-none : (o : Option Data) → option_or o None ≡ o
 option_or-none None = refl
 option_or-none (Some d) = refl
-
--- a value, or none, as a number
-abbrev pub one_if : {X : Type 0} → Option X → ℕ
-one_if None = 0
-one_if (Some x) = 1
 
 abbrev pub count : List Field → ℕ
 count [] = 0

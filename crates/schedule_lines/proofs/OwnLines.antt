@@ -6,7 +6,7 @@ use Rattle.slave_port.specs.declared.heard.Report.{Report}
 use Rattle.event_codec.specs.declared.port.PortConfig.{PortConfig}
 use Rattle.ptp_units.specs.declared.sequence.Seq.{Seq}
 use Rattle.network_model.specs.Run.{true_moment}
-use Rattle.network_model.specs.Kinds.{named_master, step_of, spent_transit}
+use Rattle.network_model.specs.Kinds.{named_master, step_of, spent_transit, named_copy}
 use Rattle.network_model.specs.declared.event.Event.{Event}
 use Rattle.network_model.specs.declared.event.Event.TheVariants as events
 use Rattle.network_model.specs.declared.node.NodeKind.{NodeKind}
@@ -23,7 +23,7 @@ use Rattle.schedule_lines.specs.declared.traced.TranscriptLine.TheVariants as li
 use Rattle.schedule_lines.specs.Json.{has_keys, field, whole_in, whole_below, moment_in, name_in, clock_in, signed_octet_in, octets_in, difference_in}
 use Rattle.schedule_lines.specs.Line.{kind_of, event_at, event_in, event_keys, scheduled_in, at_in, config_in, first_in, port_in, node_kind, node_spec_in}
 use Rattle.schedule_lines.specs.Traced.{report_of, report_in, out_of, reading_in, recorded_in, line_keys}
-use Rattle.schedule_lines.specs.Transcript.{node_data, kind_data, port_data, scheduled_data, named_copy, made_octets, out_code, out_report}
+use Rattle.schedule_lines.specs.Transcript.{node_data, kind_data, port_data, scheduled_data, made_octets, out_code, out_report}
 use Rattle.schedule_lines.specs.Keys.{HaveSameKeys, line_data, transcript_line_data, LinesHaveOwnKeys, TranscriptLinesHaveOwnKeys}
 use Rattle.schedule_lines.proofs.Keys.{Field, event_fields, answer_fields, line_fields}
 use Rattle.schedule_lines.proofs.OwnKeys.{HasFields, own_keys}

@@ -1,5 +1,5 @@
 -- The texts of lines, read as their values.
-use Rattle.std.proofs.Common.{◌≡◌, ◌<◌, ◌≤ℤ◌, ◌^◌, ◌/◌, ◌%◌, ◌-◌, ℕ, ℤ, pos, negsuc, List, [], ◌∷◌, codes, Option, Some, None, IfSome, option_map, refl, ap, arith}
+use Rattle.std.proofs.Common.{◌≡◌, ◌<◌, ◌≤ℤ◌, ◌^◌, ◌/◌, ◌%◌, ◌-◌, ℕ, ℤ, pos, negsuc, List, [], ◌∷◌, codes, Option, Some, None, IfSome, option_map, ap, arith}
 use Rattle.std.proofs.lemmas.Int.{ints}
 use Rattle.json.proofs.Printed.Decimals.{IsNumber-decimal, IsNumber-signed_decimal}
 use Rattle.serde_json.specs.Data.{string, number}
@@ -14,9 +14,9 @@ use Rattle.slave_port.specs.declared.heard.Report.{Report}
 use Rattle.network_model.specs.declared.node.NodeKind.{NodeKind}
 use Rattle.network_model.specs.declared.node.NodeKind.TheVariants as kinds
 use Rattle.network_model.specs.Run.{true_moment}
-use Rattle.network_model.specs.Kinds.{named_master, step_of, spent_transit}
+use Rattle.network_model.specs.Kinds.{named_master, step_of, spent_transit, named_copy}
 use Rattle.trace_model.specs.declared.line.TraceLine.{TraceLine}
-use Rattle.schedule_lines.specs.Transcript.{whole, moment_data, difference_data, octets_data, follow_data, tags_data, port_data, kind_data, named_copy, made_octets, out_code, out_report}
+use Rattle.schedule_lines.specs.Transcript.{whole, moment_data, difference_data, octets_data, tags_data, port_data, kind_data, made_octets, out_code, out_report}
 use Rattle.schedule_lines.specs.Recorded.{IsConfig, IsKind, IsTag, HasTags, IsTagged, IsRecorded, NodeTextsReadBack, EventTextsReadBack}
 use Rattle.schedule_lines.proofs.Keys.{Field, members_of, line_fields}
 use Rattle.schedule_lines.proofs.Compact.{IsReadable, AreReadableFields, read_object, text_readable, whole_readable, field_readable, members_readable, members_ascending}
@@ -32,10 +32,6 @@ moment_readable time h =
       numbers = (IsNumber-decimal _ seconds, (IsNumber-decimal _ nanos, (IsNumber-decimal _ fraction, tt)));
       shallow = omega arith;
     }
-
-follow_readable : (tag : Option ℕ) → IfSome tag IsTag → IsReadable (follow_data tag)
-follow_readable None h = record { same = refl; numbers = tt; shallow = omega arith }
-follow_readable (Some tag) h = whole_readable tag h
 
 tags_at : (sync request response : ℕ) (follow : Option ℕ) → IsTag sync → IfSome follow IsTag → IsTag request → IsTag response
     → (offset2 path2 : ℤ) → IsReadable (tags_data (record { offset2 = offset2; path2 = path2; sync_tag = sync; follow_tag = follow; request_tag = request; response_tag = response }))

@@ -141,7 +141,7 @@ event_at_read StepClock node d h =
     (weaker IsShort (λ diff. IsEvent (events.StepClock node diff)) told (and_then IsShort difference_in (get (codes "diff") d) difference_read)
     (λ diff x. record { node = h; master = tt; moment = tt; step = x }))
 
-pub event_read : (d : Data) → IfSome (event_in d) IsEvent
+event_read : (d : Data) → IfSome (event_in d) IsEvent
 event_read d = and_then IsEvent (λ kind. option_and_then (λ node. event_at kind node d) (node_in d)) (option_and_then kind_of (field as_str (codes "ev") d))
     (λ kind. then_also IsName IsEvent (λ node. event_at kind node d) (node_in d) (and_then IsName name_in (get (codes "node") d) name_read)
     (λ node h. event_at_read kind node d h))

@@ -10,19 +10,19 @@ use Rattle.network_model.specs.declared.event.Event.{Event}
 use Rattle.network_model.specs.declared.event.Event.TheVariants.{Sync, SyncOne, Follow, Enter, Leave, Arrive, Hear, Request, Stamped, Tick, SetMaster, StepClock}
 use Rattle.network_model.specs.Name.{IsName}
 use Rattle.network_model.specs.Run.{site_of, true_moment}
-use Rattle.network_model.specs.Kinds.{named_master, step_of, spent_transit}
+use Rattle.network_model.specs.Kinds.{named_master, step_of, spent_transit, named_copy}
 use Rattle.trace_model.specs.declared.line.TraceLine.{TraceLine}
 use Rattle.trace_model.specs.declared.line.TraceOut.{TraceOut}
 use Rattle.trace_model.specs.declared.line.TraceOut.TheVariants as outs
 use Rattle.schedule_lines.specs.declared.traced.TranscriptLine.TheVariants as lines
 use Rattle.schedule_lines.specs.Json.{field, has_keys, moment_in, name_in, whole_in, whole_below, octets_in, difference_in}
 use Rattle.schedule_lines.specs.declared.schedule.Line.TheVariants as schedules
-use Rattle.schedule_lines.specs.Line.{event_in, event_keys, node_in, at_in, copy_in, line_of}
-use Rattle.schedule_lines.specs.Traced.{transcript_line_of, recorded_in, reading_in, reading_keys, out_of, out_keys, line_keys, code_in, report_in}
-use Rattle.schedule_lines.specs.Transcript.{whole, moment_data, difference_data, octets_data, tags_data, named_copy, event_text, made_octets, out_text, out_code, out_report, scheduled_data, event_data}
+use Rattle.schedule_lines.specs.Line.{event_in, event_keys, node_in, at_in, copy_in, line_of, one_if}
+use Rattle.schedule_lines.specs.Traced.{transcript_line_of, recorded_in, reading_in, out_of, out_keys, line_keys, code_in, report_in}
+use Rattle.schedule_lines.specs.Transcript.{whole, moment_data, difference_data, octets_data, tags_data, event_text, made_octets, out_text, out_code, out_report, scheduled_data, event_data}
 use Rattle.schedule_lines.specs.Recorded.{IsShort, IsEvent, IsOut, IsRecorded, ScheduledReadBack, EventsReadBack}
 use Rattle.schedule_lines.proofs.Keys.{Field, members_of, event_fields, answer_fields, line_fields}
-use Rattle.schedule_lines.proofs.Lookup.{find, get_member-members_of, option_or-none, one_if, count, members_len-members_of}
+use Rattle.schedule_lines.proofs.Lookup.{find, get_member-members_of, option_or-none, count, members_len-members_of}
 use Rattle.schedule_lines.proofs.Texts.{name_back, below_back, octets_back, moment_back, difference_back, report_back}
 
 -- ---- an event, from its keys
@@ -82,32 +82,16 @@ line_back n line d ev recorded number keys = rw (recorded, number, keys, ev)
 event_counted : (event : Event)
     → one_if (option_map moment_data (true_moment event)) + one_if (option_map whole (named_copy event)) + one_if (option_map difference_data (step_of event))
     + one_if (option_map string (named_master event)) + one_if (option_map whole (spent_transit event)) + 2 ≡ event_keys event
-event_counted (Sync node at) = refl
-event_counted (SyncOne node at) = refl
-event_counted (Follow node) = refl
-event_counted (Enter node tag at) = refl
-event_counted (Leave node tag at) = refl
-event_counted (Arrive node tag at) = refl
-event_counted (Hear node tag) = refl
-event_counted (Request node at) = refl
-event_counted (Stamped node) = refl
-event_counted (Tick node) = refl
-event_counted (SetMaster node told) = refl
 event_counted (StepClock node size) = refl
+event_counted _ = refl
 
 out_counted : (out : TraceOut)
     → one_if (option_map whole (out_code out)) + one_if (option_map octets_data (made_octets out)) + one_if (option_map (λ r. difference_data r.offset2) (out_report out))
     + one_if (option_map (λ r. difference_data r.path2) (out_report out)) + one_if (option_map tags_data (out_report out)) + 1 ≡ out_keys out
-out_counted outs.Done = refl
-out_counted (outs.Made octets) = refl
-out_counted outs.Entered = refl
-out_counted outs.Held = refl
-out_counted outs.Completed = refl
-out_counted (outs.Report answer) = refl
-out_counted (outs.Ignored reason) = refl
 out_counted (outs.Refused reason) = refl
+out_counted _ = refl
 
-reading_counted : (reading : Option ℕ) → one_if (option_map moment_data reading) ≡ reading_keys reading
+reading_counted : (reading : Option ℕ) → one_if (option_map moment_data reading) ≡ one_if reading
 reading_counted None = refl
 reading_counted (Some time) = refl
 

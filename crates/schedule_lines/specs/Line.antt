@@ -1,20 +1,26 @@
--- Which node or event a line is, from its JSON value. Each form has just its keys: as many as it has, and each of these.
-use Rattle.std.specs.Prelude.{ℕ, List, codes, if◌then◌else◌, Option, Some, None, option_map, option_and_then, is_some}
+-- Which node or event a line is, from its JSON value. Each form has just its keys: as many as it has, and each of
+-- these.
+use Rattle.std.specs.Prelude.{ℕ, ◌+◌, List, codes, if◌then◌else◌, Option, Some, None, option_map, option_and_then}
+use Rattle.std.specs.Prelude.{is_some}
 use Rattle.std.specs.Str.{bytes_eq}
 use Rattle.serde_json.specs.Data.{Data}
 use Rattle.serde_json.specs.Find.{get, as_str}
 use Rattle.event_codec.specs.declared.port.PortConfig.{PortConfig}
 use Rattle.ptp_units.specs.declared.sequence.Seq.{Seq}
+use Rattle.network_model.specs.Run.{true_moment}
+use Rattle.network_model.specs.Kinds.{named_copy, named_master, step_of, spent_transit}
 use Rattle.network_model.specs.declared.event.Event.{Event}
 use Rattle.network_model.specs.declared.event.Event.TheVariants as events
 use Rattle.network_model.specs.declared.node.NodeKind.{NodeKind}
 use Rattle.network_model.specs.declared.node.NodeKind.TheVariants as kinds
 use Rattle.network_model.specs.declared.node.NodeSpec.{NodeSpec}
 use Rattle.schedule_lines.specs.declared.kind.EventKind.{EventKind}
-use Rattle.schedule_lines.specs.declared.kind.EventKind.TheVariants.{Sync, SyncOne, Follow, Enter, Leave, Arrive, Hear, Request, Stamped, Tick, SetMaster, StepClock}
+use Rattle.schedule_lines.specs.declared.kind.EventKind.TheVariants.{Sync, SyncOne, Follow, Enter, Leave, Arrive, Hear}
+use Rattle.schedule_lines.specs.declared.kind.EventKind.TheVariants.{Request, Stamped, Tick, SetMaster, StepClock}
 use Rattle.schedule_lines.specs.declared.schedule.Line.{Line}
 use Rattle.schedule_lines.specs.declared.schedule.Line.TheVariants as lines
-use Rattle.schedule_lines.specs.Json.{field, has_keys, name_in, moment_in, whole_in, whole_below, signed_octet_in, clock_in, difference_in}
+use Rattle.schedule_lines.specs.Json.{field, has_keys, name_in, moment_in, whole_in, whole_below, signed_octet_in}
+use Rattle.schedule_lines.specs.Json.{clock_in, difference_in}
 
 -- the kind of event that the text of `ev` names
 abbrev pub kind_of : List ℕ → Option EventKind
@@ -49,7 +55,8 @@ event_at Sync node d = option_map (events.Sync node) (at_in d)
 event_at SyncOne node d = option_map (events.SyncOne node) (at_in d)
 event_at Follow node d = Some (events.Follow node)
 event_at Enter node d = option_and_then (λ copy. option_map (events.Enter node copy) (at_in d)) (copy_in d)
-event_at Leave node d = option_and_then (λ transit. option_map (events.Leave node transit) (at_in d)) (field whole_in (codes "transit") d)
+event_at Leave node d =
+    option_and_then (λ transit. option_map (events.Leave node transit) (at_in d)) (field whole_in (codes "transit") d)
 event_at Arrive node d = option_and_then (λ copy. option_map (events.Arrive node copy) (at_in d)) (copy_in d)
 event_at Hear node d = option_map (events.Hear node) (copy_in d)
 event_at Request node d = option_map (events.Request node) (at_in d)
@@ -61,22 +68,19 @@ event_at StepClock node d = option_map (events.StepClock node) (field difference
 -- the event that an object's keys are, whatever keys stand beside them
 abbrev pub event_in : Data → Option Event
 event_in d =
-    option_and_then (λ kind. option_and_then (λ node. event_at kind node d) (node_in d)) (option_and_then kind_of (field as_str (codes "ev") d))
+    option_and_then (λ kind. option_and_then (λ node. event_at kind node d) (node_in d))
+    (option_and_then kind_of (field as_str (codes "ev") d))
 
--- how many keys an event has, `ev` and `node` among them
+-- one key where there is a value
+abbrev pub one_if : {X : Type 0} → Option X → ℕ
+one_if None = 0
+one_if (Some x) = 1
+
+-- how many keys an event has: `ev`, `node`, and one for each thing that it names
 abbrev pub event_keys : Event → ℕ
-event_keys (events.Sync node at) = 3
-event_keys (events.SyncOne node at) = 3
-event_keys (events.Follow node) = 2
-event_keys (events.Enter node copy at) = 4
-event_keys (events.Leave node transit at) = 4
-event_keys (events.Arrive node copy at) = 4
-event_keys (events.Hear node copy) = 3
-event_keys (events.Request node at) = 3
-event_keys (events.Stamped node) = 2
-event_keys (events.Tick node) = 2
-event_keys (events.SetMaster node master) = 3
-event_keys (events.StepClock node diff) = 3
+event_keys event =
+    one_if (true_moment event) + one_if (named_copy event) + one_if (step_of event)
+    + one_if (named_master event) + one_if (spent_transit event) + 2
 
 -- the event that an object with key `ev` is, with just its keys
 abbrev pub scheduled_in : Data → Option Event
@@ -87,7 +91,8 @@ abbrev pub config_in : Data → Option PortConfig
 config_in d =
     option_and_then (λ clock. option_and_then (λ port. option_and_then (λ domain. option_map (λ log.
     record { identity = record { clock = clock; port = port }; domain = domain; log = log })
-    (field signed_octet_in (codes "log") d)) (field (whole_below 256) (codes "domain") d)) (field (whole_below 65536) (codes "port") d)) (field clock_in (codes "id") d)
+    (field signed_octet_in (codes "log") d)) (field (whole_below 256) (codes "domain") d))
+    (field (whole_below 65536) (codes "port") d)) (field clock_in (codes "id") d)
 
 -- the number that a node's port draws first
 abbrev pub first_in : Data → Option Seq
@@ -109,8 +114,12 @@ node_kind text d =
 -- the node that an object without key `ev` is
 abbrev pub node_spec_in : Data → Option NodeSpec
 node_spec_in d =
-    option_and_then (λ text. option_and_then (λ name. option_map (λ kind. record { name = name; kind = kind }) (node_kind text d)) (node_in d)) (field as_str (codes "kind") d)
+    option_and_then
+    (λ text. option_and_then (λ name. option_map (λ kind. record { name = name; kind = kind }) (node_kind text d))
+    (node_in d)) (field as_str (codes "kind") d)
 
 -- the line that a value is; None where a key is missing, one is too many, or one's value isn't what is asked for
 abbrev pub line_of : Data → Option Line
-line_of d = if is_some (get (codes "ev") d) then option_map lines.Event (scheduled_in d) else option_map lines.Node (node_spec_in d)
+line_of d =
+    if is_some (get (codes "ev") d) then option_map lines.Event (scheduled_in d)
+    else option_map lines.Node (node_spec_in d)

@@ -5,7 +5,7 @@ use Rattle.event_codec.specs.declared.port.PortConfig.{PortConfig}
 use Rattle.ptp_units.specs.Moment.{bound}
 use Rattle.network_model.specs.Name.{IsName}
 use Rattle.network_model.specs.Run.{site_of, true_moment}
-use Rattle.network_model.specs.Kinds.{named_master, step_of, spent_transit}
+use Rattle.network_model.specs.Kinds.{named_copy, named_master, step_of, spent_transit}
 use Rattle.network_model.specs.declared.event.Event.{Event}
 use Rattle.network_model.specs.declared.node.NodeKind.{NodeKind}
 use Rattle.network_model.specs.declared.node.NodeKind.TheVariants as kinds
@@ -23,7 +23,7 @@ use Rattle.schedule_lines.specs.declared.traced.TranscriptLine.{TranscriptLine}
 use Rattle.schedule_lines.specs.declared.traced.TranscriptLine.TheVariants as lines
 use Rattle.schedule_lines.specs.Line.{line_of}
 use Rattle.schedule_lines.specs.Traced.{transcript_line_of}
-use Rattle.schedule_lines.specs.Transcript.{named_copy, out_report, node_data, scheduled_data, event_data}
+use Rattle.schedule_lines.specs.Transcript.{out_report, node_data, scheduled_data, event_data}
 
 -- a whole number whose text has 32 octets at the most
 abbrev pub IsShort : ℤ → Type 0
@@ -39,16 +39,14 @@ pub record IsEvent (event : Event) : Type 0 where
 
 -- an outcome whose values are within their ranges
 abbrev pub IsOut : TraceOut → Type 0
-IsOut outs.Done = Unit {0}
 IsOut (outs.Made octets) = (length octets.items ≤ 54) × IsBytes octets.items
-IsOut outs.Entered = Unit {0}
-IsOut outs.Held = Unit {0}
-IsOut outs.Completed = Unit {0}
 IsOut (outs.Report report) = IsShort report.offset2 × IsShort report.path2
 IsOut (outs.Ignored code) = code < 65536
 IsOut (outs.Refused code) = code < 65536
+IsOut _ = Unit {0}
 
--- what may be recorded of an event: its values are within their ranges, and it has a reading where the event has a true moment
+-- what may be recorded of an event: its values are within their ranges, and it has a reading where the event has a true
+-- moment
 pub record IsRecorded (line : TraceLine) : Type 0 where
   pub event : IsEvent line.event
   pub timed : is_some line.reading ≡ is_some (true_moment line.event)
@@ -76,7 +74,8 @@ IsNode node = IsName node.name × IsKind node.kind
 abbrev pub NodesReadBack : Type 0
 NodesReadBack =
     (node : NodeSpec) → IsNode node
-    → (line_of (node_data node) ≡ Some (schedules.Node node)) × (transcript_line_of (node_data node) ≡ Some (lines.Node node))
+    → (line_of (node_data node) ≡ Some (schedules.Node node))
+    × (transcript_line_of (node_data node) ≡ Some (lines.Node node))
 
 -- what an event's own keys say in a schedule is read as the event
 abbrev pub ScheduledReadBack : Type 0
@@ -84,7 +83,8 @@ ScheduledReadBack = (event : Event) → IsEvent event → line_of (scheduled_dat
 
 -- each line that tells what may be recorded is read as it was written
 abbrev pub EventsReadBack : Type 0
-EventsReadBack = (n : ℕ) (line : TraceLine) → IsRecorded line → transcript_line_of (event_data n line) ≡ Some (lines.Event n line)
+EventsReadBack =
+    (n : ℕ) (line : TraceLine) → IsRecorded line → transcript_line_of (event_data n line) ≡ Some (lines.Event n line)
 
 -- a line of a schedule whose values are within their ranges
 abbrev pub IsLine : Line → Type 0
@@ -124,4 +124,6 @@ NodeTextsReadBack = (node : NodeSpec) → IsNode node → read (compact_text (no
 
 -- and so is the compact text of an event's line
 abbrev pub EventTextsReadBack : Type 0
-EventTextsReadBack = (n : ℕ) (line : TraceLine) → IsRecorded line → IsTagged n line → read (compact_text (event_data n line)) ≡ Some (event_data n line)
+EventTextsReadBack =
+    (n : ℕ) (line : TraceLine) → IsRecorded line → IsTagged n line
+    → read (compact_text (event_data n line)) ≡ Some (event_data n line)

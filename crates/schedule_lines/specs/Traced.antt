@@ -1,5 +1,6 @@
 -- Which node or event with its answer a line of a transcript is, from its JSON value. Each form has just its keys.
-use Rattle.std.specs.Prelude.{ℕ, ℤ, ◌+◌, List, codes, if◌then◌else◌, Option, Some, None, option_map, option_and_then, is_some}
+use Rattle.std.specs.Prelude.{ℕ, ℤ, ◌+◌, List, codes, if◌then◌else◌, Option, Some, None, option_map, option_and_then}
+use Rattle.std.specs.Prelude.{is_some}
 use Rattle.std.specs.Str.{bytes_eq}
 use Rattle.serde_json.specs.Data.{Data, null, boolean, number, string, array, object}
 use Rattle.serde_json.specs.Find.{get, as_str}
@@ -10,8 +11,9 @@ use Rattle.trace_model.specs.declared.line.TraceOut.{TraceOut}
 use Rattle.trace_model.specs.declared.line.TraceOut.TheVariants as outs
 use Rattle.schedule_lines.specs.declared.traced.TranscriptLine.{TranscriptLine}
 use Rattle.schedule_lines.specs.declared.traced.TranscriptLine.TheVariants as lines
-use Rattle.schedule_lines.specs.Json.{field, has_keys, has_items, item_at, moment_in, whole_in, whole_below, octets_in, difference_in}
-use Rattle.schedule_lines.specs.Line.{event_in, event_keys, node_spec_in}
+use Rattle.schedule_lines.specs.Json.{field, has_keys, has_items, item_at, moment_in, whole_in, whole_below, octets_in}
+use Rattle.schedule_lines.specs.Json.{difference_in}
+use Rattle.schedule_lines.specs.Line.{event_in, event_keys, node_spec_in, one_if}
 
 -- what a value is, and then what it is with that
 infixl 10 ◌>>=◌
@@ -68,28 +70,20 @@ out_of text d =
 
 -- how many keys tell what an event brought about, `out` among them
 abbrev pub out_keys : TraceOut → ℕ
-out_keys outs.Done = 1
 out_keys (outs.Made octets) = 2
-out_keys outs.Entered = 1
-out_keys outs.Held = 1
-out_keys outs.Completed = 1
 out_keys (outs.Report report) = 4
 out_keys (outs.Ignored code) = 2
 out_keys (outs.Refused code) = 2
+out_keys _ = 1
 
 -- what the node's clock is said to have read, for an event that has a true moment and for no other
 abbrev pub reading_in : Option ℕ → Data → Option (Option ℕ)
 reading_in None d = Some None
 reading_in (Some at) d = option_map Some (field moment_in (codes "reading") d)
 
--- how many keys tell the reading
-abbrev pub reading_keys : Option ℕ → ℕ
-reading_keys None = 0
-reading_keys (Some at) = 1
-
 -- how many keys the line of an event has, `n` among them
 abbrev pub line_keys : TraceLine → ℕ
-line_keys line = event_keys line.event + reading_keys line.reading + out_keys line.out + 1
+line_keys line = event_keys line.event + one_if line.reading + out_keys line.out + 1
 
 -- what was recorded of an event, whatever keys stand beside those that tell it
 abbrev pub recorded_in : Data → Option TraceLine

@@ -1,9 +1,9 @@
 -- The values and the texts of the lines that are written.
 use Rattle.std.specs.Prelude.{ℕ, ℤ, List, [], ◌∷◌, ◌++◌, codes, Option, Some, None, option_map}
-use Rattle.std.specs.Option.{option_or}
 use Rattle.std.specs.Fmt.{signed_decimal}
 use Rattle.hex.specs.Hex.{encode_lower}
-use Rattle.serde_json.specs.Data.{Data, null, number, unsigned, string, array, object, item, no_items, Members, member, no_members, put}
+use Rattle.serde_json.specs.Data.{Data, null, number, unsigned, string, array, object, item, no_items, Members, member}
+use Rattle.serde_json.specs.Data.{no_members, put}
 use Rattle.serde_json.specs.Find.{of_integer}
 use Rattle.serde_json.specs.Written.{compact_text}
 use Rattle.event_codec.specs.declared.port.PortConfig.{PortConfig}
@@ -11,12 +11,13 @@ use Rattle.ptp_units.specs.declared.sequence.Seq.{Seq}
 use Rattle.ptp_units.specs.Moment.{stamp_of, fraction_of}
 use Rattle.slave_port.specs.declared.heard.Report.{Report}
 use Rattle.network_model.specs.declared.event.Event.{Event}
-use Rattle.network_model.specs.declared.event.Event.TheVariants.{Sync, SyncOne, Follow, Enter, Leave, Arrive, Hear, Request, Stamped, Tick, SetMaster, StepClock}
+use Rattle.network_model.specs.declared.event.Event.TheVariants.{Sync, SyncOne, Follow, Enter, Leave, Arrive, Hear}
+use Rattle.network_model.specs.declared.event.Event.TheVariants.{Request, Stamped, Tick, SetMaster, StepClock}
 use Rattle.network_model.specs.declared.node.NodeKind.{NodeKind}
 use Rattle.network_model.specs.declared.node.NodeKind.TheVariants as kinds
 use Rattle.network_model.specs.declared.node.NodeSpec.{NodeSpec}
 use Rattle.network_model.specs.Run.{site_of, true_moment}
-use Rattle.network_model.specs.Kinds.{named_master, step_of, entered_copy, heard_copy, spent_transit}
+use Rattle.network_model.specs.Kinds.{named_copy, named_master, step_of, spent_transit}
 use Rattle.trace_model.specs.declared.line.TraceLine.{TraceLine}
 use Rattle.trace_model.specs.declared.line.TraceOut.{TraceOut}
 use Rattle.trace_model.specs.declared.line.TraceOut.TheVariants as outs
@@ -27,7 +28,9 @@ whole n = number (unsigned n)
 
 -- a moment `[s,n,f]`: seconds, nanoseconds, and 2^-16 ns
 abbrev pub moment_data : ℕ → Data
-moment_data time = array (item (whole (stamp_of time).seconds) (item (whole (stamp_of time).nanos) (item (whole (fraction_of time)) no_items)))
+moment_data time =
+    array (item (whole (stamp_of time).seconds)
+    (item (whole (stamp_of time).nanos) (item (whole (fraction_of time)) no_items)))
 
 -- a signed number, as its text
 abbrev pub difference_data : ℤ → Data
@@ -45,15 +48,18 @@ with_some key (Some value) members = put key value members
 -- a node with a port
 abbrev pub port_data : List ℕ → List ℕ → PortConfig → Seq → Data
 port_data name kind config first = object
-    (member (codes "domain") (whole config.domain) (member (codes "first") (whole first.0) (member (codes "id") (octets_data config.identity.clock)
-    (member (codes "kind") (string kind) (member (codes "log") (number (of_integer config.log)) (member (codes "node") (string name)
+    (member (codes "domain") (whole config.domain)
+    (member (codes "first") (whole first.0) (member (codes "id") (octets_data config.identity.clock)
+    (member (codes "kind") (string kind)
+    (member (codes "log") (number (of_integer config.log)) (member (codes "node") (string name)
     (member (codes "port") (whole config.identity.port) no_members)))))))
 
 -- a node
 abbrev pub kind_data : List ℕ → NodeKind → Data
 kind_data name (kinds.Master config first) = port_data name (codes "master") config first
 kind_data name (kinds.Slave config first) = port_data name (codes "slave") config first
-kind_data name kinds.Clock = object (member (codes "kind") (string (codes "clock")) (member (codes "node") (string name) no_members))
+kind_data name kinds.Clock =
+    object (member (codes "kind") (string (codes "clock")) (member (codes "node") (string name) no_members))
 
 abbrev pub node_data : NodeSpec → Data
 node_data node = kind_data node.name node.kind
@@ -72,10 +78,6 @@ event_text (Stamped node) = codes "stamped"
 event_text (Tick node) = codes "tick"
 event_text (SetMaster node master) = codes "setmaster"
 event_text (StepClock node diff) = codes "stepclock"
-
--- the tag of the copy that an event names
-abbrev pub named_copy : Event → Option ℕ
-named_copy event = option_or (entered_copy event) (heard_copy event)
 
 -- the keys that an event has in a schedule
 abbrev pub with_event : Event → Members → Members
@@ -105,36 +107,19 @@ out_text (outs.Refused code) = codes "refused"
 
 -- the octets of the message that was made
 abbrev pub made_octets : TraceOut → Option (List ℕ)
-made_octets outs.Done = None
 made_octets (outs.Made octets) = Some octets.items
-made_octets outs.Entered = None
-made_octets outs.Held = None
-made_octets outs.Completed = None
-made_octets (outs.Report report) = None
-made_octets (outs.Ignored code) = None
-made_octets (outs.Refused code) = None
+made_octets _ = None
 
 -- the number of a reason or a refusal
 abbrev pub out_code : TraceOut → Option ℕ
-out_code outs.Done = None
-out_code (outs.Made octets) = None
-out_code outs.Entered = None
-out_code outs.Held = None
-out_code outs.Completed = None
-out_code (outs.Report report) = None
 out_code (outs.Ignored code) = Some code
 out_code (outs.Refused code) = Some code
+out_code _ = None
 
 -- the report that a slave gave
 abbrev pub out_report : TraceOut → Option Report
-out_report outs.Done = None
-out_report (outs.Made octets) = None
-out_report outs.Entered = None
-out_report outs.Held = None
-out_report outs.Completed = None
 out_report (outs.Report report) = Some report
-out_report (outs.Ignored code) = None
-out_report (outs.Refused code) = None
+out_report _ = None
 
 -- the tag of a Follow_Up, or null after a one-step Sync
 abbrev pub follow_data : Option ℕ → Data
@@ -143,7 +128,10 @@ follow_data (Some tag) = whole tag
 
 -- the tags of a report: sync, follow, request, response
 abbrev pub tags_data : Report → Data
-tags_data report = array (item (whole report.sync_tag) (item (follow_data report.follow_tag) (item (whole report.request_tag) (item (whole report.response_tag) no_items))))
+tags_data report =
+    array
+    (item (whole report.sync_tag) (item (follow_data report.follow_tag)
+    (item (whole report.request_tag) (item (whole report.response_tag) no_items))))
 
 -- the keys that a report has
 abbrev pub with_report : Option Report → Members → Members

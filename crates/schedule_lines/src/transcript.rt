@@ -2,8 +2,9 @@
 ghost use Rattle.std.specs.Prelude.{◌≡◌, false, IfOk, OnOk, Some, string_bytes};
 ghost use Rattle.serde_json.specs.Written.{has_float};
 ghost use Rattle.serde_json.specs.View.{view, members_view};
-ghost use Rattle.network_model.specs.Kinds.{step_of, spent_transit};
-ghost use Rattle.schedule_lines.specs.Transcript.{node_data, port_data, event_data, line_text, event_text, named_copy, out_text, out_code, follow_data, tags_data, with_event, with_answer, with_report};
+ghost use Rattle.schedule_lines.specs.Transcript.{node_data, port_data, event_data, line_text, event_text, out_text};
+ghost use Rattle.schedule_lines.specs.Transcript.{out_code, follow_data, tags_data, with_event, with_answer};
+ghost use Rattle.schedule_lines.specs.Transcript.{with_report};
 
 use crate::members::{put_difference, put_moment, put_octets, put_text, put_whole};
 use event_codec::PortConfig;
@@ -77,14 +78,14 @@ fn put_event(
 ) -> Result<(), AllocError>
     ensures { OnOk result (members_view members.new.entries ≡ with_event event.now (members_view members.old.entries)) }
 {
-    put_whole(members, alloc, "transit", spent_transit(event))?;
+    put_whole(members, alloc, "transit", event.transit())?;
     put_text(members, alloc, "node", event.node().text())?;
-    if let Event::SetMaster { master, .. } = event {
+    if let Some(master) = event.master() {
         put_text(members, alloc, "master", master.text())?;
     }
     put_text(members, alloc, "ev", event_text(event))?;
-    put_difference(members, alloc, "diff", step_of(event))?;
-    put_whole(members, alloc, "copy", named_copy(event))?;
+    put_difference(members, alloc, "diff", event.difference())?;
+    put_whole(members, alloc, "copy", event.copy())?;
     put_moment(members, alloc, "at", event.true_moment())
 }
 
@@ -116,7 +117,8 @@ fn put_report(
     alloc: Global,
     report: &Report,
 ) -> Result<(), AllocError>
-    ensures { OnOk result (members_view members.new.entries ≡ with_report (Some report.now) (members_view members.old.entries)) }
+    ensures { OnOk result
+        (members_view members.new.entries ≡ with_report (Some report.now) (members_view members.old.entries)) }
 {
     put(members, alloc, "tags", tags_value(alloc, report)?)?;
     put_difference(members, alloc, "path2", Some(report.path2))?;
@@ -184,37 +186,5 @@ fn event_text(event: &Event) -> &'static str
         Event::Tick { .. } => "tick",
         Event::SetMaster { .. } => "setmaster",
         Event::StepClock { .. } => "stepclock",
-    }
-}
-
-/// The tag of the copy that an event names.
-fn named_copy(event: &Event) -> Option<u64>
-    ensures { result ≡ named_copy event.now }
-{
-    match event {
-        Event::Enter { copy, .. } | Event::Arrive { copy, .. } | Event::Hear { copy, .. } => {
-            Some(*copy)
-        }
-        _ => None,
-    }
-}
-
-/// The tag of the transit that an event spends.
-fn spent_transit(event: &Event) -> Option<u64>
-    ensures { result ≡ spent_transit event.now }
-{
-    match event {
-        Event::Leave { transit, .. } => Some(*transit),
-        _ => None,
-    }
-}
-
-/// The difference that an event sets.
-fn step_of(event: &Event) -> Option<i128>
-    ensures { result ≡ step_of event.now }
-{
-    match event {
-        Event::StepClock { diff, .. } => Some(*diff),
-        _ => None,
     }
 }

@@ -12,6 +12,7 @@ use Rattle.event_codec.specs.Layout.{type_of, fields_length}
 use Rattle.event_codec.specs.Packet.{Contents, Packet}
 use Rattle.master_port.specs.declared.refusal.MasterRefusal.TheVariants.{OtherDomain, CorrectionTooLow}
 use Rattle.master_port.specs.Written.{sync, one_step_sync, delay_resp, answer_to}
+use Rattle.slave_port.proofs.Options.{mapped}
 use Rattle.slave_port.specs.Written.{delay_req}
 use Rattle.transparent_clock.specs.Forwarding.{resided}
 use Rattle.network_model.specs.declared.event.Event.{Event}
@@ -26,10 +27,6 @@ use Rattle.network_model.specs.Truth.{master_at, slave_at, drawn, travelled, fol
 -- a message without suffix
 abbrev pub IsBare : Contents → Type 0
 IsBare m = m.suffix ≡ []
-
-mapped : {A B : Type 0} (P : B → Type 0) (f : A → B) (o : Option A) → ((a : A) → P (f a)) → IfSome (option_map f o) P
-mapped P f None each = tt
-mapped P f (Some a) each = each a
 
 mapped_of : {A B : Type 0} (P : A → Type 0) (Q : B → Type 0) (f : A → B) (o : Option A) → IfSome o P → ((a : A) → P a → Q (f a)) → IfSome (option_map f o) Q
 mapped_of P Q f None h each = tt

@@ -11,7 +11,7 @@ use Rattle.event_codec.specs.Packet.{Contents}
 use Rattle.master_port.specs.Written.{sync, one_step_sync}
 use Rattle.slave_port.specs.Written.{delay_req}
 use Rattle.slave_port.specs.declared.heard.Report.{Report}
-use Rattle.slave_port.proofs.Uses.{some_image}
+use Rattle.slave_port.proofs.Options.{mapped, some_image}
 use Rattle.transparent_clock.specs.Forwarding.{resided}
 use Rattle.network_model.specs.declared.event.Event.{Event}
 use Rattle.network_model.specs.declared.event.Event.TheVariants.{Sync, SyncOne, Follow, Enter, Leave, Arrive, Hear, Request, Stamped, Tick, SetMaster, StepClock}
@@ -57,10 +57,6 @@ or_zero (Some time) h = h
 
 number_below : (p : Place) → reading p < bound
 number_below p = or_zero (reading_of p) (reading_below p)
-
-mapped : {A B : Type 0} (P : B → Type 0) (f : A → B) (o : Option A) → ((a : A) → P (f a)) → IfSome (option_map f o) P
-mapped P f None each = tt
-mapped P f (Some a) each = each a
 
 -- the correction isn't negative
 abbrev IsAtLeastZero : Contents → Type 0

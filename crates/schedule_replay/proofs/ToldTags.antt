@@ -3,7 +3,7 @@ use Rattle.std.proofs.Common.{◌≡◌, ◌∙◌, ℕ, ◌^◌, ◌<◌, ◌�
 use Rattle.std.specs.Prelude.{ok_or}
 use Rattle.std.proofs.lemmas.Bool.Decides.{nat_tests}
 use Rattle.event_codec.specs.Packet.{Contents}
-use Rattle.slave_port.proofs.Uses.{some_step}
+use Rattle.slave_port.proofs.Options.{some_step}
 use Rattle.slave_port.specs.declared.heard.Heard.{Heard}
 use Rattle.slave_port.specs.declared.heard.Heard.TheVariants as answers
 use Rattle.slave_port.specs.declared.heard.Report.{Report}
@@ -15,7 +15,7 @@ use Rattle.network_model.specs.declared.refusal.WorldRefusal.{WorldRefusal}
 use Rattle.network_model.specs.declared.refusal.WorldRefusal.TheVariants.{NoCopy, NoTransit}
 use Rattle.network_model.specs.Network.{Network, slave_port}
 use Rattle.network_model.specs.Run.{Run, place, place_at, site_of}
-use Rattle.network_model.specs.Kinds.{spent_transit}
+use Rattle.network_model.specs.Kinds.{spent_transit, named_copy}
 use Rattle.network_model.specs.Truth.{copy_of}
 use Rattle.network_model.specs.Outcome.{◌>>=◌, node_as, clock_of, port_of, open_transit, outcome_of}
 use Rattle.network_model.specs.Premises.{IsAcceptedRun}
@@ -30,7 +30,7 @@ use Rattle.trace_model.specs.declared.line.TraceLine.{TraceLine}
 use Rattle.trace_model.specs.declared.line.TraceOut.{TraceOut}
 use Rattle.trace_model.specs.declared.line.TraceOut.TheVariants as outs
 use Rattle.trace_model.specs.Told.{TellsMade, TellsOutcome, TellsEvent, heard_out}
-use Rattle.schedule_lines.specs.Transcript.{named_copy, out_report}
+use Rattle.schedule_lines.specs.Transcript.{out_report}
 use Rattle.schedule_lines.specs.Recorded.{IsTag, HasTags, IsTagged}
 
 under : {A : Type 0} (o : Result A WorldRefusal) (f : A → Result Outcome WorldRefusal) (P : Type 0) → IsOk (o >>= f)

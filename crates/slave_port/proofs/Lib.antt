@@ -1,3 +1,4 @@
+pub mod Options
 mod Completions
 mod Requests
 mod Stands

@@ -30,7 +30,7 @@ HoldsLatest-pushed None held = held
 HoldsLatest-pushed (Some e) held = HoldsLatest-push refl held
 
 -- a port with what is used and what it completes
-abbrev pub with_all : Option (Entry Used) → Option SyncCompletion → Option DelayCompletion → Port → Port
+abbrev with_all : Option (Entry Used) → Option SyncCompletion → Option DelayCompletion → Port → Port
 with_all used paired delayed port = record port {
   syncs = pushed port.capacities.syncs (option_and_then (part two_step_sync) used) port.syncs;
   follows = pushed port.capacities.follows (option_and_then (part follow_up) used) port.follows;
@@ -50,7 +50,7 @@ pub record IsAnswered (setup : Setup) (history : List Call) (call : Call) (outco
   pub answer : outcome.1 ≡ answer setup history call
 
 -- the request that is completed by what is used
-abbrev pub delayed_by : Setup → List Call → Option (Entry Used) → Option DelayCompletion
+abbrev delayed_by : Setup → List Call → Option (Entry Used) → Option DelayCompletion
 delayed_by setup history used = option_and_then
     (λ response. option_and_then (answered response.value) (newest response.number (held_requests setup history)))
     (option_and_then (part delay_resp) used)

@@ -5,7 +5,7 @@ use Rattle.std.specs.Prelude.{◌==◌, ◌&&◌, not, int_lt, is_none, Result}
 use Rattle.std.specs.Option.{option_or}
 use Rattle.std.specs.Result.{result_ok, result_err}
 use Rattle.std.specs.Str.{bytes_eq}
-use Rattle.std.proofs.lemmas.Bool.{and_parts, and_from, not-false, eqb-true, eq-eqb}
+use Rattle.std.proofs.lemmas.Bool.{and_parts, not-false, eqb-true}
 use Rattle.std.proofs.lemmas.Slice.Eq.{bytes_eq-Decides}
 use Rattle.ptp_units.specs.Exchange.{delay_bracket}
 use Rattle.ptp_units.specs.Interval.{too_big}
@@ -32,14 +32,7 @@ use Rattle.slave_port.specs.Requests.{held_requests}
 use Rattle.slave_port.specs.Completion.{SyncCompletion, DelayCompletion, pair, alone, answered, completed_by}
 use Rattle.slave_port.specs.Kept.{criteria, usable, usable_two_step_sync, usable_follow_up, usable_delay_resp, held_syncs, held_follows, sync_completion, delay_completion, last_sync_completion, last_delay_completion}
 use Rattle.slave_port.specs.Answer.{request_reason, unanswerable, ignored, report_of, completed, used, unless_ignored, answer}
-
-pub some_step : {A B : Type 0} (f : A → Option B) (o : Option A) {y : B} → option_and_then f o ≡ Some y → (x : A) × (o ≡ Some x) × (f x ≡ Some y)
-some_step f None e = cc
-some_step f (Some x) e = (x, refl, e)
-
-pub some_image : {A B : Type 0} (f : A → B) (o : Option A) {y : B} → option_map f o ≡ Some y → (x : A) × (o ≡ Some x) × (f x ≡ y)
-some_image f None e = cc
-some_image f (Some x) e = (x, refl, cc)
+use Rattle.slave_port.proofs.Options.{some_step, some_image}
 
 same_octets : (a b : List ℕ) → bytes_eq a b ≡ true → a ≡ b
 same_octets a b same = grind (arith, bytes_eq-Decides a b)
@@ -54,9 +47,6 @@ same_port a b same =
     let clock : a.clock ≡ b.clock = same_octets a.clock b.clock parts.0 in
     let port : a.port ≡ b.port = eqb-true a.port b.port parts.1 in
     grind arith
-
-pub port_self : (a : PortIdentity) → is_same_port a a ≡ true
-port_self a = and_from (bytes_eq a.clock a.clock) (a.port == a.port) (octets_self a.clock) (eq-eqb a.port a.port refl)
 
 -- a message that is of the port's domain and from its present master, with a correction that isn't too big
 pub record Passes (judge : Criteria) (header : Header) : Type 0 where

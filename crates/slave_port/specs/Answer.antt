@@ -12,7 +12,8 @@ use Rattle.slave_port.specs.History.{Setup, Call}
 use Rattle.slave_port.specs.Values.{RequestValue}
 use Rattle.slave_port.specs.Requests.{held_requests}
 use Rattle.slave_port.specs.Completion.{SyncCompletion, DelayCompletion}
-use Rattle.slave_port.specs.Kept.{unusable, usable_delay_resp, sync_completion, delay_completion, last_sync_completion, last_delay_completion}
+use Rattle.slave_port.specs.Kept.{unusable, usable_delay_resp, sync_completion, delay_completion, last_sync_completion}
+use Rattle.slave_port.specs.Kept.{last_delay_completion}
 
 -- why the newest held request of a Delay_Resp's number doesn't complete: there is none, or it isn't known when it left
 abbrev pub request_reason : Option RequestValue → Option Reason

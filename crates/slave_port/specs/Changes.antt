@@ -1,6 +1,7 @@
--- Inner, for the functions of the port itself: what each call does to what the port keeps. What callers are told is said by
--- the history alone.
-use Rattle.std.specs.Prelude.{ℕ, true, false, if◌then◌else◌, option_map, option_and_then, Option, Some, None, Result, Ok, Err}
+-- Inner, for the functions of the port itself: what each call does to what the port keeps. What callers are told is
+-- said by the history alone.
+use Rattle.std.specs.Prelude.{ℕ, true, false, if◌then◌else◌, option_map, option_and_then, Option, Some, None, Result}
+use Rattle.std.specs.Prelude.{Ok, Err}
 use Rattle.ptp_units.specs.Sequence.{next}
 use Rattle.event_codec.specs.Packet.{Contents}
 use Rattle.pairing.specs.Marked.{Entry, entry, push, find, set, tick}
@@ -68,7 +69,8 @@ and_completed port = (
 -- a Sync is completed, if it is
 abbrev pub with_sync_completion : Option SyncCompletion → Port → Port × Heard
 with_sync_completion None port = (port, answers.Held)
-with_sync_completion (Some completion) port = and_completed (record port { last_sync = renewed (Some completion) port.last_sync })
+with_sync_completion (Some completion) port =
+    and_completed (record port { last_sync = renewed (Some completion) port.last_sync })
 
 -- a two-step Sync is held, and completes with the newest Follow_Up of its number
 abbrev pub with_sync : Entry SyncValue → Port → Port × Heard

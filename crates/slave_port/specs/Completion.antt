@@ -1,4 +1,5 @@
--- Completions: of a Sync, by the Follow_Up of its number or by itself, and of a request by the Delay_Resp of its number.
+-- Completions: of a Sync, by the Follow_Up of its number or by itself, and of a request by the Delay_Resp of its
+-- number.
 use Rattle.std.specs.Prelude.{ℕ, ℤ, pos, List, option_map, Option, Some, None}
 use Rattle.ptp_units.specs.Exchange.{sync_bracket, delay_bracket}
 use Rattle.pairing.specs.Marked.{Entry, first_value as newest}
@@ -6,7 +7,8 @@ use Rattle.slave_port.specs.declared.used.Used.{Used}
 use Rattle.slave_port.specs.declared.used.Used.TheVariants.{TwoStepSync, OneStepSync, FollowUp, DelayResp}
 use Rattle.slave_port.specs.Values.{SyncValue, OneStepValue, FollowValue, ResponseValue, RequestValue}
 
--- the Sync's half of a report: its sequenceId, its bracket, and the tags of the Sync and of its Follow_Up, if it has one
+-- the Sync's half of a report: its sequenceId, its bracket, and the tags of the Sync and of its Follow_Up, if it has
+-- one
 pub record SyncCompletion : Type 0 where
   pub number : ℕ
   pub bracket : ℤ
@@ -47,7 +49,8 @@ answered response request =
     }) request.t3
 
 -- the completion of a Sync, where these two-step Syncs and these Follow_Ups are held: by the newest of the number
-abbrev pub completed_by : List (Entry SyncValue) → List (Entry FollowValue) → (number : ℕ) → Used → Option SyncCompletion
+abbrev pub completed_by : List (Entry SyncValue) → List (Entry FollowValue) → (number : ℕ) → Used
+    → Option SyncCompletion
 completed_by syncs follows number (TwoStepSync sync) = option_map (pair number sync) (newest number follows)
 completed_by syncs follows number (OneStepSync sync) = Some (alone number sync)
 completed_by syncs follows number (FollowUp follow) = option_map (λ sync. pair number sync follow) (newest number syncs)

@@ -1,5 +1,5 @@
--- What a history leaves in the window: the Syncs and Follow_Ups that are held, and the completions. What is used depends on
--- the last completion, and what completes on what is held, so these are one recursion.
+-- What a history leaves in the window: the Syncs and Follow_Ups that are held, and the completions. What is used
+-- depends on the last completion, and what completes on what is held, so these are one recursion.
 use Rattle.std.specs.Prelude.{ℕ, List, [], ◌∷◌, take, option_map, option_and_then, Option}
 use Rattle.pairing.specs.Marked.{Entry, first_value as newest}
 use Rattle.slave_port.specs.declared.reason.Reason.{Reason}
@@ -33,7 +33,8 @@ criteria_in setup history kept = record {
 -- the completion of a Sync by what is used, if anything is
 abbrev pub completion_in : Capacities → Kept → Option (Entry Used) → Option SyncCompletion
 completion_in capacities kept used =
-    option_and_then (λ e. completed_by (held capacities.syncs kept.syncs) (held capacities.follows kept.follows) e.number e.value) used
+    option_and_then
+    (λ e. completed_by (held capacities.syncs kept.syncs) (held capacities.follows kept.follows) e.number e.value) used
 
 -- what is left after a call that uses this, if anything
 abbrev pub kept_after : Capacities → Call → Option (Entry Used) → Kept → Kept
@@ -47,7 +48,8 @@ kept_after capacities call used kept = record {
 abbrev pub kept : Setup → List Call → Kept
 kept setup [] = record { syncs = nothing; follows = nothing; completions = nothing }
 kept setup (call ∷ earlier) =
-    kept_after setup.capacities call (usable_in (criteria_in setup earlier (kept setup earlier)) call) (kept setup earlier)
+    kept_after setup.capacities call (usable_in (criteria_in setup earlier (kept setup earlier)) call)
+    (kept setup earlier)
 
 -- by what a port judges the next message, after these calls
 abbrev pub criteria : Setup → List Call → Criteria
@@ -98,7 +100,8 @@ delay_completion setup earlier call = option_and_then
 -- the completions of requests in the window
 abbrev pub delay_completions : Setup → List Call → Window DelayCompletion
 delay_completions setup [] = nothing
-delay_completions setup (call ∷ earlier) = after call (delay_completion setup earlier call) (delay_completions setup earlier)
+delay_completions setup (call ∷ earlier) =
+    after call (delay_completion setup earlier call) (delay_completions setup earlier)
 
 -- the last completion of a Sync in the window
 abbrev pub last_sync_completion : Setup → List Call → Option SyncCompletion

@@ -1,7 +1,9 @@
 -- The numbers of the reasons and of the refusal.
 use Rattle.std.specs.Prelude.{ℕ}
 use Rattle.slave_port.specs.declared.reason.Reason.{Reason}
-use Rattle.slave_port.specs.declared.reason.Reason.TheVariants.{Decode, WrongType, OtherDomain, NoMaster, OtherMaster, TooBig, OtherRequester, UnknownRequest, EgressUnknown, NotNewer}
+use Rattle.slave_port.specs.declared.reason.Reason.TheVariants.{Decode, WrongType, OtherDomain, NoMaster, OtherMaster}
+use Rattle.slave_port.specs.declared.reason.Reason.TheVariants.{TooBig, OtherRequester, UnknownRequest, EgressUnknown}
+use Rattle.slave_port.specs.declared.reason.Reason.TheVariants.{NotNewer}
 use Rattle.slave_port.specs.declared.reason.SlaveRefusal.{SlaveRefusal}
 use Rattle.slave_port.specs.declared.reason.SlaveRefusal.TheVariants.{NotHeld}
 

@@ -1,7 +1,8 @@
 -- The requests of a slave port, and those of them that it holds.
 use Rattle.std.specs.Prelude.{ℕ, List, [], ◌∷◌, take, is_some, ◌==◌, if◌then◌else◌, Bool, Some, None}
 use Rattle.pairing.specs.Marked.{Entry, entry, first_value as newest}
-use Rattle.slave_port.specs.History.{Setup, Call, SetMaster, Tick, NextRequest, RequestLeft, Event, General, next_number}
+use Rattle.slave_port.specs.History.{Setup, Call, SetMaster, Tick, NextRequest, RequestLeft, Event, General}
+use Rattle.slave_port.specs.History.{next_number}
 use Rattle.slave_port.specs.Values.{RequestValue}
 
 -- the newest request of this number, if there is one, has left at this moment

@@ -49,13 +49,17 @@ pub record StandsFor (setup : Setup) (port : Port) (history : List Call) : Type 
   pub syncs : HoldsWindow setup.capacities.syncs (kept setup history).syncs port.syncs
   pub follows : HoldsWindow setup.capacities.follows (kept setup history).follows port.follows
   pub requests : newest_first port.requests ≡ held_requests setup history
-  pub last_sync : port.last_sync ≡ last_of (kept setup history).completions.since (kept setup history).completions.before
-  pub last_delay : port.last_delay ≡ last_of (delay_completions setup history).since (delay_completions setup history).before
+  pub last_sync : port.last_sync
+      ≡ last_of (kept setup history).completions.since (kept setup history).completions.before
+  pub last_delay : port.last_delay
+      ≡ last_of (delay_completions setup history).since (delay_completions setup history).before
 
 -- whatever history a port stood for before a call, it stands for the longer one after it
 abbrev pub StandsAfter : Call → (old new : Port) → Type 0
-StandsAfter call old new = (setup : Setup) (history : List Call) → StandsFor setup old history → StandsFor setup new (call ∷ history)
+StandsAfter call old new =
+    (setup : Setup) (history : List Call) → StandsFor setup old history → StandsFor setup new (call ∷ history)
 
 -- whatever history a port stood for before a call, this is the answer
 abbrev pub IsAnswer : Call → Port → Heard → Type 0
-IsAnswer call port heard = (setup : Setup) (history : List Call) → StandsFor setup port history → heard ≡ answer setup history call
+IsAnswer call port heard =
+    (setup : Setup) (history : List Call) → StandsFor setup port history → heard ≡ answer setup history call

@@ -1,5 +1,6 @@
 -- Which messages a slave port uses, what as, and the first reason for which it can't use another.
-use Rattle.std.specs.Prelude.{ℕ, ◌/◌, ◌%◌, Bool, true, false, not, ◌&&◌, List, [], ◌∷◌, ◌++◌, slice_index, ◌==◌, nat_le, int_lt, is_none, option_and_then, if◌then◌else◌, Option, Some, None, Result, Ok, Err}
+use Rattle.std.specs.Prelude.{ℕ, ◌/◌, ◌%◌, Bool, true, false, not, ◌&&◌, List, [], ◌∷◌, ◌++◌, slice_index, ◌==◌, nat_le}
+use Rattle.std.specs.Prelude.{int_lt, is_none, option_and_then, if◌then◌else◌, Option, Some, None, Result, Ok, Err}
 use Rattle.std.specs.Result.{result_ok, result_err}
 use Rattle.ptp_units.specs.Interval.{too_big}
 use Rattle.ptp_units.specs.Moment.{Stamp}
@@ -17,8 +18,8 @@ use Rattle.slave_port.specs.History.{Call, SetMaster, Tick, NextRequest, Request
 use Rattle.slave_port.specs.declared.used.Used.{Used}
 use Rattle.slave_port.specs.declared.used.Used.TheVariants.{TwoStepSync, OneStepSync, FollowUp, DelayResp}
 
--- by what a port judges a message: its configuration, its present master, and the sequenceId of the last completion of a
--- Sync in the window
+-- by what a port judges a message: its configuration, its present master, and the sequenceId of the last completion of
+-- a Sync in the window
 pub record Criteria : Type 0 where
   pub config : PortConfig
   pub master : Option PortIdentity
@@ -73,7 +74,10 @@ sync_reason criteria header = first_reason (common_tests criteria header
 -- why a Delay_Resp to this port can't be used
 abbrev pub response_reason : Criteria → Header → (requesting : PortIdentity) → Option Reason
 response_reason criteria header requesting = first_reason (common_tests criteria header
-    ++ record { applies = not (is_same_port requesting criteria.config.identity); reason = reasons.OtherRequester } ∷ [])
+    ++ record {
+      applies = not (is_same_port requesting criteria.config.identity);
+      reason = reasons.OtherRequester;
+    } ∷ [])
 
 -- it is used as this, unless a reason applies
 abbrev pub used_unless : Option Reason → Entry Used → Result (Entry Used) Reason

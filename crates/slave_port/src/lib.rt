@@ -11,8 +11,10 @@ mod reason;
 mod slave_port;
 mod usable;
 mod used;
+mod written;
 
 pub use heard::{Heard, Report};
 pub use held::{HeldFollow, HeldRequest, HeldSync};
 pub use reason::{Reason, SlaveRefusal};
 pub use slave_port::SlavePort;
+pub use written::delay_req;

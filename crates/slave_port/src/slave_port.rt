@@ -3,11 +3,13 @@ ghost use Rattle.event_codec.specs.Packet.{Packet, contents};
 ghost use Rattle.event_codec.specs.Reading.{Reading, IsReading};
 ghost use Rattle.pairing.specs.Marked.{entry};
 ghost use Rattle.slave_port.specs.declared.reason.Reason.{Reason};
-ghost use Rattle.slave_port.specs.History.{Setup, Call, setup_of, next_number, SetMaster, Tick, NextRequest, RequestLeft, Event, General};
+ghost use Rattle.slave_port.specs.History.{Setup, Call, setup_of, next_number, SetMaster, Tick, NextRequest};
+ghost use Rattle.slave_port.specs.History.{RequestLeft, Event, General};
 ghost use Rattle.slave_port.specs.Requests.{is_held};
 ghost use Rattle.slave_port.specs.Written.{delay_req};
 ghost use Rattle.slave_port.specs.StandsFor.{StandsFor, StandsAfter, IsAnswer};
-ghost use Rattle.slave_port.specs.Changes.{criteria_of, with_sync, with_follow, with_sync_completion, with_response, and_completed, taken, sync_heard, general_heard};
+ghost use Rattle.slave_port.specs.Changes.{criteria_of, with_sync, with_follow, with_sync_completion, with_response};
+ghost use Rattle.slave_port.specs.Changes.{and_completed, taken, sync_heard, general_heard};
 
 use crate::completion::{DelayCompletion, Last, SyncCompletion, alone, answered, pair, report_of};
 use crate::heard::Heard;
@@ -15,22 +17,11 @@ use crate::held::{HeldFollow, HeldRequest, HeldSync};
 use crate::reason::{Reason, SlaveRefusal};
 use crate::usable::{Criteria, event_use, general_use};
 use crate::used::{Response, Used};
+use crate::written::delay_req;
 use event_codec::{Message, PortConfig, PortIdentity, decode};
 use pairing::PairTable;
-use ptp_units::{Interval, ScaledTime, Seq, Timestamp};
+use ptp_units::{ScaledTime, Seq};
 use std::marker::Model;
-
-/// logMessageInterval of a Delay_Req (IEEE 1588-2019, 13.3.2.14).
-const LOG_DELAY_REQ: i8 = 0x7f;
-
-/// The octets of the Delay_Req of this number.
-fn delay_req(config: &PortConfig, number: Seq) -> [u8; 44]
-    ensures { Packet (delay_req config.now number.0) result }
-{
-    let header = config.header([0, 0], Interval(0), number, 1, LOG_DELAY_REQ);
-    let origin = Timestamp::default();
-    header.delay_req(origin)
-}
 
 /// A slave port, with a table each for the Syncs, the Follow_Ups and the requests that it holds.
 #[derive(Drop)]
@@ -134,7 +125,7 @@ where
         let number = self.next;
         self.next = number.next();
         self.requests.push(number, HeldRequest { t3: None, tag });
-        (delay_req(&self.config, number), number)
+        (delay_req(&self.config, number).octets(), number)
     }
 
     /// The request of this number has left at `t3`: the newest that is held, also where it was known
@@ -162,7 +153,8 @@ where
     /// completes with the newest held Follow_Up of its number; a one-step Sync completes by itself.
     pub fn sync(&mut self, octets: &[u8], t2: ScaledTime, tag: u64) -> Heard
         ensures answer { (said : Reading) → IsReading octets.now said → IsAnswer (Event said t2 tag) self.old result }
-        ensures stands { (said : Reading) → IsReading octets.now said → StandsAfter (Event said t2 tag) self.old self.new }
+        ensures stands { (said : Reading) → IsReading octets.now said
+            → StandsAfter (Event said t2 tag) self.old self.new }
         ensures ignored { (reason : Reason) → result ≡ Heard.Ignored reason → self.new ≡ self.old }
     {
         match decode(octets) {
@@ -175,7 +167,8 @@ where
     /// the newest held Sync of its number. A Delay_Resp completes the newest request held under its number.
     pub fn general(&mut self, octets: &[u8], tag: u64) -> Heard
         ensures answer { (said : Reading) → IsReading octets.now said → IsAnswer (General said tag) self.old result }
-        ensures stands { (said : Reading) → IsReading octets.now said → StandsAfter (General said tag) self.old self.new }
+        ensures stands { (said : Reading) → IsReading octets.now said
+            → StandsAfter (General said tag) self.old self.new }
         ensures ignored { (reason : Reason) → result ≡ Heard.Ignored reason → self.new ≡ self.old }
     {
         match decode(octets) {

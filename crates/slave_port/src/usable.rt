@@ -2,17 +2,15 @@ ghost use Rattle.std.specs.Prelude.{◌≡◌, IfOk, MatchResult, Ok, Err, optio
 ghost use Rattle.std.specs.Result.{result_err};
 ghost use Rattle.event_codec.specs.Packet.{contents};
 ghost use Rattle.pairing.specs.Marked.{entry};
-ghost use Rattle.slave_port.specs.Usable.{first_reason, is_two_step, is_not_newer, common_tests, sync_reason, response_reason, sync_use, event_use, general_use};
+ghost use Rattle.slave_port.specs.Usable.{first_reason, is_two_step, is_not_newer, common_tests, sync_reason};
+ghost use Rattle.slave_port.specs.Usable.{response_reason, sync_use, event_use, general_use};
 
 use crate::held::{HeldFollow, HeldSync};
 use crate::reason::Reason;
 use crate::used::{OneStepSync, Response, Used};
-use event_codec::{Body, Header, Message, PortConfig, PortIdentity};
+use event_codec::{Body, Header, Message, PortConfig, PortIdentity, TWO_STEP};
 use ptp_units::{ScaledTime, Seq, Timestamp};
 use std::marker::Model;
-
-/// twoStepFlag, in the first octet of flagField (IEEE 1588-2019, 13.3.2.8).
-const TWO_STEP: u8 = 0x02;
 
 /// By what a port judges a message.
 #[derive(Drop)]
@@ -36,7 +34,7 @@ impl Model for Criteria {
 fn is_two_step(header: &Header) -> bool
     ensures { result ≡ is_two_step header.now }
 {
-    header.flags[0] & TWO_STEP != 0
+    header.flags[0] & TWO_STEP[0] != 0
 }
 
 /// Whether it is another number than the last one, and not newer.
@@ -119,7 +117,8 @@ pub(crate) fn event_use(
     tag: u64,
 ) -> Result<Used, Reason>
     ensures { MatchResult result
-        (λ used. event_use criteria.now message.now.header message.now.body t2 tag ≡ Ok (entry message.now.header.sequence.0 used))
+        (λ used. event_use criteria.now message.now.header message.now.body t2 tag
+        ≡ Ok (entry message.now.header.sequence.0 used))
         (λ reason. event_use criteria.now message.now.header message.now.body t2 tag ≡ Err reason) }
 {
     let header = &message.header;
@@ -137,7 +136,8 @@ pub(crate) fn general_use(
     tag: u64,
 ) -> Result<Used, Reason>
     ensures { MatchResult result
-        (λ used. general_use criteria.now message.now.header message.now.body tag ≡ Ok (entry message.now.header.sequence.0 used))
+        (λ used. general_use criteria.now message.now.header message.now.body tag
+        ≡ Ok (entry message.now.header.sequence.0 used))
         (λ reason. general_use criteria.now message.now.header message.now.body tag ≡ Err reason) }
 {
     let header = &message.header;

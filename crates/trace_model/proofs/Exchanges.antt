@@ -16,7 +16,7 @@ use Rattle.network_model.specs.declared.stepped.Outcome.{Outcome}
 use Rattle.network_model.specs.declared.stepped.Outcome.TheVariants as outcomes
 use Rattle.network_model.specs.Network.{Network, NodeName, slave_port}
 use Rattle.network_model.specs.Run.{Run, Place, place, place_at, tag_of, site_of, IsIn, events_after}
-use Rattle.network_model.specs.Kinds.{is_at, is_sync, is_one_step_sync, is_follow, is_request, is_stamped, heard_copy}
+use Rattle.network_model.specs.Kinds.{is_at, is_sync, is_one_step_sync, is_follow, is_request, is_stamped, heard_copy, is_arrival, is_hearing}
 use Rattle.network_model.specs.Truth.{copy_made, copy_of}
 use Rattle.network_model.specs.Outcome.{◌>>=◌, node_as, heard, outcome_of, IsRun}
 use Rattle.network_model.specs.Premises.{is_used}
@@ -28,7 +28,7 @@ use Rattle.network_model.proofs.Sites.{named-self, at_kind}
 use Rattle.network_model.proofs.Made.{copy_of-place_at}
 use Rattle.trace_model.specs.declared.line.TraceLine.{TraceLine}
 use Rattle.trace_model.specs.declared.line.TraceOut.{TraceOut}
-use Rattle.trace_model.specs.Line.{Lines, is_made, completes, is_arrival, is_hearing}
+use Rattle.trace_model.specs.Line.{Lines, is_made, completes}
 use Rattle.trace_model.specs.Record.{LinePlace, line_place, event_of, site, line_number, line_at, last_line, stamps, first_stamp}
 use Rattle.trace_model.specs.Sound.{where_passes, below, line_of, sender, sync_line, follow_lines, arrival_line, is_followed}
 use Rattle.trace_model.specs.Told.{TellsOutcome, TellsEvent, TellsRun, heard_out}

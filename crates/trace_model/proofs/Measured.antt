@@ -11,7 +11,7 @@ use Rattle.ptp_units.specs.Sequence.{of_count}
 use Rattle.event_codec.specs.Packet.{Contents}
 use Rattle.master_port.specs.Written.{sync, one_step_sync}
 use Rattle.slave_port.specs.Written.{delay_req}
-use Rattle.slave_port.proofs.Uses.{some_step, some_image}
+use Rattle.slave_port.proofs.Options.{some_step, some_image}
 use Rattle.transparent_clock.specs.Forwarding.{resided}
 use Rattle.network_model.specs.declared.event.Event.{Event}
 use Rattle.network_model.specs.declared.event.Event.TheVariants.{Sync, SyncOne, Follow, Enter, Leave, Arrive, Hear, Request, Stamped, Tick, SetMaster, StepClock}

@@ -8,18 +8,18 @@ use Rattle.std.proofs.lemmas.Bool.{and_parts, and_from}
 use Rattle.event_codec.specs.Packet.{Contents}
 use Rattle.slave_port.specs.declared.heard.Heard.TheVariants as answers
 use Rattle.slave_port.specs.declared.heard.Report.{Report}
-use Rattle.slave_port.proofs.Uses.{some_step, some_image}
+use Rattle.slave_port.proofs.Options.{some_step, some_image}
 use Rattle.network_model.specs.declared.event.Event.{Event}
 use Rattle.network_model.specs.declared.event.Event.TheVariants.{Sync, SyncOne, Follow, Enter, Leave, Arrive, Hear, Request, Stamped, Tick, SetMaster, StepClock}
 use Rattle.network_model.specs.declared.stepped.Outcome.{Outcome}
 use Rattle.network_model.specs.declared.stepped.Outcome.TheVariants as outcomes
 use Rattle.network_model.specs.Network.{Network, NodeName}
 use Rattle.network_model.specs.Run.{Run, Place, place, until}
-use Rattle.network_model.specs.Kinds.{is_follow, is_request, draws_sync, heard_copy}
+use Rattle.network_model.specs.Kinds.{is_follow, is_request, draws_sync, heard_copy, is_arrival, is_hearing}
 use Rattle.network_model.specs.Truth.{copy_of}
 use Rattle.trace_model.specs.declared.line.TraceLine.{TraceLine}
 use Rattle.trace_model.specs.declared.line.TraceOut.{TraceOut}
-use Rattle.trace_model.specs.Line.{Lines, is_made, is_refused, is_ignored, is_master, is_slave, is_clock, is_arrival, completes, is_hearing, may_happen, counts}
+use Rattle.trace_model.specs.Line.{Lines, is_made, is_refused, is_ignored, is_master, is_slave, is_clock, completes, may_happen, counts}
 use Rattle.trace_model.specs.Record.{LinePlace, line_place, event_of, site, line_number, line_at, events}
 use Rattle.trace_model.specs.Journey.{Journey, Stay, begun, with_stay, copy_entered, left_from, journey_made, journey_of, left_once}
 use Rattle.trace_model.specs.Octets.{writes_right}

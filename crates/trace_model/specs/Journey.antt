@@ -1,8 +1,10 @@
--- Journeys over lines: the way of a copy of an event message from the line that sent it, through clocks (IEEE 1588-2019, 10.2).
-use Rattle.std.specs.Prelude.{ℕ, ◌-◌, Bool, ◌&&◌, List, [], ◌∷◌, length, sum_by, count_by, nat_lt, ◌==◌, if◌then◌else◌, Option, Some, None, option_map, option_and_then}
+-- Journeys over lines: the way of a copy of an event message from the line that sent it, through clocks (IEEE
+-- 1588-2019, 10.2).
+use Rattle.std.specs.Prelude.{ℕ, ◌-◌, Bool, ◌&&◌, List, [], ◌∷◌, length, sum_by, count_by, nat_lt, ◌==◌, if◌then◌else◌}
+use Rattle.std.specs.Prelude.{Option, Some, None, option_map, option_and_then}
 use Rattle.std.specs.List.{list_all}
 use Rattle.network_model.specs.declared.event.Event.{Event}
-use Rattle.network_model.specs.declared.event.Event.TheVariants.{Sync, SyncOne, Follow, Enter, Leave, Arrive, Hear, Request, Stamped, Tick, SetMaster, StepClock}
+use Rattle.network_model.specs.declared.event.Event.TheVariants.{Sync, SyncOne, Leave, Request}
 use Rattle.network_model.specs.Network.{Network, NodeName, is_named}
 use Rattle.network_model.specs.Run.{Run}
 use Rattle.network_model.specs.Kinds.{entered_copy, spends}
@@ -51,24 +53,19 @@ left_from clock left journeys entered =
 abbrev pub journey_made : Network → Event → LinePlace → (ℕ → Option Journey) → Option Journey
 journey_made network (Sync node at) e journeys = Some (begun e)
 journey_made network (SyncOne node at) e journeys = Some (begun e)
-journey_made network (Follow node) e journeys = None
-journey_made network (Enter node copy at) e journeys = None
 journey_made network (Leave node transit at) e journeys =
     option_and_then (left_from node e journeys) (line_at network e.earlier transit)
-journey_made network (Arrive node copy at) e journeys = None
-journey_made network (Hear node copy) e journeys = None
 journey_made network (Request node at) e journeys = Some (begun e)
-journey_made network (Stamped node) e journeys = None
-journey_made network (Tick node) e journeys = None
-journey_made network (SetMaster node master) e journeys = None
-journey_made network (StepClock node diff) e journeys = None
+journey_made network _ e journeys = None
 
 -- the journey of the copy that the line of this number made, where that is an event message
 abbrev pub journey_of : Network → Lines → ℕ → Option Journey
 journey_of network [] n = None
 journey_of network (line ∷ earlier) n =
     if length earlier == n
-    then (if counts network line then journey_made network line.event (line_place line earlier) (journey_of network earlier) else None)
+    then (if counts network line
+    then journey_made network line.event (line_place line earlier) (journey_of network earlier)
+    else None)
     else journey_of network earlier n
 
 -- each stay of a journey was ended by one Leave line alone

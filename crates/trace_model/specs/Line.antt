@@ -1,7 +1,8 @@
 -- Lines of a transcript, newest first, of whatever origin, and which of them are good.
 use Rattle.std.specs.Prelude.{Bool, true, false, ◌&&◌, ◌||◌, not, List, is_some, Option, Some, None}
 use Rattle.network_model.specs.declared.event.Event.{Event}
-use Rattle.network_model.specs.declared.event.Event.TheVariants.{Sync, SyncOne, Follow, Enter, Leave, Arrive, Hear, Request, Stamped, Tick, SetMaster, StepClock}
+use Rattle.network_model.specs.declared.event.Event.TheVariants.{Sync, SyncOne, Follow, Enter, Leave, Arrive, Hear}
+use Rattle.network_model.specs.declared.event.Event.TheVariants.{Request, Stamped, Tick, SetMaster, StepClock}
 use Rattle.network_model.specs.declared.node.NodeKind.{NodeKind}
 use Rattle.network_model.specs.declared.node.NodeKind.TheVariants as kinds
 use Rattle.network_model.specs.Network.{Network, NodeName, kind_of}
@@ -100,33 +101,3 @@ may_happen network (StepClock node diff) out = is_some (kind_of network node) &&
 -- every other line is as if it weren't there.
 abbrev pub counts : Network → TraceLine → Bool
 counts network line = may_happen network line.event line.out && not (is_refused line.out || is_ignored line.out)
-
--- a copy of an event message arrives at a master or at a slave
-abbrev pub is_arrival : Event → Bool
-is_arrival (Sync node at) = false
-is_arrival (SyncOne node at) = false
-is_arrival (Follow node) = false
-is_arrival (Enter node copy at) = false
-is_arrival (Leave node transit at) = false
-is_arrival (Arrive node copy at) = true
-is_arrival (Hear node copy) = false
-is_arrival (Request node at) = false
-is_arrival (Stamped node) = false
-is_arrival (Tick node) = false
-is_arrival (SetMaster node master) = false
-is_arrival (StepClock node diff) = false
-
--- a slave hears a copy of a general message
-abbrev pub is_hearing : Event → Bool
-is_hearing (Sync node at) = false
-is_hearing (SyncOne node at) = false
-is_hearing (Follow node) = false
-is_hearing (Enter node copy at) = false
-is_hearing (Leave node transit at) = false
-is_hearing (Arrive node copy at) = false
-is_hearing (Hear node copy) = true
-is_hearing (Request node at) = false
-is_hearing (Stamped node) = false
-is_hearing (Tick node) = false
-is_hearing (SetMaster node master) = false
-is_hearing (StepClock node diff) = false

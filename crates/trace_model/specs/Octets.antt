@@ -1,5 +1,6 @@
 -- The message that each line made, if its octets are those that ports and clocks write.
-use Rattle.std.specs.Prelude.{◌↔◌, ℕ, ◌+◌, ◌*◌, ◌^◌, Bool, true, false, ◌&&◌, not, List, length, drop, nat_lt, ◌==◌, slice_index, slice_range, IsTrue, Option, Some, None, option_map, option_and_then}
+use Rattle.std.specs.Prelude.{◌↔◌, ℕ, ◌+◌, ◌*◌, ◌^◌, Bool, true, false, ◌&&◌, not, List, length, drop, nat_lt, ◌==◌}
+use Rattle.std.specs.Prelude.{slice_index, slice_range, IsTrue, Option, Some, None, option_map, option_and_then}
 use Rattle.std.specs.Int.{w8, w64, cast_signed}
 use Rattle.std.specs.List.{list_all}
 use Rattle.std.specs.Ordering.{int_eq}
@@ -14,7 +15,7 @@ use Rattle.master_port.specs.Written.{sync, one_step_sync, follow_up, delay_resp
 use Rattle.slave_port.specs.Written.{delay_req}
 use Rattle.transparent_clock.specs.Forwarding.{resided}
 use Rattle.network_model.specs.declared.event.Event.{Event}
-use Rattle.network_model.specs.declared.event.Event.TheVariants.{Sync, SyncOne, Follow, Enter, Leave, Arrive, Hear, Request, Stamped, Tick, SetMaster, StepClock}
+use Rattle.network_model.specs.declared.event.Event.TheVariants.{Sync, SyncOne, Follow, Leave, Arrive, Request}
 use Rattle.network_model.specs.Network.{Network, PortSetup}
 use Rattle.network_model.specs.Kinds.{is_sync}
 use Rattle.network_model.specs.Truth.{master_at, slave_at}
@@ -57,7 +58,8 @@ is_packet m b =
     && is_requesting m.body b
     && bytes_eq m.suffix (drop (fields_length (type_of m.body)) b)
 
--- The test holds of just those octets that are the message by the layout's one relation. `laws::each_packet_is_tested` promises it.
+-- The test holds of just those octets that are the message by the layout's one relation. `laws::each_packet_is_tested`
+-- promises it.
 abbrev pub EachPacketIsTested : Type 0
 EachPacketIsTested = (m : Contents) (b : List ℕ) → IsTrue (is_packet m b) ↔ Packet m b
 
@@ -65,31 +67,15 @@ EachPacketIsTested = (m : Contents) (b : List ℕ) → IsTrue (is_packet m b) �
 abbrev pub drawing_port : Network → Event → Option PortSetup
 drawing_port network (Sync node at) = master_at network node
 drawing_port network (SyncOne node at) = master_at network node
-drawing_port network (Follow node) = None
-drawing_port network (Enter node copy at) = None
-drawing_port network (Leave node transit at) = None
-drawing_port network (Arrive node copy at) = None
-drawing_port network (Hear node copy) = None
 drawing_port network (Request node at) = slave_at network node
-drawing_port network (Stamped node) = None
-drawing_port network (Tick node) = None
-drawing_port network (SetMaster node master) = None
-drawing_port network (StepClock node diff) = None
+drawing_port network _ = None
 
 -- the message that a port with this configuration sends at an event, under this number and at this reading
 abbrev pub message_sent : PortConfig → Event → (number now : ℕ) → Option Contents
 message_sent config (Sync node at) number now = Some (sync config number)
 message_sent config (SyncOne node at) number now = Some (one_step_sync config number now)
-message_sent config (Follow node) number now = None
-message_sent config (Enter node copy at) number now = None
-message_sent config (Leave node transit at) number now = None
-message_sent config (Arrive node copy at) number now = None
-message_sent config (Hear node copy) number now = None
 message_sent config (Request node at) number now = Some (delay_req config number)
-message_sent config (Stamped node) number now = None
-message_sent config (Tick node) number now = None
-message_sent config (SetMaster node master) number now = None
-message_sent config (StepClock node diff) number now = None
+message_sent config _ number now = None
 
 -- the message that a Sync, SyncOne or Request line sent, with the drawn number
 abbrev pub sent : Network → LinePlace → Option Contents
@@ -105,7 +91,8 @@ travelled network journey = option_map (λ m. resided m (residence journey)) (se
 abbrev pub followed : Network → PortSetup → (last : LinePlace) → Contents
 followed network port last = follow_up port.config (sequence network port last) (reading last)
 
--- the Delay_Resp that a master sends to a Delay_Req that arrived after this journey, t4 being the reading of the arrival
+-- the Delay_Resp that a master sends to a Delay_Req that arrived after this journey, t4 being the reading of the
+-- arrival
 abbrev pub answered : Network → PortSetup → (arrival : LinePlace) → Journey → Option Contents
 answered network port arrival journey =
     option_map (λ request. delay_resp port.config request.header (reading arrival)) (travelled network journey)
@@ -117,19 +104,14 @@ message_made network (SyncOne node at) e = sent network e
 message_made network (Follow node) e = option_and_then
     (λ port. option_map (followed network port) (last_line network is_sync node e.earlier))
     (master_at network node)
-message_made network (Enter node copy at) e = None
 message_made network (Leave node transit at) e = option_and_then
     (travelled network)
     (journey_made network (Leave node transit at) e (journey_of network e.earlier))
 message_made network (Arrive node copy at) e = option_and_then
     (λ port. option_and_then (answered network port e) (journey_of network e.earlier copy))
     (master_at network node)
-message_made network (Hear node copy) e = None
 message_made network (Request node at) e = sent network e
-message_made network (Stamped node) e = None
-message_made network (Tick node) e = None
-message_made network (SetMaster node master) e = None
-message_made network (StepClock node diff) e = None
+message_made network _ e = None
 
 -- whether these octets are this message
 abbrev pub is_written : Option Contents → TraceOut → Bool

@@ -9,11 +9,11 @@ use Rattle.ptp_units.specs.Moment.{fraction_of}
 use Rattle.slave_port.specs.declared.heard.Report.{Report}
 use Rattle.network_model.specs.declared.event.Event.{Event}
 use Rattle.network_model.specs.Network.{Network, NodeName, PortSetup, is_named}
-use Rattle.network_model.specs.Kinds.{is_at, is_sync, is_one_step_sync, draws_sync, is_follow, is_request, is_set_master, named_master, heard_copy}
+use Rattle.network_model.specs.Kinds.{is_at, is_sync, is_one_step_sync, draws_sync, is_follow, is_request, is_set_master, named_master, heard_copy, is_arrival, is_hearing}
 use Rattle.network_model.specs.Truth.{master_at, slave_at}
 use Rattle.trace_model.specs.declared.verdict.Why.{Why}
 use Rattle.trace_model.specs.declared.verdict.Why.TheVariants.{NoSuchLine, OtherNumber, OtherMaster, BrokenJourney, WrongReading, WrongValue, TooBig, Bytes}
-use Rattle.trace_model.specs.Line.{Lines, counts, is_made, completes, is_arrival, is_hearing}
+use Rattle.trace_model.specs.Line.{Lines, counts, is_made, completes}
 use Rattle.trace_model.specs.Record.{LinePlace, line_number, event_of, site, line_at, events, last_line, first_stamp, reading, reads_right}
 use Rattle.trace_model.specs.Journey.{Stay, Journey, journey_of, residence, left_once}
 use Rattle.trace_model.specs.Octets.{writes_right}

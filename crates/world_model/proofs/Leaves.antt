@@ -58,7 +58,7 @@ gives_no_leave sent refusal now code is number = record {
 }
 
 -- a clock keeps a message's length
-pub forwarded-length : (m x : Contents) (entered now : ℕ) → forwarded (Ok m) entered now ≡ Ok x → message_length x ≡ message_length m
+forwarded-length : (m x : Contents) (entered now : ℕ) → forwarded (Ok m) entered now ≡ Ok x → message_length x ≡ message_length m
 forwarded-length m x entered now sent = by_tests (is_event m.body) (nat_lt now entered) sent
   where
     by_tests : (event fell : Bool) → (if event then (if fell then Err NegativeResidence else Ok (resided m (now - entered))) else Err NotEvent) ≡ Ok x → message_length x ≡ message_length m

@@ -28,7 +28,7 @@ with_sync now master = record {
 }
 
 -- a master that drew a one-step Sync
-abbrev pub with_one_step_sync : Master → Master
+abbrev with_one_step_sync : Master → Master
 with_one_step_sync master = record {
   port = record { config = master.port.config; next = next master.port.next; waiting = master.port.waiting };
   waiting = master.waiting;

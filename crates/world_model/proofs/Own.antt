@@ -31,7 +31,7 @@ difference-stays event run none =
     ∙ same_if (is_named (site_of event) (site_of event)) (difference (site_of event) run)
 
 -- one more that passes, and one more that doesn't
-pub count_by-passed : {X : Type 0} (p : X → Bool) (x : X) (xs : List X) → p x ≡ true → count_by p (x ∷ xs) ≡ count_by p xs + 1
+count_by-passed : {X : Type 0} (p : X → Bool) (x : X) (xs : List X) → p x ≡ true → count_by p (x ∷ xs) ≡ count_by p xs + 1
 count_by-passed p x xs passes = omega (arith, sum_by-cons (λ y. if p y then 1 else 0) x xs, ap {B = ℕ} (λ b. if b then 1 else 0) passes)
 
 pub count_by-failed : {X : Type 0} (p : X → Bool) (x : X) (xs : List X) → p x ≡ false → count_by p (x ∷ xs) ≡ count_by p xs
@@ -51,15 +51,8 @@ next_sync-drawn setup run event draws =
     both : (a b : Bool) → a ≡ true → b ≡ true → (a && b) ≡ true
     both a b e f = ap (λ x. x && b) e ∙ f
 
--- and where it drew none
-pub next_sync-stays : (setup : PortSetup) (run : Run) (event : Event) → draws_sync event ≡ false
-    → next_sync setup (site_of event) run ≡ next_sync setup (site_of event) (event ∷ run)
-next_sync-stays setup run event draws =
-    let p : Event → Bool = draws_with (Sync (site_of event) 0) in
-    sym (ap (λ n. of_count (setup.first + n)) (count_by-failed p event run (ap (λ b. b && is_named (site_of event) (site_of event)) draws)))
-
 -- a value that is there isn't refused
-pub Some-ok_or : {X : Type 0} (o : Option X) (why : WorldRefusal) (x : X) → ok_or o why ≡ Ok x → o ≡ Some x
+Some-ok_or : {X : Type 0} (o : Option X) (why : WorldRefusal) (x : X) → ok_or o why ≡ Ok x → o ≡ Some x
 Some-ok_or None why x there = cc
 Some-ok_or (Some y) why x there = let same : y ≡ x = cc in ap Some same
 

@@ -27,7 +27,3 @@ pub record Told (copy : Option Contents) (octets : List ℕ) : Type 0 where
 pub told : (copy : Option Contents) (octets : List ℕ) → TellsTruth copy (Some octets) → Told copy octets
 told None octets tells = absurd tells
 told (Some m) octets tells = record { m = m; is = refl; packet = tells }
-
-pub untold : (copy : Option Contents) → TellsTruth copy None → copy ≡ None
-untold None tells = refl
-untold (Some m) tells = absurd tells

@@ -1,11 +1,12 @@
 -- What an event does at its node. The world's own functions cite these.
-use Rattle.std.specs.Prelude.{◌≡◌, ◌⊎◌, ℕ, List, ◌∷◌, length, if◌then◌else◌, Option, Some, None, option_map, option_and_then, Ok, Err, Result, IsOk, MatchResult}
+use Rattle.std.specs.Prelude.{◌≡◌, ◌⊎◌, ℕ, List, ◌∷◌, length, if◌then◌else◌, Option, Some, None, option_map}
+use Rattle.std.specs.Prelude.{option_and_then, Ok, Err, Result, IsOk, MatchResult}
 use Rattle.std.specs.Result.{result_ok}
 use Rattle.event_codec.specs.Packet.{Contents, Packet}
 use Rattle.transparent_clock.specs.declared.refusal.ClockRefusal.{ClockRefusal}
 use Rattle.transparent_clock.specs.Forwarding.{forwarded}
 use Rattle.network_model.specs.declared.event.Event.{Event}
-use Rattle.network_model.specs.declared.event.Event.TheVariants.{Sync, SyncOne, Follow, Enter, Leave, Arrive, Hear, Request, Stamped, Tick, SetMaster, StepClock}
+use Rattle.network_model.specs.declared.event.Event.TheVariants.{Leave}
 use Rattle.network_model.specs.declared.node.NodeKind.{NodeKind}
 use Rattle.network_model.specs.declared.stepped.Outcome.{Outcome}
 use Rattle.network_model.specs.declared.refusal.WorldRefusal.{WorldRefusal}
@@ -21,14 +22,15 @@ use Rattle.world_model.specs.declared.entry.Happened.{Happened}
 use Rattle.world_model.specs.declared.station.Master.{Master}
 use Rattle.world_model.specs.declared.station.Slave.{Slave}
 use Rattle.world_model.specs.declared.station.Station.{Station}
-use Rattle.world_model.specs.Stands.{octets_in, stay_in, entering, event_at, stay_at, spent, Keeps, MasterStands, SlaveStands, Stands}
+use Rattle.world_model.specs.Stands.{octets_in, stay_in, entering, event_at, stay_at, spent, Keeps, MasterStands}
+use Rattle.world_model.specs.Stands.{SlaveStands, Stands}
 
 -- room for one more entry, or why there is none
 abbrev pub Room : Type 0
 Room = Result (Unit {0}) WorldRefusal
 
--- What an accepted event brings about: its outcome and reading, a copy or a stay for later events, and what its node then
--- stands for.
+-- What an accepted event brings about: its outcome and reading, a copy or a stay for later events, and what its node
+-- then stands for.
 pub record Brings (network : Network) (run : Run) (event : Event) (After : Type 0) (happened : Happened) : Type 0 where
   pub outcome : outcome_of network run event ≡ Ok happened.outcome
   pub read : happened.reading ≡ reading_of (place event run)
@@ -44,13 +46,16 @@ Refuses network run event room why =
 -- an event is accepted, for which there is room, or it is refused and its node is as it was
 abbrev pub Answers : Network → Run → Event → Room → (After Same : Type 0) → Result Happened WorldRefusal → Type 0
 Answers network run event room After Same result =
-    MatchResult result (λ happened. IsOk room × Brings network run event After happened) (λ why. Same × Refuses network run event room why)
+    MatchResult result (λ happened. IsOk room × Brings network run event After happened)
+    (λ why. Same × Refuses network run event room why)
 
--- an event at a node whose station was old and is new, in one network, for every run that this station and these entries keep
+-- an event at a node whose station was old and is new, in one network, for every run that this station and these
+-- entries keep
 abbrev pub ActsIn : Network → Event → List Entry → (old new : Station) → Room → Result Happened WorldRefusal → Type 0
 ActsIn network event entries old new room result =
     (run : Run) (kind : NodeKind)
-    → kind_of network (site_of event) ≡ Some kind → Stands network run (site_of event) kind old → Keeps network run entries
+    → kind_of network (site_of event) ≡ Some kind → Stands network run (site_of event) kind old
+    → Keeps network run entries
     → Answers network run event room (Stands network (event ∷ run) (site_of event) kind new) (new ≡ old) result
 
 -- the same in every network
@@ -58,17 +63,20 @@ abbrev pub Acts : Event → List Entry → (old new : Station) → Room → Resu
 Acts event entries old new room result = (network : Network) → ActsIn network event entries old new room result
 
 -- the same of a master, where this is given
-abbrev pub MasterActs : Event → (Given : Network → Run → Type 0) → (old new : Master) → Room → Result Happened WorldRefusal → Type 0
+abbrev pub MasterActs : Event → (Given : Network → Run → Type 0) → (old new : Master) → Room
+    → Result Happened WorldRefusal → Type 0
 MasterActs event Given old new room result =
     (network : Network) (run : Run) (setup : PortSetup)
     → master_at network (site_of event) ≡ Some setup → MasterStands run (site_of event) setup old → Given network run
     → Answers network run event room (MasterStands (event ∷ run) (site_of event) setup new) (new ≡ old) result
 
 -- the same of a slave
-abbrev pub SlaveActs : Event → (Given : Network → Run → Type 0) → (old new : Slave) → Room → Result Happened WorldRefusal → Type 0
+abbrev pub SlaveActs : Event → (Given : Network → Run → Type 0) → (old new : Slave) → Room
+    → Result Happened WorldRefusal → Type 0
 SlaveActs event Given old new room result =
     (network : Network) (run : Run) (setup : PortSetup)
-    → slave_at network (site_of event) ≡ Some setup → SlaveStands network run (site_of event) setup old → Given network run
+    → slave_at network (site_of event) ≡ Some setup → SlaveStands network run (site_of event) setup old
+    → Given network run
     → Answers network run event room (SlaveStands network (event ∷ run) (site_of event) setup new) (new ≡ old) result
 
 -- nothing is given
@@ -108,7 +116,8 @@ IsSent message octets sent = MatchResult sent
 abbrev pub Departs : Contents → ℕ → Result ℕ WorldRefusal → Room → Result Happened WorldRefusal → Type 0
 Departs m entered shown room result = MatchResult result
     (λ happened. IsOk room × ((now : ℕ) × (shown ≡ Ok now)
-    × Gives (Some now) (left_outcome (forwarded (Ok m) entered now)) (result_ok (forwarded (Ok m) entered now)) happened))
+    × Gives (Some now) (left_outcome (forwarded (Ok m) entered now))
+    (result_ok (forwarded (Ok m) entered now)) happened))
     (λ why. (shown ≡ Err why) ⊎ ((room ≡ Err why) × IsOk shown))
 
 -- the copy that an entry's event took into this clock
@@ -122,15 +131,5 @@ copy_inside entries clock tag =
 
 -- the entries after an event, before its own comes: a Leave event ends a stay
 abbrev pub entries_after : Event → List Entry → List Entry
-entries_after (Sync node at) entries = entries
-entries_after (SyncOne node at) entries = entries
-entries_after (Follow node) entries = entries
-entries_after (Enter node copy at) entries = entries
 entries_after (Leave node transit at) entries = spent transit entries
-entries_after (Arrive node copy at) entries = entries
-entries_after (Hear node copy) entries = entries
-entries_after (Request node at) entries = entries
-entries_after (Stamped node) entries = entries
-entries_after (Tick node) entries = entries
-entries_after (SetMaster node master) entries = entries
-entries_after (StepClock node diff) entries = entries
+entries_after _ entries = entries

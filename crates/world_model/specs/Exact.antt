@@ -21,8 +21,9 @@ pub record IsTimely (limits : Limits) (network : Network) (slave : NodeName) (ru
   pub fresh : IsFreshFor limits.late network slave run
   pub ticked : IsTickedAt limits.between_ticks slave run
 
--- A report that this event answers is exact: of one Sync and one Delay_Req, and twice the standard's two results over them
--- (IEEE 1588-2019, 11.2, 11.3). That is so where the run with the event meets the premise for the slave that answers.
+-- A report that this event answers is exact: of one Sync and one Delay_Req, and twice the standard's two results over
+-- them (IEEE 1588-2019, 11.2, 11.3). That is so where the run with the event meets the premise for the slave that
+-- answers.
 abbrev pub IsExactAnswer : SlavePremise → State → Event → Stepped → Type 0
 IsExactAnswer premise world event stepped =
     (report : Report) → stepped.outcome ≡ outcomes.Heard (answers.Report report)

@@ -1,6 +1,7 @@
--- What a world keeps of its run: one station for each node and one entry for each event. Its own functions cite these; what
--- its callers are told is said by the run alone.
-use Rattle.std.specs.Prelude.{◌≡◌, ℕ, zero, suc, List, [], ◌∷◌, length, map, reverse, slice_get, is_some, if◌then◌else◌, Option, Some, None, option_map, option_and_then}
+-- What a world keeps of its run: one station for each node and one entry for each event. Its own functions cite these;
+-- what its callers are told is said by the run alone.
+use Rattle.std.specs.Prelude.{◌≡◌, ℕ, zero, suc, List, [], ◌∷◌, length, map, reverse, slice_get, is_some, if◌then◌else◌}
+use Rattle.std.specs.Prelude.{Option, Some, None, option_map, option_and_then}
 use Rattle.std.specs.List.{list_any}
 use Rattle.ptp_units.specs.Sequence.{of_count}
 use Rattle.slave_port.specs.StandsFor.{StandsFor}

@@ -21,7 +21,8 @@ pub record IsNextRefused (events : List Event) (stop : RunStop) (new : State) : 
   pub next : slice_get events stop.done ≡ Some event
   pub refused : IsRefused new event stop.why
 
--- the first `done` events happened, and the next one was refused; or memory for the answers was refused, and nothing happened
+-- the first `done` events happened, and the next one was refused; or memory for the answers was refused, and nothing
+-- happened
 pub record IsStopped (old : State) (events : List Event) (stop : RunStop) (new : State) : Type 0 where
   pub happened : new ≡ after_all (take stop.done events) old
   pub why : IsNextRefused events stop new ⊎ ((stop.done ≡ 0) × (stop.why ≡ Memory))

@@ -2,20 +2,19 @@ ghost use Rattle.std.specs.Prelude.{◌≡◌, ℕ, Some, Result, OnErr, OnOk};
 ghost use Rattle.std.specs.Result.{result_ok};
 ghost use Rattle.event_codec.specs.Packet.{Contents, Packet};
 ghost use Rattle.transparent_clock.specs.Forwarding.{forwarded};
-ghost use Rattle.network_model.specs.Network.{NodeName};
 ghost use Rattle.network_model.specs.Outcome.{left_outcome};
 ghost use Rattle.world_model.specs.Stands.{listed, stay_in, stay_at, ended, spent};
-ghost use Rattle.world_model.specs.Acts.{Acts, IsSent, Gives, Departs, copy_inside};
+ghost use Rattle.world_model.specs.Acts.{IsSent, Gives, Departs, copy_inside};
 
-use crate::entry::{Entry, Happened, Left, Octets, copy_at};
-use crate::station::{Port, Room, Shown, Station};
+use crate::entry::{Entry, Happened, Left, Octets};
+use crate::station::{Room, Shown};
 use network_model::{Event, Name, Outcome, WorldRefusal};
 use ptp_units::ScaledTime;
 use std::mem;
-use transparent_clock::{ClockRefusal, Transit, enter};
+use transparent_clock::{ClockRefusal, Transit};
 
 /// The tag of the copy that entered this clock by the event of this tag, and is still inside.
-fn copy_inside(entries: &[Entry], clock: &Name, transit: u64) -> Option<u64>
+pub(crate) fn copy_inside(entries: &[Entry], clock: &Name, transit: u64) -> Option<u64>
     ensures { result ≡ copy_inside entries.now clock.now transit }
 {
     let entry = entries.get(transit as usize)?;
@@ -93,14 +92,15 @@ fn left(transit: Transit, octets: Octets, now: ScaledTime) -> Happened
 
 /// The message of these octets leaves its clock, which shows this now. Room for the copy is tested
 /// before the stay ends.
-fn depart(
+pub(crate) fn depart(
     entries: &mut [Entry],
     transit: u64,
     octets: Octets,
     shown: Shown,
     room: Room,
 ) -> Result<Happened, WorldRefusal>
-    ensures departs { (m : Contents) (entered : ℕ) → Packet m (listed octets) → stay_at entries.old transit ≡ Some entered → Departs m entered shown room result }
+    ensures departs { (m : Contents) (entered : ℕ) → Packet m (listed octets)
+        → stay_at entries.old transit ≡ Some entered → Departs m entered shown room result }
     ensures spent { OnOk result (entries.new ≡ spent transit entries.old) }
     ensures kept { OnErr result (entries.new ≡ entries.old) }
 {
@@ -109,58 +109,5 @@ fn depart(
     match take_out(entries, transit) {
         Some(stay) => Ok(left(stay, octets, now)),
         None => Err(WorldRefusal::NoTransit),
-    }
-}
-
-impl Station {
-    /// A copy of a message enters a transparent clock.
-    pub(crate) fn enter(
-        &self,
-        entries: &[Entry],
-        copy: u64,
-        at: ScaledTime,
-        room: Room,
-    ) -> Result<Happened, WorldRefusal>
-        ensures { (node : NodeName) → Acts (Event.Enter node copy at) entries.now self.now self.now room result }
-    {
-        let Port::Clock = &self.port else {
-            return Err(WorldRefusal::WrongKind);
-        };
-        if copy_at(entries, copy).is_none() {
-            return Err(WorldRefusal::NoCopy);
-        }
-        let now = self.shown(at)?;
-        room?;
-        Ok(Happened {
-            reading: Some(now),
-            outcome: Outcome::Entered,
-            left: Left::Stay(enter(now)),
-        })
-    }
-
-    /// A message leaves the transparent clock of this name.
-    pub(crate) fn leave(
-        &self,
-        entries: &mut [Entry],
-        clock: &Name,
-        transit: u64,
-        at: ScaledTime,
-        room: Room,
-    ) -> Result<Happened, WorldRefusal>
-        ensures acts { Acts (Event.Leave clock.now transit at) entries.old self.now self.now room result }
-        ensures spent { OnOk result (entries.new ≡ spent transit entries.old) }
-        ensures kept { OnErr result (entries.new ≡ entries.old) }
-    {
-        let Port::Clock = &self.port else {
-            return Err(WorldRefusal::WrongKind);
-        };
-        let Some(copy) = copy_inside(entries, clock, transit) else {
-            return Err(WorldRefusal::NoTransit);
-        };
-        let octets = match copy_at(entries, copy) {
-            Some(octets) => *octets,
-            None => return Err(WorldRefusal::NoTransit),
-        };
-        depart(entries, transit, octets, self.shown(at), room)
     }
 }

@@ -1,13 +1,12 @@
 //! A world: a network of real ports and clocks, and the events that it accepted in turn.
 #![tactic(auto)]
 
-mod arrival;
 mod clock;
 mod entry;
-mod happen;
 mod master;
 mod slave;
 mod station;
+mod stepping;
 mod turns;
 mod world;
 

@@ -1,12 +1,11 @@
-ghost use Rattle.std.specs.Prelude.{ℕ, List, option_map};
-ghost use Rattle.network_model.specs.Network.{Network, NodeName, kind_of};
+ghost use Rattle.std.specs.Prelude.{ℕ, option_map};
+ghost use Rattle.network_model.specs.Network.{Network, NodeName};
 ghost use Rattle.network_model.specs.Run.{Run};
-ghost use Rattle.world_model.specs.declared.entry.Entry.{Entry as TheEntry};
-ghost use Rattle.world_model.specs.Acts.{Acts, ActsIn, SlaveActs, Nothing, Reads, IsCopy, IsNext, IsKind};
+ghost use Rattle.world_model.specs.Acts.{SlaveActs, Nothing, Reads, IsCopy, IsNext, IsKind};
 
-use crate::entry::{Entry, Happened, Left, Octets, octets_of};
-use crate::station::{Departure, Port, Room, Shown, Slave, Station};
-use network_model::{Event, Name, NodeKind, Nodes, Outcome, WorldRefusal};
+use crate::entry::{Happened, Left, Octets};
+use crate::station::{Departure, Room, Shown, Slave};
+use network_model::{Event, NodeKind, Outcome, WorldRefusal};
 use ptp_units::ScaledTime;
 
 impl Slave {
@@ -36,9 +35,15 @@ impl Slave {
     }
 
     /// Is handed a general message.
-    fn hear(&mut self, heard: Option<&[u8]>, tag: u64, room: Room) -> Result<Happened, WorldRefusal>
+    pub(crate) fn hear(
+        &mut self,
+        heard: Option<&[u8]>,
+        tag: u64,
+        room: Room,
+    ) -> Result<Happened, WorldRefusal>
         ensures { (node : NodeName) (copy : ℕ) → SlaveActs (Event.Hear node copy)
-            (λ network run. IsCopy copy (option_map (λ octets. octets.now) heard.entry) network run × IsNext tag network run)
+            (λ network run. IsCopy copy (option_map (λ octets. octets.now) heard.entry) network run
+            × IsNext tag network run)
             self.old self.new room result }
     {
         let Some(octets) = heard else {
@@ -53,9 +58,15 @@ impl Slave {
     }
 
     /// Draws a Delay_Req, which waits for its departure time from then on.
-    fn request(&mut self, shown: Shown, tag: u64, room: Room) -> Result<Happened, WorldRefusal>
+    pub(crate) fn request(
+        &mut self,
+        shown: Shown,
+        tag: u64,
+        room: Room,
+    ) -> Result<Happened, WorldRefusal>
         ensures { (node : NodeName) (at : ℕ) → SlaveActs (Event.Request node at)
-            (λ network run. Reads (Event.Request node at) shown network run × IsNext tag network run) self.old self.new room result }
+            (λ network run. Reads (Event.Request node at) shown network run
+            × IsNext tag network run) self.old self.new room result }
     {
         let now = shown?;
         room?;
@@ -69,7 +80,7 @@ impl Slave {
     }
 
     /// Learns when the Delay_Req that waits for it departed.
-    fn stamped(&mut self, room: Room) -> Result<Happened, WorldRefusal>
+    pub(crate) fn stamped(&mut self, room: Room) -> Result<Happened, WorldRefusal>
         ensures { (node : NodeName) → SlaveActs (Event.Stamped node) Nothing self.old self.new room result }
     {
         let Some(request) = self.waiting else {
@@ -89,7 +100,7 @@ impl Slave {
     }
 
     /// Its hold timer runs out.
-    fn tick(&mut self, room: Room) -> Result<Happened, WorldRefusal>
+    pub(crate) fn tick(&mut self, room: Room) -> Result<Happened, WorldRefusal>
         ensures { (node : NodeName) → SlaveActs (Event.Tick node) Nothing self.old self.new room result }
     {
         room?;
@@ -102,8 +113,13 @@ impl Slave {
     }
 
     /// Is told its present master, which has to be one.
-    fn set_master(&mut self, other: NodeKind, room: Room) -> Result<Happened, WorldRefusal>
-        ensures { (node master : NodeName) → SlaveActs (Event.SetMaster node master) (IsKind master other) self.old self.new room result }
+    pub(crate) fn set_master(
+        &mut self,
+        other: NodeKind,
+        room: Room,
+    ) -> Result<Happened, WorldRefusal>
+        ensures { (node master : NodeName) → SlaveActs (Event.SetMaster node master)
+            (IsKind master other) self.old self.new room result }
     {
         let NodeKind::Master { config, .. } = other else {
             return Err(WorldRefusal::WrongKind);
@@ -115,76 +131,5 @@ impl Slave {
             outcome: Outcome::Done,
             left: Left::Nothing,
         })
-    }
-}
-
-impl Station {
-    /// A slave hears a copy of a general message.
-    pub(crate) fn hear(
-        &mut self,
-        entries: &[Entry],
-        copy: u64,
-        room: Room,
-    ) -> Result<Happened, WorldRefusal>
-        ensures { (node : NodeName) → Acts (Event.Hear node copy) entries.now self.old self.new room result }
-    {
-        let Port::Slave(slave) = &mut self.port else {
-            return Err(WorldRefusal::WrongKind);
-        };
-        slave.hear(octets_of(entries, copy), entries.len() as u64, room)
-    }
-
-    /// A slave sends a Delay_Req.
-    pub(crate) fn request(
-        &mut self,
-        at: ScaledTime,
-        entries: &[Entry],
-        room: Room,
-    ) -> Result<Happened, WorldRefusal>
-        ensures { (node : NodeName) → Acts (Event.Request node at) entries.now self.old self.new room result }
-    {
-        let shown = self.shown(at);
-        let Port::Slave(slave) = &mut self.port else {
-            return Err(WorldRefusal::WrongKind);
-        };
-        slave.request(shown, entries.len() as u64, room)
-    }
-
-    /// A slave learns when its waiting Delay_Req departed.
-    pub(crate) fn stamped(&mut self, room: Room) -> Result<Happened, WorldRefusal>
-        ensures { (node : NodeName) (entries : List TheEntry) → Acts (Event.Stamped node) entries self.old self.new room result }
-    {
-        let Port::Slave(slave) = &mut self.port else {
-            return Err(WorldRefusal::WrongKind);
-        };
-        slave.stamped(room)
-    }
-
-    /// A slave's hold timer runs out.
-    pub(crate) fn tick(&mut self, room: Room) -> Result<Happened, WorldRefusal>
-        ensures { (node : NodeName) (entries : List TheEntry) → Acts (Event.Tick node) entries self.old self.new room result }
-    {
-        let Port::Slave(slave) = &mut self.port else {
-            return Err(WorldRefusal::WrongKind);
-        };
-        slave.tick(room)
-    }
-
-    /// A slave is told its present master.
-    pub(crate) fn set_master(
-        &mut self,
-        nodes: &Nodes,
-        master: &Name,
-        room: Room,
-    ) -> Result<Happened, WorldRefusal>
-        ensures { (node : NodeName) (entries : List TheEntry) → ActsIn nodes.now (Event.SetMaster node master.now) entries self.old self.new room result }
-    {
-        let Some(other) = nodes.get(master) else {
-            return Err(WorldRefusal::NoNode);
-        };
-        let Port::Slave(slave) = &mut self.port else {
-            return Err(WorldRefusal::WrongKind);
-        };
-        slave.set_master(other.kind, room)
     }
 }

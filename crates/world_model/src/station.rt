@@ -1,17 +1,19 @@
-ghost use Rattle.std.specs.Prelude.{◌≡◌, List, [], pos, ◌+ℤ◌, ok_or, IfOk, IfErr};
+ghost use Rattle.std.specs.Prelude.{◌≡◌, List, [], pos, ◌+ℤ◌, ok_or, IfOk, IfErr, OnOk, OnErr};
 ghost use Rattle.ptp_units.specs.Moment.{moment_of};
 ghost use Rattle.network_model.specs.Network.{Network, NodeName, IsNetwork};
 ghost use Rattle.world_model.specs.declared.entry.Entry.{Entry};
-ghost use Rattle.world_model.specs.Stands.{Stands, AllStand};
-ghost use Rattle.world_model.specs.Acts.{Acts};
+ghost use Rattle.world_model.specs.Stands.{Stands, AllStand, spent};
+ghost use Rattle.world_model.specs.Acts.{Acts, ActsIn, entries_after};
 
-use crate::entry::{Happened, Left};
+use crate::clock::{copy_inside, depart};
+use crate::entry::{Entry, Happened, Left, copy_at, octets_of};
 use master_port::MasterPort;
-use network_model::{Event, NodeKind, Nodes, Outcome, WorldRefusal};
+use network_model::{Event, Name, NodeKind, Nodes, Outcome, WorldRefusal};
 use pairing::RingTable;
 use ptp_units::{BOUND, ScaledTime, Seq};
 use slave_port::{HeldFollow, HeldRequest, HeldSync, SlavePort};
 use std::alloc::Global;
+use transparent_clock::enter;
 
 /// What holds the messages of a slave: at most 16 of each kind.
 pub(crate) type Table<V> = RingTable<V, 16>;
@@ -83,7 +85,7 @@ impl Station {
     }
 
     /// What the clock shows at this true moment. Refused with 607 where that is no moment.
-    pub(crate) fn shown(&self, at: ScaledTime) -> Shown
+    fn shown(&self, at: ScaledTime) -> Shown
         ensures { result ≡ ok_or (moment_of (pos at +ℤ self.now.difference)) WorldRefusal.ReadingOutOfRange }
     {
         match at.shifted(self.difference) {
@@ -92,9 +94,211 @@ impl Station {
         }
     }
 
+    /// What an event does at its node, whose station this is.
+    pub(crate) fn act(
+        &mut self,
+        nodes: &Nodes,
+        entries: &mut [Entry],
+        event: &Event,
+        room: Room,
+    ) -> Result<Happened, WorldRefusal>
+        ensures acts { ActsIn nodes.now event.now entries.old self.old self.new room result }
+        ensures entries { OnOk result (entries.new ≡ entries_after event.now entries.old) }
+        ensures kept { OnErr result (entries.new ≡ entries.old) }
+    {
+        match event {
+            Event::Sync { at, .. } => self.sync(*at, room),
+            Event::SyncOne { at, .. } => self.one_step_sync(*at, room),
+            Event::Follow { .. } => self.follow(room),
+            Event::Enter { copy, at, .. } => self.enter(entries, *copy, *at, room),
+            Event::Leave { node, transit, at } => self.leave(entries, node, *transit, *at, room),
+            Event::Arrive { copy, at, .. } => self.arrive(entries, *copy, *at, room),
+            Event::Hear { copy, .. } => self.hear(entries, *copy, room),
+            Event::Request { at, .. } => self.request(*at, entries, room),
+            Event::Stamped { .. } => self.stamped(room),
+            Event::Tick { .. } => self.tick(room),
+            Event::SetMaster { master, .. } => self.set_master(nodes, master, room),
+            Event::StepClock { diff, .. } => self.step_clock(diff, room),
+        }
+    }
+
+    /// A master sends a Sync.
+    fn sync(&mut self, at: ScaledTime, room: Room) -> Result<Happened, WorldRefusal>
+        ensures { (node : NodeName) (entries : List Entry)
+            → Acts (Event.Sync node at) entries self.old self.new room result }
+    {
+        let shown = self.shown(at);
+        let Port::Master(master) = &mut self.port else {
+            return Err(WorldRefusal::WrongKind);
+        };
+        master.sync(shown, room)
+    }
+
+    /// A master sends a one-step Sync.
+    fn one_step_sync(&mut self, at: ScaledTime, room: Room) -> Result<Happened, WorldRefusal>
+        ensures { (node : NodeName) (entries : List Entry)
+            → Acts (Event.SyncOne node at) entries self.old self.new room result }
+    {
+        let shown = self.shown(at);
+        let Port::Master(master) = &mut self.port else {
+            return Err(WorldRefusal::WrongKind);
+        };
+        master.one_step_sync(shown, room)
+    }
+
+    /// A master sends the Follow_Up of the Sync that waits for it.
+    fn follow(&mut self, room: Room) -> Result<Happened, WorldRefusal>
+        ensures { (node : NodeName) (entries : List Entry)
+            → Acts (Event.Follow node) entries self.old self.new room result }
+    {
+        let Port::Master(master) = &mut self.port else {
+            return Err(WorldRefusal::WrongKind);
+        };
+        master.follow(room)
+    }
+
+    /// A copy of a message enters a transparent clock.
+    fn enter(
+        &self,
+        entries: &[Entry],
+        copy: u64,
+        at: ScaledTime,
+        room: Room,
+    ) -> Result<Happened, WorldRefusal>
+        ensures { (node : NodeName) → Acts (Event.Enter node copy at) entries.now self.now self.now room result }
+    {
+        let Port::Clock = &self.port else {
+            return Err(WorldRefusal::WrongKind);
+        };
+        if copy_at(entries, copy).is_none() {
+            return Err(WorldRefusal::NoCopy);
+        }
+        let now = self.shown(at)?;
+        room?;
+        Ok(Happened {
+            reading: Some(now),
+            outcome: Outcome::Entered,
+            left: Left::Stay(enter(now)),
+        })
+    }
+
+    /// A message leaves the transparent clock of this name.
+    fn leave(
+        &self,
+        entries: &mut [Entry],
+        clock: &Name,
+        transit: u64,
+        at: ScaledTime,
+        room: Room,
+    ) -> Result<Happened, WorldRefusal>
+        ensures acts { Acts (Event.Leave clock.now transit at) entries.old self.now self.now room result }
+        ensures spent { OnOk result (entries.new ≡ spent transit entries.old) }
+        ensures kept { OnErr result (entries.new ≡ entries.old) }
+    {
+        let Port::Clock = &self.port else {
+            return Err(WorldRefusal::WrongKind);
+        };
+        let Some(copy) = copy_inside(entries, clock, transit) else {
+            return Err(WorldRefusal::NoTransit);
+        };
+        let octets = match copy_at(entries, copy) {
+            Some(octets) => *octets,
+            None => return Err(WorldRefusal::NoTransit),
+        };
+        depart(entries, transit, octets, self.shown(at), room)
+    }
+
+    /// A copy of a message arrives at a master or a slave.
+    fn arrive(
+        &mut self,
+        entries: &[Entry],
+        copy: u64,
+        at: ScaledTime,
+        room: Room,
+    ) -> Result<Happened, WorldRefusal>
+        ensures { (node : NodeName) → Acts (Event.Arrive node copy at) entries.now self.old self.new room result }
+    {
+        let shown = self.shown(at);
+        match &mut self.port {
+            Port::Master(master) => master.arrive(octets_of(entries, copy), shown, room),
+            Port::Slave(slave) => {
+                slave.arrive(octets_of(entries, copy), shown, entries.len() as u64, room)
+            }
+            Port::Clock => Err(WorldRefusal::WrongKind),
+        }
+    }
+
+    /// A slave hears a copy of a general message.
+    fn hear(&mut self, entries: &[Entry], copy: u64, room: Room) -> Result<Happened, WorldRefusal>
+        ensures { (node : NodeName) → Acts (Event.Hear node copy) entries.now self.old self.new room result }
+    {
+        let Port::Slave(slave) = &mut self.port else {
+            return Err(WorldRefusal::WrongKind);
+        };
+        slave.hear(octets_of(entries, copy), entries.len() as u64, room)
+    }
+
+    /// A slave sends a Delay_Req.
+    fn request(
+        &mut self,
+        at: ScaledTime,
+        entries: &[Entry],
+        room: Room,
+    ) -> Result<Happened, WorldRefusal>
+        ensures { (node : NodeName) → Acts (Event.Request node at) entries.now self.old self.new room result }
+    {
+        let shown = self.shown(at);
+        let Port::Slave(slave) = &mut self.port else {
+            return Err(WorldRefusal::WrongKind);
+        };
+        slave.request(shown, entries.len() as u64, room)
+    }
+
+    /// A slave learns when its waiting Delay_Req departed.
+    fn stamped(&mut self, room: Room) -> Result<Happened, WorldRefusal>
+        ensures { (node : NodeName) (entries : List Entry)
+            → Acts (Event.Stamped node) entries self.old self.new room result }
+    {
+        let Port::Slave(slave) = &mut self.port else {
+            return Err(WorldRefusal::WrongKind);
+        };
+        slave.stamped(room)
+    }
+
+    /// A slave's hold timer runs out.
+    fn tick(&mut self, room: Room) -> Result<Happened, WorldRefusal>
+        ensures { (node : NodeName) (entries : List Entry)
+            → Acts (Event.Tick node) entries self.old self.new room result }
+    {
+        let Port::Slave(slave) = &mut self.port else {
+            return Err(WorldRefusal::WrongKind);
+        };
+        slave.tick(room)
+    }
+
+    /// A slave is told its present master.
+    fn set_master(
+        &mut self,
+        nodes: &Nodes,
+        master: &Name,
+        room: Room,
+    ) -> Result<Happened, WorldRefusal>
+        ensures { (node : NodeName) (entries : List Entry)
+            → ActsIn nodes.now (Event.SetMaster node master.now) entries self.old self.new room result }
+    {
+        let Some(other) = nodes.get(master) else {
+            return Err(WorldRefusal::NoNode);
+        };
+        let Port::Slave(slave) = &mut self.port else {
+            return Err(WorldRefusal::WrongKind);
+        };
+        slave.set_master(other.kind, room)
+    }
+
     /// The clock is set.
-    pub(crate) fn step_clock(&mut self, diff: &i128, room: Room) -> Result<Happened, WorldRefusal>
-        ensures { (node : NodeName) (entries : List Entry) → Acts (Event.StepClock node diff.now) entries self.old self.new room result }
+    fn step_clock(&mut self, diff: &i128, room: Room) -> Result<Happened, WorldRefusal>
+        ensures { (node : NodeName) (entries : List Entry)
+            → Acts (Event.StepClock node diff.now) entries self.old self.new room result }
     {
         if diff.unsigned_abs() >= BOUND {
             return Err(WorldRefusal::ReadingOutOfRange);

@@ -39,8 +39,10 @@ pub fn run(alloc: Global, world: &mut World, events: &[Event]) -> Result<Vec<Ste
     ensures network { IsNetwork world.new.network }
     ensures run { IsRun world.new.network world.new.run }
     // Each report is exact, as that of `step` is.
-    ensures exact { IfOk result (λ answers. AreExactAnswers (IsTimely exact_limits) world.old events.now answers.items) }
-    ensures exact_within_one_turn { IfOk result (λ answers. AreExactAnswers (λ network slave run. IsWithinOneTurn run) world.old events.now answers.items) }
+    ensures exact { IfOk result
+        (λ answers. AreExactAnswers (IsTimely exact_limits) world.old events.now answers.items) }
+    ensures exact_within_one_turn { IfOk result
+        (λ answers. AreExactAnswers (λ network slave run. IsWithinOneTurn run) world.old events.now answers.items) }
     ensures laws { RunsKeepLaws }
 {
     world.is_sound();

@@ -8,8 +8,8 @@ ghost use Rattle.world_model.specs.State.{new_state, after, IsRefused};
 ghost use Rattle.world_model.specs.Exact.{IsTimely, IsExactAnswer, RunsKeepLaws};
 
 use crate::entry::{Entry, octets_of};
-use crate::happen::step;
 use crate::station::{Station, stations_of};
+use crate::stepping::step;
 use network_model::{Event, Nodes, Stepped, WorldRefusal};
 use std::alloc::Global;
 use std::marker::Model;
@@ -63,9 +63,11 @@ impl World {
         // No two nodes have one name and no two ports one identity, and every event of the run was accepted.
         ensures network { IsNetwork self.new.network }
         ensures run { IsRun self.new.network self.new.run }
-        // A report is exact where its slave uses no message that is too old and ticks often enough, or where no number came round.
+        // A report is exact where its slave uses no message that is too old and ticks often enough, or where no number
+        // came round.
         ensures exact { IfOk result (IsExactAnswer (IsTimely exact_limits) self.old event.now) }
-        ensures exact_within_one_turn { IfOk result (IsExactAnswer (λ network slave run. IsWithinOneTurn run) self.old event.now) }
+        ensures exact_within_one_turn { IfOk result
+            (IsExactAnswer (λ network slave run. IsWithinOneTurn run) self.old event.now) }
         ensures laws { RunsKeepLaws }
     {
         step(&self.nodes, &mut self.stations, &mut self.entries, event)
@@ -73,7 +75,8 @@ impl World {
 
     /// The octets of the copy that the event of this tag made, or None where it made none.
     pub fn octets(&self, copy: u64) -> Option<&[u8]>
-        ensures truth { TellsTruth (copy_of self.now.network self.now.run copy) (option_map (λ octets. octets.now) result) }
+        ensures truth { TellsTruth (copy_of self.now.network self.now.run copy)
+            (option_map (λ octets. octets.now) result) }
         // A Delay_Resp is the longest message of a world.
         ensures fits { IfSome result (λ octets. length octets.now ≤ 54) }
         ensures network { IsNetwork self.now.network }

@@ -12,7 +12,7 @@ use Rattle.event_codec.specs.Layout.{type_of, fields_length}
 use Rattle.event_codec.specs.Packet.{Contents, Packet}
 use Rattle.event_codec.specs.Refusal.{message_length}
 use Rattle.event_codec.specs.EncodeRefusal.{encode_refusal}
-use Rattle.event_codec.proofs.profile.octets_of.Goals as goal
+use Rattle.event_codec.proofs.profile.Written.octets.Goals as goal
 
 fields_few : (kind : MessageType) → fields_length kind ≤ 54
 fields_few Sync = lit≤ tt
@@ -44,16 +44,16 @@ bare header body = record { header = header; body = body; suffix = [] }
 
 pub prove-unreachable-requires : goal.prove-unreachable-requires
 prove-unreachable-requires g c =
-    let few : fields_length (type_of c.args.body) ≤ 54 = fields_few (type_of c.args.body) in
+    let few : fields_length (type_of c.args.self.body) ≤ 54 = fields_few (type_of c.args.self.body) in
     let zeros : List ℕ = replicate g.row.N 0 in
     let room : length zeros ≡ g.row.N = length-replicate {A = ℕ} g.row.N 0 in
-    let exact : message_length (bare c.args.header c.args.body) ≡ length zeros = omega arith in
+    let exact : message_length (bare c.args.self.header c.args.self.body) ≡ length zeros = omega arith in
     let short : length zeros < 65536 = omega arith in
-    let ok : is_ok c.encode-written.result ≡ true = fits (bare c.args.header c.args.body) (length zeros) c.encode-written.result exact short c.encode-written.ensures.refused in
+    let ok : is_ok c.encode-written.result ≡ true = fits (bare c.args.self.header c.args.self.body) (length zeros) c.encode-written.result exact short c.encode-written.ensures.refused in
     absurd cc
 
 pub returns : goal.returns
 returns g c =
     let zeros : List ℕ = replicate g.row.N 0 in
     let room : length zeros ≡ g.row.N = length-replicate {A = ℕ} g.row.N 0 in
-    Packet-whole (bare c.args.header c.args.body) c.encode-written.result zeros c.encode-written.new.buffer (search rules) (search rules) (omega arith) c.encode-written.ensures.written
+    Packet-whole (bare c.args.self.header c.args.self.body) c.encode-written.result zeros c.encode-written.new.buffer (search rules) (search rules) (omega arith) c.encode-written.ensures.written

@@ -1,39 +1,10 @@
 ghost use Rattle.std.specs.Prelude.{◌≡◌, ◌<◌, ◌∷◌, ◌++◌, [], length, vec_len, vec_capacity, IfErr, OnOk, OnErr};
-ghost use Rattle.world_model.specs.Acts.{ActsIn, entries_after};
 ghost use Rattle.world_model.specs.Stands.{IsWorld, run_of};
 ghost use Rattle.world_model.specs.Steps.{Steps};
 
-use crate::entry::{Entry, Happened, Left};
+use crate::entry::{Entry, Left};
 use crate::station::{Room, Station};
 use network_model::{Event, Nodes, Stepped, WorldRefusal};
-
-/// What an event does at its node, whose station this is.
-fn happen(
-    nodes: &Nodes,
-    station: &mut Station,
-    entries: &mut [Entry],
-    event: &Event,
-    room: Room,
-) -> Result<Happened, WorldRefusal>
-    ensures acts { ActsIn nodes.now event.now entries.old station.old station.new room result }
-    ensures entries { OnOk result (entries.new ≡ entries_after event.now entries.old) }
-    ensures kept { OnErr result (entries.new ≡ entries.old) }
-{
-    match event {
-        Event::Sync { at, .. } => station.sync(*at, room),
-        Event::SyncOne { at, .. } => station.one_step_sync(*at, room),
-        Event::Follow { .. } => station.follow(room),
-        Event::Enter { copy, at, .. } => station.enter(entries, *copy, *at, room),
-        Event::Leave { node, transit, at } => station.leave(entries, node, *transit, *at, room),
-        Event::Arrive { copy, at, .. } => station.arrive(entries, *copy, *at, room),
-        Event::Hear { copy, .. } => station.hear(entries, *copy, room),
-        Event::Request { at, .. } => station.request(*at, entries, room),
-        Event::Stamped { .. } => station.stamped(room),
-        Event::Tick { .. } => station.tick(room),
-        Event::SetMaster { master, .. } => station.set_master(nodes, master, room),
-        Event::StepClock { diff, .. } => station.step_clock(diff, room),
-    }
-}
 
 /// Puts the entry of an event after the others, for which there is room, and answers its tag.
 fn append(entries: &mut Vec<Entry>, event: &Event, left: Left) -> u64
@@ -76,13 +47,7 @@ pub(crate) fn step(
     let Some(index) = nodes.index_of(&event.node()) else {
         return Err(WorldRefusal::NoNode);
     };
-    match happen(
-        nodes,
-        &mut stations[index],
-        entries.as_mut_slice(),
-        event,
-        room,
-    ) {
+    match stations[index].act(nodes, entries.as_mut_slice(), event, room) {
         Ok(happened) => Ok(Stepped {
             tag: append(entries, event, happened.left),
             reading: happened.reading,
