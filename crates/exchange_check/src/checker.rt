@@ -7,6 +7,7 @@ ghost use Rattle.trace_model.specs.Soundness.{TellsSoundness};
 ghost use Rattle.trace_model.specs.Complete.{AcceptsTruth};
 ghost use Rattle.network_model.specs.Premises.{IsFreshAndTicked, IsWithinTurn, exact_limits};
 
+use crate::history::History;
 use crate::kept::Kept;
 use crate::refusal::CheckFault;
 use network_model::Nodes;
@@ -38,7 +39,7 @@ pub fn check(alloc: Global, nodes: &Nodes, lines: &[TraceLine]) -> Result<Verdic
 #[derive(Drop)]
 pub struct Checker {
     nodes: Nodes,
-    lines: Vec<TraceLine>,
+    fed: History,
     kept: Kept,
 }
 
@@ -49,9 +50,9 @@ impl Model for Checker {
 
     ghost Value = { Transcript };
 
-    ghost view = { λ c. record { network = c.nodes; lines = c.lines.items } };
+    ghost view = { λ c. record { network = c.nodes; lines = reverse c.fed } };
 
-    ghost invariant = { λ c. IsKept c.kept (length c.lines.items) (machine c.nodes (reverse c.lines.items)) };
+    ghost invariant = { λ c. IsKept c.kept (length c.fed) (machine c.nodes c.fed) };
 }
 
 impl Checker {
@@ -64,7 +65,7 @@ impl Checker {
     {
         Ok(Checker {
             nodes,
-            lines: Vec::new(alloc),
+            fed: History::new(),
             kept: Kept::new(alloc),
         })
     }
@@ -76,12 +77,8 @@ impl Checker {
             (λ _. self.new ≡ record { network = self.old.network; lines = self.old.lines ++ line ∷ [] })
             (λ fault. (fault ≡ Memory) × (self.new ≡ self.old)) }
     {
-        if self.lines.reserve(1).is_err() {
-            return Err(CheckFault::Memory);
-        }
         self.kept.step(&self.nodes, &line)?;
-        let pushed = self.lines.push(line);
-        prove!(pushed.is_ok());
+        self.fed.push(&line);
         Ok(())
     }
 
@@ -89,7 +86,7 @@ impl Checker {
     pub fn len(&self) -> u64
         ensures { result ≡ length self.now.lines }
     {
-        self.lines.len() as u64
+        self.kept.facts.len() as u64
     }
 
     /// The verdict on the lines fed so far, as [`check`] answers it.

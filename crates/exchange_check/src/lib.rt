@@ -6,6 +6,7 @@ mod checker;
 mod events;
 mod facts;
 mod good;
+mod history;
 mod judging;
 mod kept;
 mod octets;
