@@ -2,8 +2,6 @@
 use Rattle.std.proofs.Common.{◌≡◌, ◌∙◌, ℕ, zero, suc, ◌+◌, ◌<◌, ◌≤◌, Bool, true, false, ◌&&◌, cond, eqb, List, [], ◌∷◌, ◌++◌, length, Option, Some, None, refl, sym, ap, subst, arith, length-append}
 use Rattle.std.specs.Prelude.{option_map, option_and_then, is_some, nat_lt}
 use Rattle.std.specs.Option.{option_map_or}
-use Rattle.std.specs.BTreeMap.{get}
-use Rattle.std.specs.Ordering.{nat_cmp}
 use Rattle.std.proofs.lemmas.Bool.Decides.{nat_tests}
 use Rattle.network_model.specs.Network.{Network}
 use Rattle.exchange_check.specs.declared.facts.Fact.{Fact}
@@ -14,14 +12,14 @@ use Rattle.trace_model.specs.declared.verdict.Verdict.{Verdict}
 use Rattle.trace_model.specs.declared.verdict.Verdict.TheVariants.{Accepted, Refused}
 use Rattle.trace_model.specs.declared.verdict.Why.{Why}
 use Rattle.trace_model.specs.Verdict.{accepted_count, one_more, report_in}
-use Rattle.exchange_check.specs.Kept.{Facts, Sites, Leaves, Stamps, fact_in, site_in, fact_by}
+use Rattle.exchange_check.specs.Kept.{Facts, Sites, Leaves, Stamps, fact_in, fact_by}
 use Rattle.exchange_check.specs.declared.stays.Stays.{Stays}
 use Rattle.exchange_check.specs.Stays.{LastStays, stay_below, stay_of, last_stays, with_stay, is_once, once_by, Once, once_of, branch_in, is_whole, AreStays, once_in}
 use Rattle.exchange_check.specs.Judged.{reason_by}
 use Rattle.network_model.specs.Kinds.{entered_copy, spent_transit}
 use Rattle.trace_model.specs.Sound.{where_passes}
 use Rattle.std.proofs.lemmas.Bool.{eqb-true, eq-eqb, ltb-true}
-use Rattle.exchange_check.specs.Machine.{Machine, IsKept, with_fact, sites_told, leaves_told, stamps_told, judged, after_line}
+use Rattle.exchange_check.specs.Machine.{Machine, IsKept, facts_of, sites_of, stamps_of, with_fact, sites_told, leaves_told, stamps_told, judged, after_line}
 
 same_test : (facts later : Facts) (fact : Option Fact) (k l : ℕ) → facts (suc k) ≡ later k → with_fact later l fact k ≡ with_fact facts (suc l) fact (suc k)
 same_test facts later fact k l h = grind (arith, nat_tests)
@@ -126,13 +124,13 @@ pub IsKept-line : (network : Network) (line : TraceLine) (count : ℕ) (m : Mach
     → IsKept kept count m
     → number ≡ length kept.facts.items
     → last ≡ length kept.facts.items
-    → fact ≡ fact_by network (fact_in kept.facts.items) (site_in kept.sites) line number
+    → fact ≡ fact_by network (facts_of kept) (sites_of kept) line number
     → items ≡ kept.facts.items ++ fact ∷ []
     → after.facts.items ≡ items
-    → site_in after.sites ≡ sites_told fact number (site_in kept.sites)
+    → sites_of after ≡ sites_told fact number (sites_of kept)
     → ((stays : LastStays) (leaves : Leaves) → AreStays kept.stays stays leaves number → AreStays after.stays (with_stay number (option_and_then (stay_of (fact_in items) number) fact) stays) (leaves_told fact leaves) (number + 1))
-    → get nat_cmp after.stamps ≡ stamps_told fact number (site_in kept.sites) (get nat_cmp kept.stamps)
-    → after.verdict ≡ judged network (fact_in items) (once_in kept.stays) (get nat_cmp kept.stamps) (site_in kept.sites) fact line.out last kept.verdict
+    → stamps_of after ≡ stamps_told fact number (sites_of kept) (stamps_of kept)
+    → after.verdict ≡ judged network (fact_in items) (once_in kept.stays) (stamps_of kept) (sites_of kept) fact line.out last kept.verdict
     → IsKept after (count + 1) (after_line network line count m)
 IsKept-line network line count m kept after number last fact items h number_is last_is fact_is items_is items_after sites_is stays_is stamps_is verdict_is =
     let counted : number ≡ count = number_is ∙ h.count_is in

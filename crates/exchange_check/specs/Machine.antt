@@ -72,12 +72,24 @@ abbrev pub machine : Network → Lines → Machine
 machine network [] = start
 machine network (line ∷ earlier) = after_line network line (length earlier) (machine network earlier)
 
+-- what is kept of lines
+abbrev pub facts_of : Kept → Facts
+facts_of kept = fact_in kept.facts.items
+
+-- what is kept of nodes
+abbrev pub sites_of : Kept → Sites
+sites_of kept = site_in kept.sites
+
+-- what is kept of requests
+abbrev pub stamps_of : Kept → Stamps
+stamps_of kept = get nat_cmp kept.stamps
+
 -- what is kept is this, after so many lines
 pub record IsKept (kept : Kept) (count : ℕ) (m : Machine) : Type 0 where
   pub count_is : length kept.facts.items ≡ count
-  pub facts : fact_in kept.facts.items ≡ m.facts
-  pub sites : site_in kept.sites ≡ m.sites
+  pub facts : facts_of kept ≡ m.facts
+  pub sites : sites_of kept ≡ m.sites
   pub stays : AreStays kept.stays (last_stays m.facts) m.leaves count
-  pub stamps : get nat_cmp kept.stamps ≡ m.stamps
+  pub stamps : stamps_of kept ≡ m.stamps
   pub verdict : kept.verdict ≡ m.verdict
   pub within : accepted_count m.verdict ≤ count

@@ -6,14 +6,14 @@ ghost use Rattle.std.specs.Prelude.{◌<◌, MatchResult};
 ghost use Rattle.std.specs.BTreeMap.{get};
 ghost use Rattle.std.specs.Ordering.{nat_cmp};
 ghost use Rattle.trace_model.specs.Verdict.{accepted_count};
-ghost use Rattle.exchange_check.specs.Machine.{Machine, IsKept, start, judged, after_line, sites_told, leaves_told, stamps_told};
+ghost use Rattle.exchange_check.specs.Machine.{Machine, IsKept, facts_of, sites_of, stamps_of, start, judged, after_line, sites_told, leaves_told, stamps_told};
 ghost use Rattle.exchange_check.specs.Stays.{LastStays, stay_of, with_stay, AreStays, once_in};
 ghost use Rattle.network_model.specs.Kinds.{spent_transit};
 ghost use Rattle.std.specs.Option.{option_map_or, option_or};
 ghost use Rattle.network_model.specs.Network.{NodeName};
 ghost use Rattle.exchange_check.specs.Kept.{Leaves, moved, moved_at, stamped, sites_after, leaves_after, stamps_after};
 ghost use Rattle.ptp_units.specs.Sequence.{of_count};
-ghost use Rattle.exchange_check.specs.Kept.{fact_in, site_in, travel_at, copy_entered_by, stayed, begun_by, travel_by, travelled_by, followed_by, answered_by, message_by, known_by, number_by, fact_known, fact_by, travel_left, written_travel, port_setup, contents_of};
+ghost use Rattle.exchange_check.specs.Kept.{site_in, travel_at, copy_entered_by, stayed, begun_by, travel_by, travelled_by, followed_by, answered_by, message_by, known_by, number_by, fact_known, fact_by, travel_left, written_travel, port_setup, contents_of};
 ghost use Rattle.trace_model.specs.Record.{is_reading};
 
 use crate::events::entered_copy;
@@ -138,7 +138,7 @@ impl Kept {
 
     /// What is kept of the line of this number, where it tells of something done.
     pub(crate) fn at(&self, number: u64) -> Option<Fact>
-        ensures { result ≡ fact_in self.now.facts.items number }
+        ensures { result ≡ facts_of self.now number }
     {
         match self.facts.get(number as usize) {
             Some(fact) => *fact,
@@ -148,7 +148,7 @@ impl Kept {
 
     /// What is kept of a node.
     pub(crate) fn site(&self, name: &Name) -> Site
-        ensures { result ≡ site_in self.now.sites name.now }
+        ensures { result ≡ sites_of self.now name.now }
     {
         match self.sites.get(name) {
             Some(site) => *site,
@@ -158,7 +158,7 @@ impl Kept {
 
     /// The journey of the copy that the line of this number made.
     pub(crate) fn travel_at(&self, copy: u64) -> Option<Travel>
-        ensures { result ≡ travel_at (fact_in self.now.facts.items) copy }
+        ensures { result ≡ travel_at (facts_of self.now) copy }
     {
         match self.at(copy) {
             Some(fact) => fact.travel,
@@ -168,7 +168,7 @@ impl Kept {
 
     /// The sequenceId that an event draws.
     fn number(&self, nodes: &Nodes, event: &Event) -> Seq
-        ensures { result.0 ≡ number_by nodes.now (site_in self.now.sites) event.now }
+        ensures { result.0 ≡ number_by nodes.now (sites_of self.now) event.now }
     {
         match event {
             Event::Sync { node, .. } | Event::SyncOne { node, .. } => {
@@ -181,7 +181,7 @@ impl Kept {
 
     /// What is known of a line from the line itself and from its node.
     fn known(&self, nodes: &Nodes, line: &TraceLine, number: u64) -> Known
-        ensures { result ≡ known_by nodes.now (site_in self.now.sites) line.now number }
+        ensures { result ≡ known_by nodes.now (sites_of self.now) line.now number }
     {
         let site = self.site(&line.event.node());
         Known {
@@ -195,7 +195,7 @@ impl Kept {
 
     /// The journey of a copy that leaves a clock, its own octets left out.
     fn left(&self, clock: &Name, transit: u64, known: &Known) -> Option<Travel>
-        ensures { result ≡ travel_left (fact_in self.now.facts.items) clock.now transit known.now }
+        ensures { result ≡ travel_left (facts_of self.now) clock.now transit known.now }
     {
         let Some(entered) = self.at(transit) else {
             return None;
@@ -207,7 +207,7 @@ impl Kept {
 
     /// The journey of the copy that a line made, its own octets left out.
     fn travel(&self, known: &Known, event: &Event) -> Option<Travel>
-        ensures { result ≡ travel_by (fact_in self.now.facts.items) known.now event.now }
+        ensures { result ≡ travel_by (facts_of self.now) known.now event.now }
     {
         match event {
             Event::Sync { .. } | Event::SyncOne { .. } | Event::Request { .. } => {
@@ -220,7 +220,7 @@ impl Kept {
 
     /// The message at the end of a journey.
     fn travelled(&self, nodes: &Nodes, travel: &Travel) -> Option<Written>
-        ensures value { option_map contents_of result ≡ travelled_by nodes.now (fact_in self.now.facts.items) travel.now }
+        ensures value { option_map contents_of result ≡ travelled_by nodes.now (facts_of self.now) travel.now }
         ensures sign { IfSome result (λ m. pos 0 ≤ℤ m.header.correction.0) }
     {
         let Some(origin) = self.at(travel.origin) else {
@@ -238,7 +238,7 @@ impl Kept {
 
     /// The Follow_Up of the Sync line of this number.
     fn followed(&self, port: &Port, last: Option<u64>) -> Option<Written>
-        ensures { option_map contents_of result ≡ followed_by (fact_in self.now.facts.items) (port_setup port.now) last }
+        ensures { option_map contents_of result ≡ followed_by (facts_of self.now) (port_setup port.now) last }
     {
         let Some(sync) = self.at(last?) else {
             return None;
@@ -254,7 +254,7 @@ impl Kept {
         now: ScaledTime,
         travel: Option<Travel>,
     ) -> Option<Written>
-        ensures { option_map contents_of result ≡ answered_by nodes.now (fact_in self.now.facts.items) (port_setup port.now) now travel }
+        ensures { option_map contents_of result ≡ answered_by nodes.now (facts_of self.now) (port_setup port.now) now travel }
     {
         let request = self.travelled(nodes, &travel?)?;
         Some(delay_resp(&port.config, &request.header, now))
@@ -268,7 +268,7 @@ impl Kept {
         travel: Option<Travel>,
         event: &Event,
     ) -> Option<Written>
-        ensures { option_map contents_of result ≡ message_by nodes.now (fact_in self.now.facts.items) known.now travel event.now }
+        ensures { option_map contents_of result ≡ message_by nodes.now (facts_of self.now) known.now travel event.now }
     {
         match event {
             Event::Sync { .. } | Event::SyncOne { .. } | Event::Request { .. } => {
@@ -286,7 +286,7 @@ impl Kept {
 
     /// What is kept of a line that tells of something done.
     fn told(&self, nodes: &Nodes, line: &TraceLine, known: &Known) -> Fact
-        ensures { result ≡ fact_known nodes.now (fact_in self.now.facts.items) line.now known.now (travel_by (fact_in self.now.facts.items) known.now line.now.event) }
+        ensures { result ≡ fact_known nodes.now (facts_of self.now) line.now known.now (travel_by (facts_of self.now) known.now line.now.event) }
     {
         let travel = self.travel(known, &line.event);
         let message = self.message(nodes, known, travel, &line.event);
@@ -307,7 +307,7 @@ impl Kept {
 
     /// What is kept of a line of this number.
     pub(crate) fn fact(&self, nodes: &Nodes, line: &TraceLine, number: u64) -> Option<Fact>
-        ensures { result ≡ fact_by nodes.now (fact_in self.now.facts.items) (site_in self.now.sites) line.now number }
+        ensures { result ≡ fact_by nodes.now (facts_of self.now) (sites_of self.now) line.now number }
     {
         if !counts(nodes, line) {
             return None;
@@ -319,7 +319,7 @@ impl Kept {
     /// is known.
     fn entered(&self, fact: &Fact, transit: u64, number: u64) -> Option<u64>
         ensures stay { spent_transit fact.now.event ≡ Some transit
-            → option_map (λ copy. (transit, copy)) result ≡ stay_of (fact_in self.now.facts.items) number fact.now }
+            → option_map (λ copy. (transit, copy)) result ≡ stay_of (facts_of self.now) number fact.now }
         ensures below { IfSome result (λ copy. copy < number) }
     {
         if fact.travel.is_none() || transit >= number {
@@ -334,15 +334,15 @@ impl Kept {
 
     /// Notes the line of this number, of which this fact was kept.
     fn note(&mut self, fact: &Fact, number: u64) -> Result<(), CheckFault>
-        ensures sites { OnOk result (site_in self.new.sites ≡ sites_after fact.now.event number (site_in self.old.sites)) }
+        ensures sites { OnOk result (sites_of self.new ≡ sites_after fact.now.event number (sites_of self.old)) }
         ensures stays { (stays : LastStays) (leaves : Leaves) → AreStays self.old.stays stays leaves number → MatchResult result
-            (λ _. AreStays self.new.stays (with_stay number (stay_of (fact_in self.old.facts.items) number fact.now) stays) (leaves_after fact.now.event leaves) (number + 1))
+            (λ _. AreStays self.new.stays (with_stay number (stay_of (facts_of self.old) number fact.now) stays) (leaves_after fact.now.event leaves) (number + 1))
             (λ _. AreStays self.new.stays stays leaves number) }
-        ensures stamps { OnOk result (get nat_cmp self.new.stamps ≡ stamps_after fact.now.event number (site_in self.old.sites) (get nat_cmp self.old.stamps)) }
-        ensures facts { self.new.facts.items ≡ self.old.facts.items }
+        ensures stamps { OnOk result (stamps_of self.new ≡ stamps_after fact.now.event number (sites_of self.old) (stamps_of self.old)) }
+        ensures facts { self.new.facts ≡ self.old.facts }
         ensures verdict { self.new.verdict ≡ self.old.verdict }
-        ensures same_sites { OnErr result (site_in self.new.sites ≡ site_in self.old.sites) }
-        ensures same_stamps { OnErr result (get nat_cmp self.new.stamps ≡ get nat_cmp self.old.stamps) }
+        ensures same_sites { OnErr result (sites_of self.new ≡ sites_of self.old) }
+        ensures same_stamps { OnErr result (stamps_of self.new ≡ stamps_of self.old) }
     {
         match &fact.event {
             Event::Sync { .. }
@@ -364,15 +364,15 @@ impl Kept {
 
     /// Notes the line of this number, with this fact.
     fn tell(&mut self, fact: &Option<Fact>, number: u64) -> Result<(), CheckFault>
-        ensures sites { OnOk result (site_in self.new.sites ≡ sites_told fact.now number (site_in self.old.sites)) }
+        ensures sites { OnOk result (sites_of self.new ≡ sites_told fact.now number (sites_of self.old)) }
         ensures stays { (stays : LastStays) (leaves : Leaves) → AreStays self.old.stays stays leaves number → MatchResult result
-            (λ _. AreStays self.new.stays (with_stay number (option_and_then (stay_of (fact_in self.old.facts.items) number) fact.now) stays) (leaves_told fact.now leaves) (number + 1))
+            (λ _. AreStays self.new.stays (with_stay number (option_and_then (stay_of (facts_of self.old) number) fact.now) stays) (leaves_told fact.now leaves) (number + 1))
             (λ _. AreStays self.new.stays stays leaves number) }
-        ensures stamps { OnOk result (get nat_cmp self.new.stamps ≡ stamps_told fact.now number (site_in self.old.sites) (get nat_cmp self.old.stamps)) }
-        ensures facts { self.new.facts.items ≡ self.old.facts.items }
+        ensures stamps { OnOk result (stamps_of self.new ≡ stamps_told fact.now number (sites_of self.old) (stamps_of self.old)) }
+        ensures facts { self.new.facts ≡ self.old.facts }
         ensures verdict { self.new.verdict ≡ self.old.verdict }
-        ensures same_sites { OnErr result (site_in self.new.sites ≡ site_in self.old.sites) }
-        ensures same_stamps { OnErr result (get nat_cmp self.new.stamps ≡ get nat_cmp self.old.stamps) }
+        ensures same_sites { OnErr result (sites_of self.new ≡ sites_of self.old) }
+        ensures same_stamps { OnErr result (stamps_of self.new ≡ stamps_of self.old) }
     {
         match fact {
             Some(told) => self.note(told, number),
@@ -382,8 +382,8 @@ impl Kept {
 
     /// The verdict after a line of this number with this fact, which is kept already.
     fn judged(&self, nodes: &Nodes, fact: &Option<Fact>, out: &TraceOut, number: u64) -> Verdict
-        ensures { accepted_count self.now.verdict < 18446744073709551615 → result ≡ judged nodes.now (fact_in self.now.facts.items)
-            (once_in self.now.stays) (get nat_cmp self.now.stamps) (site_in self.now.sites) fact.now out.now number self.now.verdict }
+        ensures { accepted_count self.now.verdict < 18446744073709551615 → result ≡ judged nodes.now (facts_of self.now)
+            (once_in self.now.stays) (stamps_of self.now) (sites_of self.now) fact.now out.now number self.now.verdict }
     {
         let (Verdict::Accepted(count), TraceOut::Report(report)) = (self.verdict, out) else {
             return self.verdict;
