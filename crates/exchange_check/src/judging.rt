@@ -241,7 +241,7 @@ impl Kept {
         ensures { result ≡ line_of_by (facts_of self.now) is_arrival slave.now number }
     {
         match self.at(number) {
-            Some(fact) if is_here(is_arrival(&fact.event), &fact.event, slave) => Some(fact),
+            Some(fact) if is_here(is_arrival(&fact.event), &fact.event, slave) => Some(*fact),
             _ => None,
         }
     }
@@ -251,7 +251,7 @@ impl Kept {
         ensures { result ≡ line_of_by (facts_of self.now) is_hearing slave.now number }
     {
         match self.at(number) {
-            Some(fact) if is_here(is_hearing(&fact.event), &fact.event, slave) => Some(fact),
+            Some(fact) if is_here(is_hearing(&fact.event), &fact.event, slave) => Some(*fact),
             _ => None,
         }
     }
@@ -261,7 +261,7 @@ impl Kept {
         ensures { result ≡ line_of_by (facts_of self.now) is_request slave.now number }
     {
         match self.at(number) {
-            Some(fact) if is_here(is_request(&fact.event), &fact.event, slave) => Some(fact),
+            Some(fact) if is_here(is_request(&fact.event), &fact.event, slave) => Some(*fact),
             _ => None,
         }
     }
@@ -272,7 +272,7 @@ impl Kept {
     {
         let copy = heard_copy(&fact.event)?;
         if copy < fact.line {
-            self.at(copy)
+            self.at(copy).copied()
         } else {
             None
         }
@@ -380,10 +380,8 @@ impl Kept {
         ensures { result ≡ way_at (facts_of self.now) copy }
     {
         let travel = self.travel_at(copy)?;
-        match self.at(travel.origin) {
-            Some(origin) => Some(Way { travel, origin }),
-            None => None,
-        }
+        let origin = *self.at(travel.origin)?;
+        Some(Way { travel, origin })
     }
 
     /// The journey of a Sync that arrives at a line.

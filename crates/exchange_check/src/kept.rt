@@ -137,12 +137,12 @@ impl Kept {
     }
 
     /// What is kept of the line of this number, where it tells of something done.
-    pub(crate) fn at(&self, number: u64) -> Option<Fact>
-        ensures { result ≡ facts_of self.now number }
+    pub(crate) fn at(&self, number: u64) -> Option<&Fact>
+        ensures { option_map (λ fact. fact.now) result ≡ facts_of self.now number }
     {
         match self.facts.get(number as usize) {
-            Some(fact) => *fact,
-            None => None,
+            Some(Some(fact)) => Some(fact),
+            _ => None,
         }
     }
 
@@ -197,12 +197,10 @@ impl Kept {
     fn left(&self, clock: &Name, transit: u64, known: &Known) -> Option<Travel>
         ensures { result ≡ travel_left (facts_of self.now) clock.now transit known.now }
     {
-        let Some(entered) = self.at(transit) else {
-            return None;
-        };
-        let copy = copy_entered(clock, &entered)?;
+        let entered = self.at(transit)?;
+        let copy = copy_entered(clock, entered)?;
         let before = self.travel_at(copy)?;
-        Some(stayed(known, &entered, &before))
+        Some(stayed(known, entered, &before))
     }
 
     /// The journey of the copy that a line made, its own octets left out.
@@ -223,16 +221,8 @@ impl Kept {
         ensures value { option_map contents_of result ≡ travelled_by nodes.now (facts_of self.now) travel.now }
         ensures sign { IfSome result (λ m. pos 0 ≤ℤ m.header.correction.0) }
     {
-        let Some(origin) = self.at(travel.origin) else {
-            return None;
-        };
-        let Fact {
-            event,
-            number,
-            reading,
-            ..
-        } = origin;
-        let message = sent(nodes, &event, number, reading)?;
+        let origin = self.at(travel.origin)?;
+        let message = sent(nodes, &origin.event, origin.number, origin.reading)?;
         Some(resided(&message, travel.residence))
     }
 
@@ -240,9 +230,7 @@ impl Kept {
     fn followed(&self, port: &Port, last: Option<u64>) -> Option<Written>
         ensures { option_map contents_of result ≡ followed_by (facts_of self.now) (port_setup port.now) last }
     {
-        let Some(sync) = self.at(last?) else {
-            return None;
-        };
+        let sync = self.at(last?)?;
         Some(follow_up(&port.config, sync.number, sync.reading))
     }
 
@@ -325,10 +313,7 @@ impl Kept {
         if fact.travel.is_none() || transit >= number {
             return None;
         }
-        let copy = match self.at(transit) {
-            Some(entered) => entered_copy(&entered.event)?,
-            None => return None,
-        };
+        let copy = entered_copy(&self.at(transit)?.event)?;
         if copy < number { Some(copy) } else { None }
     }
 
