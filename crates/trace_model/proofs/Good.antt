@@ -34,7 +34,7 @@ use Rattle.network_model.specs.Premises.{is_of_use}
 use Rattle.network_model.proofs.Options.{ok_step, ok_some}
 use Rattle.trace_model.specs.declared.line.TraceOut.{TraceOut}
 use Rattle.trace_model.specs.declared.line.TraceOut.TheVariants as outs
-use Rattle.trace_model.specs.Line.{is_done, is_made, is_entered, is_heard, is_refused, is_ignored, is_master, is_slave, is_clock, is_kind, clock_kind, may_arrive, may_happen}
+use Rattle.trace_model.specs.Line.{is_done, is_made, is_entered, is_heard, is_refused, is_ignored, is_master, is_slave, is_clock, is_kind, clock_kind, may_arrive, is_good}
 use Rattle.trace_model.specs.Told.{TellsMade, TellsOutcome, heard_out}
 use Rattle.trace_model.specs.Faithful.{is_effective, took_effect, EachLineIsGood}
 
@@ -164,7 +164,7 @@ module _ (network : Network) (earlier : Run) (copy : Option Contents) (outcome :
   of_step false is = cc
 
   -- a line of each kind of event is good
-  good_at : (event : Event) → outcome_of network earlier event ≡ Ok outcome → may_happen network event out ≡ true
+  good_at : (event : Event) → outcome_of network earlier event ≡ Ok outcome → is_good network event out ≡ true
   good_at (Sync node at) is =
       let port = ok_step (node_as master_port network node) (λ port. reads (Sync node at) earlier >>= (λ now. Ok outcomes.Made)) is in
       let now = ok_step (reads (Sync node at) earlier) (λ now. Ok outcomes.Made) port.2 in
@@ -268,8 +268,8 @@ pub each_line_is_good : EachLineIsGood
 each_line_is_good network event earlier line told =
     let answered = told.told in
     let copy : Option Contents = copy_of network (event ∷ earlier) told.stepped.tag in
-    let good : may_happen network line.event line.out ≡ true =
-    ap (λ (e : Event). may_happen network e line.out) answered.event
+    let good : is_good network line.event line.out ≡ true =
+    ap (λ (e : Event). is_good network e line.out) answered.event
     ∙ good_at network earlier copy told.stepped.outcome line.out answered.outcome event told.answered.outcome in
     record {
       good = good;

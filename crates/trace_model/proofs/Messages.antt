@@ -25,7 +25,7 @@ use Rattle.network_model.proofs.Copies.{answered as answers_request}
 use Rattle.network_model.proofs.Entries.{delay_req_copy}
 use Rattle.trace_model.specs.declared.line.TraceOut.{TraceOut}
 use Rattle.trace_model.specs.declared.line.TraceOut.TheVariants as outs
-use Rattle.trace_model.specs.Line.{is_made, is_entered, is_done, is_heard, is_refused, is_slave, is_clock, is_master, may_happen}
+use Rattle.trace_model.specs.Line.{is_made, is_entered, is_done, is_heard, is_refused, is_slave, is_clock, is_master, is_good}
 use Rattle.trace_model.specs.Octets.{writes_right}
 use Rattle.trace_model.specs.Sound.{lines_to}
 use Rattle.trace_model.specs.Faithful.{TellsPlace}
@@ -126,11 +126,11 @@ each_message_is_written network p e tells is = by p.event refl
     made = is_made_told network p.event p.earlier e.line tells.told
         (the_value tells.told.stepped.outcome outcomes.Made (sym tells.told.answered.outcome ∙ is))
 
-    good : may_happen network p.event e.line.out ≡ true
-    good = ap (λ (v : Event). may_happen network v e.line.out) (sym (same_event network p e tells)) ∙ (each_line_is_good network p.event p.earlier e.line tells.told).good
+    good : is_good network p.event e.line.out ≡ true
+    good = ap (λ (v : Event). is_good network v e.line.out) (sym (same_event network p e tells)) ∙ (each_line_is_good network p.event p.earlier e.line tells.told).good
 
-    good_as : (v : Event) → p.event ≡ v → may_happen network v e.line.out ≡ true
-    good_as v same = subst (λ (v : Event). may_happen network v e.line.out ≡ true) same good
+    good_as : (v : Event) → p.event ≡ v → is_good network v e.line.out ≡ true
+    good_as v same = subst (λ (v : Event). is_good network v e.line.out ≡ true) same good
 
     outcome_as : (v : Event) → p.event ≡ v → outcome_of network p.earlier v ≡ Ok outcomes.Made
     outcome_as v same = subst (λ (v : Event). outcome_of network p.earlier v ≡ Ok outcomes.Made) same is

@@ -19,7 +19,7 @@ use Rattle.network_model.specs.Kinds.{is_follow, is_request, draws_sync, heard_c
 use Rattle.network_model.specs.Truth.{copy_of}
 use Rattle.trace_model.specs.declared.line.TraceLine.{TraceLine}
 use Rattle.trace_model.specs.declared.line.TraceOut.{TraceOut}
-use Rattle.trace_model.specs.Line.{Lines, is_made, is_refused, is_ignored, is_master, is_slave, is_clock, is_arrival, completes, is_hearing, may_happen, counts}
+use Rattle.trace_model.specs.Line.{Lines, is_made, is_refused, is_ignored, is_master, is_slave, is_clock, is_arrival, completes, is_hearing, is_good, counts}
 use Rattle.trace_model.specs.Record.{LinePlace, line_place, event_of, site, line_number, line_at, events}
 use Rattle.trace_model.specs.Journey.{Journey, Stay, begun, with_stay, copy_entered, left_from, journey_made, journey_of, left_once}
 use Rattle.trace_model.specs.Octets.{writes_right}
@@ -75,11 +75,11 @@ message_there : (network : Network) (event : Event) (line : TraceLine) → line.
     → (journey : Journey) (e : LinePlace) (journeys : ℕ → Option Journey) → journey_made network event e journeys ≡ Some journey → is_made line.out ≡ true
 message_there network event line same counted journey e journeys made = by event same made
   where
-    parts : (may_happen network line.event line.out ≡ true) × (not (is_refused line.out || is_ignored line.out) ≡ true)
-    parts = and_parts (may_happen network line.event line.out) (not (is_refused line.out || is_ignored line.out)) counted
+    parts : (is_good network line.event line.out ≡ true) × (not (is_refused line.out || is_ignored line.out) ≡ true)
+    parts = and_parts (is_good network line.event line.out) (not (is_refused line.out || is_ignored line.out)) counted
 
-    good : (v : Event) → line.event ≡ v → may_happen network v line.out ≡ true
-    good v same = subst (λ (v : Event). may_happen network v line.out ≡ true) same parts.0
+    good : (v : Event) → line.event ≡ v → is_good network v line.out ≡ true
+    good v same = subst (λ (v : Event). is_good network v line.out ≡ true) same parts.0
 
     by : (v : Event) → line.event ≡ v → journey_made network v e journeys ≡ Some journey → is_made line.out ≡ true
     by (Sync node at) same is = (and_parts (is_master network node) (is_made line.out) (good (Sync node at) same)).1
@@ -160,8 +160,8 @@ line_told network (event ∷ earlier) (line ∷ lines) number e told is = at (le
 -- a Follow_Up's line that counts tells of a message
 follow_there : (network : Network) (event : Event) (line : TraceLine) → line.event ≡ event → counts network line ≡ true → is_follow event ≡ true → is_made line.out ≡ true
 follow_there network (Follow node) line same counted is =
-    let good = (and_parts (may_happen network line.event line.out) (not (is_refused line.out || is_ignored line.out)) counted).0 in
-    (and_parts (is_master network node) (is_made line.out) (subst (λ (v : Event). may_happen network v line.out ≡ true) same good)).1
+    let good = (and_parts (is_good network line.event line.out) (not (is_refused line.out || is_ignored line.out)) counted).0 in
+    (and_parts (is_master network node) (is_made line.out) (subst (λ (v : Event). is_good network v line.out ≡ true) same good)).1
 follow_there network (Sync node at) line same counted is = cc
 follow_there network (SyncOne node at) line same counted is = cc
 follow_there network (Enter node copy at) line same counted is = cc

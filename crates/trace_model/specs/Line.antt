@@ -82,24 +82,24 @@ may_arrive network node out =
     is_master network node && (is_made out || is_refused out) || is_slave network node && is_heard out
 
 -- a good line: its nodes are of the kinds that its event is for, and the event may have come out so
-abbrev pub may_happen : Network → Event → TraceOut → Bool
-may_happen network (Sync node at) out = is_master network node && is_made out
-may_happen network (SyncOne node at) out = is_master network node && is_made out
-may_happen network (Follow node) out = is_master network node && is_made out
-may_happen network (Enter node copy at) out = is_clock network node && is_entered out
-may_happen network (Leave node transit at) out = is_clock network node && (is_made out || is_refused out)
-may_happen network (Arrive node copy at) out = may_arrive network node out
-may_happen network (Hear node copy) out = is_slave network node && is_heard out
-may_happen network (Request node at) out = is_slave network node && is_made out
-may_happen network (Stamped node) out = is_slave network node && (is_done out || is_refused out)
-may_happen network (Tick node) out = is_slave network node && is_done out
-may_happen network (SetMaster node master) out = is_slave network node && is_master network master && is_done out
-may_happen network (StepClock node diff) out = is_some (kind_of network node) && is_done out
+abbrev pub is_good : Network → Event → TraceOut → Bool
+is_good network (Sync node at) out = is_master network node && is_made out
+is_good network (SyncOne node at) out = is_master network node && is_made out
+is_good network (Follow node) out = is_master network node && is_made out
+is_good network (Enter node copy at) out = is_clock network node && is_entered out
+is_good network (Leave node transit at) out = is_clock network node && (is_made out || is_refused out)
+is_good network (Arrive node copy at) out = may_arrive network node out
+is_good network (Hear node copy) out = is_slave network node && is_heard out
+is_good network (Request node at) out = is_slave network node && is_made out
+is_good network (Stamped node) out = is_slave network node && (is_done out || is_refused out)
+is_good network (Tick node) out = is_slave network node && is_done out
+is_good network (SetMaster node master) out = is_slave network node && is_master network master && is_done out
+is_good network (StepClock node diff) out = is_some (kind_of network node) && is_done out
 
 -- A line that tells of something done: it is good, and its event was neither refused nor ignored. To the lines after it
 -- every other line is as if it weren't there.
 abbrev pub counts : Network → TraceLine → Bool
-counts network line = may_happen network line.event line.out && not (is_refused line.out || is_ignored line.out)
+counts network line = is_good network line.event line.out && not (is_refused line.out || is_ignored line.out)
 
 -- a copy of an event message arrives at a master or at a slave
 abbrev pub is_arrival : Event → Bool
