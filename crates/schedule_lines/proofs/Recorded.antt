@@ -18,7 +18,7 @@ use Rattle.schedule_lines.specs.declared.traced.TranscriptLine.TheVariants as li
 use Rattle.schedule_lines.specs.Json.{field, has_keys, moment_in, name_in, whole_in, whole_below, octets_in, difference_in}
 use Rattle.schedule_lines.specs.declared.schedule.Line.TheVariants as schedules
 use Rattle.schedule_lines.specs.Line.{event_in, event_keys, node_in, at_in, copy_in, line_of}
-use Rattle.schedule_lines.specs.Traced.{transcript_line_of, recorded_in, reading_in, reading_keys, out_of, out_keys, line_keys, code_in, report_in}
+use Rattle.schedule_lines.specs.Traced.{transcript_line_of, trace_line_in, reading_in, reading_keys, out_of, out_keys, line_keys, code_in, report_in}
 use Rattle.schedule_lines.specs.Transcript.{whole, moment_data, difference_data, octets_data, tags_data, named_copy, event_text, made_octets, out_text, out_code, out_report, scheduled_data, event_data}
 use Rattle.schedule_lines.specs.Recorded.{IsShort, IsEvent, IsOut, IsRecorded, ScheduledReadBack, EventsReadBack}
 use Rattle.schedule_lines.proofs.Keys.{Field, members_of, event_fields, answer_fields, line_fields}
@@ -70,10 +70,10 @@ reading_back (Some at) (Some time) d timed read = rw read
 -- ---- a line
 
 recorded_back : (line : TraceLine) (d : Data) → event_in d ≡ Some line.event → reading_in (true_moment line.event) d ≡ Some line.reading
-    → field as_str (codes "out") d ≡ Some (out_text line.out) → out_of (out_text line.out) d ≡ Some line.out → recorded_in d ≡ Some line
+    → field as_str (codes "out") d ≡ Some (out_text line.out) → out_of (out_text line.out) d ≡ Some line.out → trace_line_in d ≡ Some line
 recorded_back line d event reading text out = rw (event, reading, text, out)
 
-line_back : (n : ℕ) (line : TraceLine) (d : Data) → get (codes "ev") d ≡ Some (string (event_text line.event)) → recorded_in d ≡ Some line
+line_back : (n : ℕ) (line : TraceLine) (d : Data) → get (codes "ev") d ≡ Some (string (event_text line.event)) → trace_line_in d ≡ Some line
     → field whole_in (codes "n") d ≡ Some n → has_keys (line_keys line) d ≡ true → transcript_line_of d ≡ Some (lines.Event n line)
 line_back n line d ev recorded number keys = rw (recorded, number, keys, ev)
 
