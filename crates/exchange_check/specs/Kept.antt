@@ -1,6 +1,8 @@
--- What the checker keeps of lines, so that it searches for nothing. Its own functions cite these; what its callers are told is
--- said by the lines alone.
-use Rattle.std.specs.Prelude.{ℕ, ◌+◌, ◌-◌, ◌^◌, ℤ, pos, ◌+ℤ◌, Bool, true, false, ◌&&◌, not, List, [], min, nat_lt, slice_get, unwrap_or, ◌==◌, is_some, if◌then◌else◌, Option, Some, None, option_map, option_and_then}
+-- What the checker keeps of lines, so that it searches for nothing. Its own functions cite these; what its callers
+-- are told is said by the lines alone.
+use Rattle.std.specs.Prelude.{ℕ, ◌+◌, ◌-◌, ◌^◌, ℤ, pos, ◌+ℤ◌, Bool, true, false, ◌&&◌, not}
+use Rattle.std.specs.Prelude.{List, [], min, nat_lt, slice_get, unwrap_or, ◌==◌, is_some, if◌then◌else◌}
+use Rattle.std.specs.Prelude.{Option, Some, None, option_map, option_and_then}
 use Rattle.std.specs.HashMap.{HashMap, get}
 use Rattle.std.specs.Str.{bytes_eq}
 use Rattle.std.specs.Option.{option_or, option_map_or}
@@ -9,7 +11,8 @@ use Rattle.event_codec.specs.Packet.{Contents}
 use Rattle.master_port.specs.Written.{follow_up, delay_resp}
 use Rattle.transparent_clock.specs.Forwarding.{resided}
 use Rattle.network_model.specs.declared.event.Event.{Event}
-use Rattle.network_model.specs.declared.event.Event.TheVariants.{Sync, SyncOne, Follow, Enter, Leave, Arrive, Hear, Request, Stamped, Tick, SetMaster, StepClock}
+use Rattle.network_model.specs.declared.event.Event.TheVariants.{Sync, SyncOne, Follow, Enter, Leave, Arrive, Hear}
+use Rattle.network_model.specs.declared.event.Event.TheVariants.{Request, Stamped, Tick, SetMaster, StepClock}
 use Rattle.network_model.specs.Network.{Network, NodeName, PortSetup, is_named}
 use Rattle.network_model.specs.Run.{site_of, true_moment}
 use Rattle.network_model.specs.Kinds.{entered_copy}
@@ -51,14 +54,17 @@ longest = 2 ^ 63 - 1
 
 -- the sequenceId that an event draws, 0 where it draws none
 abbrev pub number_by : Network → Sites → Event → ℕ
-number_by network sites (Sync node at) = option_map_or (λ port. of_count (port.first + (sites node).syncs.0)) (master_at network node) 0
-number_by network sites (SyncOne node at) = option_map_or (λ port. of_count (port.first + (sites node).syncs.0)) (master_at network node) 0
+number_by network sites (Sync node at) =
+    option_map_or (λ port. of_count (port.first + (sites node).syncs.0)) (master_at network node) 0
+number_by network sites (SyncOne node at) =
+    option_map_or (λ port. of_count (port.first + (sites node).syncs.0)) (master_at network node) 0
 number_by network sites (Follow node) = 0
 number_by network sites (Enter node copy at) = 0
 number_by network sites (Leave node transit at) = 0
 number_by network sites (Arrive node copy at) = 0
 number_by network sites (Hear node copy) = 0
-number_by network sites (Request node at) = option_map_or (λ port. of_count (port.first + (sites node).requests.0)) (slave_at network node) 0
+number_by network sites (Request node at) =
+    option_map_or (λ port. of_count (port.first + (sites node).requests.0)) (slave_at network node) 0
 number_by network sites (Stamped node) = 0
 number_by network sites (Tick node) = 0
 number_by network sites (SetMaster node master) = 0
@@ -92,7 +98,8 @@ abbrev pub stayed : Known → Fact → Travel → Travel
 stayed known entered before = record {
   origin = before.origin;
   residence = min (before.residence + (known.reading - entered.reading)) longest;
-  reads_right = before.reads_right && (entered.reads_right && known.reads && not (nat_lt known.reading entered.reading));
+  reads_right = before.reads_right
+      && (entered.reads_right && known.reads && not (nat_lt known.reading entered.reading));
   writes_right = before.writes_right;
 }
 
@@ -131,7 +138,8 @@ sent_by network event number now =
 -- the message at the end of a journey
 abbrev pub travelled_by : Network → Facts → Travel → Option Contents
 travelled_by network facts travel = option_and_then
-    (λ origin. option_map (λ m. resided m travel.residence) (sent_by network origin.event origin.number.0 origin.reading))
+    (λ origin. option_map (λ m. resided m travel.residence)
+    (sent_by network origin.event origin.number.0 origin.reading))
     (facts travel.origin)
 
 abbrev pub followed_by : Facts → PortSetup → Option ℕ → Option Contents
@@ -140,20 +148,24 @@ followed_by facts port last =
 
 abbrev pub answered_by : Network → Facts → PortSetup → (now : ℕ) → Option Travel → Option Contents
 answered_by network facts port now travel =
-    option_map (λ request. delay_resp port.config request.header now) (option_and_then (travelled_by network facts) travel)
+    option_map (λ request. delay_resp port.config request.header now)
+    (option_and_then (travelled_by network facts) travel)
 
 -- the message that a line made
 abbrev pub message_by : Network → Facts → Known → Option Travel → Event → Option Contents
 message_by network facts known travel (Sync node at) = sent_by network (Sync node at) known.number.0 known.reading
-message_by network facts known travel (SyncOne node at) = sent_by network (SyncOne node at) known.number.0 known.reading
+message_by network facts known travel (SyncOne node at) =
+    sent_by network (SyncOne node at) known.number.0 known.reading
 message_by network facts known travel (Follow node) =
     option_and_then (λ port. followed_by facts port known.last_sync) (master_at network node)
 message_by network facts known travel (Enter node copy at) = None
 message_by network facts known travel (Leave node transit at) = option_and_then (travelled_by network facts) travel
 message_by network facts known travel (Arrive node copy at) =
-    option_and_then (λ port. answered_by network facts port known.reading (travel_at facts copy)) (master_at network node)
+    option_and_then (λ port. answered_by network facts port known.reading (travel_at facts copy))
+    (master_at network node)
 message_by network facts known travel (Hear node copy) = None
-message_by network facts known travel (Request node at) = sent_by network (Request node at) known.number.0 known.reading
+message_by network facts known travel (Request node at) =
+    sent_by network (Request node at) known.number.0 known.reading
 message_by network facts known travel (Stamped node) = None
 message_by network facts known travel (Tick node) = None
 message_by network facts known travel (SetMaster node master) = None
@@ -190,7 +202,8 @@ fact_known network facts line known travel =
 abbrev pub fact_by : Network → Facts → Sites → TraceLine → ℕ → Option Fact
 fact_by network facts sites line n =
     if counts network line
-    then Some (fact_known network facts line (known_by network sites line n) (travel_by facts (known_by network sites line n) line.event))
+    then Some (fact_known network facts line (known_by network sites line n)
+    (travel_by facts (known_by network sites line n) line.event))
     else None
 
 -- what is kept of a node after an event of it at the line of this number

@@ -25,8 +25,10 @@ pub fn check(alloc: Global, nodes: &Nodes, lines: &[TraceLine]) -> Result<Verdic
         (λ fault. fault ≡ Memory) }
     ensures sound { IfOk result (λ answer. TellsSoundness nodes.now (reverse lines.now) answer) }
     // Nothing is missed: lines that tell a run with exact reports are accepted.
-    ensures complete { IfOk result (λ answer. AcceptsTruth (IsFreshAndTicked exact_limits) nodes.now (reverse lines.now) answer) }
-    ensures complete_within_one_turn { IfOk result (λ answer. AcceptsTruth IsWithinTurn nodes.now (reverse lines.now) answer) }
+    ensures complete { IfOk result
+        (λ answer. AcceptsTruth (IsFreshAndTicked exact_limits) nodes.now (reverse lines.now) answer) }
+    ensures complete_within_one_turn { IfOk result
+        (λ answer. AcceptsTruth IsWithinTurn nodes.now (reverse lines.now) answer) }
 {
     let mut kept = Kept::new(alloc);
     for line in lines {
@@ -93,7 +95,8 @@ impl Checker {
     pub fn verdict(&self) -> Verdict
         ensures verdict { result ≡ verdict self.now.network (reverse self.now.lines) }
         ensures sound { TellsSoundness self.now.network (reverse self.now.lines) result }
-        ensures complete { AcceptsTruth (IsFreshAndTicked exact_limits) self.now.network (reverse self.now.lines) result }
+        ensures complete { AcceptsTruth (IsFreshAndTicked exact_limits) self.now.network
+            (reverse self.now.lines) result }
         ensures complete_within_one_turn { AcceptsTruth IsWithinTurn self.now.network (reverse self.now.lines) result }
     {
         self.kept.verdict

@@ -13,7 +13,11 @@ ghost use Rattle.trace_model.specs.Sound.{is_of_line, is_domain, are_later, belo
 ghost use Rattle.exchange_check.specs.Kept.{port_setup};
 ghost use Rattle.exchange_check.specs.Machine.{facts_of, sites_of, stamps_of};
 ghost use Rattle.exchange_check.specs.Stays.{once_in};
-ghost use Rattle.exchange_check.specs.Judged.{line_of_by, sender_by, sync_by, follow_by, follows_by, arrival_by, completion_by, is_here, is_stamped_by, found_by, way_at, way_from, way_to, is_followed_by, paired_by, is_told, of_master_by, readings_by, fraction_by, fits_by, bracket_by, results_by, octets_by, ways_reason, both_ways, found_reason, fact_reason, reason_by};
+ghost use Rattle.exchange_check.specs.Judged.{line_of_by, sender_by, sync_by, follow_by, follows_by, arrival_by};
+ghost use Rattle.exchange_check.specs.Judged.{completion_by, is_here, is_stamped_by, found_by, way_at, way_from};
+ghost use Rattle.exchange_check.specs.Judged.{way_to, is_followed_by, paired_by, is_told, of_master_by, readings_by};
+ghost use Rattle.exchange_check.specs.Judged.{fraction_by, fits_by, bracket_by, results_by, octets_by, ways_reason};
+ghost use Rattle.exchange_check.specs.Judged.{both_ways, found_reason, fact_reason, reason_by};
 
 use crate::events::{
     draws_sync, heard_copy, is_arrival, is_follow, is_hearing, is_one_step_sync, is_request,
@@ -420,7 +424,8 @@ impl Kept {
         report: &Report,
         found: Option<Found>,
     ) -> Option<Why>
-        ensures { result ≡ found_reason nodes.now (facts_of self.now) (once_in self.now.stays) (sites_of self.now slave.now) slave.now report.now found }
+        ensures { result ≡ found_reason nodes.now (facts_of self.now) (once_in self.now.stays)
+            (sites_of self.now slave.now) slave.now report.now found }
     {
         let Some(found) = found else {
             return Some(Why::NoSuchLine);
@@ -437,7 +442,8 @@ impl Kept {
 
     /// Why a report at a line isn't sound, or nothing where it is.
     pub(crate) fn reason(&self, nodes: &Nodes, fact: &Option<Fact>, report: &Report) -> Option<Why>
-        ensures { result ≡ reason_by nodes.now (facts_of self.now) (once_in self.now.stays) (stamps_of self.now) (sites_of self.now) fact.now report.now }
+        ensures { result ≡ reason_by nodes.now (facts_of self.now) (once_in self.now.stays) (stamps_of self.now)
+            (sites_of self.now) fact.now report.now }
     {
         let Some(fact) = fact else {
             return Some(Why::NoSuchLine);

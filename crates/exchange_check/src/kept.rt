@@ -6,14 +6,18 @@ ghost use Rattle.std.specs.Prelude.{◌<◌, MatchResult};
 ghost use Rattle.std.specs.BTreeMap.{get};
 ghost use Rattle.std.specs.Ordering.{nat_cmp};
 ghost use Rattle.trace_model.specs.Verdict.{accepted_count};
-ghost use Rattle.exchange_check.specs.Machine.{Machine, IsKept, facts_of, sites_of, stamps_of, start, judged, after_line, sites_told, leaves_told, stamps_told};
-ghost use Rattle.exchange_check.specs.Stays.{LastStays, stay_of, with_stay, AreStays, once_in};
+ghost use Rattle.exchange_check.specs.Machine.{Machine, IsKept, facts_of, sites_of, stamps_of, start, judged};
+ghost use Rattle.exchange_check.specs.Machine.{after_line, sites_told, leaves_told, stamps_told};
+ghost use Rattle.exchange_check.specs.Stays.{stay_of, StaysAfter, once_in};
 ghost use Rattle.network_model.specs.Kinds.{spent_transit};
 ghost use Rattle.std.specs.Option.{option_map_or, option_or};
 ghost use Rattle.network_model.specs.Network.{NodeName};
 ghost use Rattle.exchange_check.specs.Kept.{Leaves, moved, moved_at, stamped, sites_after, leaves_after, stamps_after};
 ghost use Rattle.ptp_units.specs.Sequence.{of_count};
-ghost use Rattle.exchange_check.specs.Kept.{site_in, travel_at, copy_entered_by, stayed, begun_by, travel_by, travelled_by, followed_by, answered_by, message_by, known_by, number_by, fact_known, fact_by, travel_left, written_travel, port_setup, contents_of};
+ghost use Rattle.exchange_check.specs.Kept.{site_in, travel_at, copy_entered_by, stayed, begun_by};
+ghost use Rattle.exchange_check.specs.Kept.{travel_by, travelled_by, followed_by, answered_by, message_by};
+ghost use Rattle.exchange_check.specs.Kept.{known_by, number_by, fact_known, fact_by, travel_left};
+ghost use Rattle.exchange_check.specs.Kept.{written_travel, port_setup, contents_of};
 ghost use Rattle.trace_model.specs.Record.{is_reading};
 
 use crate::events::entered_copy;
@@ -242,7 +246,8 @@ impl Kept {
         now: ScaledTime,
         travel: Option<Travel>,
     ) -> Option<Written>
-        ensures { option_map contents_of result ≡ answered_by nodes.now (facts_of self.now) (port_setup port.now) now travel }
+        ensures { option_map contents_of result
+            ≡ answered_by nodes.now (facts_of self.now) (port_setup port.now) now travel }
     {
         let request = self.travelled(nodes, &travel?)?;
         Some(delay_resp(&port.config, &request.header, now))
@@ -274,7 +279,8 @@ impl Kept {
 
     /// What is kept of a line that tells of something done.
     fn told(&self, nodes: &Nodes, line: &TraceLine, known: &Known) -> Fact
-        ensures { result ≡ fact_known nodes.now (facts_of self.now) line.now known.now (travel_by (facts_of self.now) known.now line.now.event) }
+        ensures { result ≡ fact_known nodes.now (facts_of self.now) line.now known.now
+            (travel_by (facts_of self.now) known.now line.now.event) }
     {
         let travel = self.travel(known, &line.event);
         let message = self.message(nodes, known, travel, &line.event);
@@ -320,10 +326,10 @@ impl Kept {
     /// Notes the line of this number, of which this fact was kept.
     fn note(&mut self, fact: &Fact, number: u64) -> Result<(), CheckFault>
         ensures sites { OnOk result (sites_of self.new ≡ sites_after fact.now.event number (sites_of self.old)) }
-        ensures stays { (stays : LastStays) (leaves : Leaves) → AreStays self.old.stays stays leaves number → MatchResult result
-            (λ _. AreStays self.new.stays (with_stay number (stay_of (facts_of self.old) number fact.now) stays) (leaves_after fact.now.event leaves) (number + 1))
-            (λ _. AreStays self.new.stays stays leaves number) }
-        ensures stamps { OnOk result (stamps_of self.new ≡ stamps_after fact.now.event number (sites_of self.old) (stamps_of self.old)) }
+        ensures stays { StaysAfter self.old.stays self.new.stays number (stay_of (facts_of self.old) number fact.now)
+            (leaves_after fact.now.event) result }
+        ensures stamps { OnOk result
+            (stamps_of self.new ≡ stamps_after fact.now.event number (sites_of self.old) (stamps_of self.old)) }
         ensures facts { self.new.facts ≡ self.old.facts }
         ensures verdict { self.new.verdict ≡ self.old.verdict }
         ensures same_sites { OnErr result (sites_of self.new ≡ sites_of self.old) }
@@ -350,10 +356,10 @@ impl Kept {
     /// Notes the line of this number, with this fact.
     fn tell(&mut self, fact: &Option<Fact>, number: u64) -> Result<(), CheckFault>
         ensures sites { OnOk result (sites_of self.new ≡ sites_told fact.now number (sites_of self.old)) }
-        ensures stays { (stays : LastStays) (leaves : Leaves) → AreStays self.old.stays stays leaves number → MatchResult result
-            (λ _. AreStays self.new.stays (with_stay number (option_and_then (stay_of (facts_of self.old) number) fact.now) stays) (leaves_told fact.now leaves) (number + 1))
-            (λ _. AreStays self.new.stays stays leaves number) }
-        ensures stamps { OnOk result (stamps_of self.new ≡ stamps_told fact.now number (sites_of self.old) (stamps_of self.old)) }
+        ensures stays { StaysAfter self.old.stays self.new.stays number
+            (option_and_then (stay_of (facts_of self.old) number) fact.now) (leaves_told fact.now) result }
+        ensures stamps { OnOk result
+            (stamps_of self.new ≡ stamps_told fact.now number (sites_of self.old) (stamps_of self.old)) }
         ensures facts { self.new.facts ≡ self.old.facts }
         ensures verdict { self.new.verdict ≡ self.old.verdict }
         ensures same_sites { OnErr result (sites_of self.new ≡ sites_of self.old) }
@@ -367,8 +373,9 @@ impl Kept {
 
     /// The verdict after a line of this number with this fact, which is kept already.
     fn judged(&self, nodes: &Nodes, fact: &Option<Fact>, out: &TraceOut, number: u64) -> Verdict
-        ensures { accepted_count self.now.verdict < 18446744073709551615 → result ≡ judged nodes.now (facts_of self.now)
-            (once_in self.now.stays) (stamps_of self.now) (sites_of self.now) fact.now out.now number self.now.verdict }
+        ensures { accepted_count self.now.verdict < 18446744073709551615
+            → result ≡ judged nodes.now (facts_of self.now) (once_in self.now.stays) (stamps_of self.now)
+            (sites_of self.now) fact.now out.now number self.now.verdict }
     {
         let (Verdict::Accepted(count), TraceOut::Report(report)) = (self.verdict, out) else {
             return self.verdict;

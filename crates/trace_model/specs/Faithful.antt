@@ -1,5 +1,6 @@
--- What lines that tell a run have of it: which of them count, the line of each tag, what clocks read and which numbers were
--- drawn, and journeys. `laws::each_line_is_good`, `laws::each_reading_is_recorded` and `laws::each_journey_is_told` promise it.
+-- What lines that tell a run have of it: which of them count, the line of each tag, what clocks read and which
+-- numbers were drawn, and journeys. `laws::each_line_is_good`, `laws::each_reading_is_recorded` and
+-- `laws::each_journey_is_told` promise it.
 use Rattle.std.specs.Prelude.{◌≡◌, ℕ, List, [], ◌∷◌, is_some, Bool, true, false, Some, Ok, Err, Result}
 use Rattle.network_model.specs.declared.event.Event.{Event}
 use Rattle.network_model.specs.declared.refusal.WorldRefusal.{WorldRefusal}

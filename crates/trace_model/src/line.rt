@@ -55,7 +55,8 @@ impl TraceLine {
 
 /// What a line has of an outcome.
 fn out_of<C: CopyOctets>(stepped: &Stepped, world: &C) -> TraceOut
-    ensures { TellsOutcome (copy_of (C.network world.now) (C.run world.now) stepped.now.tag) stepped.now.outcome result }
+    ensures { TellsOutcome (copy_of (C.network world.now) (C.run world.now) stepped.now.tag) stepped.now.outcome
+        result }
 {
     match &stepped.outcome {
         Outcome::Done => TraceOut::Done,
