@@ -143,7 +143,8 @@ AreStays kept stays leaves number =
 
 -- the line of this number gives its copy this last stay, if any, and changes which stays were ended; where memory is
 -- refused, what is kept says the same as before
-abbrev pub StaysAfter : (old new : Stays) → ℕ → Option (ℕ × ℕ) → (Leaves → Leaves) → Result (Unit {0}) CheckFault → Type 0
+abbrev pub StaysAfter : (old new : Stays) → ℕ → Option (ℕ × ℕ) → (Leaves → Leaves) → Result (Unit {0}) CheckFault
+    → Type 0
 StaysAfter old new number stay ended result =
     (stays : LastStays) (leaves : Leaves) → AreStays old stays leaves number → MatchResult result
     (λ _. AreStays new (with_stay number stay stays) (ended leaves) (number + 1))

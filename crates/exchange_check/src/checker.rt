@@ -1,11 +1,9 @@
-ghost use Rattle.std.specs.Prelude.{◌≡◌, reverse, MatchResult, IfOk};
-ghost use Rattle.std.specs.Prelude.{◌++◌, ◌∷◌, [], length};
-ghost use Rattle.network_model.specs.Network.{Network};
-ghost use Rattle.exchange_check.specs.declared.refusal.CheckFault.TheVariants.{Memory};
+ghost use Rattle.std.specs.Prelude.{◌≡◌, reverse, MatchResult, IfOk, ◌++◌, ◌∷◌, [], length};
+ghost use Rattle.network_model.specs.Premises.{IsFreshAndTicked, IsWithinTurn, exact_limits};
 ghost use Rattle.trace_model.specs.Verdict.{verdict};
 ghost use Rattle.trace_model.specs.Soundness.{TellsSoundness};
 ghost use Rattle.trace_model.specs.Complete.{AcceptsTruth};
-ghost use Rattle.network_model.specs.Premises.{IsFreshAndTicked, IsWithinTurn, exact_limits};
+ghost use Rattle.exchange_check.specs.declared.refusal.CheckFault.TheVariants.{Memory};
 
 use crate::history::History;
 use crate::kept::Kept;

@@ -1,7 +1,6 @@
 //! Which lines are good, and tell of something done.
 
 ghost use Rattle.std.specs.Prelude.{◌≡◌};
-ghost use Rattle.network_model.specs.Network.{Network, NodeName};
 ghost use Rattle.trace_model.specs.Line.{is_done, is_made, is_entered, completes, is_heard, is_refused, is_ignored};
 ghost use Rattle.trace_model.specs.Line.{is_master, is_slave, is_clock, may_arrive, is_good, counts};
 

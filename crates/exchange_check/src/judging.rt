@@ -1,23 +1,20 @@
 //! How a report is judged by what is kept.
 
 ghost use Rattle.std.specs.Prelude.{◌≡◌, ◌+◌, ◌<◌, ◌-ℤ◌, ◌&&◌, pos, option_map};
-ghost use Rattle.std.specs.BTreeMap.{get};
-ghost use Rattle.std.specs.Ordering.{nat_cmp};
-ghost use Rattle.ptp_units.specs.Exchange.{IsBracket, offset2, path2};
 ghost use Rattle.std.specs.Ordering.{int_eq};
+ghost use Rattle.ptp_units.specs.Exchange.{IsBracket, offset2, path2};
 ghost use Rattle.ptp_units.specs.Moment.{bound};
 ghost use Rattle.network_model.specs.Kinds.{draws_sync, is_request};
-ghost use Rattle.network_model.specs.Run.{site_of};
 ghost use Rattle.trace_model.specs.Line.{is_arrival, is_hearing};
-ghost use Rattle.trace_model.specs.Sound.{is_of_line, is_domain, are_later, below};
+ghost use Rattle.trace_model.specs.Sound.{is_of_line, is_domain, are_later};
 ghost use Rattle.exchange_check.specs.Kept.{port_setup};
 ghost use Rattle.exchange_check.specs.Machine.{facts_of, sites_of, stamps_of};
 ghost use Rattle.exchange_check.specs.Stays.{once_in};
 ghost use Rattle.exchange_check.specs.Judged.{line_of_by, sender_by, sync_by, follow_by, follows_by, arrival_by};
-ghost use Rattle.exchange_check.specs.Judged.{completion_by, is_here, is_stamped_by, found_by, way_at, way_from};
-ghost use Rattle.exchange_check.specs.Judged.{way_to, is_followed_by, paired_by, is_told, of_master_by, readings_by};
+ghost use Rattle.exchange_check.specs.Judged.{completion_by, is_here, is_stamped_by, found_by, way_at, way_to};
+ghost use Rattle.exchange_check.specs.Judged.{is_followed_by, paired_by, is_told, of_master_by, readings_by};
 ghost use Rattle.exchange_check.specs.Judged.{fraction_by, fits_by, bracket_by, results_by, octets_by, ways_reason};
-ghost use Rattle.exchange_check.specs.Judged.{both_ways, found_reason, fact_reason, reason_by};
+ghost use Rattle.exchange_check.specs.Judged.{found_reason, reason_by};
 
 use crate::events::{
     draws_sync, heard_copy, is_arrival, is_follow, is_hearing, is_one_step_sync, is_request,

@@ -1,24 +1,22 @@
 //! What is kept of the lines so far, and what one more line adds to it.
 
-ghost use Rattle.std.specs.Prelude.{◌≡◌, ◌≤ℤ◌, ◌+ℤ◌, ◌+◌, pos, option_map, option_and_then, unwrap_or, IfSome};
-ghost use Rattle.std.specs.Prelude.{ℕ, ◌==◌, is_some, if◌then◌else◌, Some, None, OnOk, OnErr};
-ghost use Rattle.std.specs.Prelude.{◌<◌, MatchResult};
+ghost use Rattle.std.specs.Prelude.{◌≡◌, ◌≤ℤ◌, ◌+ℤ◌, ◌+◌, pos, option_map, option_and_then, unwrap_or};
+ghost use Rattle.std.specs.Prelude.{IfSome, ℕ, ◌==◌, Some, None, OnOk, OnErr, ◌<◌, MatchResult};
 ghost use Rattle.std.specs.BTreeMap.{get};
 ghost use Rattle.std.specs.Ordering.{nat_cmp};
+ghost use Rattle.std.specs.Option.{option_map_or};
+ghost use Rattle.ptp_units.specs.Sequence.{of_count};
+ghost use Rattle.network_model.specs.Kinds.{spent_transit};
 ghost use Rattle.trace_model.specs.Verdict.{accepted_count};
+ghost use Rattle.trace_model.specs.Record.{is_reading};
 ghost use Rattle.exchange_check.specs.Machine.{Machine, IsKept, facts_of, sites_of, stamps_of, start, judged};
 ghost use Rattle.exchange_check.specs.Machine.{after_line, sites_told, leaves_told, stamps_told};
 ghost use Rattle.exchange_check.specs.Stays.{stay_of, StaysAfter, once_in};
-ghost use Rattle.network_model.specs.Kinds.{spent_transit};
-ghost use Rattle.std.specs.Option.{option_map_or, option_or};
-ghost use Rattle.network_model.specs.Network.{NodeName};
-ghost use Rattle.exchange_check.specs.Kept.{Leaves, moved, moved_at, stamped, sites_after, leaves_after, stamps_after};
-ghost use Rattle.ptp_units.specs.Sequence.{of_count};
-ghost use Rattle.exchange_check.specs.Kept.{site_in, travel_at, copy_entered_by, stayed, begun_by};
-ghost use Rattle.exchange_check.specs.Kept.{travel_by, travelled_by, followed_by, answered_by, message_by};
-ghost use Rattle.exchange_check.specs.Kept.{known_by, number_by, fact_known, fact_by, travel_left};
-ghost use Rattle.exchange_check.specs.Kept.{written_travel, port_setup, contents_of};
-ghost use Rattle.trace_model.specs.Record.{is_reading};
+ghost use Rattle.exchange_check.specs.Kept.{moved, moved_at, stamped, sites_after, leaves_after, stamps_after};
+ghost use Rattle.exchange_check.specs.Kept.{site_in, travel_at, copy_entered_by, stayed, begun_by, travel_by};
+ghost use Rattle.exchange_check.specs.Kept.{travelled_by, followed_by, answered_by, message_by, known_by};
+ghost use Rattle.exchange_check.specs.Kept.{number_by, fact_known, fact_by, travel_left, written_travel};
+ghost use Rattle.exchange_check.specs.Kept.{port_setup, contents_of};
 
 use crate::events::entered_copy;
 use crate::facts::{Fact, Known, Site, Travel};

@@ -6,13 +6,13 @@
 //! it grew from. When a stay is ended again, what grew from the copy that left after it first follows
 //! that copy in the order: it is marked and taken out.
 
-ghost use Rattle.std.specs.Prelude.{◌≡◌, ℕ, ◌<◌, ◌+◌, true, false, IfSome, Some, None};
-ghost use Rattle.std.specs.Prelude.{option_map, length, OnOk, OnErr};
+ghost use Rattle.std.specs.Prelude.{◌≡◌, ℕ, ◌<◌, ◌+◌, true, false, IfSome, Some};
+ghost use Rattle.std.specs.Prelude.{None, option_map, length, OnOk, OnErr};
 ghost use Rattle.std.specs.BTreeMap.{get};
 ghost use Rattle.std.specs.Ordering.{nat_cmp};
 ghost use Rattle.exchange_check.specs.Kept.{Leaves, left_again};
-ghost use Rattle.exchange_check.specs.Stays.{LastStays, with_stay, is_once, Once, Branches, root, branch_in};
-ghost use Rattle.exchange_check.specs.Stays.{with_branch, Firsts, with_first, AreBranches, AreStays, StaysAfter, once_in};
+ghost use Rattle.exchange_check.specs.Stays.{LastStays, with_stay, is_once, root, branch_in, with_branch};
+ghost use Rattle.exchange_check.specs.Stays.{with_first, AreStays, StaysAfter, once_in};
 
 use crate::refusal::CheckFault;
 use std::alloc::Global;
@@ -226,7 +226,8 @@ impl Stays {
         from: Option<u64>,
     ) -> Result<(), CheckFault>
         requires { IfSome from (λ copy. copy < number) }
-        ensures { StaysAfter self.old self.new number (option_map (λ copy. (transit, copy)) from) (left_again transit) result }
+        ensures { StaysAfter self.old self.new number (option_map (λ copy. (transit, copy)) from)
+            (left_again transit) result }
     {
         self.reach(number)?;
         if let Some(first) = self.first(transit) {
