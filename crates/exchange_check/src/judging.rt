@@ -293,11 +293,7 @@ impl Kept {
     fn follow(&self, slave: &Name, hearing: u64) -> Option<Fact>
         ensures { result ≡ follow_by (facts_of self.now) slave.now hearing }
     {
-        let sender = match self.hearing_at(slave, hearing) {
-            Some(heard) => self.sender(&heard),
-            None => None,
-        };
-        match sender {
+        match self.sender(&self.hearing_at(slave, hearing)?) {
             Some(fact) if is_follow(&fact.event) => Some(fact),
             _ => None,
         }
@@ -308,10 +304,7 @@ impl Kept {
         ensures { result ≡ follows_by (facts_of self.now) slave.now hearing }
     {
         match hearing {
-            Some(hearing) => match self.follow(slave, hearing) {
-                Some(fact) => Some(Some(fact)),
-                None => None,
-            },
+            Some(hearing) => Some(Some(self.follow(slave, hearing)?)),
             None => Some(None),
         }
     }
@@ -330,11 +323,7 @@ impl Kept {
     fn arrival(&self, slave: &Name, hearing: u64) -> Option<Fact>
         ensures { result ≡ arrival_by (facts_of self.now) slave.now hearing }
     {
-        let sender = match self.completion_at(slave, hearing) {
-            Some(heard) => self.sender(&heard),
-            None => None,
-        };
-        match sender {
+        match self.sender(&self.completion_at(slave, hearing)?) {
             Some(fact) if is_arrival(&fact.event) && fact.made => Some(fact),
             _ => None,
         }
@@ -360,20 +349,12 @@ impl Kept {
         {
             return None;
         }
-        match (
-            self.sync(slave, report),
-            self.follows(slave, report.follow_tag),
-            self.request_at(slave, report.request_tag),
-            self.arrival(slave, report.response_tag),
-        ) {
-            (Some(sync), Some(follow), Some(request), Some(arrival)) => Some(Found {
-                sync,
-                follow,
-                request,
-                arrival,
-            }),
-            _ => None,
-        }
+        Some(Found {
+            sync: self.sync(slave, report)?,
+            follow: self.follows(slave, report.follow_tag)?,
+            request: self.request_at(slave, report.request_tag)?,
+            arrival: self.arrival(slave, report.response_tag)?,
+        })
     }
 
     /// The journey of the copy that the line of this number made.

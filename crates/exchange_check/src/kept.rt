@@ -152,20 +152,14 @@ impl Kept {
     pub(crate) fn site(&self, name: &Name) -> Site
         ensures { result ≡ sites_of self.now name.now }
     {
-        match self.sites.get(name) {
-            Some(site) => *site,
-            None => Site::default(),
-        }
+        site_in(&self.sites, name)
     }
 
     /// The journey of the copy that the line of this number made.
     pub(crate) fn travel_at(&self, copy: u64) -> Option<Travel>
         ensures { result ≡ travel_at (facts_of self.now) copy }
     {
-        match self.at(copy) {
-            Some(fact) => fact.travel,
-            None => None,
-        }
+        self.at(copy)?.travel
     }
 
     /// The sequenceId that an event draws.

@@ -197,10 +197,7 @@ impl Stays {
     fn first(&self, transit: u64) -> Option<u64>
         ensures { result ≡ get nat_cmp self.now.firsts transit }
     {
-        match self.firsts.get(&transit) {
-            Some(first) => Some(*first),
-            None => None,
-        }
+        self.firsts.get(&transit).copied()
     }
 
     /// The Leave line of this number is the first that names a stay.
