@@ -9,8 +9,7 @@ use Rattle.trace_model.specs.Line.{Lines, is_arrival, is_hearing, is_made, compl
 use Rattle.trace_model.specs.Record.{LinePlace, line_number, event_of, line_at}
 use Rattle.trace_model.specs.Sound.{where_passes, below, Exchange, line_of, sender, sync_line, arrival_line}
 use Rattle.trace_model.proofs.OctetsOfExchanges.{passed}
-use Rattle.exchange_check.proofs.Messages.{line_at-bound}
-use Rattle.exchange_check.proofs.Following.{line_at-number}
+use Rattle.trace_model.proofs.Lines.{line_at-bound, line_at-number}
 use Rattle.exchange_check.proofs.Exchanges.{line_chain}
 
 bound : {X Y : Type 0} (f : X → Option Y) (o : Option X) (y : Y) → option_and_then f o ≡ Some y → (x : X) × (f x ≡ Some y)

@@ -1,5 +1,5 @@
 -- The fact that is kept of a line is what the line and those before it say.
-use Rattle.std.proofs.Common.{◌≡◌, ◌∙◌, ℕ, Bool, true, false, ◌&&◌, cond, eqb, [], ◌∷◌, length, Option, Some, None, refl, sym, ap, subst, arith}
+use Rattle.std.proofs.Common.{◌≡◌, ◌∙◌, ℕ, Bool, true, false, cond, eqb, ◌∷◌, length, Option, Some, None, refl, sym, ap, subst, arith}
 use Rattle.std.specs.Prelude.{option_map, option_and_then}
 use Rattle.std.specs.Option.{option_map_or}
 use Rattle.std.proofs.lemmas.Option.{same_Some}
@@ -24,25 +24,8 @@ use Rattle.std.proofs.lemmas.Slice.Eq.{bytes_eq-Decides}
 use Rattle.network_model.specs.Kinds.{is_at}
 use Rattle.network_model.specs.Run.{site_of}
 use Rattle.exchange_check.specs.Machine.{with_fact}
-use Rattle.exchange_check.proofs.Messages.{line_at-later, line_at-here, origin_in, sent_is, travelled_is, min_min}
-
--- the last line of a kind is among the lines, and is of that kind
-either_last : (network : Network) (kind : Event → Bool) (name : NodeName) (line : TraceLine) (earlier : Lines) (k : LinePlace) (counted here : Bool)
-    → counts network line ≡ counted → is_at kind name line.event ≡ here
-    → (last_line network kind name earlier ≡ Some k → (line_at network earlier (line_number k) ≡ Some k) × (is_at kind name (event_of k) ≡ true))
-    → cond (counted && here) (Some (line_place line earlier)) (last_line network kind name earlier) ≡ Some k
-    → (line_at network (line ∷ earlier) (line_number k) ≡ Some k) × (is_at kind name (event_of k) ≡ true)
-either_last network kind name line earlier k true true c p before h =
-    let P : LinePlace → Type 0 = λ x. (line_at network (line ∷ earlier) (line_number x) ≡ Some x) × (is_at kind name (event_of x) ≡ true) in
-    subst P (same_Some _ _ h) (line_at-here network line earlier c, p)
-either_last network kind name line earlier k true false c p before h = let b = before h in (line_at-later network line earlier (line_number k) k b.0, b.1)
-either_last network kind name line earlier k false here c p before h = let b = before h in (line_at-later network line earlier (line_number k) k b.0, b.1)
-
-pub last_is : (network : Network) (kind : Event → Bool) (name : NodeName) (lines : Lines) (k : LinePlace) → last_line network kind name lines ≡ Some k
-    → (line_at network lines (line_number k) ≡ Some k) × (is_at kind name (event_of k) ≡ true)
-last_is network kind name [] k h = grind arith
-last_is network kind name (line ∷ earlier) k h =
-    either_last network kind name line earlier k (counts network line) (is_at kind name line.event) refl refl (last_is network kind name earlier k) h
+use Rattle.trace_model.proofs.Lines.{last_is}
+use Rattle.exchange_check.proofs.Messages.{origin_in, sent_is, travelled_is, min_min}
 
 -- the port of a master sent its Syncs
 sync_port : (network : Network) (event : Event) (node : NodeName) (port : PortSetup) → is_at is_sync node event ≡ true → master_at network node ≡ Some port → drawing_port network event ≡ Some port

@@ -17,11 +17,11 @@ use Rattle.trace_model.specs.Record.{LinePlace, line_place, line_number, event_o
 use Rattle.trace_model.specs.Journey.{Journey, begun, with_stay, copy_entered, left_from, journey_made, journey_of, left_once}
 use Rattle.exchange_check.specs.Kept.{Facts, Leaves, leaves_after}
 use Rattle.exchange_check.specs.Stays.{stay_below, stay_of, last_stays, is_once, once_by}
-use Rattle.exchange_check.proofs.Noted.{leaves_at, count_more, events_more}
+use Rattle.exchange_check.proofs.Noted.{leaves_at, count_more}
 use Rattle.exchange_check.proofs.Passing.{none_made}
 use Rattle.exchange_check.proofs.Told.{fact_of, travel_of}
 use Rattle.trace_model.specs.Sound.{where_passes}
-use Rattle.exchange_check.proofs.Messages.{line_at-bound, line_at-later, line_at-here}
+use Rattle.trace_model.proofs.Lines.{line_at-bound, line_at-number, line_at-later, line_at-here, events_more}
 
 -- how often a stay was ended, as it is kept
 abbrev ended : ℕ → Option Bool
@@ -69,17 +69,6 @@ ended_once (suc (suc n)) = grind (arith, nat_tests)
 -- a stay is kept as ended once where one line alone ended it
 pub once_is : (network : Network) (lines : Lines) (stay : ℕ) → is_once (leaves_at network lines stay) ≡ eqb (count_by (spends stay) (events network lines)) 1
 once_is network lines stay = ap is_once (leaves_are network lines stay) ∙ ended_once (count_by (spends stay) (events network lines))
-
-either_number : (network : Network) (line : TraceLine) (earlier : Lines) (n : ℕ) (e : LinePlace) (here counted : Bool) → eqb (length earlier) n ≡ here
-    → (line_at network earlier n ≡ Some e → line_number e ≡ n)
-    → cond here (cond counted (Some (line_place line earlier)) None) (line_at network earlier n) ≡ Some e → line_number e ≡ n
-either_number network line earlier n e true true p before h = ap line_number (sym (same_Some _ _ h)) ∙ eqb-true (length earlier) n p
-either_number network line earlier n e true false p before h = absurd (none-some e h)
-either_number network line earlier n e false counted p before h = before h
-
-pub line_at-number : (network : Network) (lines : Lines) (n : ℕ) (e : LinePlace) → line_at network lines n ≡ Some e → line_number e ≡ n
-line_at-number network [] n e h = absurd (none-some e h)
-line_at-number network (line ∷ earlier) n e h = either_number network line earlier n e (eqb (length earlier) n) (counts network line) refl (line_at-number network earlier n e) h
 
 copy_is : (named : Bool) (made limit c : ℕ) → cond (named && nat_lt made limit) (Some made) None ≡ Some c → (made ≡ c) × (c < limit)
 copy_is true made limit c h = grind (arith, nat_tests)

@@ -1,8 +1,7 @@
 -- The message that is kept to be written of a line is the one that the lines say it made.
-use Rattle.std.proofs.Common.{◌≡◌, ◌∙◌, ℕ, ◌<◌, pos, Bool, true, false, cond, eqb, min, [], ◌∷◌, length, Option, Some, None, refl, sym, ap, subst, arith}
+use Rattle.std.proofs.Common.{◌≡◌, ◌∙◌, ℕ, pos, Bool, true, false, cond, eqb, min, [], ◌∷◌, length, Option, Some, None, refl, sym, ap, subst, arith}
 use Rattle.std.specs.Prelude.{option_map, option_and_then}
 use Rattle.std.specs.Option.{option_map_or}
-use Rattle.std.proofs.lemmas.Bool.{eq-eqb}
 use Rattle.std.proofs.lemmas.Bool.Decides.{nat_tests}
 use Rattle.std.proofs.lemmas.Int.{ints}
 use Rattle.std.proofs.lemmas.Option.{same_Some}
@@ -25,20 +24,9 @@ use Rattle.trace_model.specs.Record.{LinePlace, line_place, line_number, event_o
 use Rattle.trace_model.specs.Journey.{Journey, residence, begun, with_stay, copy_entered, left_from, journey_made, journey_of}
 use Rattle.transparent_clock.specs.Forwarding.{resided}
 use Rattle.trace_model.specs.Octets.{drawing_port, message_sent, sent, travelled}
+use Rattle.trace_model.proofs.Lines.{line_at-later, line_at-here}
 use Rattle.exchange_check.specs.Kept.{longest, sent_by, travelled_by}
 use Rattle.exchange_check.proofs.Told.{fact_of, facts_at, number_drawn}
-
--- a line of a number is among the lines
-pub line_at-bound : (network : Network) (lines : Lines) (n : ℕ) (e : LinePlace) → line_at network lines n ≡ Some e → n < length lines
-line_at-bound network [] n e h = grind arith
-line_at-bound network (line ∷ earlier) n e h = grind (arith, nat_tests, line_at-bound network earlier n e)
-
--- what comes later doesn't change the line of a number
-pub line_at-later : (network : Network) (line : TraceLine) (earlier : Lines) (n : ℕ) (e : LinePlace) → line_at network earlier n ≡ Some e → line_at network (line ∷ earlier) n ≡ Some e
-line_at-later network line earlier n e h = grind (arith, nat_tests, line_at-bound network earlier n e)
-
-pub line_at-here : (network : Network) (line : TraceLine) (earlier : Lines) → counts network line ≡ true → line_at network (line ∷ earlier) (length earlier) ≡ Some (line_place line earlier)
-line_at-here network line earlier h = λ i. cond (eq-eqb (length earlier) (length earlier) refl i) (cond (h i) (Some (line_place line earlier)) None) (line_at network earlier (length earlier))
 
 abbrev IsIn : Network → Lines → Journey → Type 0
 IsIn network lines j = line_at network lines (line_number j.origin) ≡ Some j.origin

@@ -1,6 +1,6 @@
 -- What is kept of nodes, stays and requests is what the lines say of them.
-use Rattle.std.proofs.Common.{◌≡◌, ◌∙◌, ℕ, suc, ◌+◌, ℤ, Bool, true, false, ◌&&◌, cond, eqb, [], ◌∷◌, length, Option, Some, None, refl, sym, ap, arith, map}
-use Rattle.std.specs.Prelude.{filter, count_by, option_map, option_and_then, unwrap_or}
+use Rattle.std.proofs.Common.{◌≡◌, ◌∙◌, ℕ, suc, ◌+◌, ℤ, Bool, true, false, ◌&&◌, cond, eqb, [], ◌∷◌, length, Option, Some, None, refl, sym, ap, arith}
+use Rattle.std.specs.Prelude.{count_by, option_map, option_and_then, unwrap_or}
 use Rattle.std.proofs.lemmas.List.Sums.{sum_by-cons}
 use Rattle.std.specs.Option.{option_or, option_map_or}
 use Rattle.ptp_units.specs.Sequence.{of_count, next}
@@ -15,6 +15,7 @@ use Rattle.exchange_check.specs.declared.facts.Site.{Site}
 use Rattle.trace_model.specs.declared.line.TraceLine.{TraceLine}
 use Rattle.trace_model.specs.Line.{Lines, counts}
 use Rattle.trace_model.specs.Record.{LinePlace, line_place, line_number, event_of, last_line, events, first_stamp}
+use Rattle.trace_model.proofs.Lines.{events_if, events_more, last_more}
 use Rattle.exchange_check.specs.Kept.{Sites, Leaves, Stamps, moved, sites_after, leaves_after, stamps_after}
 use Rattle.exchange_check.specs.Machine.{sites_told, leaves_told, stamps_told}
 
@@ -101,21 +102,6 @@ number_if false e o = refl
 master_if : (b : Bool) (e : LinePlace) (o : Option LinePlace) → option_and_then (λ x. told_master (event_of x) (line_number x)) (cond b (Some e) o) ≡ cond b (told_master (event_of e) (line_number e)) (option_and_then (λ x. told_master (event_of x) (line_number x)) o)
 master_if true e o = refl
 master_if false e o = refl
-
--- the events with one more, where it counts
-abbrev pub events_if : Bool → Event → Run → Run
-events_if b event run = cond b (event ∷ run) run
-
-pub events_more : (network : Network) (line : TraceLine) (earlier : Lines) (b : Bool) → counts network line ≡ b → events network (line ∷ earlier) ≡ events_if b line.event (events network earlier)
-events_more network line earlier b h = (λ i. map (λ (l : TraceLine). l.event) (cond (h i) (line ∷ filter (counts network) earlier) (filter (counts network) earlier))) ∙ parts b
-  where
-    parts : (c : Bool) → map (λ (l : TraceLine). l.event) (cond c (line ∷ filter (counts network) earlier) (filter (counts network) earlier)) ≡ events_if c line.event (events network earlier)
-    parts true = refl
-    parts false = refl
-
-last_more : (network : Network) (kind : Event → Bool) (name : NodeName) (line : TraceLine) (earlier : Lines) (b : Bool) → counts network line ≡ b
-    → last_line network kind name (line ∷ earlier) ≡ cond (b && is_at kind name line.event) (Some (line_place line earlier)) (last_line network kind name earlier)
-last_more network kind name line earlier b h = λ i. cond (h i && is_at kind name line.event) (Some (line_place line earlier)) (last_line network kind name earlier)
 
 -- what the lines say of a node with one more line
 site_more : (network : Network) (line : TraceLine) (earlier : Lines) (name : NodeName) (b : Bool) → counts network line ≡ b

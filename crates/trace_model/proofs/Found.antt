@@ -1,5 +1,5 @@
 -- The line that tells an event of a run, by the event's tag.
-use Rattle.std.proofs.Common.{◌≡◌, ◌∙◌, ℕ, Bool, true, false, [], ◌∷◌, length, Some, None, refl, sym, ap, subst, suc, if◌then◌else◌}
+use Rattle.std.proofs.Common.{◌≡◌, ◌∙◌, ℕ, Bool, true, false, [], ◌∷◌, length, Some, refl, sym, ap, subst, suc, if◌then◌else◌}
 use Rattle.std.specs.Prelude.{◌==◌}
 use Rattle.network_model.specs.declared.event.Event.{Event}
 use Rattle.network_model.specs.Network.{Network}
@@ -10,6 +10,8 @@ use Rattle.trace_model.specs.Line.{Lines, counts}
 use Rattle.trace_model.specs.Record.{LinePlace, line_place, event_of, line_number, line_at}
 use Rattle.trace_model.specs.Told.{TellsEvent, TellsRun}
 use Rattle.trace_model.specs.Faithful.{took_effect, TellsPlace, HasLine, EachEventHasItsLine}
+use Rattle.std.proofs.lemmas.Bool.{eqb-true}
+use Rattle.trace_model.proofs.Lines.{line_at-here, line_at-before}
 use Rattle.trace_model.proofs.Good.{each_line_is_good}
 
 -- a line an event
@@ -35,17 +37,6 @@ pub line_counts : (network : Network) (event : Event) (earlier : Run) (line : Tr
     → took_effect (outcome_of network earlier event) ≡ true → counts network line ≡ true
 line_counts network event earlier line told took = let good = each_line_is_good network event earlier line told in good.counts ∙ took
 
-pub line_at-here : (network : Network) (line : TraceLine) (lines : Lines) (number : ℕ) → (length lines == number) ≡ true → counts network line ≡ true
-    → line_at network (line ∷ lines) number ≡ Some (line_place line lines)
-line_at-here network line lines number here counted =
-    ap (λ (b : Bool). if b then (if counts network line then Some (line_place line lines) else None) else line_at network lines number) here
-    ∙ ap (λ (b : Bool). if b then Some (line_place line lines) else None) counted
-
-pub line_at-before : (network : Network) (line : TraceLine) (lines : Lines) (number : ℕ) → (length lines == number) ≡ false
-    → line_at network (line ∷ lines) number ≡ line_at network lines number
-line_at-before network line lines number before =
-    ap (λ (b : Bool). if b then (if counts network line then Some (line_place line lines) else None) else line_at network lines number) before
-
 pub each_event_has_its_line : EachEventHasItsLine
 each_event_has_its_line network [] [] tag p told there took = cc
 each_event_has_its_line network [] (line ∷ lines) tag p told there took = absurd told
@@ -64,7 +55,8 @@ each_event_has_its_line network (event ∷ earlier) (line ∷ lines) tag p told 
         let here : TellsPlace network (place event earlier) (line_place line lines) = record { told = told.0; before = told.1 } in
         record {
           e = line_place line lines;
-          there = line_at-here network line lines tag (numbers ∙ is) (line_counts network event earlier line told.0 took_here);
+          there = subst (λ (n : ℕ). line_at network (line ∷ lines) n ≡ Some (line_place line lines)) (eqb-true (length lines) tag (numbers ∙ is))
+              (line_at-here network line lines (line_counts network event earlier line told.0 took_here));
           tells = subst (λ (o : Place). TellsPlace network o (line_place line lines)) same here;
         }
     at false is there before =

@@ -1,7 +1,7 @@
 -- What clocks showed and which numbers were drawn by lines that tell a run: what they were in the run. The events of lines
 -- that count leave out only events that step no clock and draw no number.
 use Rattle.std.proofs.Common.{◌≡◌, ◌∙◌, ℕ, ℤ, pos, ◌+◌, ◌≤◌, ◌+ℤ◌, Bool, true, false, [], ◌∷◌, Option, Some, None, refl, sym, ap, arith, if◌then◌else◌, option_map, option_and_then}
-use Rattle.std.specs.Prelude.{is_some, unwrap_or, count_by, filter, map, nat_lt}
+use Rattle.std.specs.Prelude.{is_some, unwrap_or, count_by, nat_lt}
 use Rattle.std.proofs.lemmas.Bool.Decides.{Decides-int_eq}
 use Rattle.ptp_units.specs.Moment.{bound, moment_of}
 use Rattle.ptp_units.specs.Sequence.{of_count}
@@ -24,16 +24,8 @@ use Rattle.trace_model.specs.Record.{LinePlace, events, place_of, is_reading, re
 use Rattle.trace_model.specs.Told.{TellsEvent, TellsRun}
 use Rattle.trace_model.specs.Faithful.{took_effect, TellsPlace, EachEventIsRecorded}
 use Rattle.trace_model.proofs.Certain.{is_certain, certain_takes, draws_certain, request_certain, step_certain}
+use Rattle.trace_model.proofs.Lines.{events_more}
 use Rattle.trace_model.proofs.Found.{event_told, line_counts}
-
--- the events of one line more
-pub events-counted : (network : Network) (line : TraceLine) (lines : Lines) → counts network line ≡ true → events network (line ∷ lines) ≡ line.event ∷ events network lines
-events-counted network line lines counted =
-    ap (λ (b : Bool). map (λ (l : TraceLine). l.event) (if b then line ∷ filter (counts network) lines else filter (counts network) lines)) counted
-
-pub events-other : (network : Network) (line : TraceLine) (lines : Lines) → counts network line ≡ false → events network (line ∷ lines) ≡ events network lines
-events-other network line lines other =
-    ap (λ (b : Bool). map (λ (l : TraceLine). l.event) (if b then line ∷ filter (counts network) lines else filter (counts network) lines)) other
 
 -- an event that always takes effect has a line that counts
 pub certain_counts : (network : Network) (event : Event) (earlier : Run) (line : TraceLine) → TellsEvent network event earlier line → is_certain event ≡ true
@@ -67,11 +59,11 @@ difference_told network node (event ∷ earlier) (line ∷ lines) told = by (cou
     by : (counted : Bool) → counts network line ≡ counted → difference node (events network lines) ≡ difference node earlier
         → difference node (events network (line ∷ lines)) ≡ difference node (event ∷ earlier)
     by true is before =
-        ap (difference node) (events-counted network line lines is)
+        ap (difference node) (events_more network line lines true is)
         ∙ ap (λ (e : Event). difference node (e ∷ events network lines)) (event_told network event earlier line told.0)
         ∙ stepped_alike node event (events network lines) earlier before
     by false is before =
-        ap (difference node) (events-other network line lines is) ∙ before
+        ap (difference node) (events_more network line lines false is) ∙ before
         ∙ sym (unstepped node event earlier (uncounted network event earlier line is_step step_certain told.0 is))
 
 -- how many events of a kind
@@ -92,11 +84,11 @@ count_told network kind certain (event ∷ earlier) (line ∷ lines) told = by (
     by : (counted : Bool) → counts network line ≡ counted → count_by kind (events network lines) ≡ count_by kind earlier
         → count_by kind (events network (line ∷ lines)) ≡ count_by kind (event ∷ earlier)
     by true is before =
-        ap (count_by kind) (events-counted network line lines is)
+        ap (count_by kind) (events_more network line lines true is)
         ∙ ap (λ (e : Event). count_by kind (e ∷ events network lines)) (event_told network event earlier line told.0)
         ∙ more_of kind event (events network lines) earlier before
     by false is before =
-        ap (count_by kind) (events-other network line lines is) ∙ before
+        ap (count_by kind) (events_more network line lines false is) ∙ before
         ∙ sym (count-no kind event earlier (uncounted network event earlier line kind certain told.0 is))
 
 -- never more than in the run
@@ -109,7 +101,7 @@ count_at_most network kind (event ∷ earlier) (line ∷ lines) told = by (count
     by : (counted : Bool) → counts network line ≡ counted → count_by kind (events network lines) ≤ count_by kind earlier
         → count_by kind (events network (line ∷ lines)) ≤ count_by kind (event ∷ earlier)
     by true is before =
-        let list = ap (count_by kind) (events-counted network line lines is)
+        let list = ap (count_by kind) (events_more network line lines true is)
         ∙ ap (λ (e : Event). count_by kind (e ∷ events network lines)) (event_told network event earlier line told.0) in
         with_one (kind event) refl list before
       where
@@ -117,7 +109,7 @@ count_at_most network kind (event ∷ earlier) (line ∷ lines) told = by (count
             → count_by kind (events network lines) ≤ count_by kind earlier → count_by kind (events network (line ∷ lines)) ≤ count_by kind (event ∷ earlier)
         with_one true here list before = omega (arith, count-yes kind event (events network lines) here, count-yes kind event earlier here)
         with_one false here list before = omega (arith, count-no kind event (events network lines) here, count-no kind event earlier here)
-    by false is before = omega (arith, ap (count_by kind) (events-other network line lines is), count-more kind event earlier)
+    by false is before = omega (arith, ap (count_by kind) (events_more network line lines false is), count-more kind event earlier)
 
 -- events that draw from one sequence always take effect
 drawn_certain : (event other : Event) → draws_with event other ≡ true → is_certain other ≡ true

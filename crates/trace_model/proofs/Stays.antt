@@ -26,7 +26,8 @@ use Rattle.trace_model.specs.Sound.{stay_reads_right}
 use Rattle.trace_model.specs.Told.{TellsRun}
 use Rattle.trace_model.specs.Faithful.{took_effect, TellsPlace, TellsStay, TellsStays}
 use Rattle.trace_model.proofs.Found.{event_told, same_number, line_counts}
-use Rattle.trace_model.proofs.Recorded.{events-counted, events-other, count_at_most, each_event_is_recorded}
+use Rattle.trace_model.proofs.Lines.{events_more}
+use Rattle.trace_model.proofs.Recorded.{count_at_most, each_event_is_recorded}
 use Rattle.trace_model.proofs.Left.{left_made}
 
 -- what came before an event of a run, and the event itself, are a run
@@ -124,15 +125,15 @@ count_present network kind (event ∷ earlier) (line ∷ lines) tag p told there
         let same : place event earlier ≡ p = cc in
         let took_here : took_effect (outcome_of network earlier event) ≡ true = subst (λ (o : Place). took_effect (outcome_of network o.earlier o.event) ≡ true) (sym same) took in
         let kind_here : kind line.event ≡ true = ap kind (event_told network event earlier line told.0) ∙ ap (λ (o : Place). kind o.event) same ∙ is in
-        let list = ap (count_by kind) (events-counted network line lines (line_counts network event earlier line told.0 took_here)) in
+        let list = ap (count_by kind) (events_more network line lines true (line_counts network event earlier line told.0 took_here)) in
         omega (arith, count-yes kind line.event (events network lines) kind_here)
     at false there before = by (counts network line) refl
       where
         by : (counted : Bool) → counts network line ≡ counted → 1 ≤ count_by kind (events network (line ∷ lines))
         by true c =
-            let list = ap (count_by kind) (events-counted network line lines c) in
+            let list = ap (count_by kind) (events_more network line lines true c) in
             let some = before there in omega (arith, count-more kind line.event (events network lines))
-        by false c = let list = ap (count_by kind) (events-other network line lines c) in let some = before there in omega arith
+        by false c = let list = ap (count_by kind) (events_more network line lines false c) in let some = before there in omega arith
 
 -- each stay was ended once
 pub stays_once : (network : Network) (run : Run) (lines : Lines) (small : Run) (stays : List made.Stay) (others : List lined.Stay) → TellsRun network run lines → IsRun network run
