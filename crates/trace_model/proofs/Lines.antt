@@ -58,7 +58,7 @@ line_at-number network (line ∷ earlier) n e h =
 either_last : (network : Network) (kind : Event → Bool) (name : NodeName) (line : TraceLine) (earlier : Lines)
     (k : LinePlace) (counted here : Bool) → counts network line ≡ counted → is_at kind name line.event ≡ here
     → (last_line network kind name earlier ≡ Some k
-        → (line_at network earlier (line_number k) ≡ Some k) × (is_at kind name (event_of k) ≡ true))
+    → (line_at network earlier (line_number k) ≡ Some k) × (is_at kind name (event_of k) ≡ true))
     → cond (counted && here) (Some (line_place line earlier)) (last_line network kind name earlier) ≡ Some k
     → (line_at network (line ∷ earlier) (line_number k) ≡ Some k) × (is_at kind name (event_of k) ≡ true)
 either_last network kind name line earlier k true true c p before h =
@@ -83,7 +83,8 @@ pub last_more : (network : Network) (kind : Event → Bool) (name : NodeName) (l
     → last_line network kind name (line ∷ earlier)
     ≡ cond (b && is_at kind name line.event) (Some (line_place line earlier)) (last_line network kind name earlier)
 last_more network kind name line earlier b h =
-    λ i. cond (h i && is_at kind name line.event) (Some (line_place line earlier)) (last_line network kind name earlier)
+    λ i. cond (h i && is_at kind name line.event) (Some (line_place line earlier))
+    (last_line network kind name earlier)
 
 -- the events with one more, where it counts
 abbrev pub events_if : Bool → Event → Run → Run

@@ -3,7 +3,8 @@ use Rattle.std.specs.Prelude.{reverse}
 use Rattle.std.proofs.lemmas.List.{reverse-reverse}
 use Rattle.exchange_check.specs.Transcript.{Transcript}
 use Rattle.trace_model.specs.Verdict.{verdict}
-use Rattle.exchange_check.proofs.Reversed.{verdict-kept, TellsSoundness-of, AcceptsTruth-of, AcceptsTruth-within_one_turn}
+use Rattle.exchange_check.proofs.Reversed.{verdict-kept, TellsSoundness-of, AcceptsTruth-of}
+use Rattle.exchange_check.proofs.Reversed.{AcceptsTruth-within_one_turn}
 use Rattle.exchange_check.proofs.checker.Checker.verdict.Goals as goal
 
 pub returns : goal.returns
@@ -16,5 +17,6 @@ returns c =
       verdict = kept;
       sound = TellsSoundness-of c.args.self.now.network (reverse c.args.self.now.lines) _ kept;
       complete = AcceptsTruth-of c.args.self.now.network (reverse c.args.self.now.lines) _ kept;
-      complete_within_one_turn = AcceptsTruth-within_one_turn c.args.self.now.network (reverse c.args.self.now.lines) _ kept;
+      complete_within_one_turn =
+          AcceptsTruth-within_one_turn c.args.self.now.network (reverse c.args.self.now.lines) _ kept;
     }

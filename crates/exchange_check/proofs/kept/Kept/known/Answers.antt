@@ -12,7 +12,8 @@ returns c =
     let at_site : c.site-site.result ≡ sites_of c.args.self.now (site_of line.event) =
     c.site-site.ensures ∙ ap (sites_of c.args.self.now) c.node.ensures in
     let moment = c.true_moment.ensures in
-    let reads : c.is_reading.result ≡ is_reading line.reading (shown_by c.site-site.result line.event) = rw moment at c.is_reading.ensures in
+    let reads : c.is_reading.result ≡ is_reading line.reading (shown_by c.site-site.result line.event) =
+    rw moment at c.is_reading.ensures in
     let shown = ap (λ (site : Site). is_reading line.reading (shown_by site line.event)) at_site in
     λ i. record {
       line = c.args.number;

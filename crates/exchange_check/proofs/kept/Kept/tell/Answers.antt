@@ -12,5 +12,7 @@ pub returns-in-None-clause-stays : goal.returns-in-None-clause-stays
 returns-in-None-clause-stays c stays leaves h =
     let kept = c.args.self.now.stays in
     let n : ℕ = c.args.number in
-    subst (λ (f : Option Fact). AreStays kept (with_stay n (option_and_then (stay_of (facts_of c.args.self.now) n) f) stays) (leaves_told f leaves) (n + 1)) (sym c.in-None.is)
+    subst (λ (f : Option Fact). AreStays kept
+    (with_stay n (option_and_then (stay_of (facts_of c.args.self.now) n) f) stays) (leaves_told f leaves) (n + 1))
+    (sym c.in-None.is)
     (one_more (branch_in kept.branches.items) (get nat_cmp kept.firsts) stays leaves n h)
