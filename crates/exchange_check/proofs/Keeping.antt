@@ -1,6 +1,7 @@
 -- What is kept after one more line.
 use Rattle.std.proofs.Common.{◌≡◌, ◌∙◌, ℕ, zero, suc, ◌+◌, ◌<◌, ◌≤◌, Bool, true, false, ◌&&◌, cond, eqb, List, []}
 use Rattle.std.proofs.Common.{◌∷◌, ◌++◌, length, Option, Some, None, refl, sym, ap, subst, arith, length-append}
+use Rattle.std.proofs.Math.Path.{transport}
 use Rattle.std.specs.Prelude.{option_map, option_and_then, is_some, nat_lt}
 use Rattle.std.specs.Option.{option_map_or}
 use Rattle.std.proofs.lemmas.Bool.Decides.{nat_tests}
@@ -169,41 +170,22 @@ IsKept-line network line count m kept after number last fact items h number_is l
     let pushed : fact_in items ≡ with_fact m.facts count (fact_by network m.facts m.sites line count) =
     ap fact_in items_is ∙ (λ i n. fact_in-push kept.facts.items fact n i)
     ∙ (λ i. with_fact (h.facts i) (h.count_is i) (found i)) in
-    let told : after.verdict ≡ judged network (with_fact m.facts count (fact_by network m.facts m.sites line count))
-    (once_of (last_stays m.facts) m.leaves) m.stamps m.sites
-    (fact_by network m.facts m.sites line count) line.out count m.verdict =
-    verdict_is ∙ (λ i. judged network (pushed i) (once_kept kept.stays (last_stays m.facts) m.leaves count h.stays i)
-    (h.stamps i) (h.sites i) (found i) line.out (placed i) (h.verdict i)) in
+    let stays = last_stays m.facts in
+    let more = last_stays-more m.facts count (fact_by network m.facts m.sites line count)
+    (none_after kept.facts.items m.facts count h.count_is h.facts) in
     record {
       count_is = ap length (items_after ∙ items_is) ∙ length-append kept.facts.items (fact ∷ [])
           ∙ ap (λ (n : ℕ). n + 1) h.count_is;
       facts = ap fact_in items_after ∙ pushed;
       sites = sites_is ∙ (λ i. sites_told (found i) (counted i) (h.sites i));
-      stays =
-          let placed_stays : AreStays kept.stays (last_stays m.facts) m.leaves number =
-          subst (λ (n : ℕ). AreStays kept.stays (last_stays m.facts) m.leaves n) (sym counted) h.stays in
-          let all : last_stays (with_fact m.facts count (fact_by network m.facts m.sites line count))
-          ≡ with_stay count (option_and_then
-          (stay_of (with_fact m.facts count (fact_by network m.facts m.sites line count)) count)
-          (fact_by network m.facts m.sites line count)) (last_stays m.facts) =
-          last_stays-more m.facts count (fact_by network m.facts m.sites line count)
-          (none_after kept.facts.items m.facts count h.count_is h.facts) in
-          subst (λ (s : LastStays). AreStays after.stays s
-          (leaves_told (fact_by network m.facts m.sites line count) m.leaves) (count + 1)) (sym all)
-          (subst (λ (f : Option Fact). AreStays after.stays
-          (with_stay count (option_and_then
-          (stay_of (with_fact m.facts count (fact_by network m.facts m.sites line count)) count) f)
-          (last_stays m.facts)) (leaves_told f m.leaves) (count + 1)) found
-          (subst (λ (n : ℕ). AreStays after.stays
-          (with_stay n (option_and_then
-          (stay_of (with_fact m.facts count (fact_by network m.facts m.sites line count)) n) fact)
-          (last_stays m.facts)) (leaves_told fact m.leaves) (n + 1)) counted
-          (subst (λ (f : Facts). AreStays after.stays
-          (with_stay number (option_and_then (stay_of f number) fact) (last_stays m.facts))
-          (leaves_told fact m.leaves) (number + 1)) pushed
-          (stays_is (last_stays m.facts) m.leaves placed_stays))));
+      stays = transport (λ i. AreStays after.stays (sym more i)
+          (leaves_told (fact_by network m.facts m.sites line count) m.leaves) (count + 1))
+          (transport (λ i. AreStays after.stays
+          (with_stay (counted i) (option_and_then (stay_of (pushed i) (counted i)) (found i)) stays)
+          (leaves_told (found i) m.leaves) (counted i + 1))
+          (stays_is stays m.leaves (transport (λ i. AreStays kept.stays stays m.leaves (sym counted i)) h.stays)));
       stamps = stamps_is ∙ (λ i. stamps_told (found i) (counted i) (h.sites i) (h.stamps i));
-      verdict = told;
-      within = judged-within network _
-          (once_of (last_stays m.facts) m.leaves) m.stamps m.sites _ line.out count count m.verdict h.within;
+      verdict = verdict_is ∙ (λ i. judged network (pushed i) (once_kept kept.stays stays m.leaves count h.stays i)
+          (h.stamps i) (h.sites i) (found i) line.out (placed i) (h.verdict i));
+      within = judged-within network _ (once_of stays m.leaves) m.stamps m.sites _ line.out count count m.verdict h.within;
     }
