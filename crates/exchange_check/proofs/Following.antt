@@ -18,7 +18,7 @@ use Rattle.trace_model.specs.Line.{Lines, counts}
 use Rattle.trace_model.specs.Record.{LinePlace, line_place, line_number, event_of, site, line_at, events}
 use Rattle.trace_model.specs.Journey.{Journey, begun, with_stay, copy_entered, left_from}
 use Rattle.trace_model.specs.Journey.{journey_made, journey_of, left_once}
-use Rattle.exchange_check.specs.Kept.{Facts, Leaves, leaves_after}
+use Rattle.exchange_check.specs.Kept.{Facts, Leaves, leaves_after, left_again}
 use Rattle.exchange_check.specs.Stays.{stay_below, stay_of, last_stays, is_once, once_by}
 use Rattle.exchange_check.proofs.Noted.{leaves_at, count_more}
 use Rattle.exchange_check.proofs.Passing.{none_made}
@@ -39,30 +39,19 @@ ended_more true zero kept h = ap (λ (o : Option Bool). Some (is_some o)) h
 ended_more true (suc zero) kept h = ap (λ (o : Option Bool). Some (is_some o)) h
 ended_more true (suc (suc n)) kept h = ap (λ (o : Option Bool). Some (is_some o)) h
 
-leaves_more : (event : Event) (leaves : Leaves) (run : Run) (stay : ℕ)
-    → leaves stay ≡ ended (count_by (spends stay) run)
-    → leaves_after event leaves stay
-    ≡ ended (cond (spends stay event) (suc (count_by (spends stay) run)) (count_by (spends stay) run))
-leaves_more (Sync node at) leaves run stay h = h
-leaves_more (SyncOne node at) leaves run stay h = h
-leaves_more (Follow node) leaves run stay h = h
-leaves_more (Enter node copy at) leaves run stay h = h
-leaves_more (Leave node transit at) leaves run stay h =
-    ended_more (eqb transit stay) (count_by (spends stay) run) (leaves stay) h
-leaves_more (Arrive node copy at) leaves run stay h = h
-leaves_more (Hear node copy) leaves run stay h = h
-leaves_more (Request node at) leaves run stay h = h
-leaves_more (Stamped node) leaves run stay h = h
-leaves_more (Tick node) leaves run stay h = h
-leaves_more (SetMaster node master) leaves run stay h = h
-leaves_more (StepClock node diff) leaves run stay h = h
+leaves_more : (spent : Option ℕ) (leaves : Leaves) (n stay : ℕ) → leaves stay ≡ ended n
+    → option_map_or (λ transit. left_again transit leaves) spent leaves stay
+    ≡ ended (cond (option_map_or (λ transit. eqb transit stay) spent false) (suc n) n)
+leaves_more None leaves n stay h = h
+leaves_more (Some transit) leaves n stay h = ended_more (eqb transit stay) n (leaves stay) h
 
 either_ended : (network : Network) (line : TraceLine) (earlier : Lines) (stay : ℕ) (b : Bool) → counts network line ≡ b
     → leaves_at network earlier stay ≡ ended (count_by (spends stay) (events network earlier))
     → cond b (leaves_after line.event (leaves_at network earlier)) (leaves_at network earlier) stay
     ≡ ended (count_by (spends stay) (events network (line ∷ earlier)))
 either_ended network line earlier stay true c h =
-    leaves_more line.event (leaves_at network earlier) (events network earlier) stay h
+    leaves_more (spent_transit line.event) (leaves_at network earlier)
+    (count_by (spends stay) (events network earlier)) stay h
     ∙ sym (ap ended (ap (count_by (spends stay)) (events_more network line earlier true c)
     ∙ count_more (spends stay) line.event (events network earlier)))
 either_ended network line earlier stay false c h =

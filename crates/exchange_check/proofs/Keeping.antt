@@ -187,5 +187,6 @@ IsKept-line network line count m kept after number last fact items h number_is l
       stamps = stamps_is ∙ (λ i. stamps_told (found i) (counted i) (h.sites i) (h.stamps i));
       verdict = verdict_is ∙ (λ i. judged network (pushed i) (once_kept kept.stays stays m.leaves count h.stays i)
           (h.stamps i) (h.sites i) (found i) line.out (placed i) (h.verdict i));
-      within = judged-within network _ (once_of stays m.leaves) m.stamps m.sites _ line.out count count m.verdict h.within;
+      within = judged-within network _
+          (once_of stays m.leaves) m.stamps m.sites _ line.out count count m.verdict h.within;
     }

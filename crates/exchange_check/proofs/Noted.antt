@@ -19,7 +19,7 @@ use Rattle.trace_model.specs.declared.line.TraceLine.{TraceLine}
 use Rattle.trace_model.specs.Line.{Lines, counts}
 use Rattle.trace_model.specs.Record.{LinePlace, line_place, line_number, event_of, last_line, events, first_stamp}
 use Rattle.trace_model.proofs.Lines.{events_if, events_more, last_more}
-use Rattle.exchange_check.specs.Kept.{Sites, Leaves, Stamps, moved, sites_after, leaves_after, stamps_after}
+use Rattle.exchange_check.specs.Kept.{Sites, Leaves, Stamps, moved, stamped, sites_after, leaves_after, stamps_after}
 use Rattle.exchange_check.specs.Machine.{sites_told, leaves_told, stamps_told}
 
 pub cond_same : {X : Type 0} (b : Bool) (x : X) → cond b x x ≡ x
@@ -248,29 +248,13 @@ asked : (o : Option LinePlace) (request : ℕ)
 asked None request = refl
 asked (Some e) request = refl
 
-stamps_after_is : (network : Network) (event : Event) (n : ℕ) (earlier : Lines) (request : ℕ)
-    → stamps_after event n (site_at network earlier) (stamps_at network earlier) request
-    ≡ option_or (first_stamp network request earlier)
-    (cond (is_stamped event && option_map_or (λ last. eqb (line_number last) request)
-    (last_line network is_request (site_of event) earlier) false) (Some n) None)
-stamps_after_is network (Sync node at) n earlier request = sym (or_nothing (first_stamp network request earlier))
-stamps_after_is network (SyncOne node at) n earlier request = sym (or_nothing (first_stamp network request earlier))
-stamps_after_is network (Follow node) n earlier request = sym (or_nothing (first_stamp network request earlier))
-stamps_after_is network (Enter node copy at) n earlier request = sym (or_nothing (first_stamp network request earlier))
-stamps_after_is network (Leave node transit at) n earlier request =
-    sym (or_nothing (first_stamp network request earlier))
-stamps_after_is network (Arrive node copy at) n earlier request =
-    sym (or_nothing (first_stamp network request earlier))
-stamps_after_is network (Hear node copy) n earlier request = sym (or_nothing (first_stamp network request earlier))
-stamps_after_is network (Request node at) n earlier request = sym (or_nothing (first_stamp network request earlier))
-stamps_after_is network (Stamped node) n earlier request =
-    ap (λ (b : Bool). option_or (first_stamp network request earlier) (cond b (Some n) None))
-    (asked (last_line network is_request node earlier) request)
-stamps_after_is network (Tick node) n earlier request = sym (or_nothing (first_stamp network request earlier))
-stamps_after_is network (SetMaster node master) n earlier request =
-    sym (or_nothing (first_stamp network request earlier))
-stamps_after_is network (StepClock node diff) n earlier request =
-    sym (or_nothing (first_stamp network request earlier))
+stamps_after_is : (stamp : Bool) (n : ℕ) (last : Option LinePlace) (stamps : Stamps) (request : ℕ)
+    → (cond stamp (stamped (option_map line_number last) n stamps) stamps) request
+    ≡ option_or (stamps request)
+    (cond (stamp && option_map_or (λ x. eqb (line_number x) request) last false) (Some n) None)
+stamps_after_is true n last stamps request =
+    ap (λ (b : Bool). option_or (stamps request) (cond b (Some n) None)) (asked last request)
+stamps_after_is false n last stamps request = sym (or_nothing (stamps request))
 
 stamp_more : (network : Network) (line : TraceLine) (earlier : Lines) (request : ℕ) (b : Bool)
     → counts network line ≡ b
@@ -297,7 +281,8 @@ stamps-line network line earlier fact true h same = λ i request. at request i
     at request =
         ap (λ (e : Event). stamps_after e (length earlier) (site_at network earlier)
         (stamps_at network earlier) request) same
-        ∙ stamps_after_is network line.event (length earlier) earlier request
+        ∙ stamps_after_is (is_stamped line.event) (length earlier)
+        (last_line network is_request (site_of line.event) earlier) (stamps_at network earlier) request
         ∙ sym (stamp_more network line earlier request true h)
 stamps-line network line earlier fact false h same =
     λ i request. (sym (or_nothing (first_stamp network request earlier))

@@ -15,7 +15,7 @@ use Rattle.network_model.specs.declared.event.Event.TheVariants.{Sync, SyncOne, 
 use Rattle.network_model.specs.declared.event.Event.TheVariants.{Request, Stamped, Tick, SetMaster, StepClock}
 use Rattle.network_model.specs.Network.{Network, NodeName, PortSetup, is_named}
 use Rattle.network_model.specs.Run.{site_of, true_moment}
-use Rattle.network_model.specs.Kinds.{entered_copy}
+use Rattle.network_model.specs.Kinds.{entered_copy, spent_transit, is_stamped}
 use Rattle.network_model.specs.Truth.{master_at, slave_at}
 use Rattle.exchange_check.specs.declared.facts.Fact.{Fact}
 use Rattle.exchange_check.specs.declared.facts.Known.{Known}
@@ -265,18 +265,7 @@ left_again transit leaves stay = if transit == stay then Some (is_some (leaves s
 
 -- the same after one more event
 abbrev pub leaves_after : Event → Leaves → Leaves
-leaves_after (Sync node at) leaves = leaves
-leaves_after (SyncOne node at) leaves = leaves
-leaves_after (Follow node) leaves = leaves
-leaves_after (Enter node copy at) leaves = leaves
-leaves_after (Leave node transit at) leaves = left_again transit leaves
-leaves_after (Arrive node copy at) leaves = leaves
-leaves_after (Hear node copy) leaves = leaves
-leaves_after (Request node at) leaves = leaves
-leaves_after (Stamped node) leaves = leaves
-leaves_after (Tick node) leaves = leaves
-leaves_after (SetMaster node master) leaves = leaves
-leaves_after (StepClock node diff) leaves = leaves
+leaves_after event leaves = option_map_or (λ transit. left_again transit leaves) (spent_transit event) leaves
 
 -- the line at which the departure of the request of each number was learned
 abbrev pub Stamps : Type 0
@@ -289,15 +278,5 @@ stamped last n stamps request =
 
 -- the same after an event at the line of this number
 abbrev pub stamps_after : Event → ℕ → Sites → Stamps → Stamps
-stamps_after (Sync node at) n sites stamps = stamps
-stamps_after (SyncOne node at) n sites stamps = stamps
-stamps_after (Follow node) n sites stamps = stamps
-stamps_after (Enter node copy at) n sites stamps = stamps
-stamps_after (Leave node transit at) n sites stamps = stamps
-stamps_after (Arrive node copy at) n sites stamps = stamps
-stamps_after (Hear node copy) n sites stamps = stamps
-stamps_after (Request node at) n sites stamps = stamps
-stamps_after (Stamped node) n sites stamps = stamped (sites node).last_request n stamps
-stamps_after (Tick node) n sites stamps = stamps
-stamps_after (SetMaster node master) n sites stamps = stamps
-stamps_after (StepClock node diff) n sites stamps = stamps
+stamps_after event n sites stamps =
+    if is_stamped event then stamped (sites (site_of event)).last_request n stamps else stamps

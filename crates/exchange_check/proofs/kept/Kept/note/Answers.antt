@@ -3,7 +3,7 @@ use Rattle.std.specs.Prelude.{MatchResult}
 use Rattle.network_model.specs.Kinds.{spent_transit}
 use Rattle.exchange_check.specs.declared.refusal.CheckFault.{CheckFault}
 use Rattle.exchange_check.specs.Machine.{facts_of}
-use Rattle.exchange_check.proofs.Passing.{passes, others_pass, stays_pass}
+use Rattle.exchange_check.proofs.Passing.{others_pass, stays_pass}
 use Rattle.exchange_check.proofs.kept.Kept.note.Goals as goal
 
 -- whatever memory was refused for, what is kept of stays is the same
@@ -15,7 +15,7 @@ pub returns-in-Stamped-clause-stays : goal.returns-in-Stamped-clause-stays
 returns-in-Stamped-clause-stays c stays leaves h =
     either_way _ _ (stays_pass c.args.self.now.stays
     (facts_of c.args.self.now) c.args.number c.args.fact.now stays leaves
-    (passes c.args.fact.now.event (ap spent_transit c.in-Stamped.is)) h) h c.stamp.result
+    (ap spent_transit c.in-Stamped.is) h) h c.stamp.result
 
 pub returns-in_default-clause-stays : goal.returns-in_default-clause-stays
 returns-in_default-clause-stays c stays leaves h =
@@ -25,7 +25,7 @@ returns-in_default-clause-stays c stays leaves h =
 pub returns-in-Sync-clause-stays : goal.returns-in-Sync-clause-stays
 returns-in-Sync-clause-stays c stays leaves h =
     either_way _ _ (stays_pass c.args.self.now.stays
-    (facts_of c.args.self.now) c.args.number c.args.fact.now stays leaves (passes c.args.fact.now.event none) h) h
+    (facts_of c.args.self.now) c.args.number c.args.fact.now stays leaves none h) h
     c.move_site.result
   where
     none : spent_transit c.args.fact.now.event ≡ None
