@@ -9,36 +9,44 @@ use Rattle.trace_model.specs.Line.{Lines, is_made, completes}
 use Rattle.trace_model.specs.Record.{LinePlace, line_number, event_of, line_at}
 use Rattle.trace_model.specs.Sound.{where_passes, below, Exchange, line_of, sender, sync_line, arrival_line}
 use Rattle.trace_model.proofs.OctetsOfExchanges.{passed}
-use Rattle.exchange_check.proofs.Messages.{line_at-bound}
-use Rattle.exchange_check.proofs.Following.{line_at-number}
+use Rattle.trace_model.proofs.Lines.{line_at-bound, line_at-number}
 use Rattle.exchange_check.proofs.Exchanges.{line_chain}
 
-bound : {X Y : Type 0} (f : X → Option Y) (o : Option X) (y : Y) → option_and_then f o ≡ Some y → (x : X) × (f x ≡ Some y)
+bound : {X Y : Type 0} (f : X → Option Y) (o : Option X) (y : Y) → option_and_then f o ≡ Some y
+    → (x : X) × (f x ≡ Some y)
 bound f None y h = absurd (none-some y h)
 bound f (Some x) y h = (x, h)
 
-under : (network : Network) (lines : Lines) (b : Bool) (n : ℕ) (e : LinePlace) → cond b (line_at network lines n) None ≡ Some e → line_number e < length lines
+under : (network : Network) (lines : Lines) (b : Bool) (n : ℕ) (e : LinePlace)
+    → cond b (line_at network lines n) None ≡ Some e → line_number e < length lines
 under network lines true n e h =
     let same : line_number e ≡ n = line_at-number network lines n e h in
     let inside : n < length lines = line_at-bound network lines n e h in
     omega (arith, same, inside)
 under network lines false n e h = absurd (none-some e h)
 
-pub sync_within : (network : Network) (lines : Lines) (slave : NodeName) (report : Report) (e : LinePlace) → sync_line network lines slave report ≡ Some e → line_number e < length lines
+pub sync_within : (network : Network) (lines : Lines) (slave : NodeName) (report : Report) (e : LinePlace)
+    → sync_line network lines slave report ≡ Some e → line_number e < length lines
 sync_within network lines slave report e h =
     under network lines true report.sync_tag e
     (passed (λ x. is_at is_arrival slave (event_of x)) (line_at network lines report.sync_tag)
-    (passed (λ x. is_some report.follow_tag || completes x.line.out) (line_of network lines is_arrival slave report.sync_tag) h).0).0
+    (passed (λ x. is_some report.follow_tag || completes x.line.out)
+    (line_of network lines is_arrival slave report.sync_tag) h).0).0
 
-pub arrival_within : (network : Network) (lines : Lines) (slave : NodeName) (n : ℕ) (e : LinePlace) → arrival_line network lines slave n ≡ Some e → line_number e < length lines
+pub arrival_within : (network : Network) (lines : Lines) (slave : NodeName) (n : ℕ) (e : LinePlace)
+    → arrival_line network lines slave n ≡ Some e → line_number e < length lines
 arrival_within network lines slave n e h =
-    let heard : Option LinePlace = where_passes (λ x. completes x.line.out) (line_of network lines is_hearing slave n) in
-    let sent = bound (sender network lines) heard e (passed (λ x. is_arrival (event_of x) && is_made x.line.out) (option_and_then (sender network lines) heard) h).0 in
+    let heard : Option LinePlace =
+    where_passes (λ x. completes x.line.out) (line_of network lines is_hearing slave n) in
+    let sent = bound (sender network lines) heard e
+    (passed (λ x. is_arrival (event_of x) && is_made x.line.out)
+    (option_and_then (sender network lines) heard) h).0 in
     let copy = bound (below (line_at network lines) (line_number sent.0)) (heard_copy (event_of sent.0)) e sent.1 in
     under network lines _ copy.0 e copy.1
 
 -- the two of an exchange
-pub chain_parts : (network : Network) (lines : Lines) (s : Option LinePlace) (f : Option (Option LinePlace)) (u r : Option LinePlace) (x : Exchange)
+pub chain_parts : (network : Network) (lines : Lines) (s : Option LinePlace) (f : Option (Option LinePlace))
+    (u r : Option LinePlace) (x : Exchange)
     → line_chain network lines s f u r ≡ Some x → (s ≡ Some x.sync) × (r ≡ Some x.arrival)
 chain_parts network lines None f u r x h = absurd (none-some x h)
 chain_parts network lines (Some s) None u r x h = absurd (none-some x h)

@@ -1,12 +1,14 @@
 -- What is kept of copies, after one more copy and after a stay was ended again.
-use Rattle.std.proofs.Common.{◌≡◌, ◌∙◌, ℕ, ◌+◌, ◌<◌, ◌≤◌, Bool, true, false, ◌&&◌, cond, eqb, List, [], ◌∷◌, Option, Some, None, ◌⊎◌, inl, inr, refl, sym, ap, subst, arith}
+use Rattle.std.proofs.Common.{◌≡◌, ◌∙◌, ℕ, ◌+◌, ◌<◌, ◌≤◌, Bool, true, false, ◌&&◌, cond, eqb, List, []}
+use Rattle.std.proofs.Common.{◌∷◌, Option, Some, None, ◌⊎◌, inl, inr, refl, sym, ap, subst, arith}
 use Rattle.std.specs.Prelude.{is_some, option_map, IfSome}
 use Rattle.std.proofs.lemmas.Bool.{true≢false, eqb-true, eq-eqb}
 use Rattle.std.proofs.lemmas.Bool.Decides.{nat_tests}
 use Rattle.std.proofs.lemmas.Option.{same_Some, none-some}
 use Rattle.exchange_check.specs.declared.stays.Branch.{Branch}
 use Rattle.exchange_check.specs.Kept.{Leaves, left_again}
-use Rattle.exchange_check.specs.Stays.{LastStays, with_stay, is_once, Branches, root, with_branch, IsStretch, Stretch, depths, nexts, Firsts, with_first, IsOrdered, is_whole, AreBranches}
+use Rattle.exchange_check.specs.Stays.{LastStays, with_stay, is_once, Branches, root, with_branch, IsStretch, Stretch}
+use Rattle.exchange_check.specs.Stays.{depths, nexts, Firsts, with_first, IsOrdered, is_whole, AreBranches}
 use Rattle.exchange_check.proofs.Stretches.{run_past, grown_run}
 
 pub less-apart : (x n : ℕ) → x < n → eqb n x ≡ false
@@ -19,14 +21,17 @@ itself n = eq-eqb n n refl
 pub with_branch-here : (branches : Branches) (n : ℕ) (branch : Branch) → with_branch n branch branches n ≡ branch
 with_branch-here branches n branch = λ i. cond (itself n i) branch (branches n)
 
-pub with_branch-there : (branches : Branches) (n : ℕ) (branch : Branch) (x : ℕ) → eqb n x ≡ false → with_branch n branch branches x ≡ branches x
+pub with_branch-there : (branches : Branches) (n : ℕ) (branch : Branch) (x : ℕ) → eqb n x ≡ false
+    → with_branch n branch branches x ≡ branches x
 with_branch-there branches n branch x e = λ i. cond (e i) branch (branches x)
 
-made : (number : ℕ) (stay : Option (ℕ × ℕ)) (stays : LastStays) (n : ℕ) (s : ℕ × ℕ) → with_stay number stay stays n ≡ Some s
+made : (number : ℕ) (stay : Option (ℕ × ℕ)) (stays : LastStays) (n : ℕ) (s : ℕ × ℕ)
+    → with_stay number stay stays n ≡ Some s
     → ((number ≡ n) × (stay ≡ Some s)) ⊎ ((eqb number n ≡ false) × (stays n ≡ Some s))
 made number stay stays n s h = by (eqb number n) refl h
   where
-    by : (b : Bool) → eqb number n ≡ b → cond b stay (stays n) ≡ Some s → ((number ≡ n) × (stay ≡ Some s)) ⊎ ((eqb number n ≡ false) × (stays n ≡ Some s))
+    by : (b : Bool) → eqb number n ≡ b → cond b stay (stays n) ≡ Some s
+        → ((number ≡ n) × (stay ≡ Some s)) ⊎ ((eqb number n ≡ false) × (stays n ≡ Some s))
     by true e g = inl (eqb-true number n e, g)
     by false e g = inr (e, g)
 
@@ -39,7 +44,8 @@ with_none number stays none = λ i n. at n (eqb number n) refl i
     at n false e = refl
 
 -- numbers that aren't used yet don't matter
-pub ordered_later : (branches : Branches) (firsts : Firsts) (stays : LastStays) (leaves : Leaves) (number limit : ℕ) → number ≤ limit
+pub ordered_later : (branches : Branches) (firsts : Firsts) (stays : LastStays) (leaves : Leaves) (number limit : ℕ)
+    → number ≤ limit
     → IsOrdered branches firsts stays leaves number → IsOrdered branches firsts stays leaves limit
 ordered_later branches firsts stays leaves number limit fits h = record {
   within = λ n t c s. let w = h.within n t c s in let b : n < number = w.1 in (w.0, omega (arith, b, fits));
@@ -56,12 +62,15 @@ ordered_later branches firsts stays leaves number limit fits h = record {
   no_link_to_a_root = h.no_link_to_a_root;
 }
 
-pub later : (branches : Branches) (firsts : Firsts) (stays : LastStays) (leaves : Leaves) (number limit : ℕ) → number ≤ limit
+pub later : (branches : Branches) (firsts : Firsts) (stays : LastStays) (leaves : Leaves) (number limit : ℕ)
+    → number ≤ limit
     → AreBranches branches firsts stays leaves number → AreBranches branches firsts stays leaves limit
-later branches firsts stays leaves number limit fits h = record { ordered = ordered_later branches firsts stays leaves number limit fits h.ordered; once = h.once }
+later branches firsts stays leaves number limit fits h =
+    record { ordered = ordered_later branches firsts stays leaves number limit fits h.ordered; once = h.once }
 
 -- no stay of a number that isn't used yet
-pub unused : (branches : Branches) (firsts : Firsts) (stays : LastStays) (leaves : Leaves) (number : ℕ) → AreBranches branches firsts stays leaves number → stays number ≡ None
+pub unused : (branches : Branches) (firsts : Firsts) (stays : LastStays) (leaves : Leaves) (number : ℕ)
+    → AreBranches branches firsts stays leaves number → stays number ≡ None
 unused branches firsts stays leaves number h = by (stays number) refl
   where
     by : (o : Option (ℕ × ℕ)) → stays number ≡ o → o ≡ None
@@ -70,16 +79,20 @@ unused branches firsts stays leaves number h = by (stays number) refl
         let b : number < number = (h.ordered.within number s.0 s.1 e).1 in
         absurd (omega (arith, b))
 
-pub same_branches : (branches after : Branches) (firsts named : Firsts) (stays : LastStays) (leaves : Leaves) (number : ℕ) → after ≡ branches → named ≡ firsts
+pub same_branches : (branches after : Branches) (firsts named : Firsts) (stays : LastStays) (leaves : Leaves)
+    (number : ℕ) → after ≡ branches → named ≡ firsts
     → AreBranches branches firsts stays leaves number → AreBranches after named stays leaves number
 same_branches branches after firsts named stays leaves number b f h =
-    subst (λ (x : Branches). AreBranches x named stays leaves number) (sym b) (subst (λ (x : Firsts). AreBranches branches x stays leaves number) (sym f) h)
+    subst (λ (x : Branches). AreBranches x named stays leaves number) (sym b)
+    (subst (λ (x : Firsts). AreBranches branches x stays leaves number) (sym f) h)
 
 -- one more copy without a stay
 pub one_more : (branches : Branches) (firsts : Firsts) (stays : LastStays) (leaves : Leaves) (number : ℕ)
-    → AreBranches branches firsts stays leaves number → AreBranches branches firsts (with_stay number None stays) leaves (number + 1)
+    → AreBranches branches firsts stays leaves number
+    → AreBranches branches firsts (with_stay number None stays) leaves (number + 1)
 one_more branches firsts stays leaves number h =
-    subst (λ (s : LastStays). AreBranches branches firsts s leaves (number + 1)) (sym (with_none number stays (unused branches firsts stays leaves number h)))
+    subst (λ (s : LastStays). AreBranches branches firsts s leaves (number + 1))
+    (sym (with_none number stays (unused branches firsts stays leaves number h)))
     (later branches firsts stays leaves number (number + 1) (omega arith) h)
 
 -- the first Leave line of a stay
@@ -104,33 +117,39 @@ module _ (branches : Branches) (firsts : Firsts) (stays : LastStays) (leaves : L
   named-either : (t f : ℕ) → named t ≡ Some f → ((transit ≡ t) × (number ≡ f)) ⊎ (firsts t ≡ Some f)
   named-either t f e = by (eqb transit t) refl e
     where
-      by : (b : Bool) → eqb transit t ≡ b → cond b (Some number) (firsts t) ≡ Some f → ((transit ≡ t) × (number ≡ f)) ⊎ (firsts t ≡ Some f)
+      by : (b : Bool) → eqb transit t ≡ b → cond b (Some number) (firsts t) ≡ Some f
+          → ((transit ≡ t) × (number ≡ f)) ⊎ (firsts t ≡ Some f)
       by true s g = inl (eqb-true transit t s, same_Some number f g)
       by false s g = inr g
 
   named-known : (t : ℕ) → is_some (named t) ≡ is_some (left_again transit leaves t)
   named-known t = by (eqb transit t)
     where
-      by : (b : Bool) → is_some (cond b (Some number) (firsts t)) ≡ is_some (cond b (Some (is_some (leaves t))) (leaves t))
+      by : (b : Bool) → is_some (cond b (Some number) (firsts t))
+          ≡ is_some (cond b (Some (is_some (leaves t))) (leaves t))
       by true = refl
       by false = h.ordered.known t
 
-  whole-before : (o : Option (ℕ × ℕ)) → ((s : ℕ × ℕ) → o ≡ Some s → eqb transit s.0 ≡ false) → is_whole branches leaves o ≡ is_whole branches (left_again transit leaves) o
+  whole-before : (o : Option (ℕ × ℕ)) → ((s : ℕ × ℕ) → o ≡ Some s → eqb transit s.0 ≡ false)
+      → is_whole branches leaves o ≡ is_whole branches (left_again transit leaves) o
   whole-before None other = refl
-  whole-before (Some s) other = sym (λ i. is_once (cond (other s refl i) (Some (is_some (leaves s.0))) (leaves s.0)) && (branches s.1).once)
+  whole-before (Some s) other =
+      sym (λ i. is_once (cond (other s refl i) (Some (is_some (leaves s.0))) (leaves s.0)) && (branches s.1).once)
 
   pub first_named : AreBranches branches named stays (left_again transit leaves) (number + 1)
   first_named = record {
     ordered = record {
       within = λ n t c s. let w = h.ordered.within n t c s in let b : n < number = w.1 in (w.0, omega (arith, b));
-      ended = λ n t c s. ap (λ (o : Option ℕ). is_some o) (named-other t (other_stay n t c s)) ∙ h.ordered.ended n t c s;
+      ended = λ n t c s. ap (λ (o : Option ℕ). is_some o) (named-other t (other_stay n t c s))
+          ∙ h.ordered.ended n t c s;
       known = named-known;
       earlier = λ t f s. elim (named-either t f s) [
         | inl p ↦ let e : number ≡ f = p.1 in omega (arith, e)
         | inr p ↦ let b : f < number = h.ordered.earlier t f p in omega (arith, b)
       ];
       of_first = λ t f other c n s. elim (named-either t f n) [
-        | inl p ↦ let b : f < number = (h.ordered.within f other c s).1 in let e : number ≡ f = p.1 in absurd (omega (arith, b, e))
+        | inl p ↦ let b : f < number =
+            (h.ordered.within f other c s).1 in let e : number ≡ f = p.1 in absurd (omega (arith, b, e))
         | inr p ↦ h.ordered.of_first t f other c p s
       ];
       first = λ n t c s alive. named-other t (other_stay n t c s) ∙ h.ordered.first n t c s alive;
@@ -181,7 +200,8 @@ module _ (branches after : Branches) (firsts : Firsts) (stays : LastStays) (leav
   more_flat : (m : ℕ) → more m ≡ None → (eqb n m ≡ false) × (stays m ≡ None)
   more_flat m s = by (eqb n m) refl s
     where
-      by : (b : Bool) → eqb n m ≡ b → cond b (Some (transit, p)) (stays m) ≡ None → (eqb n m ≡ false) × (stays m ≡ None)
+      by : (b : Bool) → eqb n m ≡ b → cond b (Some (transit, p)) (stays m) ≡ None
+          → (eqb n m ≡ false) × (stays m ≡ None)
       by true e g = absurd (none-some (transit, p) (sym g))
       by false e g = (e, g)
 
@@ -196,8 +216,10 @@ module _ (branches after : Branches) (firsts : Firsts) (stays : LastStays) (leav
   module _ (at_p : after p ≡ record (branches p) { next = Some n })
       (at_n : after n ≡ record { once = true; depth = (branches p).depth + 1; next = (branches p).next })
       (others : (x : ℕ) → eqb p x ≡ false → eqb n x ≡ false → after x ≡ branches x)
-      (alive : (branches p).once ≡ true) (once : is_once (leaves transit) ≡ true) (first : firsts transit ≡ Some n) where
-    grown-old : (x : ℕ) → eqb n x ≡ false → ((after x).once ≡ (branches x).once) × ((after x).depth ≡ (branches x).depth)
+      (alive : (branches p).once ≡ true) (once : is_once (leaves transit) ≡ true)
+      (first : firsts transit ≡ Some n) where
+    grown-old : (x : ℕ) → eqb n x ≡ false
+        → ((after x).once ≡ (branches x).once) × ((after x).depth ≡ (branches x).depth)
     grown-old x apart = by (eqb p x) refl
       where
         by : (b : Bool) → eqb p x ≡ b → ((after x).once ≡ (branches x).once) × ((after x).depth ≡ (branches x).depth)
@@ -222,18 +244,25 @@ module _ (branches after : Branches) (firsts : Firsts) (stays : LastStays) (leav
     grown-deeper m t c s on = elim (made n (Some (transit, p)) stays m (t, c) s) [
       | inl q ↦
           let g : p ≡ c = (pair (t, c) q.1).1 in
-          ap (λ (x : ℕ). (after x).depth) (sym q.0) ∙ depth_n ∙ ap (λ (d : ℕ). d + 1) (sym depth_p ∙ ap (λ (x : ℕ). (after x).depth) g)
+          ap (λ (x : ℕ). (after x).depth) (sym q.0) ∙ depth_n
+          ∙ ap (λ (d : ℕ). d + 1) (sym depth_p ∙ ap (λ (x : ℕ). (after x).depth) g)
       | inr q ↦
           let o = grown-old m q.0 in
-          o.1 ∙ h.ordered.deeper m t c q.1 (sym o.0 ∙ on) ∙ ap (λ (d : ℕ). d + 1) (sym (grown-old c (from_before m t c q.1)).1)
+          o.1 ∙ h.ordered.deeper m t c q.1 (sym o.0 ∙ on)
+          ∙ ap (λ (d : ℕ). d + 1) (sym (grown-old c (from_before m t c q.1)).1)
     ]
 
-    run_on : (above : ℕ) (l : List ℕ) (from : Option ℕ) (to : ℕ) → IsStretch (depths branches) (nexts branches) above from l to → Stretch (depths after) (nexts after) above from to
-    run_on = grown_run (depths branches) (depths after) (nexts branches) (nexts after) p n flat_n depth_p depth_n next_p next_n
+    run_on : (above : ℕ) (l : List ℕ) (from : Option ℕ) (to : ℕ)
+        → IsStretch (depths branches) (nexts branches) above from l to
+        → Stretch (depths after) (nexts after) above from to
+    run_on = grown_run (depths branches) (depths after) (nexts branches)
+        (nexts after) p n flat_n depth_p depth_n next_p next_n
         (λ x at at_new. let o = others x at at_new in (ap (λ (b : Branch). b.depth) o, ap (λ (b : Branch). b.next) o))
 
     -- a run that begins after a copy
-    run_from : (c m : ℕ) → eqb n c ≡ false → Stretch (depths branches) (nexts branches) (branches c).depth (branches c).next m → Stretch (depths after) (nexts after) (after c).depth (after c).next m
+    run_from : (c m : ℕ) → eqb n c ≡ false
+        → Stretch (depths branches) (nexts branches) (branches c).depth (branches c).next m
+        → Stretch (depths after) (nexts after) (after c).depth (after c).next m
     run_from c m apart run = by (eqb p c) refl
       where
         same : (after c).depth ≡ (branches c).depth
@@ -252,21 +281,25 @@ module _ (branches after : Branches) (firsts : Firsts) (stays : LastStays) (leav
               leads = (
                 ap (λ (x : ℕ). (after x).next) (sym g) ∙ next_p,
                 omega (arith, d, depth_n),
-                subst (λ (o : Option ℕ). IsStretch (depths after) (nexts after) (branches c).depth o old.through m) (sym link) old.leads,
+                subst (λ (o : Option ℕ). IsStretch (depths after) (nexts after) (branches c).depth o old.through m)
+                    (sym link) old.leads,
               );
             })
         by false e =
             subst (λ (a : ℕ). Stretch (depths after) (nexts after) a (after c).next m) (sym same)
-            (subst (λ (o : Option ℕ). Stretch (depths after) (nexts after) (branches c).depth o m) (sym (ap (λ (b : Branch). b.next) (others c e apart))) old)
+            (subst (λ (o : Option ℕ). Stretch (depths after) (nexts after) (branches c).depth o m)
+            (sym (ap (λ (b : Branch). b.next) (others c e apart))) old)
 
-    grown-runs : (m t c : ℕ) → more m ≡ Some (t, c) → (after m).once ≡ true → (after c).once ≡ true → Stretch (depths after) (nexts after) (after c).depth (after c).next m
+    grown-runs : (m t c : ℕ) → more m ≡ Some (t, c) → (after m).once ≡ true → (after c).once ≡ true
+        → Stretch (depths after) (nexts after) (after c).depth (after c).next m
     grown-runs m t c s on from_on = elim (made n (Some (transit, p)) stays m (t, c) s) [
       | inl q ↦
           let g : p ≡ c = (pair (t, c) q.1).1 in
           record { through = []; leads = ap (λ (x : ℕ). (after x).next) (sym g) ∙ next_p ∙ ap Some q.0 }
       | inr q ↦
           let apart = from_before m t c q.1 in
-          run_from c m apart (h.ordered.runs m t c q.1 (sym (grown-old m q.0).0 ∙ on) (sym (grown-old c apart).0 ∙ from_on))
+          run_from c m apart (h.ordered.runs m t c q.1 (sym (grown-old m q.0).0 ∙ on)
+          (sym (grown-old c apart).0 ∙ from_on))
     ]
 
     abbrev Back : ℕ → ℕ → Type 0
@@ -296,7 +329,8 @@ module _ (branches after : Branches) (firsts : Firsts) (stays : LastStays) (leav
         by (inl a) (inl b) = a.1 ∙ sym b.1
         by (inl a) (inr b) = absurd (no_way b.0 (b.1 ∙ ap Some a.0))
         by (inr a) (inl b) = absurd (no_way a.0 (a.1 ∙ ap Some b.0))
-        by (inr a) (inr b) = a.2 ∙ ap (λ (y : ℕ). cond (eqb p y) n y) (h.ordered.one_before a.0 b.0 m a.1 b.1) ∙ sym b.2
+        by (inr a) (inr b) = a.2 ∙ ap (λ (y : ℕ). cond (eqb p y) n y) (h.ordered.one_before a.0 b.0 m a.1 b.1)
+            ∙ sym b.2
 
     grown-below : (x m : ℕ) → (after x).next ≡ Some m → 0 < (after m).depth
     grown-below x m e = by (back x m e)
@@ -336,7 +370,8 @@ module _ (branches after : Branches) (firsts : Firsts) (stays : LastStays) (leav
 
     grown-whole : (m : ℕ) (o : Option (ℕ × ℕ)) → stays m ≡ o → is_whole branches leaves o ≡ is_whole after leaves o
     grown-whole m None e = refl
-    grown-whole m (Some s) e = sym (ap (λ (b : Bool). is_once (leaves s.0) && b) (grown-old s.1 (from_before m s.0 s.1 e)).0)
+    grown-whole m (Some s) e =
+        sym (ap (λ (b : Bool). is_once (leaves s.0) && b) (grown-old s.1 (from_before m s.0 s.1 e)).0)
 
     grown-once : (m : ℕ) → (after m).once ≡ is_whole after leaves (more m)
     grown-once m = by (eqb n m) refl
@@ -384,32 +419,41 @@ module _ (branches after : Branches) (firsts : Firsts) (stays : LastStays) (leav
         at : (x : ℕ) (b : Bool) → eqb n x ≡ b → (branches x).depth ≡ (after x).depth
         at x true e =
             let same : n ≡ x = eqb-true n x e in
-            ap (λ (y : ℕ). (branches y).depth) (sym same) ∙ flat_n ∙ sym (ap (λ (b : Branch). b.depth) at_n) ∙ ap (λ (y : ℕ). (after y).depth) same
+            ap (λ (y : ℕ). (branches y).depth) (sym same) ∙ flat_n ∙ sym (ap (λ (b : Branch). b.depth) at_n)
+            ∙ ap (λ (y : ℕ). (after y).depth) same
         at x false e = sym (ap (λ (b : Branch). b.depth) (others x e))
 
     marked-depth : (x : ℕ) → (after x).depth ≡ (branches x).depth
     marked-depth x = λ i. (sym marked-depths) i x
 
-    marked-run : (c m : ℕ) → eqb n c ≡ false → Stretch (depths branches) (nexts branches) (branches c).depth (branches c).next m → Stretch (depths after) (nexts after) (after c).depth (after c).next m
+    marked-run : (c m : ℕ) → eqb n c ≡ false
+        → Stretch (depths branches) (nexts branches) (branches c).depth (branches c).next m
+        → Stretch (depths after) (nexts after) (after c).depth (after c).next m
     marked-run c m apart run =
-        let past = run_past (depths branches) (nexts branches) (nexts after) n flat_n (λ x e. ap (λ (b : Branch). b.next) (others x e)) (branches c).depth run.through (branches c).next m run.leads in
+        let past = run_past (depths branches) (nexts branches) (nexts after) n flat_n
+        (λ x e. ap (λ (b : Branch). b.next) (others x e)) (branches c).depth run.through
+        (branches c).next m run.leads in
         let deep : IsStretch (depths after) (nexts after) (branches c).depth (branches c).next run.through m =
-        subst (λ (d : ℕ → ℕ). IsStretch d (nexts after) (branches c).depth (branches c).next run.through m) marked-depths past in
+        subst (λ (d : ℕ → ℕ). IsStretch d (nexts after) (branches c).depth (branches c).next run.through m)
+        marked-depths past in
         record {
           through = run.through;
-          leads = subst (λ (b : Branch). IsStretch (depths after) (nexts after) b.depth b.next run.through m) (sym (others c apart)) deep;
+          leads = subst (λ (b : Branch). IsStretch (depths after) (nexts after) b.depth b.next run.through m)
+              (sym (others c apart)) deep;
         }
 
     marked-next : (x m : ℕ) → (after x).next ≡ Some m → (branches x).next ≡ Some m
     marked-next x m e = by (eqb n x) refl
       where
         by : (b : Bool) → eqb n x ≡ b → (branches x).next ≡ Some m
-        by true g = absurd (none-some m (sym (ap (λ (b : Branch). b.next) at_n) ∙ ap (λ (y : ℕ). (after y).next) (eqb-true n x g) ∙ e))
+        by true g = absurd (none-some m
+            (sym (ap (λ (b : Branch). b.next) at_n) ∙ ap (λ (y : ℕ). (after y).next) (eqb-true n x g) ∙ e))
         by false g = sym (ap (λ (b : Branch). b.next) (others x g)) ∙ e
 
     marked-whole : (m : ℕ) (o : Option (ℕ × ℕ)) → stays m ≡ o → is_whole branches leaves o ≡ is_whole after leaves o
     marked-whole m None e = refl
-    marked-whole m (Some s) e = sym (ap (λ (b : Branch). is_once (leaves s.0) && b.once) (others s.1 (from_before m s.0 s.1 e)))
+    marked-whole m (Some s) e =
+        sym (ap (λ (b : Branch). is_once (leaves s.0) && b.once) (others s.1 (from_before m s.0 s.1 e)))
 
     marked-once : (m : ℕ) → (after m).once ≡ is_whole after leaves (more m)
     marked-once m = by (eqb n m) refl
@@ -417,7 +461,8 @@ module _ (branches after : Branches) (firsts : Firsts) (stays : LastStays) (leav
         by : (b : Bool) → eqb n m ≡ b → (after m).once ≡ is_whole after leaves (cond b (Some (transit, p)) (stays m))
         by true e =
             ap (λ (y : ℕ). (after y).once) (sym (eqb-true n m e)) ∙ ap (λ (b : Branch). b.once) at_n
-            ∙ sym twice ∙ sym (ap (λ (b : Branch). is_once (leaves transit) && b.once) (others p (less-apart p n below)))
+            ∙ sym twice ∙ sym (ap (λ (b : Branch). is_once (leaves transit) && b.once)
+            (others p (less-apart p n below)))
         by false e = ap (λ (b : Branch). b.once) (others m e) ∙ h.once m ∙ marked-whole m (stays m) refl
 
     -- the copy's journey has a stay that was ended twice
@@ -429,18 +474,24 @@ module _ (branches after : Branches) (firsts : Firsts) (stays : LastStays) (leav
         known = h.ordered.known;
         earlier = h.ordered.earlier;
         of_first = more_of_first;
-        first = λ m t c s on. let q = marked-new m (t, c) s on in h.ordered.first m t c q.1 (sym (ap (λ (b : Branch). b.once) (others m q.0)) ∙ on);
+        first = λ m t c s on. let q = marked-new m (t, c) s on in
+            h.ordered.first m t c q.1 (sym (ap (λ (b : Branch). b.once) (others m q.0)) ∙ on);
         flat = λ m s. let f = more_flat m s in marked-depth m ∙ h.ordered.flat m f.1;
-        low = λ m. let l : (branches m).depth ≤ m = h.ordered.low m in let d : (after m).depth ≡ (branches m).depth = marked-depth m in omega (arith, l, d);
+        low = λ m. let l : (branches m).depth ≤ m =
+            h.ordered.low m in let d : (after m).depth ≡ (branches m).depth = marked-depth m in omega (arith, l, d);
         deeper = λ m t c s on.
             let q = marked-new m (t, c) s on in
-            marked-depth m ∙ h.ordered.deeper m t c q.1 (sym (ap (λ (b : Branch). b.once) (others m q.0)) ∙ on) ∙ ap (λ (d : ℕ). d + 1) (sym (marked-depth c));
+            marked-depth m ∙ h.ordered.deeper m t c q.1 (sym (ap (λ (b : Branch). b.once) (others m q.0)) ∙ on)
+            ∙ ap (λ (d : ℕ). d + 1) (sym (marked-depth c));
         runs = λ m t c s on from_on.
             let q = marked-new m (t, c) s on in
             let apart = from_before m t c q.1 in
-            marked-run c m apart (h.ordered.runs m t c q.1 (sym (ap (λ (b : Branch). b.once) (others m q.0)) ∙ on) (sym (ap (λ (b : Branch). b.once) (others c apart)) ∙ from_on));
+            marked-run c m apart (h.ordered.runs m t c q.1 (sym (ap (λ (b : Branch). b.once) (others m q.0)) ∙ on)
+            (sym (ap (λ (b : Branch). b.once) (others c apart)) ∙ from_on));
         one_before = λ one other m e g. h.ordered.one_before one other m (marked-next one m e) (marked-next other m g);
-        no_link_to_a_root = λ x m e. let deep : 0 < (branches m).depth = h.ordered.no_link_to_a_root x m (marked-next x m e) in let d : (after m).depth ≡ (branches m).depth = marked-depth m in omega (arith, deep, d);
+        no_link_to_a_root = λ x m e. let deep : 0 < (branches m).depth =
+            h.ordered.no_link_to_a_root x m (marked-next x m e) in let d : (after m).depth ≡ (branches m).depth =
+            marked-depth m in omega (arith, deep, d);
       };
       once = marked-once;
     }
@@ -462,19 +513,24 @@ module _ (branches : Branches) (firsts : Firsts) (stays : LastStays) (leaves : L
 
   pub ended_once : is_once (left_again transit leaves transit) ≡ true
   ended_once =
-      let some : is_some (leaves transit) ≡ false = sym (h.ordered.known transit) ∙ ap (λ (o : Option ℕ). is_some o) none in
+      let some : is_some (leaves transit) ≡ false =
+      sym (h.ordered.known transit) ∙ ap (λ (o : Option ℕ). is_some o) none in
       (λ i. is_once (cond (itself transit i) (Some (some i)) (leaves transit)))
 
 -- a Leave line of a stay that one named before
 module _ (branches cut after : Branches) (firsts : Firsts) (stays : LastStays) (leaves : Leaves) (number transit f : ℕ)
-    (before : AreBranches branches firsts stays leaves number) (first : firsts transit ≡ Some f) (h : AreBranches cut firsts stays (left_again transit leaves) number)
-    (at_n : after number ≡ record root { once = false }) (others : (x : ℕ) → eqb number x ≡ false → after x ≡ cut x) where
+    (before : AreBranches branches firsts stays leaves number) (first : firsts transit ≡ Some f)
+    (h : AreBranches cut firsts stays (left_again transit leaves) number)
+    (at_n : after number ≡ record root { once = false })
+    (others : (x : ℕ) → eqb number x ≡ false → after x ≡ cut x) where
   ended_twice : is_once (left_again transit leaves transit) ≡ false
   ended_twice =
-      let some : is_some (leaves transit) ≡ true = sym (before.ordered.known transit) ∙ ap (λ (o : Option ℕ). is_some o) first in
+      let some : is_some (leaves transit) ≡ true =
+      sym (before.ordered.known transit) ∙ ap (λ (o : Option ℕ). is_some o) first in
       (λ i. is_once (cond (itself transit i) (Some (some i)) (leaves transit)))
 
-  left_twice : (p : ℕ) → p < number → AreBranches after firsts (with_stay number (Some (transit, p)) stays) (left_again transit leaves) (number + 1)
+  left_twice : (p : ℕ) → p < number
+      → AreBranches after firsts (with_stay number (Some (transit, p)) stays) (left_again transit leaves) (number + 1)
   left_twice p below =
       marked cut after firsts stays (left_again transit leaves) number transit p
       (later cut firsts stays (left_again transit leaves) number (number + 1) (omega arith) h)
@@ -483,6 +539,7 @@ module _ (branches cut after : Branches) (firsts : Firsts) (stays : LastStays) (
       at_n others (ap (λ (a : Bool). a && (cut p).once) ended_twice)
 
   pub left_again_of : (from : Option ℕ) → is_some from ≡ true → IfSome from (λ copy. copy < number)
-      → AreBranches after firsts (with_stay number (option_map (λ copy. (transit, copy)) from) stays) (left_again transit leaves) (number + 1)
+      → AreBranches after firsts (with_stay number (option_map (λ copy. (transit, copy)) from) stays)
+      (left_again transit leaves) (number + 1)
   left_again_of None some below = grind (arith, some)
   left_again_of (Some p) some below = left_twice p below

@@ -1,20 +1,25 @@
 -- A stay is ended again: every copy that grew from the first copy which left it is marked.
-use Rattle.std.proofs.Common.{◌≡◌, ◌∙◌, ℕ, ◌+◌, ◌<◌, ◌≤◌, Bool, true, false, ◌&&◌, not, cond, eqb, List, [], ◌∷◌, Option, Some, None, ◌⊎◌, inl, inr, refl, sym, ap, subst, arith}
+use Rattle.std.proofs.Common.{◌≡◌, ◌∙◌, ℕ, ◌+◌, ◌<◌, ◌≤◌, Bool, true, false, ◌&&◌, not, cond, eqb, List}
+use Rattle.std.proofs.Common.{[], ◌∷◌, Option, Some, None, ◌⊎◌, inl, inr, refl, sym, ap, subst, arith}
 use Rattle.std.specs.Prelude.{is_some}
 use Rattle.std.proofs.lemmas.Bool.{true≢false, eqb-true, eqb-false, eq-eqb, and_parts}
 use Rattle.std.proofs.lemmas.Option.{same_Some, none-some}
 use Rattle.exchange_check.specs.declared.stays.Branch.{Branch}
 use Rattle.exchange_check.specs.Kept.{Leaves, left_again}
-use Rattle.exchange_check.specs.Stays.{LastStays, is_once, Branches, IsStretch, Stretch, depths, nexts, Firsts, IsOrdered, is_whole, AreBranches}
+use Rattle.exchange_check.specs.Stays.{LastStays, is_once, Branches, IsStretch, Stretch, depths}
+use Rattle.exchange_check.specs.Stays.{nexts, Firsts, IsOrdered, is_whole, AreBranches}
 use Rattle.exchange_check.proofs.Stretches.{weaker, no_run, ends_nowhere, before_run, not_itself, shrunk_run}
 
--- a copy's stay was ended again: it isn't whole any more, and what grew from it, as far as the order leads from it to deeper copies,
--- is still to be looked at
-pub record IsCutting (branches : Branches) (firsts : Firsts) (stays : LastStays) (leaves : Leaves) (number cut : ℕ) : Type 0 where
+-- a copy's stay was ended again: it isn't whole any more, and what grew from it, as far as the order leads from it
+-- to deeper copies, is still to be looked at
+pub record IsCutting (branches : Branches) (firsts : Firsts) (stays : LastStays) (leaves : Leaves)
+    (number cut : ℕ) : Type 0 where
   pub ordered : IsOrdered branches firsts stays leaves number
   pub sound : (n : ℕ) → (branches n).once ≡ false → is_whole branches leaves (stays n) ≡ false
-  pub ahead : (n transit copy : ℕ) → stays n ≡ Some (transit, copy) → (branches n).once ≡ true → (is_once (leaves transit) && (branches copy).once) ≡ false
-      → Stretch (depths branches) (nexts branches) (branches cut).depth (branches cut).next n × ((branches cut).depth < (branches n).depth)
+  pub ahead : (n transit copy : ℕ) → stays n ≡ Some (transit, copy) → (branches n).once ≡ true
+      → (is_once (leaves transit) && (branches copy).once) ≡ false
+      → Stretch (depths branches) (nexts branches) (branches cut).depth (branches cut).next n
+      × ((branches cut).depth < (branches n).depth)
   pub off : (branches cut).once ≡ false
 
 lower : (a b c : Bool) → (a && b) ≡ false → (c ≡ b) ⊎ (c ≡ false) → (a && c) ≡ false
@@ -23,10 +28,12 @@ lower true b c h (inr e) = e
 lower false b c h e = refl
 
 -- fewer copies are whole
-lower-whole : (branches after : Branches) (leaves : Leaves) → ((x : ℕ) → ((after x).once ≡ (branches x).once) ⊎ ((after x).once ≡ false))
+lower-whole : (branches after : Branches) (leaves : Leaves)
+    → ((x : ℕ) → ((after x).once ≡ (branches x).once) ⊎ ((after x).once ≡ false))
     → (o : Option (ℕ × ℕ)) → is_whole branches leaves o ≡ false → is_whole after leaves o ≡ false
 lower-whole branches after leaves fewer None h = h
-lower-whole branches after leaves fewer (Some s) h = lower (is_once (leaves s.0)) (branches s.1).once (after s.1).once h (fewer s.1)
+lower-whole branches after leaves fewer (Some s) h =
+    lower (is_once (leaves s.0)) (branches s.1).once (after s.1).once h (fewer s.1)
 
 -- the stay is ended again, and its first Leave line is known
 module _ (branches : Branches) (firsts : Firsts) (stays : LastStays) (leaves : Leaves) (number transit f : ℕ)
@@ -37,28 +44,33 @@ module _ (branches : Branches) (firsts : Firsts) (stays : LastStays) (leaves : L
   again-known : (t : ℕ) → is_some (firsts t) ≡ is_some (again t)
   again-known t = by (eqb transit t) refl
     where
-      by : (b : Bool) → eqb transit t ≡ b → is_some (firsts t) ≡ is_some (cond b (Some (is_some (leaves t))) (leaves t))
+      by : (b : Bool) → eqb transit t ≡ b
+          → is_some (firsts t) ≡ is_some (cond b (Some (is_some (leaves t))) (leaves t))
       by true e = ap (λ (o : Option ℕ). is_some o) (ap firsts (sym (eqb-true transit t e)) ∙ first)
       by false e = h.ordered.known t
 
   twice : (t : ℕ) → eqb transit t ≡ true → is_once (again t) ≡ false
   twice t e =
-      let some : is_some (leaves t) ≡ true = sym (h.ordered.known t) ∙ ap (λ (o : Option ℕ). is_some o) (ap firsts (sym (eqb-true transit t e)) ∙ first) in
+      let some : is_some (leaves t) ≡ true = sym (h.ordered.known t)
+      ∙ ap (λ (o : Option ℕ). is_some o) (ap firsts (sym (eqb-true transit t e)) ∙ first) in
       (λ i. is_once (cond (e i) (Some (is_some (leaves t))) (leaves t))) ∙ ap not some
 
   other : (t : ℕ) → eqb transit t ≡ false → again t ≡ leaves t
   other t e = λ i. cond (e i) (Some (is_some (leaves t))) (leaves t)
 
-  alive-other : (n t c : ℕ) → stays n ≡ Some (t, c) → (branches n).once ≡ true → eqb f n ≡ false → eqb transit t ≡ false
+  alive-other : (n t c : ℕ) → stays n ≡ Some (t, c) → (branches n).once ≡ true → eqb f n ≡ false
+      → eqb transit t ≡ false
   alive-other n t c s on apart = by (eqb transit t) refl
     where
       by : (b : Bool) → eqb transit t ≡ b → b ≡ false
       by true e =
-          let same : f ≡ n = same_Some f n (sym first ∙ ap firsts (eqb-true transit t e) ∙ h.ordered.first n t c s on) in
+          let same : f ≡ n = same_Some f n
+          (sym first ∙ ap firsts (eqb-true transit t e) ∙ h.ordered.first n t c s on) in
           absurd (eqb-false f n apart same)
       by false e = refl
 
-  whole-parts : (n t c : ℕ) → stays n ≡ Some (t, c) → (branches n).once ≡ true → (is_once (leaves t) ≡ true) × ((branches c).once ≡ true)
+  whole-parts : (n t c : ℕ) → stays n ≡ Some (t, c) → (branches n).once ≡ true
+      → (is_once (leaves t) ≡ true) × ((branches c).once ≡ true)
   whole-parts n t c s on =
       and_parts (is_once (leaves t)) (branches c).once (sym (ap (is_whole branches leaves) s) ∙ sym (h.once n) ∙ on)
 
@@ -89,18 +101,21 @@ module _ (branches : Branches) (firsts : Firsts) (stays : LastStays) (leaves : L
             absurd (omega (arith, d, z))
         by false e = refl
 
-    whole-flat : (n : ℕ) (b : Bool) (o : Option (ℕ × ℕ)) → (branches n).once ≡ b → stays n ≡ o → b ≡ is_whole branches again o
+    whole-flat : (n : ℕ) (b : Bool) (o : Option (ℕ × ℕ)) → (branches n).once ≡ b → stays n ≡ o
+        → b ≡ is_whole branches again o
     whole-flat n true None on s = refl
     whole-flat n true (Some (t, c)) on s =
         let parts = whole-parts n t c s on in
-        let one : is_once (again t) ≡ true = ap is_once (other t (alive-other n t c s on (apart-flat n t c s on))) ∙ parts.0 in
+        let one : is_once (again t) ≡ true =
+        ap is_once (other t (alive-other n t c s on (apart-flat n t c s on))) ∙ parts.0 in
         sym (λ i. one i && parts.1 i)
     whole-flat n false None on s = absurd (true≢false (sym (ap (is_whole branches leaves) s) ∙ sym (h.once n) ∙ on))
     whole-flat n false (Some (t, c)) on s = by (eqb transit t) refl
       where
         by : (b : Bool) → eqb transit t ≡ b → false ≡ (is_once (again t) && (branches c).once)
         by true e = sym (ap (λ (a : Bool). a && (branches c).once) (twice t e))
-        by false e = sym on ∙ h.once n ∙ ap (is_whole branches leaves) s ∙ sym (ap (λ (o : Option Bool). is_once o && (branches c).once) (other t e))
+        by false e = sym on ∙ h.once n ∙ ap (is_whole branches leaves) s
+            ∙ sym (ap (λ (o : Option Bool). is_once o && (branches c).once) (other t e))
 
     -- no copy left with the first of them
     pub cut_flat : AreBranches branches firsts stays again number
@@ -130,7 +145,8 @@ module _ (branches : Branches) (firsts : Firsts) (stays : LastStays) (leaves : L
     start-on x on = by (eqb f x) refl
       where
         by : (b : Bool) → eqb f x ≡ b → (b ≡ false) × ((branches x).once ≡ true)
-        by true e = absurd (true≢false (sym on ∙ ap (λ (y : ℕ). (after y).once) (sym (eqb-true f x e)) ∙ ap (λ (b : Branch). b.once) at_f))
+        by true e = absurd (true≢false
+            (sym on ∙ ap (λ (y : ℕ). (after y).once) (sym (eqb-true f x e)) ∙ ap (λ (b : Branch). b.once) at_f))
         by false e = (refl, sym (ap (λ (b : Branch). b.once) (others x e)) ∙ on)
 
     start-fewer : (x : ℕ) → ((after x).once ≡ (branches x).once) ⊎ ((after x).once ≡ false)
@@ -140,8 +156,10 @@ module _ (branches : Branches) (firsts : Firsts) (stays : LastStays) (leaves : L
         by true e = inr (ap (λ (y : ℕ). (after y).once) (sym (eqb-true f x e)) ∙ ap (λ (b : Branch). b.once) at_f)
         by false e = inl (ap (λ (b : Branch). b.once) (others x e))
 
-    start-run : (c m : ℕ) → Stretch (depths branches) (nexts branches) (branches c).depth (branches c).next m → Stretch (depths after) (nexts after) (after c).depth (after c).next m
-    start-run c m run = subst (λ (d : ℕ → ℕ). Stretch d (nexts after) (d c) (after c).next m) start-depths (subst (λ (k : ℕ → Option ℕ). Stretch (depths branches) k (branches c).depth (k c) m) start-nexts run)
+    start-run : (c m : ℕ) → Stretch (depths branches) (nexts branches) (branches c).depth (branches c).next m
+        → Stretch (depths after) (nexts after) (after c).depth (after c).next m
+    start-run c m run = subst (λ (d : ℕ → ℕ). Stretch d (nexts after) (d c) (after c).next m) start-depths
+        (subst (λ (k : ℕ → Option ℕ). Stretch (depths branches) k (branches c).depth (k c) m) start-nexts run)
 
     start-depth : (x : ℕ) → (after x).depth ≡ (branches x).depth
     start-depth x = λ i. (sym start-depths) i x
@@ -158,10 +176,13 @@ module _ (branches : Branches) (firsts : Firsts) (stays : LastStays) (leaves : L
       of_first = h.ordered.of_first;
       first = λ n t c s on. h.ordered.first n t c s (start-on n on).1;
       flat = λ n s. start-depth n ∙ h.ordered.flat n s;
-      low = λ n. let l : (branches n).depth ≤ n = h.ordered.low n in let d : (after n).depth ≡ (branches n).depth = start-depth n in omega (arith, l, d);
-      deeper = λ n t c s on. start-depth n ∙ h.ordered.deeper n t c s (start-on n on).1 ∙ ap (λ (d : ℕ). d + 1) (sym (start-depth c));
+      low = λ n. let l : (branches n).depth ≤ n =
+          h.ordered.low n in let d : (after n).depth ≡ (branches n).depth = start-depth n in omega (arith, l, d);
+      deeper = λ n t c s on. start-depth n ∙ h.ordered.deeper n t c s (start-on n on).1
+          ∙ ap (λ (d : ℕ). d + 1) (sym (start-depth c));
       runs = λ n t c s on from_on. start-run c n (h.ordered.runs n t c s (start-on n on).1 (start-on c from_on).1);
-      one_before = λ one other n e g. h.ordered.one_before one other n (sym (start-next one) ∙ e) (sym (start-next other) ∙ g);
+      one_before = λ one other n e g. h.ordered.one_before one other n (sym (start-next one) ∙ e)
+          (sym (start-next other) ∙ g);
       no_link_to_a_root = λ n m e.
           let b : 0 < (branches m).depth = h.ordered.no_link_to_a_root n m (sym (start-next n) ∙ e) in
           let d : (after m).depth ≡ (branches m).depth = start-depth m in
@@ -173,9 +194,11 @@ module _ (branches : Branches) (firsts : Firsts) (stays : LastStays) (leaves : L
         let z : (branches f).depth ≡ 0 = h.ordered.flat f s in
         absurd (omega (arith, z, deep))
     sound-first (Some (t, c)) s =
-        ap (λ (a : Bool). a && (after c).once) (twice t (eq-eqb transit t (sym (h.ordered.of_first transit f t c first s))))
+        ap (λ (a : Bool). a && (after c).once)
+        (twice t (eq-eqb transit t (sym (h.ordered.of_first transit f t c first s))))
 
-    sound-other : (n : ℕ) (o : Option (ℕ × ℕ)) → stays n ≡ o → (branches n).once ≡ false → is_whole after again o ≡ false
+    sound-other : (n : ℕ) (o : Option (ℕ × ℕ)) → stays n ≡ o → (branches n).once ≡ false
+        → is_whole after again o ≡ false
     sound-other n None s off = absurd (true≢false (sym (ap (is_whole branches leaves) s) ∙ sym (h.once n) ∙ off))
     sound-other n (Some (t, c)) s off = by (eqb transit t) refl
       where
@@ -183,16 +206,19 @@ module _ (branches : Branches) (firsts : Firsts) (stays : LastStays) (leaves : L
         by true e = ap (λ (a : Bool). a && (after c).once) (twice t e)
         by false e =
             ap (λ (o : Option Bool). is_once o && (after c).once) (other t e)
-            ∙ lower (is_once (leaves t)) (branches c).once (after c).once (sym (ap (is_whole branches leaves) s) ∙ sym (h.once n) ∙ off) (start-fewer c)
+            ∙ lower (is_once (leaves t)) (branches c).once (after c).once
+            (sym (ap (is_whole branches leaves) s) ∙ sym (h.once n) ∙ off) (start-fewer c)
 
     start-sound : (n : ℕ) → (after n).once ≡ false → is_whole after again (stays n) ≡ false
     start-sound n off = by (eqb f n) refl
       where
         by : (b : Bool) → eqb f n ≡ b → is_whole after again (stays n) ≡ false
-        by true e = subst (λ (y : ℕ). is_whole after again (stays y) ≡ false) (eqb-true f n e) (sound-first (stays f) refl)
+        by true e = subst (λ (y : ℕ). is_whole after again (stays y) ≡ false) (eqb-true f n e)
+            (sound-first (stays f) refl)
         by false e = sound-other n (stays n) refl (sym (ap (λ (b : Branch). b.once) (others n e)) ∙ off)
 
-    start-ahead : (n t c : ℕ) → stays n ≡ Some (t, c) → (after n).once ≡ true → (is_once (again t) && (after c).once) ≡ false
+    start-ahead : (n t c : ℕ) → stays n ≡ Some (t, c) → (after n).once ≡ true
+        → (is_once (again t) && (after c).once) ≡ false
         → Stretch (depths after) (nexts after) (after f).depth (after f).next n × ((after f).depth < (after n).depth)
     start-ahead n t c s on broken = by (eqb f c) refl
       where
@@ -202,33 +228,50 @@ module _ (branches : Branches) (firsts : Firsts) (stays : LastStays) (leaves : L
         parts : (is_once (leaves t) ≡ true) × ((branches c).once ≡ true)
         parts = whole-parts n t c s old.1
 
-        by : (b : Bool) → eqb f c ≡ b → Stretch (depths after) (nexts after) (after f).depth (after f).next n × ((after f).depth < (after n).depth)
+        by : (b : Bool) → eqb f c ≡ b
+            → Stretch (depths after) (nexts after) (after f).depth (after f).next n
+            × ((after f).depth < (after n).depth)
         by true e =
             let same : f ≡ c = eqb-true f c e in
             let run = h.ordered.runs n t c s old.1 parts.1 in
             let d : (branches n).depth ≡ (branches c).depth + 1 = h.ordered.deeper n t c s old.1 in
-            let deep_f : (after f).depth ≡ (branches c).depth = start-depth f ∙ ap (λ (x : ℕ). (branches x).depth) same in
-            let deep_n : (after n).depth ≡ (branches n).depth = start-depth n in
-            (subst (λ (x : ℕ). Stretch (depths after) (nexts after) (after x).depth (after x).next n) (sym same) (start-run c n run), omega (arith, d, deep_f, deep_n))
+            let deep_f : (after f).depth ≡ (branches c).depth =
+            start-depth f ∙ ap (λ (x : ℕ). (branches x).depth) same in
+            let deep_n : (after n).depth ≡ (branches n).depth = start-depth n in (
+              subst (λ (x : ℕ). Stretch (depths after) (nexts after) (after x).depth (after x).next n) (sym same)
+                  (start-run c n run),
+              omega (arith, d, deep_f, deep_n),
+            )
         by false e =
             let one : is_once (again t) ≡ true = ap is_once (other t (alive-other n t c s old.1 old.0)) ∙ parts.0 in
             let on_c : (after c).once ≡ true = ap (λ (b : Branch). b.once) (others c e) ∙ parts.1 in
             absurd (true≢false (sym (λ i. one i && on_c i) ∙ broken))
 
     pub cut_start : IsCutting after firsts stays again number f
-    cut_start = record { ordered = start-ordered; sound = start-sound; ahead = start-ahead; off = ap (λ (b : Branch). b.once) at_f }
+    cut_start = record {
+      ordered =
+          start-ordered;
+      sound = start-sound;
+      ahead = start-ahead;
+      off = ap (λ (b : Branch). b.once) at_f;
+    }
 
-module _ (branches : Branches) (firsts : Firsts) (stays : LastStays) (leaves : Leaves) (number c : ℕ) (h : IsCutting branches firsts stays leaves number c) where
+module _ (branches : Branches) (firsts : Firsts) (stays : LastStays) (leaves : Leaves) (number c : ℕ)
+    (h : IsCutting branches firsts stays leaves number c) where
   -- the copy after the cut one is deeper: it grew from it
-  module _ (after : Branches) (y : ℕ) (follows : (branches c).next ≡ Some y) (deep : (branches c).depth < (branches y).depth)
-      (at_y : after y ≡ record { once = false; depth = (branches y).depth; next = None }) (at_c : after c ≡ record (branches c) { next = (branches y).next })
+  module _ (after : Branches) (y : ℕ) (follows : (branches c).next ≡ Some y)
+      (deep : (branches c).depth < (branches y).depth)
+      (at_y : after y ≡ record { once = false; depth = (branches y).depth; next = None })
+      (at_c : after c ≡ record (branches c) { next = (branches y).next })
       (others : (x : ℕ) → eqb c x ≡ false → eqb y x ≡ false → after x ≡ branches x) where
     step-depths : depths branches ≡ depths after
     step-depths = λ i x. at x (eqb c x) (eqb y x) refl refl i
       where
         at : (x : ℕ) (a b : Bool) → eqb c x ≡ a → eqb y x ≡ b → (branches x).depth ≡ (after x).depth
-        at x true b e g = subst (λ (z : ℕ). (branches z).depth ≡ (after z).depth) (eqb-true c x e) (sym (ap (λ (b : Branch). b.depth) at_c))
-        at x false true e g = subst (λ (z : ℕ). (branches z).depth ≡ (after z).depth) (eqb-true y x g) (sym (ap (λ (b : Branch). b.depth) at_y))
+        at x true b e g = subst (λ (z : ℕ). (branches z).depth ≡ (after z).depth) (eqb-true c x e)
+            (sym (ap (λ (b : Branch). b.depth) at_c))
+        at x false true e g = subst (λ (z : ℕ). (branches z).depth ≡ (after z).depth) (eqb-true y x g)
+            (sym (ap (λ (b : Branch). b.depth) at_y))
         at x false false e g = sym (ap (λ (b : Branch). b.depth) (others x e g))
 
     step-depth : (x : ℕ) → (after x).depth ≡ (branches x).depth
@@ -245,14 +288,16 @@ module _ (branches : Branches) (firsts : Firsts) (stays : LastStays) (leaves : L
       where
         by : (a b : Bool) → eqb c x ≡ a → eqb y x ≡ b → ((a ≡ false) × (b ≡ false)) × ((branches x).once ≡ true)
         by true b e g = absurd (true≢false (sym on ∙ ap (λ (z : ℕ). (after z).once) (sym (eqb-true c x e)) ∙ off_c))
-        by false true e g = absurd (true≢false (sym on ∙ ap (λ (z : ℕ). (after z).once) (sym (eqb-true y x g)) ∙ off_y))
+        by false true e g = absurd (true≢false
+            (sym on ∙ ap (λ (z : ℕ). (after z).once) (sym (eqb-true y x g)) ∙ off_y))
         by false false e g = ((refl, refl), sym (ap (λ (b : Branch). b.once) (others x e g)) ∙ on)
 
     step-same : (x : ℕ) → eqb y x ≡ false → (after x).once ≡ (branches x).once
     step-same x g = by (eqb c x) refl
       where
         by : (a : Bool) → eqb c x ≡ a → (after x).once ≡ (branches x).once
-        by true e = subst (λ (z : ℕ). (after z).once ≡ (branches z).once) (eqb-true c x e) (ap (λ (b : Branch). b.once) at_c)
+        by true e = subst (λ (z : ℕ). (after z).once ≡ (branches z).once) (eqb-true c x e)
+            (ap (λ (b : Branch). b.once) at_c)
         by false e = ap (λ (b : Branch). b.once) (others x e g)
 
     step-fewer : (x : ℕ) → ((after x).once ≡ (branches x).once) ⊎ ((after x).once ≡ false)
@@ -265,23 +310,29 @@ module _ (branches : Branches) (firsts : Firsts) (stays : LastStays) (leaves : L
     next_c : (after c).next ≡ (branches y).next
     next_c = ap (λ (b : Branch). b.next) at_c
 
-    shrunk : (above : ℕ) (l : List ℕ) (from : Option ℕ) (to : ℕ) → IsStretch (depths branches) (nexts branches) above from l to → (from ≡ Some y → ⊥) → (to ≡ y → ⊥)
+    shrunk : (above : ℕ) (l : List ℕ) (from : Option ℕ) (to : ℕ)
+        → IsStretch (depths branches) (nexts branches) above from l to → (from ≡ Some y → ⊥) → (to ≡ y → ⊥)
         → Stretch (depths after) (nexts after) above from to
     shrunk above l from to run apart other =
         subst (λ (d : ℕ → ℕ). Stretch d (nexts after) above from to) step-depths
-        (shrunk_run (depths branches) (nexts branches) (nexts after) c y follows deep h.ordered.one_before next_c (λ x e g. ap (λ (b : Branch). b.next) (others x e g)) above l from to run apart other)
+        (shrunk_run (depths branches) (nexts branches) (nexts after) c y follows deep h.ordered.one_before next_c
+        (λ x e g. ap (λ (b : Branch). b.next) (others x e g)) above l from to run apart other)
 
     itself : (branches y).next ≡ Some y → ⊥
-    itself = not_itself (depths branches) (nexts branches) (nexts after) c y follows deep h.ordered.one_before next_c (λ x e g. ap (λ (b : Branch). b.next) (others x e g))
+    itself = not_itself (depths branches) (nexts branches) (nexts after) c y follows deep h.ordered.one_before next_c
+        (λ x e g. ap (λ (b : Branch). b.next) (others x e g))
 
-    step-runs : (n t p : ℕ) → stays n ≡ Some (t, p) → (after n).once ≡ true → (after p).once ≡ true → Stretch (depths after) (nexts after) (after p).depth (after p).next n
+    step-runs : (n t p : ℕ) → stays n ≡ Some (t, p) → (after n).once ≡ true → (after p).once ≡ true
+        → Stretch (depths after) (nexts after) (after p).depth (after p).next n
     step-runs n t p s on from_on =
         let at_n = step-on n on in
         let at_p = step-on p from_on in
         let run = h.ordered.runs n t p s at_n.1 at_p.1 in
         let moved = shrunk (branches p).depth run.through (branches p).next n run.leads
-        (λ e. eqb-false c p at_p.0.0 (sym (h.ordered.one_before p c y e follows))) (λ e. eqb-false y n at_n.0.1 (sym e)) in
-        subst (λ (b : Branch). Stretch (depths after) (nexts after) b.depth b.next n) (sym (others p at_p.0.0 at_p.0.1)) moved
+        (λ e. eqb-false c p at_p.0.0 (sym (h.ordered.one_before p c y e follows)))
+        (λ e. eqb-false y n at_n.0.1 (sym e)) in
+        subst (λ (b : Branch). Stretch (depths after) (nexts after) b.depth b.next n)
+        (sym (others p at_p.0.0 at_p.0.1)) moved
 
     abbrev Back : ℕ → ℕ → Type 0
     Back x m = (z : ℕ) × ((branches z).next ≡ Some m) × (x ≡ cond (eqb y z) c z)
@@ -291,9 +342,14 @@ module _ (branches : Branches) (firsts : Firsts) (stays : LastStays) (leaves : L
       where
         by : (a b : Bool) → eqb c x ≡ a → eqb y x ≡ b → Back x m
         by true b g k =
-            let same : c ≡ x = eqb-true c x g in
-            (y, sym next_c ∙ ap (λ (z : ℕ). (after z).next) same ∙ e, sym same ∙ sym (λ i. cond (eq-eqb y y refl i) c y))
-        by false true g k = absurd (none-some m (sym (ap (λ (b : Branch). b.next) at_y) ∙ ap (λ (z : ℕ). (after z).next) (eqb-true y x k) ∙ e))
+            let same : c ≡ x = eqb-true c x g in (
+              y,
+              sym next_c ∙ ap (λ (z : ℕ). (after z).next) same ∙ e,
+              sym same
+                  ∙ sym (λ i. cond (eq-eqb y y refl i) c y),
+            )
+        by false true g k = absurd (none-some m
+            (sym (ap (λ (b : Branch). b.next) at_y) ∙ ap (λ (z : ℕ). (after z).next) (eqb-true y x k) ∙ e))
         by false false g k = (x, sym (ap (λ (b : Branch). b.next) (others x g k)) ∙ e, sym (λ i. cond (k i) c x))
 
     step-one : (one other m : ℕ) → (after one).next ≡ Some m → (after other).next ≡ Some m → one ≡ other
@@ -311,8 +367,10 @@ module _ (branches : Branches) (firsts : Firsts) (stays : LastStays) (leaves : L
       of_first = h.ordered.of_first;
       first = λ n t p s on. h.ordered.first n t p s (step-on n on).1;
       flat = λ n s. step-depth n ∙ h.ordered.flat n s;
-      low = λ n. let l : (branches n).depth ≤ n = h.ordered.low n in let d : (after n).depth ≡ (branches n).depth = step-depth n in omega (arith, l, d);
-      deeper = λ n t p s on. step-depth n ∙ h.ordered.deeper n t p s (step-on n on).1 ∙ ap (λ (d : ℕ). d + 1) (sym (step-depth p));
+      low = λ n. let l : (branches n).depth ≤ n =
+          h.ordered.low n in let d : (after n).depth ≡ (branches n).depth = step-depth n in omega (arith, l, d);
+      deeper = λ n t p s on. step-depth n ∙ h.ordered.deeper n t p s (step-on n on).1
+          ∙ ap (λ (d : ℕ). d + 1) (sym (step-depth p));
       runs = step-runs;
       one_before = step-one;
       no_link_to_a_root = λ n m e.
@@ -323,7 +381,8 @@ module _ (branches : Branches) (firsts : Firsts) (stays : LastStays) (leaves : L
     }
 
     -- the copy after the cut one left after a stay that isn't once, or grew from such a copy
-    sound-y : (b : Bool) (o : Option (ℕ × ℕ)) → (branches y).once ≡ b → stays y ≡ o → is_whole branches leaves o ≡ false
+    sound-y : (b : Bool) (o : Option (ℕ × ℕ)) → (branches y).once ≡ b → stays y ≡ o
+        → is_whole branches leaves o ≡ false
     sound-y false o off s = ap (is_whole branches leaves) (sym s) ∙ h.sound y off
     sound-y true None on s =
         let z : (branches y).depth ≡ 0 = h.ordered.flat y s in
@@ -335,8 +394,10 @@ module _ (branches : Branches) (firsts : Firsts) (stays : LastStays) (leaves : L
             let p_on : (branches p).once ≡ true = (and_parts (is_once (leaves t)) (branches p).once e).1 in
             let run = h.ordered.runs y t p s on p_on in
             let before : (branches p).depth < (branches c).depth =
-            before_run (depths branches) (nexts branches) c y follows h.ordered.one_before (branches p).depth run.through (branches p).next run.leads
-            (λ g. absurd (true≢false (sym p_on ∙ ap (λ (z : ℕ). (branches z).once) (h.ordered.one_before p c y g follows) ∙ h.off))) in
+            before_run (depths branches) (nexts branches) c y follows h.ordered.one_before
+            (branches p).depth run.through (branches p).next run.leads
+            (λ g. absurd (true≢false (sym p_on
+            ∙ ap (λ (z : ℕ). (branches z).once) (h.ordered.one_before p c y g follows) ∙ h.off))) in
             let d : (branches y).depth ≡ (branches p).depth + 1 = h.ordered.deeper y t p s on in
             absurd (omega (arith, before, d, deep))
         by false e = refl
@@ -350,17 +411,23 @@ module _ (branches : Branches) (firsts : Firsts) (stays : LastStays) (leaves : L
         by false e = lower-whole branches after leaves step-fewer (stays n) (h.sound n (sym (step-same n e) ∙ off))
 
     abbrev Ahead : ℕ → Type 0
-    Ahead n = Stretch (depths after) (nexts after) (after c).depth (after c).next n × ((after c).depth < (after n).depth)
+    Ahead n = Stretch (depths after) (nexts after) (after c).depth (after c).next n
+        × ((after c).depth < (after n).depth)
 
     -- from the cut copy, as before but for the one after it
-    past_y : (n : ℕ) → eqb y n ≡ false → (l : List ℕ) → IsStretch (depths branches) (nexts branches) (branches c).depth (branches c).next l n → Stretch (depths after) (nexts after) (after c).depth (after c).next n
+    past_y : (n : ℕ) → eqb y n ≡ false → (l : List ℕ)
+        → IsStretch (depths branches) (nexts branches) (branches c).depth (branches c).next l n
+        → Stretch (depths after) (nexts after) (after c).depth (after c).next n
     past_y n apart [] run = absurd (eqb-false y n apart (same_Some y n (sym follows ∙ run)))
     past_y n apart (x ∷ l) run =
         let same : x ≡ y = same_Some x y (sym run.0 ∙ follows) in
-        let rest = shrunk (branches c).depth l (branches y).next n (subst (λ (z : ℕ). IsStretch (depths branches) (nexts branches) (branches c).depth (branches z).next l n) same run.2) itself (λ e. eqb-false y n apart (sym e)) in
+        let rest = shrunk (branches c).depth l (branches y).next n
+        (subst (λ (z : ℕ). IsStretch (depths branches) (nexts branches) (branches c).depth (branches z).next l n)
+        same run.2) itself (λ e. eqb-false y n apart (sym e)) in
         subst (λ (b : Branch). Stretch (depths after) (nexts after) b.depth b.next n) (sym at_c) rest
 
-    step-ahead : (n t p : ℕ) → stays n ≡ Some (t, p) → (after n).once ≡ true → (is_once (leaves t) && (after p).once) ≡ false → Ahead n
+    step-ahead : (n t p : ℕ) → stays n ≡ Some (t, p) → (after n).once ≡ true
+        → (is_once (leaves t) && (after p).once) ≡ false → Ahead n
     step-ahead n t p s on broken = by (is_once (leaves t) && (branches p).once) refl
       where
         at_n : ((eqb c n ≡ false) × (eqb y n ≡ false)) × ((branches n).once ≡ true)
@@ -376,13 +443,19 @@ module _ (branches : Branches) (firsts : Firsts) (stays : LastStays) (leaves : L
         from_y p_on same =
             let run = h.ordered.runs n t p s at_n.1 p_on in
             let at : IsStretch (depths branches) (nexts branches) (branches y).depth (branches y).next run.through n =
-            subst (λ (z : ℕ). IsStretch (depths branches) (nexts branches) (branches z).depth (branches z).next run.through n) (sym same) run.leads in
+            subst (λ (z : ℕ). IsStretch (depths branches) (nexts branches) (branches z).depth
+            (branches z).next run.through n) (sym same) run.leads in
             let low : IsStretch (depths branches) (nexts branches) (branches c).depth (branches y).next run.through n =
-            weaker (depths branches) (nexts branches) (branches y).depth (branches c).depth (omega (arith, deep)) run.through (branches y).next n at in
-            let moved = shrunk (branches c).depth run.through (branches y).next n low itself (λ e. eqb-false y n at_n.0.1 (sym e)) in
+            weaker (depths branches) (nexts branches) (branches y).depth (branches c).depth
+            (omega (arith, deep)) run.through (branches y).next n at in
+            let moved = shrunk (branches c).depth run.through (branches y).next n low itself
+            (λ e. eqb-false y n at_n.0.1 (sym e)) in
             let d : (branches n).depth ≡ (branches p).depth + 1 = h.ordered.deeper n t p s at_n.1 in
-            let e : (branches y).depth ≡ (branches p).depth = ap (λ (z : ℕ). (branches z).depth) same in
-            (subst (λ (b : Branch). Stretch (depths after) (nexts after) b.depth b.next n) (sym at_c) moved, omega (arith, d, e, deep, deep_c, deep_n))
+            let e : (branches y).depth ≡ (branches p).depth = ap (λ (z : ℕ). (branches z).depth) same in (
+              subst (λ (b : Branch). Stretch (depths after) (nexts after) b.depth b.next n) (sym at_c) moved,
+              omega
+                  (arith, d, e, deep, deep_c, deep_n),
+            )
 
         by : (b : Bool) → (is_once (leaves t) && (branches p).once) ≡ b → Ahead n
         by true e =
@@ -401,11 +474,15 @@ module _ (branches : Branches) (firsts : Firsts) (stays : LastStays) (leaves : L
 
   -- no deeper copy is after the cut one
   module _ (over : (y : ℕ) → (branches c).next ≡ Some y → (branches y).depth ≤ (branches c).depth) where
-    none-ahead : (n : ℕ) (o : Option ℕ) (l : List ℕ) → (branches c).next ≡ o → IsStretch (depths branches) (nexts branches) (branches c).depth o l n → (branches c).depth < (branches n).depth → ⊥
+    none-ahead : (n : ℕ) (o : Option ℕ) (l : List ℕ) → (branches c).next ≡ o
+        → IsStretch (depths branches) (nexts branches) (branches c).depth o l n
+        → (branches c).depth < (branches n).depth → ⊥
     none-ahead n None l e run d = ends_nowhere (depths branches) (nexts branches) (branches c).depth n l run
-    none-ahead n (Some y) l e run d = no_run (depths branches) (nexts branches) (branches c).depth y n (over y e) d l run
+    none-ahead n (Some y) l e run d =
+        no_run (depths branches) (nexts branches) (branches c).depth y n (over y e) d l run
 
-    whole-done : (n : ℕ) (b : Bool) (o : Option (ℕ × ℕ)) → (branches n).once ≡ b → stays n ≡ o → b ≡ is_whole branches leaves o
+    whole-done : (n : ℕ) (b : Bool) (o : Option (ℕ × ℕ)) → (branches n).once ≡ b → stays n ≡ o
+        → b ≡ is_whole branches leaves o
     whole-done n false o off s = sym (ap (is_whole branches leaves) (sym s) ∙ h.sound n off)
     whole-done n true None on s = refl
     whole-done n true (Some (t, p)) on s = by (is_once (leaves t) && (branches p).once) refl

@@ -12,25 +12,35 @@ use Rattle.exchange_check.specs.declared.facts.Way.{Way}
 use Rattle.trace_model.specs.Line.{Lines, completes}
 use Rattle.trace_model.specs.Record.{LinePlace, line_number, event_of, line_at}
 use Rattle.trace_model.specs.Journey.{Journey, journey_of}
-use Rattle.trace_model.specs.Sound.{where_passes, below, Exchange, line_of, sender, sync_line, follow_line, follow_lines, arrival_line}
+use Rattle.trace_model.specs.Sound.{where_passes, below, Exchange, line_of, sender, sync_line}
+use Rattle.trace_model.specs.Sound.{follow_line, follow_lines, arrival_line}
 use Rattle.exchange_check.specs.Kept.{Facts}
-use Rattle.exchange_check.specs.Judged.{line_of_by, sender_by, sync_by, follow_by, follows_by, completion_by, arrival_by, way_at}
+use Rattle.exchange_check.specs.Judged.{line_of_by, sender_by, sync_by, follow_by, follows_by}
+use Rattle.exchange_check.specs.Judged.{completion_by, arrival_by, way_at}
 use Rattle.exchange_check.proofs.Told.{travel_of, fact_of, facts_at, travel_at-is}
 use Rattle.exchange_check.proofs.Messages.{origin_in}
 
 module _ (network : Network) where
   abbrev pub found_of : Exchange → Found
-  found_of x = record { sync = fact_of network x.sync; follow = option_map (fact_of network) x.follow; request = fact_of network x.request; arrival = fact_of network x.arrival }
+  found_of x = record {
+    sync = fact_of network x.sync;
+    follow = option_map (fact_of network) x.follow;
+    request = fact_of network x.request;
+    arrival = fact_of network x.arrival;
+  }
 
   abbrev pub way_of : Journey → Way
   way_of j = record { travel = travel_of network j; origin = fact_of network j.origin }
 
   -- a test of what is kept that is the same test of the line
-  if_passes : (b : Bool) (e : LinePlace) → cond b (Some (fact_of network e)) None ≡ option_map (fact_of network) (cond b (Some e) None)
+  if_passes : (b : Bool) (e : LinePlace)
+      → cond b (Some (fact_of network e)) None ≡ option_map (fact_of network) (cond b (Some e) None)
   if_passes true e = refl
   if_passes false e = refl
 
-  passes : (p : Fact → Bool) (o : Option LinePlace) → where_passes p (option_map (fact_of network) o) ≡ option_map (fact_of network) (where_passes (λ e. p (fact_of network e)) o)
+  passes : (p : Fact → Bool) (o : Option LinePlace)
+      → where_passes p (option_map (fact_of network) o)
+      ≡ option_map (fact_of network) (where_passes (λ e. p (fact_of network e)) o)
   passes p None = refl
   passes p (Some e) = if_passes (p (fact_of network e)) e
 
@@ -38,73 +48,115 @@ module _ (network : Network) where
     abbrev facts : Facts
     facts = facts_at network lines
 
-    pub line_of_is : (kind : Event → Bool) (node : NodeName) (n : ℕ) → line_of_by facts kind node n ≡ option_map (fact_of network) (line_of network lines kind node n)
+    pub line_of_is : (kind : Event → Bool) (node : NodeName) (n : ℕ)
+        → line_of_by facts kind node n ≡ option_map (fact_of network) (line_of network lines kind node n)
     line_of_is kind node n = passes (λ fact. is_at kind node fact.event) (line_at network lines n)
 
-    below_is : (b : Bool) (n : ℕ) → cond b (facts n) None ≡ option_map (fact_of network) (cond b (line_at network lines n) None)
+    below_is : (b : Bool) (n : ℕ)
+        → cond b (facts n) None ≡ option_map (fact_of network) (cond b (line_at network lines n) None)
     below_is true n = refl
     below_is false n = refl
 
-    sent_below : (limit : ℕ) (o : Option ℕ) → option_and_then (below facts limit) o ≡ option_map (fact_of network) (option_and_then (below (line_at network lines) limit) o)
+    sent_below : (limit : ℕ) (o : Option ℕ)
+        → option_and_then (below facts limit) o
+        ≡ option_map (fact_of network) (option_and_then (below (line_at network lines) limit) o)
     sent_below limit None = refl
     sent_below limit (Some n) = below_is (nat_lt n limit) n
 
-    senders : (o : Option LinePlace) → option_and_then (sender_by facts) (option_map (fact_of network) o) ≡ option_map (fact_of network) (option_and_then (sender network lines) o)
+    senders : (o : Option LinePlace)
+        → option_and_then (sender_by facts) (option_map (fact_of network) o)
+        ≡ option_map (fact_of network) (option_and_then (sender network lines) o)
     senders None = refl
     senders (Some e) = sent_below (line_number e) (heard_copy (event_of e))
 
-    pub sync_is : (slave : NodeName) (report : Report) → sync_by facts slave report ≡ option_map (fact_of network) (sync_line network lines slave report)
+    pub sync_is : (slave : NodeName) (report : Report)
+        → sync_by facts slave report ≡ option_map (fact_of network) (sync_line network lines slave report)
     sync_is slave report =
-        ap (where_passes (λ fact. is_some report.follow_tag || fact.completes)) (line_of_is is_arrival slave report.sync_tag)
-        ∙ passes (λ fact. is_some report.follow_tag || fact.completes) (line_of network lines is_arrival slave report.sync_tag)
+        ap (where_passes (λ fact. is_some report.follow_tag || fact.completes))
+        (line_of_is is_arrival slave report.sync_tag)
+        ∙ passes (λ fact. is_some report.follow_tag || fact.completes)
+        (line_of network lines is_arrival slave report.sync_tag)
 
-    follow_is : (slave : NodeName) (n : ℕ) → follow_by facts slave n ≡ option_map (fact_of network) (follow_line network lines slave n)
+    follow_is : (slave : NodeName) (n : ℕ)
+        → follow_by facts slave n ≡ option_map (fact_of network) (follow_line network lines slave n)
     follow_is slave n =
-        ap (λ (o : Option Fact). where_passes (λ fact. is_follow fact.event) (option_and_then (sender_by facts) o)) (line_of_is is_hearing slave n)
+        ap (λ (o : Option Fact). where_passes (λ fact. is_follow fact.event) (option_and_then (sender_by facts) o))
+        (line_of_is is_hearing slave n)
         ∙ ap (where_passes (λ fact. is_follow fact.event)) (senders (line_of network lines is_hearing slave n))
-        ∙ passes (λ fact. is_follow fact.event) (option_and_then (sender network lines) (line_of network lines is_hearing slave n))
+        ∙ passes (λ fact. is_follow fact.event)
+        (option_and_then (sender network lines) (line_of network lines is_hearing slave n))
 
-    some_follow : (o : Option LinePlace) → option_map Some (option_map (fact_of network) o) ≡ option_map (option_map (fact_of network)) (option_map Some o)
+    some_follow : (o : Option LinePlace)
+        → option_map Some (option_map (fact_of network) o)
+        ≡ option_map (option_map (fact_of network)) (option_map Some o)
     some_follow None = refl
     some_follow (Some e) = refl
 
-    pub follows_is : (slave : NodeName) (o : Option ℕ) → follows_by facts slave o ≡ option_map (option_map (fact_of network)) (follow_lines network lines slave o)
+    pub follows_is : (slave : NodeName) (o : Option ℕ)
+        → follows_by facts slave o ≡ option_map (option_map (fact_of network)) (follow_lines network lines slave o)
     follows_is slave None = refl
-    follows_is slave (Some n) = ap (λ (o : Option Fact). option_map Some o) (follow_is slave n) ∙ some_follow (follow_line network lines slave n)
+    follows_is slave (Some n) = ap (λ (o : Option Fact). option_map Some o) (follow_is slave n)
+        ∙ some_follow (follow_line network lines slave n)
 
-    completion_is : (slave : NodeName) (n : ℕ) → completion_by facts slave n ≡ option_map (fact_of network) (where_passes (λ e. completes e.line.out) (line_of network lines is_hearing slave n))
-    completion_is slave n = ap (where_passes (λ fact. fact.completes)) (line_of_is is_hearing slave n) ∙ passes (λ fact. fact.completes) (line_of network lines is_hearing slave n)
+    completion_is : (slave : NodeName) (n : ℕ)
+        → completion_by facts slave n
+        ≡ option_map (fact_of network)
+        (where_passes (λ e. completes e.line.out) (line_of network lines is_hearing slave n))
+    completion_is slave n = ap (where_passes (λ fact. fact.completes)) (line_of_is is_hearing slave n)
+        ∙ passes (λ fact. fact.completes) (line_of network lines is_hearing slave n)
 
-    pub arrival_is : (slave : NodeName) (n : ℕ) → arrival_by facts slave n ≡ option_map (fact_of network) (arrival_line network lines slave n)
+    pub arrival_is : (slave : NodeName) (n : ℕ)
+        → arrival_by facts slave n ≡ option_map (fact_of network) (arrival_line network lines slave n)
     arrival_is slave n =
-        ap (λ (o : Option Fact). where_passes (λ fact. is_arrival fact.event && fact.made) (option_and_then (sender_by facts) o)) (completion_is slave n)
-        ∙ ap (where_passes (λ fact. is_arrival fact.event && fact.made)) (senders (where_passes (λ e. completes e.line.out) (line_of network lines is_hearing slave n)))
-        ∙ passes (λ fact. is_arrival fact.event && fact.made) (option_and_then (sender network lines) (where_passes (λ e. completes e.line.out) (line_of network lines is_hearing slave n)))
+        ap (λ (o : Option Fact). where_passes (λ fact. is_arrival fact.event && fact.made)
+        (option_and_then (sender_by facts) o)) (completion_is slave n)
+        ∙ ap (where_passes (λ fact. is_arrival fact.event && fact.made))
+        (senders (where_passes (λ e. completes e.line.out) (line_of network lines is_hearing slave n)))
+        ∙ passes (λ fact. is_arrival fact.event && fact.made)
+        (option_and_then (sender network lines)
+        (where_passes (λ e. completes e.line.out) (line_of network lines is_hearing slave n)))
 
     abbrev pub chain : Option Fact → Option (Option Fact) → Option Fact → Option Fact → Option Found
-    chain s f u r = option_and_then (λ sync. option_and_then (λ follow. option_and_then (λ request. option_map (λ arrival. record { sync = sync; follow = follow; request = request; arrival = arrival }) r) u) f) s
+    chain s f u r = option_and_then
+        (λ sync. option_and_then (λ follow. option_and_then
+        (λ request. option_map (λ arrival.
+        record { sync = sync; follow = follow; request = request; arrival = arrival }) r) u) f) s
 
-    abbrev pub line_chain : Option LinePlace → Option (Option LinePlace) → Option LinePlace → Option LinePlace → Option Exchange
-    line_chain s f u r = option_and_then (λ sync. option_and_then (λ follow. option_and_then (λ request. option_map (λ arrival. record { sync = sync; follow = follow; request = request; arrival = arrival }) r) u) f) s
+    abbrev pub line_chain : Option LinePlace → Option (Option LinePlace) → Option LinePlace → Option LinePlace
+        → Option Exchange
+    line_chain s f u r = option_and_then
+        (λ sync. option_and_then (λ follow. option_and_then
+        (λ request. option_map (λ arrival.
+        record { sync = sync; follow = follow; request = request; arrival = arrival }) r) u) f) s
 
     pub chained : (s : Option LinePlace) (f : Option (Option LinePlace)) (u r : Option LinePlace)
-        → chain (option_map (fact_of network) s) (option_map (option_map (fact_of network)) f) (option_map (fact_of network) u) (option_map (fact_of network) r) ≡ option_map found_of (line_chain s f u r)
+        → chain (option_map (fact_of network) s) (option_map (option_map (fact_of network)) f)
+        (option_map (fact_of network) u) (option_map (fact_of network) r)
+        ≡ option_map found_of (line_chain s f u r)
     chained None f u r = refl
     chained (Some s) None u r = refl
     chained (Some s) (Some f) None r = refl
     chained (Some s) (Some f) (Some u) None = refl
     chained (Some s) (Some f) (Some u) (Some r) = refl
 
-    pub if_found : (b : Bool) (o : Option Exchange) → cond b (option_map found_of o) None ≡ option_map found_of (cond b o None)
+    pub if_found : (b : Bool) (o : Option Exchange)
+        → cond b (option_map found_of o) None ≡ option_map found_of (cond b o None)
     if_found true o = refl
     if_found false o = refl
 
-    way_of_origin : (o : Option Journey) → ((j : Journey) → o ≡ Some j → line_at network lines (line_number j.origin) ≡ Some j.origin)
-        → option_and_then (λ travel. option_map (λ origin. record { travel = travel; origin = origin }) (facts travel.origin)) (option_map (travel_of network) o) ≡ option_map way_of o
+    way_of_origin : (o : Option Journey)
+        → ((j : Journey) → o ≡ Some j → line_at network lines (line_number j.origin) ≡ Some j.origin)
+        → option_and_then (λ travel. option_map (λ origin. record { travel = travel; origin = origin })
+        (facts travel.origin)) (option_map (travel_of network) o) ≡ option_map way_of o
     way_of_origin None known = refl
-    way_of_origin (Some j) known = ap (λ (o : Option LinePlace). option_map (λ (origin : Fact). let w : Way = record { travel = travel_of network j; origin = origin } in w) (option_map (fact_of network) o)) (known j refl)
+    way_of_origin (Some j) known =
+        ap (λ (o : Option LinePlace). option_map
+        (λ (origin : Fact). let w : Way = record { travel = travel_of network j; origin = origin } in w)
+        (option_map (fact_of network) o)) (known j refl)
 
     pub way_is : (n : ℕ) → way_at facts n ≡ option_map way_of (journey_of network lines n)
     way_is n =
-        ap (λ (o : Option Travel). option_and_then (λ travel. option_map (λ origin. record { travel = travel; origin = origin }) (facts travel.origin)) o) (travel_at-is network lines n)
+        ap (λ (o : Option Travel). option_and_then
+        (λ travel. option_map (λ origin. record { travel = travel; origin = origin }) (facts travel.origin)) o)
+        (travel_at-is network lines n)
         ∙ way_of_origin (journey_of network lines n) (origin_in network lines n)

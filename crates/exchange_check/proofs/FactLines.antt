@@ -1,12 +1,14 @@
 -- The fact that is kept of a line is what the line and those before it say.
-use Rattle.std.proofs.Common.{◌≡◌, ◌∙◌, ℕ, Bool, true, false, ◌&&◌, cond, eqb, [], ◌∷◌, length, Option, Some, None, refl, sym, ap, subst, arith}
+use Rattle.std.proofs.Common.{◌≡◌, ◌∙◌, ℕ, Bool, true, false, cond, eqb, ◌∷◌, length}
+use Rattle.std.proofs.Common.{Option, Some, None, refl, sym, ap, subst, arith}
 use Rattle.std.specs.Prelude.{option_map, option_and_then}
 use Rattle.std.specs.Option.{option_map_or}
 use Rattle.std.proofs.lemmas.Option.{same_Some}
 use Rattle.event_codec.specs.Packet.{Contents}
 use Rattle.master_port.specs.Written.{follow_up, delay_resp}
 use Rattle.network_model.specs.declared.event.Event.{Event}
-use Rattle.network_model.specs.declared.event.Event.TheVariants.{Sync, SyncOne, Follow, Enter, Leave, Arrive, Hear, Request, Stamped, Tick, SetMaster, StepClock}
+use Rattle.network_model.specs.declared.event.Event.TheVariants.{Sync, SyncOne, Follow, Enter, Leave, Arrive, Hear}
+use Rattle.network_model.specs.declared.event.Event.TheVariants.{Request, Stamped, Tick, SetMaster, StepClock}
 use Rattle.network_model.specs.Network.{Network, NodeName, PortSetup}
 use Rattle.network_model.specs.Kinds.{is_sync}
 use Rattle.network_model.specs.Truth.{master_at}
@@ -14,39 +16,28 @@ use Rattle.exchange_check.specs.declared.facts.Fact.{Fact}
 use Rattle.exchange_check.specs.declared.facts.Travel.{Travel}
 use Rattle.trace_model.specs.declared.line.TraceLine.{TraceLine}
 use Rattle.trace_model.specs.Line.{Lines, counts}
-use Rattle.trace_model.specs.Record.{LinePlace, line_place, line_number, event_of, line_at, last_line, reading, sequence}
+use Rattle.trace_model.specs.Record.{LinePlace, line_place, line_number, event_of}
+use Rattle.trace_model.specs.Record.{line_at, last_line, reading, sequence}
 use Rattle.trace_model.specs.Journey.{Journey, residence, with_stay, copy_entered, left_from, journey_made, journey_of}
-use Rattle.trace_model.specs.Octets.{drawing_port, sent, travelled, followed, answered, message_made, writes_right, is_written}
-use Rattle.exchange_check.specs.Kept.{Facts, travel_at, travel_by, sent_by, travelled_by, followed_by, answered_by, message_by, fact_known, fact_made, written_travel, fact_by}
+use Rattle.trace_model.specs.Octets.{drawing_port, sent, travelled, followed, answered}
+use Rattle.trace_model.specs.Octets.{message_made, writes_right, is_written}
+use Rattle.exchange_check.specs.Kept.{Facts, travel_at, travel_by, sent_by, travelled_by, followed_by, answered_by}
+use Rattle.exchange_check.specs.Kept.{message_by, fact_known, fact_made, written_travel, fact_by}
 use Rattle.exchange_check.proofs.Noted.{site_at}
-use Rattle.exchange_check.proofs.Told.{travel_of, fact_of, facts_at, known_of, number_drawn, travel_at-is, travel_is, known_is}
+use Rattle.exchange_check.proofs.Told.{travel_of, fact_of, facts_at, known_of, number_drawn}
+use Rattle.exchange_check.proofs.Told.{travel_at-is, travel_is, known_is}
 use Rattle.std.proofs.lemmas.Slice.Eq.{bytes_eq-Decides}
 use Rattle.network_model.specs.Kinds.{is_at}
 use Rattle.network_model.specs.Run.{site_of}
 use Rattle.exchange_check.specs.Machine.{with_fact}
-use Rattle.exchange_check.proofs.Messages.{line_at-later, line_at-here, origin_in, sent_is, travelled_is, min_min}
-
--- the last line of a kind is among the lines, and is of that kind
-either_last : (network : Network) (kind : Event → Bool) (name : NodeName) (line : TraceLine) (earlier : Lines) (k : LinePlace) (counted here : Bool)
-    → counts network line ≡ counted → is_at kind name line.event ≡ here
-    → (last_line network kind name earlier ≡ Some k → (line_at network earlier (line_number k) ≡ Some k) × (is_at kind name (event_of k) ≡ true))
-    → cond (counted && here) (Some (line_place line earlier)) (last_line network kind name earlier) ≡ Some k
-    → (line_at network (line ∷ earlier) (line_number k) ≡ Some k) × (is_at kind name (event_of k) ≡ true)
-either_last network kind name line earlier k true true c p before h =
-    let P : LinePlace → Type 0 = λ x. (line_at network (line ∷ earlier) (line_number x) ≡ Some x) × (is_at kind name (event_of x) ≡ true) in
-    subst P (same_Some _ _ h) (line_at-here network line earlier c, p)
-either_last network kind name line earlier k true false c p before h = let b = before h in (line_at-later network line earlier (line_number k) k b.0, b.1)
-either_last network kind name line earlier k false here c p before h = let b = before h in (line_at-later network line earlier (line_number k) k b.0, b.1)
-
-pub last_is : (network : Network) (kind : Event → Bool) (name : NodeName) (lines : Lines) (k : LinePlace) → last_line network kind name lines ≡ Some k
-    → (line_at network lines (line_number k) ≡ Some k) × (is_at kind name (event_of k) ≡ true)
-last_is network kind name [] k h = grind arith
-last_is network kind name (line ∷ earlier) k h =
-    either_last network kind name line earlier k (counts network line) (is_at kind name line.event) refl refl (last_is network kind name earlier k) h
+use Rattle.trace_model.proofs.Lines.{last_is}
+use Rattle.exchange_check.proofs.Messages.{origin_in, sent_is, travelled_is, min_min}
 
 -- the port of a master sent its Syncs
-sync_port : (network : Network) (event : Event) (node : NodeName) (port : PortSetup) → is_at is_sync node event ≡ true → master_at network node ≡ Some port → drawing_port network event ≡ Some port
-sync_port network (Sync at_node at) node port h there = ap (master_at network) ((bytes_eq-Decides at_node node).0 h) ∙ there
+sync_port : (network : Network) (event : Event) (node : NodeName) (port : PortSetup) → is_at is_sync node event ≡ true
+    → master_at network node ≡ Some port → drawing_port network event ≡ Some port
+sync_port network (Sync at_node at) node port h there =
+    ap (master_at network) ((bytes_eq-Decides at_node node).0 h) ∙ there
 sync_port network (SyncOne at_node at) node port h there = grind arith
 sync_port network (Follow at_node) node port h there = grind arith
 sync_port network (Enter at_node copy at) node port h there = grind arith
@@ -63,74 +54,106 @@ module _ (network : Network) (e : LinePlace) where
   abbrev facts : Facts
   facts = facts_at network e.earlier
 
-  follow_of : (node : NodeName) (port : PortSetup) → master_at network node ≡ Some port → (o : Option LinePlace) → last_line network is_sync node e.earlier ≡ o
+  follow_of : (node : NodeName) (port : PortSetup) → master_at network node ≡ Some port → (o : Option LinePlace)
+      → last_line network is_sync node e.earlier ≡ o
       → followed_by facts port (option_map line_number o) ≡ option_map (followed network port) o
   follow_of node port there None h = refl
   follow_of node port there (Some k) h =
       let found = last_is network is_sync node e.earlier k h in
-      let number : number_drawn network k ≡ sequence network port k = ap (λ (o : Option PortSetup). option_map_or (λ (p : PortSetup). sequence network p k) o 0) (sync_port network (event_of k) node port found.1 there) in
-      ap (λ (o : Option LinePlace). option_map (λ (sync : Fact). follow_up port.config sync.number.0 sync.reading) (option_map (fact_of network) o)) found.0
+      let number : number_drawn network k ≡ sequence network port k =
+      ap (λ (o : Option PortSetup). option_map_or (λ (p : PortSetup). sequence network p k) o 0)
+      (sync_port network (event_of k) node port found.1 there) in
+      ap (λ (o : Option LinePlace). option_map (λ (sync : Fact). follow_up port.config sync.number.0 sync.reading)
+      (option_map (fact_of network) o)) found.0
       ∙ (λ i. Some (follow_up port.config (number i) (reading k)))
 
   follow_at : (node : NodeName) (o : Option PortSetup) → master_at network node ≡ o
-      → option_and_then (λ port. followed_by facts port (option_map line_number (last_line network is_sync node e.earlier))) o
+      → option_and_then (λ port. followed_by facts port
+      (option_map line_number (last_line network is_sync node e.earlier))) o
       ≡ option_and_then (λ port. option_map (followed network port) (last_line network is_sync node e.earlier)) o
   follow_at node None h = refl
   follow_at node (Some port) h = follow_of node port h (last_line network is_sync node e.earlier) refl
 
-  message_of : (o : Option Journey) → ((j : Journey) → o ≡ Some j → line_at network e.earlier (line_number j.origin) ≡ Some j.origin)
-      → option_and_then (travelled_by network facts) (option_map (travel_of network) o) ≡ option_and_then (travelled network) o
+  message_of : (o : Option Journey)
+      → ((j : Journey) → o ≡ Some j → line_at network e.earlier (line_number j.origin) ≡ Some j.origin)
+      → option_and_then (travelled_by network facts) (option_map (travel_of network) o)
+      ≡ option_and_then (travelled network) o
   message_of None known = refl
-  message_of (Some j) known = travelled_is network e.earlier j (travel_of network j) (known j refl) refl (min_min (residence j))
+  message_of (Some j) known =
+      travelled_is network e.earlier j (travel_of network j) (known j refl) refl (min_min (residence j))
 
-  answer_of : (g : Contents → Contents) (o : Option Journey) → option_map g (option_and_then (travelled network) o) ≡ option_and_then (λ j. option_map g (travelled network j)) o
+  answer_of : (g : Contents → Contents) (o : Option Journey)
+      → option_map g (option_and_then (travelled network) o)
+      ≡ option_and_then (λ j. option_map g (travelled network j)) o
   answer_of g None = refl
   answer_of g (Some j) = refl
 
   answer_at : (copy : ℕ) (o : Option PortSetup)
-      → option_and_then (λ port. answered_by network facts port (reading e) (travel_at facts copy)) o ≡ option_and_then (λ port. option_and_then (answered network port e) (journey_of network e.earlier copy)) o
+      → option_and_then (λ port. answered_by network facts port (reading e) (travel_at facts copy)) o
+      ≡ option_and_then (λ port. option_and_then (answered network port e) (journey_of network e.earlier copy)) o
   answer_at copy None = refl
   answer_at copy (Some port) =
-      ap (λ (t : Option Travel). option_map (λ (request : Contents). delay_resp port.config request.header (reading e)) (option_and_then (travelled_by network facts) t)) (travel_at-is network e.earlier copy)
-      ∙ ap (λ (m : Option Contents). option_map (λ (request : Contents). delay_resp port.config request.header (reading e)) m) (message_of (journey_of network e.earlier copy) (origin_in network e.earlier copy))
+      ap (λ (t : Option Travel). option_map
+      (λ (request : Contents). delay_resp port.config request.header (reading e))
+      (option_and_then (travelled_by network facts) t)) (travel_at-is network e.earlier copy)
+      ∙ ap (λ (m : Option Contents). option_map
+      (λ (request : Contents). delay_resp port.config request.header (reading e)) m)
+      (message_of (journey_of network e.earlier copy) (origin_in network e.earlier copy))
       ∙ answer_of (λ request. delay_resp port.config request.header (reading e)) (journey_of network e.earlier copy)
 
-  unwritten : (writes : Bool) (t : Option Travel) → option_and_then (travelled_by network facts) (option_map (written_travel writes) t) ≡ option_and_then (travelled_by network facts) t
+  unwritten : (writes : Bool) (t : Option Travel)
+      → option_and_then (travelled_by network facts) (option_map (written_travel writes) t)
+      ≡ option_and_then (travelled_by network facts) t
   unwritten writes None = refl
   unwritten writes (Some t) = refl
 
-  stay_there : (entered : LinePlace) (o : Option Journey) (j : Journey) → ((k : Journey) → o ≡ Some k → line_at network e.earlier (line_number k.origin) ≡ Some k.origin)
+  stay_there : (entered : LinePlace) (o : Option Journey) (j : Journey)
+      → ((k : Journey) → o ≡ Some k → line_at network e.earlier (line_number k.origin) ≡ Some k.origin)
       → option_map (with_stay e entered) o ≡ Some j → line_at network e.earlier (line_number j.origin) ≡ Some j.origin
   stay_there entered None j known h = grind arith
   stay_there entered (Some k) j known h =
       let P : Journey → Type 0 = λ x. line_at network e.earlier (line_number x.origin) ≡ Some x.origin in
       subst P (same_Some _ _ h) (known k refl)
 
-  copy_there : (entered : LinePlace) (c : Option ℕ) (j : Journey) → option_and_then (λ copy. option_map (with_stay e entered) (journey_of network e.earlier copy)) c ≡ Some j → line_at network e.earlier (line_number j.origin) ≡ Some j.origin
+  copy_there : (entered : LinePlace) (c : Option ℕ) (j : Journey)
+      → option_and_then (λ copy. option_map (with_stay e entered) (journey_of network e.earlier copy)) c ≡ Some j
+      → line_at network e.earlier (line_number j.origin) ≡ Some j.origin
   copy_there entered None j h = grind arith
-  copy_there entered (Some copy) j h = stay_there entered (journey_of network e.earlier copy) j (origin_in network e.earlier copy) h
+  copy_there entered (Some copy) j h =
+      stay_there entered (journey_of network e.earlier copy) j (origin_in network e.earlier copy) h
 
-  left_there : (node : NodeName) (o : Option LinePlace) (j : Journey) → option_and_then (left_from node e (journey_of network e.earlier)) o ≡ Some j → line_at network e.earlier (line_number j.origin) ≡ Some j.origin
+  left_there : (node : NodeName) (o : Option LinePlace) (j : Journey)
+      → option_and_then (left_from node e (journey_of network e.earlier)) o ≡ Some j
+      → line_at network e.earlier (line_number j.origin) ≡ Some j.origin
   left_there node None j h = grind arith
   left_there node (Some entered) j h = copy_there entered (copy_entered node entered) j h
 
   left_message : (node : NodeName) (transit at : ℕ)
       → option_and_then (travelled_by network facts) (travel_by facts (known_of network e) (Leave node transit at))
-      ≡ option_and_then (travelled network) (journey_made network (Leave node transit at) e (journey_of network e.earlier))
+      ≡ option_and_then (travelled network)
+      (journey_made network (Leave node transit at) e (journey_of network e.earlier))
   left_message node transit at =
       sym (unwritten (writes_right network e) (travel_by facts (known_of network e) (Leave node transit at)))
-      ∙ ap (λ (t : Option Travel). option_and_then (travelled_by network facts) t) (travel_is network e (Leave node transit at))
-      ∙ message_of (journey_made network (Leave node transit at) e (journey_of network e.earlier)) (left_there node (line_at network e.earlier transit))
+      ∙ ap (λ (t : Option Travel). option_and_then (travelled_by network facts) t)
+      (travel_is network e (Leave node transit at))
+      ∙ message_of (journey_made network (Leave node transit at) e (journey_of network e.earlier))
+      (left_there node (line_at network e.earlier transit))
 
-  sent_at : (event : Event) → event ≡ event_of e → sent_by network event (number_drawn network e) (reading e) ≡ sent network e
-  sent_at event same = ap (λ (x : Event). sent_by network x (number_drawn network e) (reading e)) same ∙ sent_is network e
+  sent_at : (event : Event) → event ≡ event_of e
+      → sent_by network event (number_drawn network e) (reading e) ≡ sent network e
+  sent_at event same = ap (λ (x : Event). sent_by network x (number_drawn network e) (reading e)) same
+      ∙ sent_is network e
 
   -- the message that is to be written of a line
-  pub message_is : (event : Event) → event ≡ event_of e → message_by network facts (known_of network e) (travel_by facts (known_of network e) event) event ≡ message_made network event e
+  pub message_is : (event : Event) → event ≡ event_of e
+      → message_by network facts (known_of network e) (travel_by facts (known_of network e) event) event
+      ≡ message_made network event e
   message_is (Sync node at) same = sent_at (Sync node at) same
   message_is (SyncOne node at) same = sent_at (SyncOne node at) same
   message_is (Follow node) same =
-      ap (λ (name : NodeName). option_and_then (λ port. followed_by facts port (option_map line_number (last_line network is_sync name e.earlier))) (master_at network node)) (sym (ap site_of same))
+      ap (λ (name : NodeName). option_and_then
+      (λ port. followed_by facts port (option_map line_number (last_line network is_sync name e.earlier)))
+      (master_at network node)) (sym (ap site_of same))
       ∙ follow_at node (master_at network node) refl
   message_is (Enter node copy at) same = refl
   message_is (Leave node transit at) same = left_message node transit at
@@ -143,9 +166,11 @@ module _ (network : Network) (e : LinePlace) where
   message_is (StepClock node diff) same = refl
 
   -- what is kept of a line
-  pub fact_is : fact_known network facts e.line (known_of network e) (travel_by facts (known_of network e) (event_of e)) ≡ fact_of network e
+  pub fact_is : fact_known network facts e.line (known_of network e)
+      (travel_by facts (known_of network e) (event_of e)) ≡ fact_of network e
   fact_is =
-      let writes : is_written (message_by network facts (known_of network e) (travel_by facts (known_of network e) (event_of e)) (event_of e)) e.line.out ≡ writes_right network e =
+      let writes : is_written (message_by network facts (known_of network e)
+      (travel_by facts (known_of network e) (event_of e)) (event_of e)) e.line.out ≡ writes_right network e =
       ap (λ (m : Option Contents). is_written m e.line.out) (message_is (event_of e) refl) in
       (λ i. fact_made e.line (known_of network e) (writes i) (travel_by facts (known_of network e) (event_of e)))
       ∙ (λ i. record {
@@ -162,20 +187,27 @@ module _ (network : Network) (e : LinePlace) where
       })
 
 -- what is kept of a line, where it tells of something done
-pub fact_by-is : (network : Network) (line : TraceLine) (earlier : Lines) → fact_by network (facts_at network earlier) (site_at network earlier) line (length earlier)
+pub fact_by-is : (network : Network) (line : TraceLine) (earlier : Lines)
+    → fact_by network (facts_at network earlier) (site_at network earlier) line (length earlier)
     ≡ cond (counts network line) (Some (fact_of network (line_place line earlier))) None
 fact_by-is network line earlier =
-    (λ i. cond (counts network line) (Some (fact_known network (facts_at network earlier) line (known_is network line earlier i) (travel_by (facts_at network earlier) (known_is network line earlier i) line.event))) None)
+    (λ i. cond (counts network line)
+    (Some (fact_known network (facts_at network earlier) line (known_is network line earlier i)
+    (travel_by (facts_at network earlier) (known_is network line earlier i) line.event))) None)
     ∙ (λ i. cond (counts network line) (Some (fact_is network (line_place line earlier) i)) None)
 
 either_fact : (network : Network) (line : TraceLine) (earlier : Lines) (n : ℕ) (here counted : Bool)
     → cond here (cond counted (Some (fact_of network (line_place line earlier))) None) (facts_at network earlier n)
-    ≡ option_map (fact_of network) (cond here (cond counted (Some (line_place line earlier)) None) (line_at network earlier n))
+    ≡ option_map (fact_of network)
+    (cond here (cond counted (Some (line_place line earlier)) None) (line_at network earlier n))
 either_fact network line earlier n true true = refl
 either_fact network line earlier n true false = refl
 either_fact network line earlier n false counted = refl
 
 -- what is kept of all lines after one more line
 pub facts-line : (network : Network) (line : TraceLine) (earlier : Lines)
-    → with_fact (facts_at network earlier) (length earlier) (cond (counts network line) (Some (fact_of network (line_place line earlier))) None) ≡ facts_at network (line ∷ earlier)
-facts-line network line earlier = λ i n. either_fact network line earlier n (eqb (length earlier) n) (counts network line) i
+    → with_fact (facts_at network earlier) (length earlier)
+    (cond (counts network line) (Some (fact_of network (line_place line earlier))) None)
+    ≡ facts_at network (line ∷ earlier)
+facts-line network line earlier =
+    λ i n. either_fact network line earlier n (eqb (length earlier) n) (counts network line) i

@@ -1,12 +1,14 @@
 -- Following the stays of a copy finds those of its journey.
-use Rattle.std.proofs.Common.{◌≡◌, ◌∙◌, ℕ, zero, suc, ◌<◌, Bool, true, false, ◌&&◌, cond, eqb, [], ◌∷◌, length, Option, Some, None, refl, sym, ap, subst, arith}
+use Rattle.std.proofs.Common.{◌≡◌, ◌∙◌, ℕ, zero, suc, ◌<◌, Bool, true, false, ◌&&◌, cond, eqb, []}
+use Rattle.std.proofs.Common.{◌∷◌, length, Option, Some, None, refl, sym, ap, subst, arith}
 use Rattle.std.specs.Prelude.{option_map, option_and_then, nat_lt, is_some, count_by}
 use Rattle.std.specs.Option.{option_map_or}
 use Rattle.std.proofs.lemmas.Bool.{eqb-true}
 use Rattle.std.proofs.lemmas.Bool.Decides.{nat_tests}
 use Rattle.std.proofs.lemmas.Option.{same_Some, none-some}
 use Rattle.network_model.specs.declared.event.Event.{Event}
-use Rattle.network_model.specs.declared.event.Event.TheVariants.{Sync, SyncOne, Follow, Enter, Leave, Arrive, Hear, Request, Stamped, Tick, SetMaster, StepClock}
+use Rattle.network_model.specs.declared.event.Event.TheVariants.{Sync, SyncOne, Follow, Enter, Leave, Arrive, Hear}
+use Rattle.network_model.specs.declared.event.Event.TheVariants.{Request, Stamped, Tick, SetMaster, StepClock}
 use Rattle.network_model.specs.Network.{Network, NodeName, is_named}
 use Rattle.network_model.specs.Run.{Run}
 use Rattle.network_model.specs.Kinds.{entered_copy, spends, spent_transit}
@@ -14,14 +16,15 @@ use Rattle.exchange_check.specs.declared.facts.Fact.{Fact}
 use Rattle.trace_model.specs.declared.line.TraceLine.{TraceLine}
 use Rattle.trace_model.specs.Line.{Lines, counts}
 use Rattle.trace_model.specs.Record.{LinePlace, line_place, line_number, event_of, site, line_at, events}
-use Rattle.trace_model.specs.Journey.{Journey, begun, with_stay, copy_entered, left_from, journey_made, journey_of, left_once}
-use Rattle.exchange_check.specs.Kept.{Facts, Leaves, leaves_after}
+use Rattle.trace_model.specs.Journey.{Journey, begun, with_stay, copy_entered, left_from}
+use Rattle.trace_model.specs.Journey.{journey_made, journey_of, left_once}
+use Rattle.exchange_check.specs.Kept.{Facts, Leaves, leaves_after, left_again}
 use Rattle.exchange_check.specs.Stays.{stay_below, stay_of, last_stays, is_once, once_by}
-use Rattle.exchange_check.proofs.Noted.{leaves_at, count_more, events_more}
+use Rattle.exchange_check.proofs.Noted.{leaves_at, count_more}
 use Rattle.exchange_check.proofs.Passing.{none_made}
 use Rattle.exchange_check.proofs.Told.{fact_of, travel_of}
 use Rattle.trace_model.specs.Sound.{where_passes}
-use Rattle.exchange_check.proofs.Messages.{line_at-bound, line_at-later, line_at-here}
+use Rattle.trace_model.proofs.Lines.{line_at-bound, line_at-number, line_at-later, line_at-here, events_more}
 
 -- how often a stay was ended, as it is kept
 abbrev ended : ℕ → Option Bool
@@ -29,37 +32,36 @@ ended zero = None
 ended (suc zero) = Some false
 ended (suc (suc n)) = Some true
 
-ended_more : (b : Bool) (n : ℕ) (kept : Option Bool) → kept ≡ ended n → cond b (Some (is_some kept)) kept ≡ ended (cond b (suc n) n)
+ended_more : (b : Bool) (n : ℕ) (kept : Option Bool) → kept ≡ ended n
+    → cond b (Some (is_some kept)) kept ≡ ended (cond b (suc n) n)
 ended_more false n kept h = h
 ended_more true zero kept h = ap (λ (o : Option Bool). Some (is_some o)) h
 ended_more true (suc zero) kept h = ap (λ (o : Option Bool). Some (is_some o)) h
 ended_more true (suc (suc n)) kept h = ap (λ (o : Option Bool). Some (is_some o)) h
 
-leaves_more : (event : Event) (leaves : Leaves) (run : Run) (stay : ℕ) → leaves stay ≡ ended (count_by (spends stay) run) → leaves_after event leaves stay ≡ ended (cond (spends stay event) (suc (count_by (spends stay) run)) (count_by (spends stay) run))
-leaves_more (Sync node at) leaves run stay h = h
-leaves_more (SyncOne node at) leaves run stay h = h
-leaves_more (Follow node) leaves run stay h = h
-leaves_more (Enter node copy at) leaves run stay h = h
-leaves_more (Leave node transit at) leaves run stay h = ended_more (eqb transit stay) (count_by (spends stay) run) (leaves stay) h
-leaves_more (Arrive node copy at) leaves run stay h = h
-leaves_more (Hear node copy) leaves run stay h = h
-leaves_more (Request node at) leaves run stay h = h
-leaves_more (Stamped node) leaves run stay h = h
-leaves_more (Tick node) leaves run stay h = h
-leaves_more (SetMaster node master) leaves run stay h = h
-leaves_more (StepClock node diff) leaves run stay h = h
+leaves_more : (spent : Option ℕ) (leaves : Leaves) (n stay : ℕ) → leaves stay ≡ ended n
+    → option_map_or (λ transit. left_again transit leaves) spent leaves stay
+    ≡ ended (cond (option_map_or (λ transit. eqb transit stay) spent false) (suc n) n)
+leaves_more None leaves n stay h = h
+leaves_more (Some transit) leaves n stay h = ended_more (eqb transit stay) n (leaves stay) h
 
 either_ended : (network : Network) (line : TraceLine) (earlier : Lines) (stay : ℕ) (b : Bool) → counts network line ≡ b
     → leaves_at network earlier stay ≡ ended (count_by (spends stay) (events network earlier))
-    → cond b (leaves_after line.event (leaves_at network earlier)) (leaves_at network earlier) stay ≡ ended (count_by (spends stay) (events network (line ∷ earlier)))
+    → cond b (leaves_after line.event (leaves_at network earlier)) (leaves_at network earlier) stay
+    ≡ ended (count_by (spends stay) (events network (line ∷ earlier)))
 either_ended network line earlier stay true c h =
-    leaves_more line.event (leaves_at network earlier) (events network earlier) stay h
-    ∙ sym (ap ended (ap (count_by (spends stay)) (events_more network line earlier true c) ∙ count_more (spends stay) line.event (events network earlier)))
-either_ended network line earlier stay false c h = h ∙ sym (ap (λ (r : Run). ended (count_by (spends stay) r)) (events_more network line earlier false c))
+    leaves_more (spent_transit line.event) (leaves_at network earlier)
+    (count_by (spends stay) (events network earlier)) stay h
+    ∙ sym (ap ended (ap (count_by (spends stay)) (events_more network line earlier true c)
+    ∙ count_more (spends stay) line.event (events network earlier)))
+either_ended network line earlier stay false c h =
+    h ∙ sym (ap (λ (r : Run). ended (count_by (spends stay) r)) (events_more network line earlier false c))
 
-leaves_are : (network : Network) (lines : Lines) (stay : ℕ) → leaves_at network lines stay ≡ ended (count_by (spends stay) (events network lines))
+leaves_are : (network : Network) (lines : Lines) (stay : ℕ)
+    → leaves_at network lines stay ≡ ended (count_by (spends stay) (events network lines))
 leaves_are network [] stay = refl
-leaves_are network (line ∷ earlier) stay = either_ended network line earlier stay (counts network line) refl (leaves_are network earlier stay)
+leaves_are network (line ∷ earlier) stay =
+    either_ended network line earlier stay (counts network line) refl (leaves_are network earlier stay)
 
 ended_once : (n : ℕ) → is_once (ended n) ≡ eqb n 1
 ended_once zero = refl
@@ -67,32 +69,26 @@ ended_once (suc zero) = refl
 ended_once (suc (suc n)) = grind (arith, nat_tests)
 
 -- a stay is kept as ended once where one line alone ended it
-pub once_is : (network : Network) (lines : Lines) (stay : ℕ) → is_once (leaves_at network lines stay) ≡ eqb (count_by (spends stay) (events network lines)) 1
-once_is network lines stay = ap is_once (leaves_are network lines stay) ∙ ended_once (count_by (spends stay) (events network lines))
+pub once_is : (network : Network) (lines : Lines) (stay : ℕ)
+    → is_once (leaves_at network lines stay) ≡ eqb (count_by (spends stay) (events network lines)) 1
+once_is network lines stay =
+    ap is_once (leaves_are network lines stay) ∙ ended_once (count_by (spends stay) (events network lines))
 
-either_number : (network : Network) (line : TraceLine) (earlier : Lines) (n : ℕ) (e : LinePlace) (here counted : Bool) → eqb (length earlier) n ≡ here
-    → (line_at network earlier n ≡ Some e → line_number e ≡ n)
-    → cond here (cond counted (Some (line_place line earlier)) None) (line_at network earlier n) ≡ Some e → line_number e ≡ n
-either_number network line earlier n e true true p before h = ap line_number (sym (same_Some _ _ h)) ∙ eqb-true (length earlier) n p
-either_number network line earlier n e true false p before h = absurd (none-some e h)
-either_number network line earlier n e false counted p before h = before h
-
-pub line_at-number : (network : Network) (lines : Lines) (n : ℕ) (e : LinePlace) → line_at network lines n ≡ Some e → line_number e ≡ n
-line_at-number network [] n e h = absurd (none-some e h)
-line_at-number network (line ∷ earlier) n e h = either_number network line earlier n e (eqb (length earlier) n) (counts network line) refl (line_at-number network earlier n e) h
-
-copy_is : (named : Bool) (made limit c : ℕ) → cond (named && nat_lt made limit) (Some made) None ≡ Some c → (made ≡ c) × (c < limit)
+copy_is : (named : Bool) (made limit c : ℕ) → cond (named && nat_lt made limit) (Some made) None ≡ Some c
+    → (made ≡ c) × (c < limit)
 copy_is true made limit c h = grind (arith, nat_tests)
 copy_is false made limit c h = grind arith
 
 entered_is : (node : NodeName) (entered : LinePlace) (o : Option ℕ) (c : ℕ) → entered_copy (event_of entered) ≡ o
-    → option_and_then (λ copy. cond (is_named (site entered) node && nat_lt copy (line_number entered)) (Some copy) None) o ≡ Some c
+    → option_and_then (λ copy. cond (is_named (site entered) node && nat_lt copy (line_number entered))
+    (Some copy) None) o ≡ Some c
     → (entered_copy (event_of entered) ≡ Some c) × (c < line_number entered)
 entered_is node entered None c same h = grind arith
 entered_is node entered (Some made) c same h =
     let p = copy_is (is_named (site entered) node) made (line_number entered) c h in (same ∙ ap Some p.0, p.1)
 
-module _ (network : Network) (facts : Facts) (leaves : Leaves) (run : Run) (ends : (stay : ℕ) → is_once (leaves stay) ≡ eqb (count_by (spends stay) run) 1) where
+module _ (network : Network) (facts : Facts) (leaves : Leaves) (run : Run)
+    (ends : (stay : ℕ) → is_once (leaves stay) ≡ eqb (count_by (spends stay) run) 1) where
   abbrev Keeps : Lines → Type 0
   Keeps lines = (n : ℕ) (e : LinePlace) → line_at network lines n ≡ Some e → facts n ≡ Some (fact_of network e)
 
@@ -102,80 +98,111 @@ module _ (network : Network) (facts : Facts) (leaves : Leaves) (run : Run) (ends
   below_found : (copy transit : ℕ) → transit < copy → nat_lt transit copy ≡ true
   below_found copy transit h = grind (arith, nat_tests)
 
-  stay_found : (copy transit c : ℕ) (fact en : Fact) → facts copy ≡ Some fact → is_some fact.travel ≡ true → spent_transit fact.event ≡ Some transit → transit < copy → facts transit ≡ Some en
+  stay_found : (copy transit c : ℕ) (fact en : Fact) → facts copy ≡ Some fact → is_some fact.travel ≡ true
+      → spent_transit fact.event ≡ Some transit → transit < copy → facts transit ≡ Some en
       → entered_copy en.event ≡ Some c → c < copy → last_stays facts copy ≡ Some (transit, c)
   stay_found copy transit c fact en a travels b in_transit d f in_copy =
       ap (λ (o : Option Fact). option_and_then (stay_of facts copy) o) a
       ∙ (λ i. cond (travels i) (option_and_then (stay_below facts copy) (b i)) None)
-      ∙ (λ i. option_and_then (λ (x : Fact). option_map (λ k. (transit, k)) (where_passes (λ k. nat_lt k copy) (entered_copy x.event))) (cond (below_found copy transit in_transit i) (d i) None))
+      ∙ (λ i. option_and_then (λ (x : Fact). option_map (λ k. (transit, k))
+      (where_passes (λ k. nat_lt k copy) (entered_copy x.event)))
+      (cond (below_found copy transit in_transit i) (d i) None))
       ∙ ap (λ (o : Option ℕ). option_map (λ k. (transit, k)) (where_passes (λ k. nat_lt k copy) o)) f
       ∙ (λ i. option_map (λ k. (transit, k)) (cond (below_found copy c in_copy i) (Some c) None))
 
-  no_stay : (copy : ℕ) (fact : Fact) → facts copy ≡ Some fact → spent_transit fact.event ≡ None → last_stays facts copy ≡ None
-  no_stay copy fact a b = ap (λ (o : Option Fact). option_and_then (stay_of facts copy) o) a ∙ none_made facts copy fact b
+  no_stay : (copy : ℕ) (fact : Fact) → facts copy ≡ Some fact → spent_transit fact.event ≡ None
+      → last_stays facts copy ≡ None
+  no_stay copy fact a b = ap (λ (o : Option Fact). option_and_then (stay_of facts copy) o) a
+      ∙ none_made facts copy fact b
 
-  follow_one : (copy transit c : ℕ) (rest : Bool) → last_stays facts copy ≡ Some (transit, c) → c < copy → ((count : ℕ) → c < count → once_by (last_stays facts) leaves count c ≡ rest)
-      → (count : ℕ) → copy < count → once_by (last_stays facts) leaves count copy ≡ (eqb (count_by (spends transit) run) 1 && rest)
+  follow_one : (copy transit c : ℕ) (rest : Bool) → last_stays facts copy ≡ Some (transit, c) → c < copy
+      → ((count : ℕ) → c < count → once_by (last_stays facts) leaves count c ≡ rest)
+      → (count : ℕ) → copy < count
+      → once_by (last_stays facts) leaves count copy ≡ (eqb (count_by (spends transit) run) 1 && rest)
   follow_one copy transit c rest found below known zero within = absurd (omega arith)
   follow_one copy transit c rest found below known (suc n) within =
       let fits : c < n = omega arith in
-      ap (λ (o : Option (ℕ × ℕ)). option_map_or (λ s. is_once (leaves s.0) && once_by (last_stays facts) leaves n s.1) o true) found
+      ap (λ (o : Option (ℕ × ℕ)). option_map_or
+      (λ s. is_once (leaves s.0) && once_by (last_stays facts) leaves n s.1) o true) found
       ∙ (λ i. ends transit i && known n fits i)
 
-  follow_none : (copy : ℕ) → last_stays facts copy ≡ None → (count : ℕ) → copy < count → once_by (last_stays facts) leaves count copy ≡ true
+  follow_none : (copy : ℕ) → last_stays facts copy ≡ None → (count : ℕ) → copy < count
+      → once_by (last_stays facts) leaves count copy ≡ true
   follow_none copy found zero within = absurd (omega arith)
-  follow_none copy found (suc n) within = ap (λ (o : Option (ℕ × ℕ)). option_map_or (λ s. is_once (leaves s.0) && once_by (last_stays facts) leaves n s.1) o true) found
+  follow_none copy found (suc n) within =
+      ap (λ (o : Option (ℕ × ℕ)). option_map_or
+      (λ s. is_once (leaves s.0) && once_by (last_stays facts) leaves n s.1) o true) found
 
   module _ (line : TraceLine) (earlier : Lines) (counted : counts network line ≡ true) (keeps : Keeps (line ∷ earlier))
       (before : (n : ℕ) (j : Journey) → journey_of network earlier n ≡ Some j → IsFollowed n j) where
     at_line : facts (length earlier) ≡ Some (fact_of network (line_place line earlier))
     at_line = keeps (length earlier) (line_place line earlier) (line_at-here network line earlier counted)
 
-    begun_followed : (j : Journey) → spent_transit line.event ≡ None → Some (begun (line_place line earlier)) ≡ Some j → IsFollowed (length earlier) j
+    begun_followed : (j : Journey) → spent_transit line.event ≡ None → Some (begun (line_place line earlier)) ≡ Some j
+        → IsFollowed (length earlier) j
     begun_followed j none h =
         let P : Journey → Type 0 = λ x. IsFollowed (length earlier) x in
-        subst P (same_Some _ _ h) (follow_none (length earlier) (no_stay (length earlier) (fact_of network (line_place line earlier)) at_line none))
+        subst P (same_Some _ _ h) (follow_none (length earlier)
+        (no_stay (length earlier) (fact_of network (line_place line earlier)) at_line none))
 
     abbrev Travels : Type 0
     Travels = is_some (fact_of network (line_place line earlier)).travel ≡ true
 
-    travels_with : (event : Event) (j : Journey) → event ≡ line.event → journey_made network event (line_place line earlier) (journey_of network earlier) ≡ Some j → Travels
+    travels_with : (event : Event) (j : Journey) → event ≡ line.event
+        → journey_made network event (line_place line earlier) (journey_of network earlier) ≡ Some j → Travels
     travels_with event j same h =
-        ap (λ (o : Option Journey). is_some (option_map (travel_of network) o)) (sym (ap (λ (x : Event). journey_made network x (line_place line earlier) (journey_of network earlier)) same) ∙ h)
+        ap (λ (o : Option Journey). is_some (option_map (travel_of network) o))
+        (sym (ap (λ (x : Event). journey_made network x (line_place line earlier) (journey_of network earlier))
+        same) ∙ h)
 
-    stay_followed : Travels → (transit : ℕ) (entered : LinePlace) (c : ℕ) (o : Option Journey) (j : Journey) → spent_transit line.event ≡ Some transit → line_at network earlier transit ≡ Some entered
-        → (entered_copy (event_of entered) ≡ Some c) × (c < line_number entered) → journey_of network earlier c ≡ o → option_map (with_stay (line_place line earlier) entered) o ≡ Some j → IsFollowed (length earlier) j
+    stay_followed : Travels → (transit : ℕ) (entered : LinePlace) (c : ℕ) (o : Option Journey) (j : Journey)
+        → spent_transit line.event ≡ Some transit → line_at network earlier transit ≡ Some entered
+        → (entered_copy (event_of entered) ≡ Some c) × (c < line_number entered) → journey_of network earlier c ≡ o
+        → option_map (with_stay (line_place line earlier) entered) o ≡ Some j → IsFollowed (length earlier) j
     stay_followed travels transit entered c None j spent there copied journey h = grind arith
     stay_followed travels transit entered c (Some k) j spent there copied journey h =
         let number : line_number entered ≡ transit = line_at-number network earlier transit entered there in
         let inside : transit < length earlier = line_at-bound network earlier transit entered there in
         let below : c < length earlier = omega (arith, copied.1) in
-        let found = stay_found (length earlier) transit c (fact_of network (line_place line earlier)) (fact_of network entered) at_line travels spent inside
+        let found = stay_found (length earlier) transit c (fact_of network (line_place line earlier))
+        (fact_of network entered) at_line travels spent inside
         (keeps transit entered (line_at-later network line earlier transit entered there)) copied.0 below in
         let P : Journey → Type 0 = λ x. IsFollowed (length earlier) x in
-        subst P (same_Some _ _ h) (λ count within. follow_one (length earlier) transit c (left_once run k) found below (before c k journey) count within
+        subst P (same_Some _ _ h) (λ count within. follow_one (length earlier) transit c (left_once run k) found below
+        (before c k journey) count within
         ∙ (λ i. eqb (count_by (spends (sym number i)) run) 1 && left_once run k))
 
-    copy_followed : Travels → (node : NodeName) (transit : ℕ) (entered : LinePlace) (o : Option ℕ) (j : Journey) → spent_transit line.event ≡ Some transit → line_at network earlier transit ≡ Some entered
-        → copy_entered node entered ≡ o → option_and_then (λ copy. option_map (with_stay (line_place line earlier) entered) (journey_of network earlier copy)) o ≡ Some j → IsFollowed (length earlier) j
+    copy_followed : Travels → (node : NodeName) (transit : ℕ) (entered : LinePlace) (o : Option ℕ) (j : Journey)
+        → spent_transit line.event ≡ Some transit → line_at network earlier transit ≡ Some entered
+        → copy_entered node entered ≡ o
+        → option_and_then (λ copy. option_map (with_stay (line_place line earlier) entered)
+        (journey_of network earlier copy)) o ≡ Some j → IsFollowed (length earlier) j
     copy_followed travels node transit entered None j spent there copied h = grind arith
     copy_followed travels node transit entered (Some c) j spent there copied h =
-        stay_followed travels transit entered c (journey_of network earlier c) j spent there (entered_is node entered (entered_copy (event_of entered)) c refl copied) refl h
+        stay_followed travels transit entered c (journey_of network earlier c) j spent there
+        (entered_is node entered (entered_copy (event_of entered)) c refl copied) refl h
 
-    left_followed : Travels → (node : NodeName) (transit : ℕ) (o : Option LinePlace) (j : Journey) → spent_transit line.event ≡ Some transit → line_at network earlier transit ≡ o
-        → option_and_then (left_from node (line_place line earlier) (journey_of network earlier)) o ≡ Some j → IsFollowed (length earlier) j
+    left_followed : Travels → (node : NodeName) (transit : ℕ) (o : Option LinePlace) (j : Journey)
+        → spent_transit line.event ≡ Some transit → line_at network earlier transit ≡ o
+        → option_and_then (left_from node (line_place line earlier) (journey_of network earlier)) o ≡ Some j
+        → IsFollowed (length earlier) j
     left_followed travels node transit None j spent there h = grind arith
-    left_followed travels node transit (Some entered) j spent there h = copy_followed travels node transit entered (copy_entered node entered) j spent there refl h
+    left_followed travels node transit (Some entered) j spent there h =
+        copy_followed travels node transit entered (copy_entered node entered) j spent there refl h
 
     nothing_followed : (j : Journey) → None ≡ Some j → IsFollowed (length earlier) j
     nothing_followed j h = absurd (none-some j h)
 
-    made_followed : (event : Event) (j : Journey) → event ≡ line.event → journey_made network event (line_place line earlier) (journey_of network earlier) ≡ Some j → IsFollowed (length earlier) j
+    made_followed : (event : Event) (j : Journey) → event ≡ line.event
+        → journey_made network event (line_place line earlier) (journey_of network earlier) ≡ Some j
+        → IsFollowed (length earlier) j
     made_followed (Sync node at) j same h = begun_followed j (sym (ap spent_transit same)) h
     made_followed (SyncOne node at) j same h = begun_followed j (sym (ap spent_transit same)) h
     made_followed (Follow node) j same h = nothing_followed j h
     made_followed (Enter node copy at) j same h = nothing_followed j h
-    made_followed (Leave node transit at) j same h = left_followed (travels_with (Leave node transit at) j same h) node transit (line_at network earlier transit) j (sym (ap spent_transit same)) refl h
+    made_followed (Leave node transit at) j same h =
+        left_followed (travels_with (Leave node transit at) j same h) node transit (line_at network earlier transit) j
+        (sym (ap spent_transit same)) refl h
     made_followed (Arrive node copy at) j same h = nothing_followed j h
     made_followed (Hear node copy) j same h = nothing_followed j h
     made_followed (Request node at) j same h = begun_followed j (sym (ap spent_transit same)) h
@@ -184,9 +211,11 @@ module _ (network : Network) (facts : Facts) (leaves : Leaves) (run : Run) (ends
     made_followed (SetMaster node master) j same h = nothing_followed j h
     made_followed (StepClock node diff) j same h = nothing_followed j h
 
-  either_followed : (line : TraceLine) (earlier : Lines) (n : ℕ) (j : Journey) (here counted : Bool) → eqb (length earlier) n ≡ here → counts network line ≡ counted → Keeps (line ∷ earlier)
+  either_followed : (line : TraceLine) (earlier : Lines) (n : ℕ) (j : Journey) (here counted : Bool)
+      → eqb (length earlier) n ≡ here → counts network line ≡ counted → Keeps (line ∷ earlier)
       → ((m : ℕ) (k : Journey) → journey_of network earlier m ≡ Some k → IsFollowed m k)
-      → cond here (cond counted (journey_made network line.event (line_place line earlier) (journey_of network earlier)) None) (journey_of network earlier n) ≡ Some j → IsFollowed n j
+      → cond here (cond counted (journey_made network line.event (line_place line earlier)
+      (journey_of network earlier)) None) (journey_of network earlier n) ≡ Some j → IsFollowed n j
   either_followed line earlier n j true true p c keeps before h =
       let P : ℕ → Type 0 = λ m. IsFollowed m j in
       subst P (eqb-true (length earlier) n p) (made_followed line earlier c keeps before line.event j refl h)
@@ -194,7 +223,8 @@ module _ (network : Network) (facts : Facts) (leaves : Leaves) (run : Run) (ends
   either_followed line earlier n j false counted p c keeps before h = before n j h
 
   -- following the stays finds whether each was ended once
-  pub followed_is : (lines : Lines) (n : ℕ) (j : Journey) → Keeps lines → journey_of network lines n ≡ Some j → (count : ℕ) → n < count → once_by (last_stays facts) leaves count n ≡ left_once run j
+  pub followed_is : (lines : Lines) (n : ℕ) (j : Journey) → Keeps lines → journey_of network lines n ≡ Some j
+      → (count : ℕ) → n < count → once_by (last_stays facts) leaves count n ≡ left_once run j
   followed_is [] n j keeps h = absurd (none-some j h)
   followed_is (line ∷ earlier) n j keeps h =
       either_followed line earlier n j (eqb (length earlier) n) (counts network line) refl refl keeps

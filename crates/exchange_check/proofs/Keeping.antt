@@ -1,9 +1,9 @@
 -- What is kept after one more line.
-use Rattle.std.proofs.Common.{◌≡◌, ◌∙◌, ℕ, zero, suc, ◌+◌, ◌<◌, ◌≤◌, Bool, true, false, ◌&&◌, cond, eqb, List, [], ◌∷◌, ◌++◌, length, Option, Some, None, refl, sym, ap, subst, arith, length-append}
+use Rattle.std.proofs.Common.{◌≡◌, ◌∙◌, ℕ, zero, suc, ◌+◌, ◌<◌, ◌≤◌, Bool, true, false, ◌&&◌, cond, eqb, List, []}
+use Rattle.std.proofs.Common.{◌∷◌, ◌++◌, length, Option, Some, None, refl, sym, ap, subst, arith, length-append}
+use Rattle.std.proofs.Math.Path.{transport}
 use Rattle.std.specs.Prelude.{option_map, option_and_then, is_some, nat_lt}
 use Rattle.std.specs.Option.{option_map_or}
-use Rattle.std.specs.BTreeMap.{get}
-use Rattle.std.specs.Ordering.{nat_cmp}
 use Rattle.std.proofs.lemmas.Bool.Decides.{nat_tests}
 use Rattle.network_model.specs.Network.{Network}
 use Rattle.exchange_check.specs.declared.facts.Fact.{Fact}
@@ -14,48 +14,59 @@ use Rattle.trace_model.specs.declared.verdict.Verdict.{Verdict}
 use Rattle.trace_model.specs.declared.verdict.Verdict.TheVariants.{Accepted, Refused}
 use Rattle.trace_model.specs.declared.verdict.Why.{Why}
 use Rattle.trace_model.specs.Verdict.{accepted_count, one_more, report_in}
-use Rattle.exchange_check.specs.Kept.{Facts, Sites, Leaves, Stamps, fact_in, site_in, fact_by}
+use Rattle.exchange_check.specs.Kept.{Facts, Sites, Leaves, Stamps, fact_in, fact_by}
 use Rattle.exchange_check.specs.declared.stays.Stays.{Stays}
-use Rattle.exchange_check.specs.Stays.{LastStays, stay_below, stay_of, last_stays, with_stay, is_once, once_by, Once, once_of, branch_in, is_whole, AreStays, once_in}
+use Rattle.exchange_check.specs.Stays.{LastStays, stay_below, stay_of, last_stays, with_stay, is_once}
+use Rattle.exchange_check.specs.Stays.{once_by, Once, once_of, branch_in, is_whole, AreStays, once_in}
 use Rattle.exchange_check.specs.Judged.{reason_by}
 use Rattle.network_model.specs.Kinds.{entered_copy, spent_transit}
 use Rattle.trace_model.specs.Sound.{where_passes}
 use Rattle.std.proofs.lemmas.Bool.{eqb-true, eq-eqb, ltb-true}
-use Rattle.exchange_check.specs.Machine.{Machine, IsKept, with_fact, sites_told, leaves_told, stamps_told, judged, after_line}
+use Rattle.exchange_check.specs.Machine.{Machine, IsKept, facts_of, sites_of, stamps_of, with_fact}
+use Rattle.exchange_check.specs.Machine.{sites_told, leaves_told, stamps_told, judged, after_line}
 
-same_test : (facts later : Facts) (fact : Option Fact) (k l : ℕ) → facts (suc k) ≡ later k → with_fact later l fact k ≡ with_fact facts (suc l) fact (suc k)
+same_test : (facts later : Facts) (fact : Option Fact) (k l : ℕ) → facts (suc k) ≡ later k
+    → with_fact later l fact k ≡ with_fact facts (suc l) fact (suc k)
 same_test facts later fact k l h = grind (arith, nat_tests)
 
-last_alone : (facts : Facts) (fact : Option Fact) (n : ℕ) → facts (suc n) ≡ None → None ≡ with_fact facts 0 fact (suc n)
+last_alone : (facts : Facts) (fact : Option Fact) (n : ℕ) → facts (suc n) ≡ None
+    → None ≡ with_fact facts 0 fact (suc n)
 last_alone facts fact n h = grind (arith, nat_tests)
 
-first_stays : (facts : Facts) (fact first : Option Fact) (l : ℕ) → facts 0 ≡ first → first ≡ with_fact facts (suc l) fact 0
+first_stays : (facts : Facts) (fact first : Option Fact) (l : ℕ) → facts 0 ≡ first
+    → first ≡ with_fact facts (suc l) fact 0
 first_stays facts fact first l h = grind (arith, nat_tests)
 
 -- a fact that comes last has the number of those before it
-fact_in-push : (facts : List (Option Fact)) (fact : Option Fact) (n : ℕ) → fact_in (facts ++ fact ∷ []) n ≡ with_fact (fact_in facts) (length facts) fact n
+fact_in-push : (facts : List (Option Fact)) (fact : Option Fact) (n : ℕ)
+    → fact_in (facts ++ fact ∷ []) n ≡ with_fact (fact_in facts) (length facts) fact n
 fact_in-push [] fact zero = refl
 fact_in-push [] fact (suc n) = last_alone (fact_in []) fact n refl
 fact_in-push (first ∷ later) fact zero = first_stays (fact_in (first ∷ later)) fact first (length later) refl
-fact_in-push (first ∷ later) fact (suc n) = fact_in-push later fact n ∙ same_test (fact_in (first ∷ later)) (fact_in later) fact n (length later) refl
+fact_in-push (first ∷ later) fact (suc n) =
+    fact_in-push later fact n ∙ same_test (fact_in (first ∷ later)) (fact_in later) fact n (length later) refl
 
-one_more-within : (count n limit : ℕ) (r : Option (Option Why)) → count ≤ limit → accepted_count (one_more count n r) ≤ limit + 1
+one_more-within : (count n limit : ℕ) (r : Option (Option Why)) → count ≤ limit
+    → accepted_count (one_more count n r) ≤ limit + 1
 one_more-within count n limit None h = omega arith
 one_more-within count n limit (Some None) h = omega arith
 one_more-within count n limit (Some (Some why)) h = omega arith
 
-judged-within : (network : Network) (facts : Facts) (once : Once) (stamps : Stamps) (sites : Sites) (fact : Option Fact) (out : TraceOut) (n limit : ℕ) (v : Verdict)
+judged-within : (network : Network) (facts : Facts) (once : Once) (stamps : Stamps) (sites : Sites)
+    (fact : Option Fact) (out : TraceOut) (n limit : ℕ) (v : Verdict)
     → accepted_count v ≤ limit → accepted_count (judged network facts once stamps sites fact out n v) ≤ limit + 1
 judged-within network facts once stamps sites fact out n limit (Accepted count) h =
     one_more-within count n limit (option_map (reason_by network facts once stamps sites fact) (report_in out)) h
 judged-within network facts once stamps sites fact out n limit (Refused line why) h = omega arith
 
 -- the verdict that is kept is of no more lines than were kept
-pub accepted-bound : (kept : Kept) (count : ℕ) (m : Machine) (total : ℕ) → IsKept kept count m → count < total → total < 18446744073709551616 → accepted_count kept.verdict < 18446744073709551615
+pub accepted-bound : (kept : Kept) (count : ℕ) (m : Machine) (total : ℕ) → IsKept kept count m → count < total
+    → total < 18446744073709551616 → accepted_count kept.verdict < 18446744073709551615
 accepted-bound kept count m total h below bound = omega (arith, h.within, ap accepted_count h.verdict)
 
 -- nothing is kept of lines to come
-none_after : (items : List (Option Fact)) (facts : Facts) (count : ℕ) → length items ≡ count → fact_in items ≡ facts → (n : ℕ) → count ≤ n → facts n ≡ None
+none_after : (items : List (Option Fact)) (facts : Facts) (count : ℕ) → length items ≡ count → fact_in items ≡ facts
+    → (n : ℕ) → count ≤ n → facts n ≡ None
 none_after items facts count counted same n past = sym (λ i. same i n) ∙ by items n (omega (arith, counted, past))
   where
     by : (l : List (Option Fact)) (n : ℕ) → length l ≤ n → fact_in l n ≡ None
@@ -79,83 +90,103 @@ module _ (facts : Facts) (count : ℕ) (fact : Option Fact) (none : (n : ℕ) �
 
   same_below : (n transit : ℕ) → n < count → stay_below now n transit ≡ stay_below facts n transit
   same_below n transit h =
-      ap (λ (o : Option Fact). option_and_then (λ entered. option_map (λ copy. (transit, copy)) (where_passes (λ copy. nat_lt copy n) (entered_copy entered.event))) o) (by (nat_lt transit n) refl)
+      ap (λ (o : Option Fact). option_and_then
+      (λ entered. option_map (λ copy. (transit, copy))
+      (where_passes (λ copy. nat_lt copy n) (entered_copy entered.event))) o) (by (nat_lt transit n) refl)
     where
       by : (b : Bool) → nat_lt transit n ≡ b → cond b (now transit) None ≡ cond b (facts transit) None
       by true e = let low : transit < n = ltb-true transit n e in now_before transit (omega (arith, low, h))
       by false e = refl
 
   same_stay : (n : ℕ) (x : Fact) → n < count → stay_of now n x ≡ stay_of facts n x
-  same_stay n x h = λ i. cond (is_some x.travel) (option_and_then (λ transit. same_below n transit h i) (spent_transit x.event)) None
+  same_stay n x h = λ i. cond (is_some x.travel)
+      (option_and_then (λ transit. same_below n transit h i) (spent_transit x.event)) None
 
-  same_stays : (n : ℕ) (o : Option Fact) → n < count → option_and_then (stay_of now n) o ≡ option_and_then (stay_of facts n) o
+  same_stays : (n : ℕ) (o : Option Fact) → n < count
+      → option_and_then (stay_of now n) o ≡ option_and_then (stay_of facts n) o
   same_stays n None h = refl
   same_stays n (Some x) h = same_stay n x h
 
-  stays_at : (n : ℕ) (b c : Bool) → eqb count n ≡ b → nat_lt n count ≡ c → last_stays now n ≡ cond b (option_and_then (stay_of now count) fact) (last_stays facts n)
+  stays_at : (n : ℕ) (b c : Bool) → eqb count n ≡ b → nat_lt n count ≡ c
+      → last_stays now n ≡ cond b (option_and_then (stay_of now count) fact) (last_stays facts n)
   stays_at n true c e g =
-      subst (λ (x : ℕ). last_stays now x ≡ option_and_then (stay_of now count) fact) (eqb-true count n e) (ap (λ (o : Option Fact). option_and_then (stay_of now count) o) now_here)
+      subst (λ (x : ℕ). last_stays now x ≡ option_and_then (stay_of now count) fact) (eqb-true count n e)
+      (ap (λ (o : Option Fact). option_and_then (stay_of now count) o) now_here)
   stays_at n false true e g =
       let low : n < count = ltb-true n count g in
       ap (λ (o : Option Fact). option_and_then (stay_of now n) o) (now_before n low) ∙ same_stays n (facts n) low
   stays_at n false false e g =
       let past : count ≤ n = grind (arith, nat_tests) in
       let gone : now n ≡ None = (λ i. cond (e i) fact (facts n)) ∙ none n past in
-      ap (λ (o : Option Fact). option_and_then (stay_of now n) o) gone ∙ sym (ap (λ (o : Option Fact). option_and_then (stay_of facts n) o) (none n past))
+      ap (λ (o : Option Fact). option_and_then (stay_of now n) o) gone
+      ∙ sym (ap (λ (o : Option Fact). option_and_then (stay_of facts n) o) (none n past))
 
   last_stays-more : last_stays now ≡ with_stay count (option_and_then (stay_of now count) fact) (last_stays facts)
   last_stays-more = λ i n. stays_at n (eqb count n) (nat_lt n count) refl refl i
 
 -- what is kept of each copy is what its stays say
-once_kept : (kept : Stays) (stays : LastStays) (leaves : Leaves) (number : ℕ) → AreStays kept stays leaves number → once_in kept ≡ once_of stays leaves
+once_kept : (kept : Stays) (stays : LastStays) (leaves : Leaves) (number : ℕ) → AreStays kept stays leaves number
+    → once_in kept ≡ once_of stays leaves
 once_kept kept stays leaves number h = λ i copy. at copy i
   where
     by : (count copy : ℕ) → copy < count → once_in kept copy ≡ once_by stays leaves count copy
     by zero copy within = absurd (omega (arith, within))
-    by (suc count) copy within = h.once copy ∙ stay (stays copy) refl (λ c low. by count c (omega (arith, low, within)))
+    by (suc count) copy within =
+        h.once copy ∙ stay (stays copy) refl (λ c low. by count c (omega (arith, low, within)))
       where
-        stay : (o : Option (ℕ × ℕ)) → stays copy ≡ o → ((c : ℕ) → c < copy → once_in kept c ≡ once_by stays leaves count c)
-            → is_whole (branch_in kept.branches.items) leaves o ≡ option_map_or (λ s. is_once (leaves s.0) && once_by stays leaves count s.1) o true
+        stay : (o : Option (ℕ × ℕ)) → stays copy ≡ o
+            → ((c : ℕ) → c < copy → once_in kept c ≡ once_by stays leaves count c)
+            → is_whole (branch_in kept.branches.items) leaves o
+            ≡ option_map_or (λ s. is_once (leaves s.0) && once_by stays leaves count s.1) o true
         stay None e rest = refl
-        stay (Some s) e rest = ap (λ (b : Bool). is_once (leaves s.0) && b) (rest s.1 (h.ordered.within copy s.0 s.1 e).0)
+        stay (Some s) e rest = ap (λ (b : Bool). is_once (leaves s.0) && b)
+            (rest s.1 (h.ordered.within copy s.0 s.1 e).0)
 
     at : (copy : ℕ) → once_in kept copy ≡ once_of stays leaves copy
     at copy = by (suc copy) copy (omega arith)
 
-pub IsKept-line : (network : Network) (line : TraceLine) (count : ℕ) (m : Machine) (kept after : Kept) (number last : ℕ) (fact : Option Fact) (items : List (Option Fact))
+pub IsKept-line : (network : Network) (line : TraceLine) (count : ℕ) (m : Machine) (kept after : Kept)
+    (number last : ℕ) (fact : Option Fact) (items : List (Option Fact))
     → IsKept kept count m
     → number ≡ length kept.facts.items
     → last ≡ length kept.facts.items
-    → fact ≡ fact_by network (fact_in kept.facts.items) (site_in kept.sites) line number
+    → fact ≡ fact_by network (facts_of kept) (sites_of kept) line number
     → items ≡ kept.facts.items ++ fact ∷ []
     → after.facts.items ≡ items
-    → site_in after.sites ≡ sites_told fact number (site_in kept.sites)
-    → ((stays : LastStays) (leaves : Leaves) → AreStays kept.stays stays leaves number → AreStays after.stays (with_stay number (option_and_then (stay_of (fact_in items) number) fact) stays) (leaves_told fact leaves) (number + 1))
-    → get nat_cmp after.stamps ≡ stamps_told fact number (site_in kept.sites) (get nat_cmp kept.stamps)
-    → after.verdict ≡ judged network (fact_in items) (once_in kept.stays) (get nat_cmp kept.stamps) (site_in kept.sites) fact line.out last kept.verdict
+    → sites_of after ≡ sites_told fact number (sites_of kept)
+    → ((stays : LastStays) (leaves : Leaves) → AreStays kept.stays stays leaves number
+    → AreStays after.stays (with_stay number (option_and_then (stay_of (fact_in items) number) fact) stays)
+    (leaves_told fact leaves) (number + 1))
+    → stamps_of after ≡ stamps_told fact number (sites_of kept) (stamps_of kept)
+    → after.verdict ≡ judged network (fact_in items) (once_in kept.stays) (stamps_of kept)
+    (sites_of kept) fact line.out last kept.verdict
     → IsKept after (count + 1) (after_line network line count m)
-IsKept-line network line count m kept after number last fact items h number_is last_is fact_is items_is items_after sites_is stays_is stamps_is verdict_is =
+IsKept-line network line count m kept after number last fact items h number_is last_is fact_is items_is items_after
+    sites_is stays_is stamps_is verdict_is =
     let counted : number ≡ count = number_is ∙ h.count_is in
     let placed : last ≡ count = last_is ∙ h.count_is in
-    let found : fact ≡ fact_by network m.facts m.sites line count = fact_is ∙ (λ i. fact_by network (h.facts i) (h.sites i) line (counted i)) in
+    let found : fact ≡ fact_by network m.facts m.sites line count =
+    fact_is ∙ (λ i. fact_by network (h.facts i) (h.sites i) line (counted i)) in
     let pushed : fact_in items ≡ with_fact m.facts count (fact_by network m.facts m.sites line count) =
-    ap fact_in items_is ∙ (λ i n. fact_in-push kept.facts.items fact n i) ∙ (λ i. with_fact (h.facts i) (h.count_is i) (found i)) in
-    let told : after.verdict ≡ judged network (with_fact m.facts count (fact_by network m.facts m.sites line count)) (once_of (last_stays m.facts) m.leaves) m.stamps m.sites (fact_by network m.facts m.sites line count) line.out count m.verdict =
-    verdict_is ∙ (λ i. judged network (pushed i) (once_kept kept.stays (last_stays m.facts) m.leaves count h.stays i) (h.stamps i) (h.sites i) (found i) line.out (placed i) (h.verdict i)) in
+    ap fact_in items_is ∙ (λ i n. fact_in-push kept.facts.items fact n i)
+    ∙ (λ i. with_fact (h.facts i) (h.count_is i) (found i)) in
+    let stays = last_stays m.facts in
+    let more = last_stays-more m.facts count (fact_by network m.facts m.sites line count)
+    (none_after kept.facts.items m.facts count h.count_is h.facts) in
     record {
-      count_is = ap length (items_after ∙ items_is) ∙ length-append kept.facts.items (fact ∷ []) ∙ ap (λ (n : ℕ). n + 1) h.count_is;
+      count_is = ap length (items_after ∙ items_is) ∙ length-append kept.facts.items (fact ∷ [])
+          ∙ ap (λ (n : ℕ). n + 1) h.count_is;
       facts = ap fact_in items_after ∙ pushed;
       sites = sites_is ∙ (λ i. sites_told (found i) (counted i) (h.sites i));
-      stays =
-          let placed_stays : AreStays kept.stays (last_stays m.facts) m.leaves number = subst (λ (n : ℕ). AreStays kept.stays (last_stays m.facts) m.leaves n) (sym counted) h.stays in
-          let all : last_stays (with_fact m.facts count (fact_by network m.facts m.sites line count)) ≡ with_stay count (option_and_then (stay_of (with_fact m.facts count (fact_by network m.facts m.sites line count)) count) (fact_by network m.facts m.sites line count)) (last_stays m.facts) =
-          last_stays-more m.facts count (fact_by network m.facts m.sites line count) (none_after kept.facts.items m.facts count h.count_is h.facts) in
-          subst (λ (s : LastStays). AreStays after.stays s (leaves_told (fact_by network m.facts m.sites line count) m.leaves) (count + 1)) (sym all)
-          (subst (λ (f : Option Fact). AreStays after.stays (with_stay count (option_and_then (stay_of (with_fact m.facts count (fact_by network m.facts m.sites line count)) count) f) (last_stays m.facts)) (leaves_told f m.leaves) (count + 1)) found
-          (subst (λ (n : ℕ). AreStays after.stays (with_stay n (option_and_then (stay_of (with_fact m.facts count (fact_by network m.facts m.sites line count)) n) fact) (last_stays m.facts)) (leaves_told fact m.leaves) (n + 1)) counted
-          (subst (λ (f : Facts). AreStays after.stays (with_stay number (option_and_then (stay_of f number) fact) (last_stays m.facts)) (leaves_told fact m.leaves) (number + 1)) pushed
-          (stays_is (last_stays m.facts) m.leaves placed_stays))));
+      stays = transport (λ i. AreStays after.stays (sym more i)
+          (leaves_told (fact_by network m.facts m.sites line count) m.leaves) (count + 1))
+          (transport (λ i. AreStays after.stays
+          (with_stay (counted i) (option_and_then (stay_of (pushed i) (counted i)) (found i)) stays)
+          (leaves_told (found i) m.leaves) (counted i + 1))
+          (stays_is stays m.leaves (transport (λ i. AreStays kept.stays stays m.leaves (sym counted i)) h.stays)));
       stamps = stamps_is ∙ (λ i. stamps_told (found i) (counted i) (h.sites i) (h.stamps i));
-      verdict = told;
-      within = judged-within network _ (once_of (last_stays m.facts) m.leaves) m.stamps m.sites _ line.out count count m.verdict h.within;
+      verdict = verdict_is ∙ (λ i. judged network (pushed i) (once_kept kept.stays stays m.leaves count h.stays i)
+          (h.stamps i) (h.sites i) (found i) line.out (placed i) (h.verdict i));
+      within = judged-within network _
+          (once_of stays m.leaves) m.stamps m.sites _ line.out count count m.verdict h.within;
     }

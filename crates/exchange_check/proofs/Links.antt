@@ -1,5 +1,6 @@
 -- How many copies have another after them, and copies that have none kept.
-use Rattle.std.proofs.Common.{◌≡◌, ℕ, zero, suc, ◌+◌, ◌<◌, ◌≤◌, Bool, true, false, cond, eqb, List, [], ◌∷◌, ◌++◌, length, refl, ap, arith}
+use Rattle.std.proofs.Common.{◌≡◌, ℕ, zero, suc, ◌+◌, ◌<◌, ◌≤◌, Bool, true, false, cond}
+use Rattle.std.proofs.Common.{eqb, List, [], ◌∷◌, ◌++◌, length, refl, ap, arith}
 use Rattle.std.specs.Prelude.{is_some}
 use Rattle.std.proofs.lemmas.Bool.{eqb-true}
 use Rattle.std.proofs.lemmas.Bool.Decides.{nat_tests}
@@ -13,21 +14,27 @@ abbrev pub links : Branches → ℕ → ℕ
 links branches zero = 0
 links branches (suc n) = link (branches n) + links branches n
 
-links_past : (branches : Branches) (i : ℕ) (v : Branch) (n : ℕ) → n ≤ i → links (with_branch i v branches) n ≡ links branches n
+links_past : (branches : Branches) (i : ℕ) (v : Branch) (n : ℕ) → n ≤ i
+    → links (with_branch i v branches) n ≡ links branches n
 links_past branches i v zero h = refl
 links_past branches i v (suc n) h =
     let apart : eqb i n ≡ false = grind (arith, nat_tests) in
     λ j. link (cond (apart j) v (branches n)) + links_past branches i v n (omega (arith, h)) j
 
 -- with what is kept of one copy replaced
-pub links_with : (branches : Branches) (i : ℕ) (v : Branch) (n : ℕ) → i < n → links (with_branch i v branches) n + link (branches i) ≡ links branches n + link v
+pub links_with : (branches : Branches) (i : ℕ) (v : Branch) (n : ℕ) → i < n
+    → links (with_branch i v branches) n + link (branches i) ≡ links branches n + link v
 links_with branches i v zero h = absurd (omega (arith, h))
 links_with branches i v (suc n) h = by (eqb i n) refl (links_with branches i v n)
   where
-    by : (b : Bool) → eqb i n ≡ b → (i < n → links (with_branch i v branches) n + link (branches i) ≡ links branches n + link v) → (link (cond b v (branches n)) + links (with_branch i v branches) n) + link (branches i) ≡ (link (branches n) + links branches n) + link v
+    by : (b : Bool) → eqb i n ≡ b
+        → (i < n → links (with_branch i v branches) n + link (branches i) ≡ links branches n + link v)
+        → (link (cond b v (branches n)) + links (with_branch i v branches) n) + link (branches i)
+        ≡ (link (branches n) + links branches n) + link v
     by true e before =
         let same : i ≡ n = eqb-true i n e in
-        let past : links (with_branch i v branches) n ≡ links branches n = links_past branches i v n (omega (arith, same)) in
+        let past : links (with_branch i v branches) n ≡ links branches n =
+        links_past branches i v n (omega (arith, same)) in
         let at : link (branches i) ≡ link (branches n) = ap (λ (x : ℕ). link (branches x)) same in
         omega (arith, past, at)
     by false e before =

@@ -1,8 +1,8 @@
 -- The message that is kept to be written of a line is the one that the lines say it made.
-use Rattle.std.proofs.Common.{◌≡◌, ◌∙◌, ℕ, ◌<◌, pos, Bool, true, false, cond, eqb, min, [], ◌∷◌, length, Option, Some, None, refl, sym, ap, subst, arith}
+use Rattle.std.proofs.Common.{◌≡◌, ◌∙◌, ℕ, pos, Bool, true, false, cond, eqb, min, [], ◌∷◌}
+use Rattle.std.proofs.Common.{length, Option, Some, None, refl, sym, ap, subst, arith}
 use Rattle.std.specs.Prelude.{option_map, option_and_then}
 use Rattle.std.specs.Option.{option_map_or}
-use Rattle.std.proofs.lemmas.Bool.{eq-eqb}
 use Rattle.std.proofs.lemmas.Bool.Decides.{nat_tests}
 use Rattle.std.proofs.lemmas.Int.{ints}
 use Rattle.std.proofs.lemmas.Option.{same_Some}
@@ -15,47 +15,44 @@ use Rattle.event_codec.specs.declared.port.PortConfig.{PortConfig}
 use Rattle.master_port.specs.Written.{sync, one_step_sync}
 use Rattle.slave_port.specs.Written.{delay_req}
 use Rattle.network_model.specs.declared.event.Event.{Event}
-use Rattle.network_model.specs.declared.event.Event.TheVariants.{Sync, SyncOne, Follow, Enter, Leave, Arrive, Hear, Request, Stamped, Tick, SetMaster, StepClock}
+use Rattle.network_model.specs.declared.event.Event.TheVariants.{Sync, SyncOne, Follow, Enter, Leave, Arrive, Hear}
+use Rattle.network_model.specs.declared.event.Event.TheVariants.{Request, Stamped, Tick, SetMaster, StepClock}
 use Rattle.network_model.specs.Network.{Network, NodeName, PortSetup}
 use Rattle.exchange_check.specs.declared.facts.Fact.{Fact}
 use Rattle.exchange_check.specs.declared.facts.Travel.{Travel}
 use Rattle.trace_model.specs.declared.line.TraceLine.{TraceLine}
 use Rattle.trace_model.specs.Line.{Lines, counts}
 use Rattle.trace_model.specs.Record.{LinePlace, line_place, line_number, event_of, line_at, reading, sequence}
-use Rattle.trace_model.specs.Journey.{Journey, residence, begun, with_stay, copy_entered, left_from, journey_made, journey_of}
+use Rattle.trace_model.specs.Journey.{Journey, residence, begun, with_stay, copy_entered}
+use Rattle.trace_model.specs.Journey.{left_from, journey_made, journey_of}
 use Rattle.transparent_clock.specs.Forwarding.{resided}
 use Rattle.trace_model.specs.Octets.{drawing_port, message_sent, sent, travelled}
+use Rattle.trace_model.proofs.Lines.{line_at-later, line_at-here}
 use Rattle.exchange_check.specs.Kept.{longest, sent_by, travelled_by}
 use Rattle.exchange_check.proofs.Told.{fact_of, facts_at, number_drawn}
-
--- a line of a number is among the lines
-pub line_at-bound : (network : Network) (lines : Lines) (n : ℕ) (e : LinePlace) → line_at network lines n ≡ Some e → n < length lines
-line_at-bound network [] n e h = grind arith
-line_at-bound network (line ∷ earlier) n e h = grind (arith, nat_tests, line_at-bound network earlier n e)
-
--- what comes later doesn't change the line of a number
-pub line_at-later : (network : Network) (line : TraceLine) (earlier : Lines) (n : ℕ) (e : LinePlace) → line_at network earlier n ≡ Some e → line_at network (line ∷ earlier) n ≡ Some e
-line_at-later network line earlier n e h = grind (arith, nat_tests, line_at-bound network earlier n e)
-
-pub line_at-here : (network : Network) (line : TraceLine) (earlier : Lines) → counts network line ≡ true → line_at network (line ∷ earlier) (length earlier) ≡ Some (line_place line earlier)
-line_at-here network line earlier h = λ i. cond (eq-eqb (length earlier) (length earlier) refl i) (cond (h i) (Some (line_place line earlier)) None) (line_at network earlier (length earlier))
 
 abbrev IsIn : Network → Lines → Journey → Type 0
 IsIn network lines j = line_at network lines (line_number j.origin) ≡ Some j.origin
 
 module _ (network : Network) (line : TraceLine) (earlier : Lines) (counted : counts network line ≡ true)
     (before : (n : ℕ) (j : Journey) → journey_of network earlier n ≡ Some j → IsIn network earlier j) where
-  stay_in : (entered : LinePlace) (o : Option Journey) (j : Journey) → ((k : Journey) → o ≡ Some k → IsIn network earlier k) → option_map (with_stay (line_place line earlier) entered) o ≡ Some j → IsIn network (line ∷ earlier) j
+  stay_in : (entered : LinePlace) (o : Option Journey) (j : Journey)
+      → ((k : Journey) → o ≡ Some k → IsIn network earlier k)
+      → option_map (with_stay (line_place line earlier) entered) o ≡ Some j → IsIn network (line ∷ earlier) j
   stay_in entered None j known h = grind arith
   stay_in entered (Some k) j known h =
       let P : Journey → Type 0 = λ x. IsIn network (line ∷ earlier) x in
       subst P (same_Some _ _ h) (line_at-later network line earlier (line_number k.origin) k.origin (known k refl))
 
-  copy_in : (entered : LinePlace) (c : Option ℕ) (j : Journey) → option_and_then (λ copy. option_map (with_stay (line_place line earlier) entered) (journey_of network earlier copy)) c ≡ Some j → IsIn network (line ∷ earlier) j
+  copy_in : (entered : LinePlace) (c : Option ℕ) (j : Journey)
+      → option_and_then (λ copy. option_map (with_stay (line_place line earlier) entered)
+      (journey_of network earlier copy)) c ≡ Some j → IsIn network (line ∷ earlier) j
   copy_in entered None j h = grind arith
   copy_in entered (Some copy) j h = stay_in entered (journey_of network earlier copy) j (before copy) h
 
-  left_in : (node : NodeName) (o : Option LinePlace) (j : Journey) → option_and_then (left_from node (line_place line earlier) (journey_of network earlier)) o ≡ Some j → IsIn network (line ∷ earlier) j
+  left_in : (node : NodeName) (o : Option LinePlace) (j : Journey)
+      → option_and_then (left_from node (line_place line earlier) (journey_of network earlier)) o ≡ Some j
+      → IsIn network (line ∷ earlier) j
   left_in node None j h = grind arith
   left_in node (Some entered) j h = copy_in entered (copy_entered node entered) j h
 
@@ -67,7 +64,9 @@ module _ (network : Network) (line : TraceLine) (earlier : Lines) (counted : cou
   nothing_in : (j : Journey) → None ≡ Some j → IsIn network (line ∷ earlier) j
   nothing_in j h = grind arith
 
-  made_in : (event : Event) (j : Journey) → journey_made network event (line_place line earlier) (journey_of network earlier) ≡ Some j → IsIn network (line ∷ earlier) j
+  made_in : (event : Event) (j : Journey)
+      → journey_made network event (line_place line earlier) (journey_of network earlier) ≡ Some j
+      → IsIn network (line ∷ earlier) j
   made_in (Sync node at) j h = begun_in j h
   made_in (SyncOne node at) j h = begun_in j h
   made_in (Follow node) j h = nothing_in j h
@@ -81,41 +80,54 @@ module _ (network : Network) (line : TraceLine) (earlier : Lines) (counted : cou
   made_in (SetMaster node master) j h = nothing_in j h
   made_in (StepClock node diff) j h = nothing_in j h
 
-either_in : (network : Network) (line : TraceLine) (earlier : Lines) (n : ℕ) (j : Journey) (here counted : Bool) → counts network line ≡ counted
+either_in : (network : Network) (line : TraceLine) (earlier : Lines) (n : ℕ) (j : Journey) (here counted : Bool)
+    → counts network line ≡ counted
     → ((m : ℕ) (k : Journey) → journey_of network earlier m ≡ Some k → IsIn network earlier k)
-    → cond here (cond counted (journey_made network line.event (line_place line earlier) (journey_of network earlier)) None) (journey_of network earlier n) ≡ Some j
+    → cond here (cond counted (journey_made network line.event (line_place line earlier) (journey_of network earlier))
+    None) (journey_of network earlier n) ≡ Some j
     → IsIn network (line ∷ earlier) j
 either_in network line earlier n j true true c before h = made_in network line earlier c before line.event j h
 either_in network line earlier n j true false c before h = grind arith
-either_in network line earlier n j false counted c before h = line_at-later network line earlier (line_number j.origin) j.origin (before n j h)
+either_in network line earlier n j false counted c before h =
+    line_at-later network line earlier (line_number j.origin) j.origin (before n j h)
 
 -- the line that sent a message is among the lines
-pub origin_in : (network : Network) (lines : Lines) (n : ℕ) (j : Journey) → journey_of network lines n ≡ Some j → line_at network lines (line_number j.origin) ≡ Some j.origin
+pub origin_in : (network : Network) (lines : Lines) (n : ℕ) (j : Journey) → journey_of network lines n ≡ Some j
+    → line_at network lines (line_number j.origin) ≡ Some j.origin
 origin_in network [] n j h = grind arith
-origin_in network (line ∷ earlier) n j h = either_in network line earlier n j (eqb (length earlier) n) (counts network line) refl (origin_in network earlier) h
+origin_in network (line ∷ earlier) n j h =
+    either_in network line earlier n j (eqb (length earlier) n) (counts network line) refl
+    (origin_in network earlier) h
 
 sent_with : (network : Network) (event : Event) (now : ℕ) (numbers : PortSetup → ℕ) (o : Option PortSetup)
-    → option_and_then (λ port. message_sent port.config event (option_map_or numbers o 0) now) o ≡ option_and_then (λ port. message_sent port.config event (numbers port) now) o
+    → option_and_then (λ port. message_sent port.config event (option_map_or numbers o 0) now) o
+    ≡ option_and_then (λ port. message_sent port.config event (numbers port) now) o
 sent_with network event now numbers None = refl
 sent_with network event now numbers (Some port) = refl
 
 -- what is kept of a line is enough to know what it sent
-pub sent_is : (network : Network) (e : LinePlace) → sent_by network (event_of e) (number_drawn network e) (reading e) ≡ sent network e
-sent_is network e = sent_with network (event_of e) (reading e) (λ port. sequence network port e) (drawing_port network (event_of e))
+pub sent_is : (network : Network) (e : LinePlace)
+    → sent_by network (event_of e) (number_drawn network e) (reading e) ≡ sent network e
+sent_is network e = sent_with network (event_of e) (reading e) (λ port. sequence network port e)
+    (drawing_port network (event_of e))
 
 corrected_is : (f x y : ℕ) → min x longest ≡ min y longest → with_residence (pos f) x ≡ with_residence (pos f) y
 corrected_is f x y h = grind (arith, ints, nat_tests)
 
-time_is : (m : Contents) (f x y : ℕ) → m.header.correction ≡ record { 0 = pos f } → min x longest ≡ min y longest → resided m x ≡ resided m y
+time_is : (m : Contents) (f x y : ℕ) → m.header.correction ≡ record { 0 = pos f } → min x longest ≡ min y longest
+    → resided m x ≡ resided m y
 time_is m f x y same h =
     let c : with_residence m.header.correction.0 x ≡ with_residence m.header.correction.0 y =
-    ap (λ (k : Interval). with_residence k.0 x) same ∙ corrected_is f x y h ∙ sym (ap (λ (k : Interval). with_residence k.0 y) same) in
+    ap (λ (k : Interval). with_residence k.0 x) same ∙ corrected_is f x y h
+    ∙ sym (ap (λ (k : Interval). with_residence k.0 y) same) in
     λ i. with_correction m (record { 0 = c i })
 
 sent_time : (config : PortConfig) (event : Event) (number now x y : ℕ) → min x longest ≡ min y longest
-    → option_map (λ m. resided m x) (message_sent config event number now) ≡ option_map (λ m. resided m y) (message_sent config event number now)
+    → option_map (λ m. resided m x) (message_sent config event number now)
+    ≡ option_map (λ m. resided m y) (message_sent config event number now)
 sent_time config (Sync node at) number now x y h = ap Some (time_is (sync config number) 0 x y refl h)
-sent_time config (SyncOne node at) number now x y h = ap Some (time_is (one_step_sync config number now) (fraction_of now) x y refl h)
+sent_time config (SyncOne node at) number now x y h =
+    ap Some (time_is (one_step_sync config number now) (fraction_of now) x y refl h)
 sent_time config (Follow node) number now x y h = refl
 sent_time config (Enter node copy at) number now x y h = refl
 sent_time config (Leave node transit at) number now x y h = refl
@@ -127,7 +139,8 @@ sent_time config (Tick node) number now x y h = refl
 sent_time config (SetMaster node master) number now x y h = refl
 sent_time config (StepClock node diff) number now x y h = refl
 
-sent_time_at : (event : Event) (now : ℕ) (numbers : PortSetup → ℕ) (x y : ℕ) → min x longest ≡ min y longest → (o : Option PortSetup)
+sent_time_at : (event : Event) (now : ℕ) (numbers : PortSetup → ℕ) (x y : ℕ) → min x longest ≡ min y longest
+    → (o : Option PortSetup)
     → option_map (λ m. resided m x) (option_and_then (λ port. message_sent port.config event (numbers port) now) o)
     ≡ option_map (λ m. resided m y) (option_and_then (λ port. message_sent port.config event (numbers port) now) o)
 sent_time_at event now numbers x y h None = refl
@@ -137,11 +150,16 @@ pub min_min : (r : ℕ) → min (min r longest) longest ≡ min r longest
 min_min r = omega arith
 
 -- the message at the end of a journey, from what is kept of the journey
-pub travelled_is : (network : Network) (lines : Lines) (j : Journey) (travel : Travel) → line_at network lines (line_number j.origin) ≡ Some j.origin
+pub travelled_is : (network : Network) (lines : Lines) (j : Journey) (travel : Travel)
+    → line_at network lines (line_number j.origin) ≡ Some j.origin
     → travel.origin ≡ line_number j.origin → min travel.residence longest ≡ min (residence j) longest
     → travelled_by network (facts_at network lines) travel ≡ travelled network j
 travelled_is network lines j travel there same time =
-    let at : facts_at network lines travel.origin ≡ Some (fact_of network j.origin) = ap (facts_at network lines) same ∙ ap (λ (o : Option LinePlace). option_map (fact_of network) o) there in
-    ap (λ (o : Option Fact). option_and_then (λ origin. option_map (λ m. resided m travel.residence) (sent_by network origin.event origin.number.0 origin.reading)) o) at
+    let at : facts_at network lines travel.origin ≡ Some (fact_of network j.origin) =
+    ap (facts_at network lines) same ∙ ap (λ (o : Option LinePlace). option_map (fact_of network) o) there in
+    ap (λ (o : Option Fact). option_and_then
+    (λ origin. option_map (λ m. resided m travel.residence)
+    (sent_by network origin.event origin.number.0 origin.reading)) o) at
     ∙ ap (λ (o : Option Contents). option_map (λ m. resided m travel.residence) o) (sent_is network j.origin)
-    ∙ sent_time_at (event_of j.origin) (reading j.origin) (λ port. sequence network port j.origin) travel.residence (residence j) time (drawing_port network (event_of j.origin))
+    ∙ sent_time_at (event_of j.origin) (reading j.origin) (λ port. sequence network port j.origin) travel.residence
+    (residence j) time (drawing_port network (event_of j.origin))

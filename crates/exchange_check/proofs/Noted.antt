@@ -1,21 +1,25 @@
 -- What is kept of nodes, stays and requests is what the lines say of them.
-use Rattle.std.proofs.Common.{◌≡◌, ◌∙◌, ℕ, suc, ◌+◌, ℤ, Bool, true, false, ◌&&◌, cond, eqb, [], ◌∷◌, length, Option, Some, None, refl, sym, ap, arith, map}
-use Rattle.std.specs.Prelude.{filter, count_by, option_map, option_and_then, unwrap_or}
+use Rattle.std.proofs.Common.{◌≡◌, ◌∙◌, ℕ, suc, ◌+◌, ℤ, Bool, true, false, ◌&&◌, cond, eqb}
+use Rattle.std.proofs.Common.{[], ◌∷◌, length, Option, Some, None, refl, sym, ap, arith}
+use Rattle.std.specs.Prelude.{count_by, option_map, option_and_then, unwrap_or}
 use Rattle.std.proofs.lemmas.List.Sums.{sum_by-cons}
 use Rattle.std.specs.Option.{option_or, option_map_or}
 use Rattle.ptp_units.specs.Sequence.{of_count, next}
 use Rattle.network_model.specs.declared.event.Event.{Event}
-use Rattle.network_model.specs.declared.event.Event.TheVariants.{Sync, SyncOne, Follow, Enter, Leave, Arrive, Hear, Request, Stamped, Tick, SetMaster, StepClock}
+use Rattle.network_model.specs.declared.event.Event.TheVariants.{Sync, SyncOne, Follow, Enter, Leave, Arrive, Hear}
+use Rattle.network_model.specs.declared.event.Event.TheVariants.{Request, Stamped, Tick, SetMaster, StepClock}
 use Rattle.network_model.specs.Network.{Network, NodeName, is_named}
 use Rattle.network_model.specs.Run.{Run, site_of}
-use Rattle.network_model.specs.Kinds.{is_at, is_sync, draws_sync, is_request, is_stamped, is_set_master, named_master, step_of}
+use Rattle.network_model.specs.Kinds.{is_at, is_sync, draws_sync, is_request, is_stamped}
+use Rattle.network_model.specs.Kinds.{is_set_master, named_master, step_of}
 use Rattle.network_model.specs.Clock.{difference}
 use Rattle.exchange_check.specs.declared.facts.Fact.{Fact}
 use Rattle.exchange_check.specs.declared.facts.Site.{Site}
 use Rattle.trace_model.specs.declared.line.TraceLine.{TraceLine}
 use Rattle.trace_model.specs.Line.{Lines, counts}
 use Rattle.trace_model.specs.Record.{LinePlace, line_place, line_number, event_of, last_line, events, first_stamp}
-use Rattle.exchange_check.specs.Kept.{Sites, Leaves, Stamps, moved, sites_after, leaves_after, stamps_after}
+use Rattle.trace_model.proofs.Lines.{events_if, events_more, last_more}
+use Rattle.exchange_check.specs.Kept.{Sites, Leaves, Stamps, moved, stamped, sites_after, leaves_after, stamps_after}
 use Rattle.exchange_check.specs.Machine.{sites_told, leaves_told, stamps_told}
 
 pub cond_same : {X : Type 0} (b : Bool) (x : X) → cond b x x ≡ x
@@ -53,11 +57,29 @@ counted n = omega arith
 -- a node after an event of it, or of another node
 moved_is : (event : Event) (named : Bool) (n : ℕ) (d : ℤ) (s r : ℕ) (ls lr : Option ℕ) (set : Option (NodeName × ℕ))
     → cond named (moved event n (site_made d s r ls lr set)) (site_made d s r ls lr set)
-    ≡ site_made (cond named (unwrap_or (step_of event) d) d) (cond (draws_sync event && named) (suc s) s) (cond (is_request event && named) (suc r) r)
-    (cond (is_sync event && named) (Some n) ls) (cond (is_request event && named) (Some n) lr) (cond (is_set_master event && named) (told_master event n) set)
-moved_is (Sync node at) true n d s r ls lr set = λ i. record { difference = d; syncs = record { 0 = counted s i }; requests = record { 0 = of_count r }; last_sync = Some n; last_request = lr; set_master = set }
+    ≡ site_made (cond named (unwrap_or (step_of event) d) d) (cond (draws_sync event && named) (suc s) s)
+    (cond (is_request event && named) (suc r) r)
+    (cond (is_sync event && named) (Some n) ls) (cond (is_request event && named) (Some n) lr)
+    (cond (is_set_master event && named) (told_master event n) set)
+moved_is (Sync node at) true n d s r ls lr set =
+    λ i. record {
+      difference = d;
+      syncs = record { 0 = counted s i };
+      requests = record { 0 = of_count r };
+      last_sync = Some n;
+      last_request = lr;
+      set_master = set;
+    }
 moved_is (Sync node at) false n d s r ls lr set = refl
-moved_is (SyncOne node at) true n d s r ls lr set = λ i. record { difference = d; syncs = record { 0 = counted s i }; requests = record { 0 = of_count r }; last_sync = ls; last_request = lr; set_master = set }
+moved_is (SyncOne node at) true n d s r ls lr set =
+    λ i. record {
+      difference = d;
+      syncs = record { 0 = counted s i };
+      requests = record { 0 = of_count r };
+      last_sync = ls;
+      last_request = lr;
+      set_master = set;
+    }
 moved_is (SyncOne node at) false n d s r ls lr set = refl
 moved_is (Follow node) true n d s r ls lr set = refl
 moved_is (Follow node) false n d s r ls lr set = refl
@@ -69,7 +91,15 @@ moved_is (Arrive node copy at) true n d s r ls lr set = refl
 moved_is (Arrive node copy at) false n d s r ls lr set = refl
 moved_is (Hear node copy) true n d s r ls lr set = refl
 moved_is (Hear node copy) false n d s r ls lr set = refl
-moved_is (Request node at) true n d s r ls lr set = λ i. record { difference = d; syncs = record { 0 = of_count s }; requests = record { 0 = counted r i }; last_sync = ls; last_request = Some n; set_master = set }
+moved_is (Request node at) true n d s r ls lr set =
+    λ i. record {
+      difference = d;
+      syncs = record { 0 = of_count s };
+      requests = record { 0 = counted r i };
+      last_sync = ls;
+      last_request = Some n;
+      set_master = set;
+    }
 moved_is (Request node at) false n d s r ls lr set = refl
 moved_is (Stamped node) true n d s r ls lr set = refl
 moved_is (Stamped node) false n d s r ls lr set = refl
@@ -80,7 +110,8 @@ moved_is (SetMaster node master) false n d s r ls lr set = refl
 moved_is (StepClock node diff) true n d s r ls lr set = refl
 moved_is (StepClock node diff) false n d s r ls lr set = refl
 
-sites_after_is : (event : Event) (n : ℕ) (sites : Sites) (name : NodeName) → sites_after event n sites name ≡ cond (is_named (site_of event) name) (moved event n (sites name)) (sites name)
+sites_after_is : (event : Event) (n : ℕ) (sites : Sites) (name : NodeName)
+    → sites_after event n sites name ≡ cond (is_named (site_of event) name) (moved event n (sites name)) (sites name)
 sites_after_is (Sync node at) n sites name = refl
 sites_after_is (SyncOne node at) n sites name = refl
 sites_after_is (Follow node) n sites name = sym (cond_same (is_named node name) (sites name))
@@ -94,94 +125,114 @@ sites_after_is (Tick node) n sites name = sym (cond_same (is_named node name) (s
 sites_after_is (SetMaster node master) n sites name = refl
 sites_after_is (StepClock node diff) n sites name = refl
 
-number_if : (b : Bool) (e : LinePlace) (o : Option LinePlace) → option_map line_number (cond b (Some e) o) ≡ cond b (Some (line_number e)) (option_map line_number o)
+number_if : (b : Bool) (e : LinePlace) (o : Option LinePlace)
+    → option_map line_number (cond b (Some e) o) ≡ cond b (Some (line_number e)) (option_map line_number o)
 number_if true e o = refl
 number_if false e o = refl
 
-master_if : (b : Bool) (e : LinePlace) (o : Option LinePlace) → option_and_then (λ x. told_master (event_of x) (line_number x)) (cond b (Some e) o) ≡ cond b (told_master (event_of e) (line_number e)) (option_and_then (λ x. told_master (event_of x) (line_number x)) o)
+master_if : (b : Bool) (e : LinePlace) (o : Option LinePlace)
+    → option_and_then (λ x. told_master (event_of x) (line_number x)) (cond b (Some e) o)
+    ≡ cond b (told_master (event_of e) (line_number e))
+    (option_and_then (λ x. told_master (event_of x) (line_number x)) o)
 master_if true e o = refl
 master_if false e o = refl
 
--- the events with one more, where it counts
-abbrev pub events_if : Bool → Event → Run → Run
-events_if b event run = cond b (event ∷ run) run
-
-pub events_more : (network : Network) (line : TraceLine) (earlier : Lines) (b : Bool) → counts network line ≡ b → events network (line ∷ earlier) ≡ events_if b line.event (events network earlier)
-events_more network line earlier b h = (λ i. map (λ (l : TraceLine). l.event) (cond (h i) (line ∷ filter (counts network) earlier) (filter (counts network) earlier))) ∙ parts b
-  where
-    parts : (c : Bool) → map (λ (l : TraceLine). l.event) (cond c (line ∷ filter (counts network) earlier) (filter (counts network) earlier)) ≡ events_if c line.event (events network earlier)
-    parts true = refl
-    parts false = refl
-
-last_more : (network : Network) (kind : Event → Bool) (name : NodeName) (line : TraceLine) (earlier : Lines) (b : Bool) → counts network line ≡ b
-    → last_line network kind name (line ∷ earlier) ≡ cond (b && is_at kind name line.event) (Some (line_place line earlier)) (last_line network kind name earlier)
-last_more network kind name line earlier b h = λ i. cond (h i && is_at kind name line.event) (Some (line_place line earlier)) (last_line network kind name earlier)
-
 -- what the lines say of a node with one more line
-site_more : (network : Network) (line : TraceLine) (earlier : Lines) (name : NodeName) (b : Bool) → counts network line ≡ b
+site_more : (network : Network) (line : TraceLine) (earlier : Lines) (name : NodeName) (b : Bool)
+    → counts network line ≡ b
     → site_at network (line ∷ earlier) name ≡ site_made
     (difference name (events_if b line.event (events network earlier)))
     (count_by (is_at draws_sync name) (events_if b line.event (events network earlier)))
     (count_by (is_at is_request name) (events_if b line.event (events network earlier)))
-    (cond (b && is_at is_sync name line.event) (Some (length earlier)) (option_map line_number (last_line network is_sync name earlier)))
-    (cond (b && is_at is_request name line.event) (Some (length earlier)) (option_map line_number (last_line network is_request name earlier)))
-    (cond (b && is_at is_set_master name line.event) (told_master line.event (length earlier)) (option_and_then (λ e. told_master (event_of e) (line_number e)) (last_line network is_set_master name earlier)))
+    (cond (b && is_at is_sync name line.event) (Some (length earlier))
+    (option_map line_number (last_line network is_sync name earlier)))
+    (cond (b && is_at is_request name line.event) (Some (length earlier))
+    (option_map line_number (last_line network is_request name earlier)))
+    (cond (b && is_at is_set_master name line.event) (told_master line.event (length earlier))
+    (option_and_then (λ e. told_master (event_of e) (line_number e))
+    (last_line network is_set_master name earlier)))
 site_more network line earlier name b h =
     let run = events_more network line earlier b h in
-    let sync = ap (λ (o : Option LinePlace). option_map line_number o) (last_more network is_sync name line earlier b h) ∙ number_if (b && is_at is_sync name line.event) (line_place line earlier) (last_line network is_sync name earlier) in
-    let request = ap (λ (o : Option LinePlace). option_map line_number o) (last_more network is_request name line earlier b h) ∙ number_if (b && is_at is_request name line.event) (line_place line earlier) (last_line network is_request name earlier) in
-    let master = ap (λ (o : Option LinePlace). option_and_then (λ e. told_master (event_of e) (line_number e)) o) (last_more network is_set_master name line earlier b h)
-    ∙ master_if (b && is_at is_set_master name line.event) (line_place line earlier) (last_line network is_set_master name earlier) in
-    λ i. site_made (difference name (run i)) (count_by (is_at draws_sync name) (run i)) (count_by (is_at is_request name) (run i)) (sync i) (request i) (master i)
+    let sync = ap (λ (o : Option LinePlace). option_map line_number o)
+    (last_more network is_sync name line earlier b h)
+    ∙ number_if (b && is_at is_sync name line.event) (line_place line earlier)
+    (last_line network is_sync name earlier) in
+    let request = ap (λ (o : Option LinePlace). option_map line_number o)
+    (last_more network is_request name line earlier b h)
+    ∙ number_if (b && is_at is_request name line.event) (line_place line earlier)
+    (last_line network is_request name earlier) in
+    let master = ap (λ (o : Option LinePlace). option_and_then (λ e. told_master (event_of e) (line_number e)) o)
+    (last_more network is_set_master name line earlier b h)
+    ∙ master_if (b && is_at is_set_master name line.event) (line_place line earlier)
+    (last_line network is_set_master name earlier) in
+    λ i. site_made (difference name (run i)) (count_by (is_at draws_sync name) (run i))
+    (count_by (is_at is_request name) (run i)) (sync i) (request i) (master i)
 
 if_number : (b : Bool) (n : ℕ) → cond b 1 0 + n ≡ cond b (suc n) n
 if_number true n = omega arith
 if_number false n = omega arith
 
-pub count_more : (p : Event → Bool) (event : Event) (run : Run) → count_by p (event ∷ run) ≡ cond (p event) (suc (count_by p run)) (count_by p run)
+pub count_more : (p : Event → Bool) (event : Event) (run : Run)
+    → count_by p (event ∷ run) ≡ cond (p event) (suc (count_by p run)) (count_by p run)
 count_more p event run = sum_by-cons (λ (x : Event). cond (p x) 1 0) event run ∙ if_number (p event) (count_by p run)
 
 -- what is said of a node with one more event
-site_line : (network : Network) (line : TraceLine) (earlier : Lines) (run : Run) (event : Event) (name : NodeName) → run ≡ events network earlier → event ≡ line.event → counts network line ≡ true
+site_line : (network : Network) (line : TraceLine) (earlier : Lines) (run : Run) (event : Event) (name : NodeName)
+    → run ≡ events network earlier → event ≡ line.event → counts network line ≡ true
     → sites_after event (length earlier) (site_at network earlier) name ≡ site_at network (line ∷ earlier) name
 site_line network line earlier run event name run_is same h =
     let ls = option_map line_number (last_line network is_sync name earlier) in
     let lr = option_map line_number (last_line network is_request name earlier) in
-    let lm = option_and_then (λ (e : LinePlace). told_master (event_of e) (line_number e)) (last_line network is_set_master name earlier) in
+    let lm = option_and_then (λ (e : LinePlace). told_master (event_of e) (line_number e))
+    (last_line network is_set_master name earlier) in
     let r = events network earlier in
     let counted : site_at network (line ∷ earlier) name ≡ site_made
     (difference name (line.event ∷ r))
-    (cond (draws_sync line.event && is_named (site_of line.event) name) (suc (count_by (is_at draws_sync name) r)) (count_by (is_at draws_sync name) r))
-    (cond (is_request line.event && is_named (site_of line.event) name) (suc (count_by (is_at is_request name) r)) (count_by (is_at is_request name) r))
+    (cond (draws_sync line.event && is_named (site_of line.event) name) (suc (count_by (is_at draws_sync name) r))
+    (count_by (is_at draws_sync name) r))
+    (cond (is_request line.event && is_named (site_of line.event) name) (suc (count_by (is_at is_request name) r))
+    (count_by (is_at is_request name) r))
     (cond (is_sync line.event && is_named (site_of line.event) name) (Some (length earlier)) ls)
     (cond (is_request line.event && is_named (site_of line.event) name) (Some (length earlier)) lr)
-    (cond (is_set_master line.event && is_named (site_of line.event) name) (told_master line.event (length earlier)) lm) =
-    site_more network line earlier name true h ∙ (λ i. site_made (difference name (line.event ∷ r)) (count_more (is_at draws_sync name) line.event r i) (count_more (is_at is_request name) line.event r i)
+    (cond (is_set_master line.event && is_named (site_of line.event) name)
+    (told_master line.event (length earlier)) lm) =
+    site_more network line earlier name true h
+    ∙ (λ i. site_made (difference name (line.event ∷ r)) (count_more (is_at draws_sync name) line.event r i)
+    (count_more (is_at is_request name) line.event r i)
     (cond (is_sync line.event && is_named (site_of line.event) name) (Some (length earlier)) ls)
     (cond (is_request line.event && is_named (site_of line.event) name) (Some (length earlier)) lr)
-    (cond (is_set_master line.event && is_named (site_of line.event) name) (told_master line.event (length earlier)) lm)) in
+    (cond (is_set_master line.event && is_named (site_of line.event) name)
+    (told_master line.event (length earlier)) lm)) in
     ap (λ (e : Event). sites_after e (length earlier) (site_at network earlier) name) same
     ∙ sites_after_is line.event (length earlier) (site_at network earlier) name
-    ∙ moved_is line.event (is_named (site_of line.event) name) (length earlier) (difference name r) (count_by (is_at draws_sync name) r) (count_by (is_at is_request name) r) ls lr lm
+    ∙ moved_is line.event (is_named (site_of line.event) name) (length earlier) (difference name r)
+    (count_by (is_at draws_sync name) r) (count_by (is_at is_request name) r) ls lr lm
     ∙ sym counted
 
 -- what is kept of nodes after one more line
-pub sites-line : (network : Network) (line : TraceLine) (earlier : Lines) (fact : Fact) (b : Bool) → counts network line ≡ b → fact.event ≡ line.event
-    → sites_told (cond b (Some fact) None) (length earlier) (site_at network earlier) ≡ site_at network (line ∷ earlier)
+pub sites-line : (network : Network) (line : TraceLine) (earlier : Lines) (fact : Fact) (b : Bool)
+    → counts network line ≡ b → fact.event ≡ line.event
+    → sites_told (cond b (Some fact) None) (length earlier) (site_at network earlier)
+    ≡ site_at network (line ∷ earlier)
 sites-line network line earlier fact false h same = λ i name. sym (site_more network line earlier name false h) i
-sites-line network line earlier fact true h same = λ i name. site_line network line earlier (events network earlier) fact.event name refl same h i
+sites-line network line earlier fact true h same =
+    λ i name. site_line network line earlier (events network earlier) fact.event name refl same h i
 
 -- what lines say of each stay: whether it was ended again
 abbrev pub leaves_at : Network → Lines → Leaves
 leaves_at network [] = λ stay. None
-leaves_at network (line ∷ earlier) = cond (counts network line) (leaves_after line.event (leaves_at network earlier)) (leaves_at network earlier)
+leaves_at network (line ∷ earlier) =
+    cond (counts network line) (leaves_after line.event (leaves_at network earlier)) (leaves_at network earlier)
 
 -- what is kept of stays after one more line
-pub leaves-line : (network : Network) (line : TraceLine) (earlier : Lines) (fact : Fact) (b : Bool) → counts network line ≡ b → fact.event ≡ line.event
+pub leaves-line : (network : Network) (line : TraceLine) (earlier : Lines) (fact : Fact) (b : Bool)
+    → counts network line ≡ b → fact.event ≡ line.event
     → leaves_told (cond b (Some fact) None) (leaves_at network earlier) ≡ leaves_at network (line ∷ earlier)
 leaves-line network line earlier fact true h same =
-    ap (λ (e : Event). leaves_after e (leaves_at network earlier)) same ∙ sym (λ i. cond (h i) (leaves_after line.event (leaves_at network earlier)) (leaves_at network earlier))
-leaves-line network line earlier fact false h same = sym (λ i. cond (h i) (leaves_after line.event (leaves_at network earlier)) (leaves_at network earlier))
+    ap (λ (e : Event). leaves_after e (leaves_at network earlier)) same
+    ∙ sym (λ i. cond (h i) (leaves_after line.event (leaves_at network earlier)) (leaves_at network earlier))
+leaves-line network line earlier fact false h same =
+    sym (λ i. cond (h i) (leaves_after line.event (leaves_at network earlier)) (leaves_at network earlier))
 
 -- what lines say of each request: where its departure was learned
 abbrev pub stamps_at : Network → Lines → Stamps
@@ -191,38 +242,48 @@ or_nothing : (o : Option ℕ) → option_or o None ≡ o
 or_nothing None = refl
 or_nothing (Some n) = refl
 
-asked : (o : Option LinePlace) (request : ℕ) → option_map_or (λ last. eqb last request) (option_map line_number o) false ≡ option_map_or (λ last. eqb (line_number last) request) o false
+asked : (o : Option LinePlace) (request : ℕ)
+    → option_map_or (λ last. eqb last request) (option_map line_number o) false
+    ≡ option_map_or (λ last. eqb (line_number last) request) o false
 asked None request = refl
 asked (Some e) request = refl
 
-stamps_after_is : (network : Network) (event : Event) (n : ℕ) (earlier : Lines) (request : ℕ)
-    → stamps_after event n (site_at network earlier) (stamps_at network earlier) request
-    ≡ option_or (first_stamp network request earlier) (cond (is_stamped event && option_map_or (λ last. eqb (line_number last) request) (last_line network is_request (site_of event) earlier) false) (Some n) None)
-stamps_after_is network (Sync node at) n earlier request = sym (or_nothing (first_stamp network request earlier))
-stamps_after_is network (SyncOne node at) n earlier request = sym (or_nothing (first_stamp network request earlier))
-stamps_after_is network (Follow node) n earlier request = sym (or_nothing (first_stamp network request earlier))
-stamps_after_is network (Enter node copy at) n earlier request = sym (or_nothing (first_stamp network request earlier))
-stamps_after_is network (Leave node transit at) n earlier request = sym (or_nothing (first_stamp network request earlier))
-stamps_after_is network (Arrive node copy at) n earlier request = sym (or_nothing (first_stamp network request earlier))
-stamps_after_is network (Hear node copy) n earlier request = sym (or_nothing (first_stamp network request earlier))
-stamps_after_is network (Request node at) n earlier request = sym (or_nothing (first_stamp network request earlier))
-stamps_after_is network (Stamped node) n earlier request = ap (λ (b : Bool). option_or (first_stamp network request earlier) (cond b (Some n) None)) (asked (last_line network is_request node earlier) request)
-stamps_after_is network (Tick node) n earlier request = sym (or_nothing (first_stamp network request earlier))
-stamps_after_is network (SetMaster node master) n earlier request = sym (or_nothing (first_stamp network request earlier))
-stamps_after_is network (StepClock node diff) n earlier request = sym (or_nothing (first_stamp network request earlier))
+stamps_after_is : (stamp : Bool) (n : ℕ) (last : Option LinePlace) (stamps : Stamps) (request : ℕ)
+    → (cond stamp (stamped (option_map line_number last) n stamps) stamps) request
+    ≡ option_or (stamps request)
+    (cond (stamp && option_map_or (λ x. eqb (line_number x) request) last false) (Some n) None)
+stamps_after_is true n last stamps request =
+    ap (λ (b : Bool). option_or (stamps request) (cond b (Some n) None)) (asked last request)
+stamps_after_is false n last stamps request = sym (or_nothing (stamps request))
 
-stamp_more : (network : Network) (line : TraceLine) (earlier : Lines) (request : ℕ) (b : Bool) → counts network line ≡ b
-    → first_stamp network request (line ∷ earlier) ≡ option_or (first_stamp network request earlier) (cond (b && is_stamped line.event && option_map_or (λ last. eqb (line_number last) request) (last_line network is_request (site_of line.event) earlier) false) (Some (length earlier)) None)
-stamp_more network line earlier request b h = λ i. option_or (first_stamp network request earlier) (cond (h i && is_stamped line.event && option_map_or (λ last. eqb (line_number last) request) (last_line network is_request (site_of line.event) earlier) false) (Some (length earlier)) None)
+stamp_more : (network : Network) (line : TraceLine) (earlier : Lines) (request : ℕ) (b : Bool)
+    → counts network line ≡ b
+    → first_stamp network request (line ∷ earlier)
+    ≡ option_or (first_stamp network request earlier)
+    (cond (b && is_stamped line.event
+    && option_map_or (λ last. eqb (line_number last) request)
+    (last_line network is_request (site_of line.event) earlier) false) (Some (length earlier)) None)
+stamp_more network line earlier request b h =
+    λ i. option_or (first_stamp network request earlier)
+    (cond (h i && is_stamped line.event
+    && option_map_or (λ last. eqb (line_number last) request)
+    (last_line network is_request (site_of line.event) earlier) false) (Some (length earlier)) None)
 
 -- what is kept of requests after one more line
-pub stamps-line : (network : Network) (line : TraceLine) (earlier : Lines) (fact : Fact) (b : Bool) → counts network line ≡ b → fact.event ≡ line.event
-    → stamps_told (cond b (Some fact) None) (length earlier) (site_at network earlier) (stamps_at network earlier) ≡ stamps_at network (line ∷ earlier)
+pub stamps-line : (network : Network) (line : TraceLine) (earlier : Lines) (fact : Fact) (b : Bool)
+    → counts network line ≡ b → fact.event ≡ line.event
+    → stamps_told (cond b (Some fact) None) (length earlier) (site_at network earlier) (stamps_at network earlier)
+    ≡ stamps_at network (line ∷ earlier)
 stamps-line network line earlier fact true h same = λ i request. at request i
   where
-    at : (request : ℕ) → stamps_after fact.event (length earlier) (site_at network earlier) (stamps_at network earlier) request ≡ first_stamp network request (line ∷ earlier)
+    at : (request : ℕ) → stamps_after fact.event (length earlier) (site_at network earlier)
+        (stamps_at network earlier) request ≡ first_stamp network request (line ∷ earlier)
     at request =
-        ap (λ (e : Event). stamps_after e (length earlier) (site_at network earlier) (stamps_at network earlier) request) same
-        ∙ stamps_after_is network line.event (length earlier) earlier request
+        ap (λ (e : Event). stamps_after e (length earlier) (site_at network earlier)
+        (stamps_at network earlier) request) same
+        ∙ stamps_after_is (is_stamped line.event) (length earlier)
+        (last_line network is_request (site_of line.event) earlier) (stamps_at network earlier) request
         ∙ sym (stamp_more network line earlier request true h)
-stamps-line network line earlier fact false h same = λ i request. (sym (or_nothing (first_stamp network request earlier)) ∙ sym (stamp_more network line earlier request false h)) i
+stamps-line network line earlier fact false h same =
+    λ i request. (sym (or_nothing (first_stamp network request earlier))
+    ∙ sym (stamp_more network line earlier request false h)) i

@@ -1,5 +1,6 @@
--- What is kept of lines that are given oldest first.
-use Rattle.std.proofs.Common.{◌≡◌, ◌∙◌, ℕ, ◌+◌, ◌<◌, ◌≤◌, List, [], ◌∷◌, ◌++◌, length, take, get_or, refl, sym, ap, subst, arith, length-append}
+-- What is kept of lines that are given oldest first, and what the verdict on lines says of them.
+use Rattle.std.proofs.Common.{◌≡◌, ◌∙◌, ℕ, ◌+◌, ◌<◌, ◌≤◌, List, [], ◌∷◌, ◌++◌}
+use Rattle.std.proofs.Common.{length, take, get_or, sym, ap, subst, arith}
 use Rattle.std.specs.Prelude.{reverse}
 use Rattle.std.proofs.lemmas.Grind.{common_steps}
 use Rattle.std.proofs.lemmas.List.{take_more, length-reverse, length-take-le}
@@ -17,51 +18,46 @@ use Rattle.trace_model.proofs.Complete.{complete, complete_within_one_turn}
 use Rattle.network_model.specs.Premises.{IsFreshAndTicked, IsWithinTurn, exact_limits}
 use Rattle.exchange_check.specs.Machine.{Machine, IsKept, machine, after_line}
 
--- what is kept of one more line
-next_kept : (network : Network) (lines next : List TraceLine) (line : TraceLine) (kept : Kept) (count after : ℕ)
-    → count ≡ length lines → next ≡ line ∷ lines → count + 1 ≡ after
-    → IsKept kept (count + 1) (after_line network line count (machine network lines)) → IsKept kept after (machine network next)
-next_kept network lines next line kept count after same front total h =
-    let m : after_line network line count (machine network lines) ≡ machine network next =
-    (λ i. after_line network line (same i) (machine network lines)) ∙ sym (ap (machine network) front) in
-    let P : ℕ → Type 0 = λ n. IsKept kept n (machine network next) in
-    let Q : Machine → Type 0 = λ s. IsKept kept (count + 1) s in
-    subst P total (subst Q m h)
-
 reverse_push : (lines : List TraceLine) (line : TraceLine) → reverse (lines ++ line ∷ []) ≡ line ∷ reverse lines
 reverse_push lines line = grind (arith, common_steps)
 
--- with a line after the others
-pub IsKept-push : (network : Network) (lines : List TraceLine) (line : TraceLine) (kept : Kept)
-    → IsKept kept (length lines + 1) (after_line network line (length lines) (machine network (reverse lines)))
-    → IsKept kept (length (lines ++ line ∷ [])) (machine network (reverse (lines ++ line ∷ [])))
-IsKept-push network lines line kept h =
-    next_kept network (reverse lines) _ line kept (length lines) _ (sym (length-reverse lines)) (reverse_push lines line) (sym (length-append lines (line ∷ []))) h
-
-reverse_more : (lines : List TraceLine) (line : TraceLine) (i : ℕ) → i < length lines → line ≡ get_or lines i line → reverse (take (i + 1) lines) ≡ line ∷ reverse (take i lines)
-reverse_more lines line i within read = ap reverse (take_more lines i line within ∙ ap (λ (x : TraceLine). take i lines ++ x ∷ []) (sym read)) ∙ reverse_push (take i lines) line
+reverse_more : (lines : List TraceLine) (line : TraceLine) (i : ℕ) → i < length lines → line ≡ get_or lines i line
+    → reverse (take (i + 1) lines) ≡ line ∷ reverse (take i lines)
+reverse_more lines line i within read =
+    ap reverse (take_more lines i line within ∙ ap (λ (x : TraceLine). take i lines ++ x ∷ []) (sym read))
+    ∙ reverse_push (take i lines) line
 
 -- after one more of the lines
-pub IsKept-more : (network : Network) (lines : List TraceLine) (line : TraceLine) (kept : Kept) (i : ℕ) → i < length lines → line ≡ get_or lines i line
+pub IsKept-more : (network : Network) (lines : List TraceLine) (line : TraceLine) (kept : Kept) (i : ℕ)
+    → i < length lines → line ≡ get_or lines i line
     → IsKept kept (i + 1) (after_line network line i (machine network (reverse (take i lines))))
     → IsKept kept (i + 1) (machine network (reverse (take (i + 1) lines)))
 IsKept-more network lines line kept i within read h =
-    let fits : length (take i lines) ≡ i = length-take-le i lines (omega arith) in
-    next_kept network (reverse (take i lines)) _ line kept i _ (sym (length-reverse (take i lines) ∙ fits)) (reverse_more lines line i within read) refl h
+    let count : length (reverse (take i lines)) ≡ i =
+    length-reverse (take i lines) ∙ length-take-le i lines (omega arith) in
+    let m : after_line network line i (machine network (reverse (take i lines)))
+    ≡ machine network (reverse (take (i + 1) lines)) =
+    (λ k. after_line network line (sym count k) (machine network (reverse (take i lines))))
+    ∙ sym (ap (machine network) (reverse_more lines line i within read)) in
+    subst (λ (s : Machine). IsKept kept (i + 1) s) m h
 
 -- the verdict that is kept of all lines
-pub verdict-kept : (network : Network) (lines : List TraceLine) (kept : Kept) (count : ℕ) → IsKept kept count (machine network (reverse lines)) → kept.verdict ≡ verdict network (reverse lines)
-verdict-kept network lines kept count h = h.verdict ∙ machine-verdict network (reverse lines)
+pub verdict-kept : (network : Network) (lines : Lines) (kept : Kept) (count : ℕ)
+    → IsKept kept count (machine network lines) → kept.verdict ≡ verdict network lines
+verdict-kept network lines kept count h = h.verdict ∙ machine-verdict network lines
 
 take_whole : (lines : List TraceLine) (i : ℕ) → length lines ≤ i → take i lines ≡ lines
 take_whole lines i h = grind (arith, common_steps)
 
-pub verdict-kept-all : (network : Network) (lines : List TraceLine) (kept : Kept) (count i : ℕ) → length lines ≤ i → IsKept kept count (machine network (reverse (take i lines))) → kept.verdict ≡ verdict network (reverse lines)
+pub verdict-kept-all : (network : Network) (lines : List TraceLine) (kept : Kept) (count i : ℕ) → length lines ≤ i
+    → IsKept kept count (machine network (reverse (take i lines))) → kept.verdict ≡ verdict network (reverse lines)
 verdict-kept-all network lines kept count i past h =
-    verdict-kept network (take i lines) kept count h ∙ ap (λ (xs : List TraceLine). verdict network (reverse xs)) (take_whole lines i past)
+    verdict-kept network (reverse (take i lines)) kept count h
+    ∙ ap (λ (xs : List TraceLine). verdict network (reverse xs)) (take_whole lines i past)
 
 -- the verdict on lines tells which of them are sound
-pub TellsSoundness-of : (network : Network) (lines : Lines) (answer : Verdict) → answer ≡ verdict network lines → TellsSoundness network lines answer
+pub TellsSoundness-of : (network : Network) (lines : Lines) (answer : Verdict) → answer ≡ verdict network lines
+    → TellsSoundness network lines answer
 TellsSoundness-of network lines answer h = subst (TellsSoundness network lines) (sym h) (tells_soundness network lines)
 
 -- what the verdict's answer says of lines that tell a run
@@ -69,6 +65,8 @@ pub AcceptsTruth-of : (network : Network) (lines : Lines) (answer : Verdict) →
     → AcceptsTruth (IsFreshAndTicked exact_limits) network lines answer
 AcceptsTruth-of network lines answer h run premise told = h ∙ complete.verdicts network lines run premise told
 
-pub AcceptsTruth-within_one_turn : (network : Network) (lines : Lines) (answer : Verdict) → answer ≡ verdict network lines
+pub AcceptsTruth-within_one_turn : (network : Network) (lines : Lines) (answer : Verdict)
+    → answer ≡ verdict network lines
     → AcceptsTruth IsWithinTurn network lines answer
-AcceptsTruth-within_one_turn network lines answer h run premise told = h ∙ complete_within_one_turn.verdicts network lines run premise told
+AcceptsTruth-within_one_turn network lines answer h run premise told =
+    h ∙ complete_within_one_turn.verdicts network lines run premise told

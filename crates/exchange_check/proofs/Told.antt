@@ -1,12 +1,14 @@
 -- What is kept of a line is what the line and those before it say.
-use Rattle.std.proofs.Common.{◌≡◌, ◌∙◌, ℕ, ◌+◌, ◌-◌, Bool, true, false, ◌&&◌, cond, eqb, min, [], ◌∷◌, length, Option, Some, None, refl, sym, ap, arith}
+use Rattle.std.proofs.Common.{◌≡◌, ◌∙◌, ℕ, ◌+◌, ◌-◌, Bool, true, false, ◌&&◌, cond, eqb, min}
+use Rattle.std.proofs.Common.{[], ◌∷◌, length, Option, Some, None, refl, sym, ap, arith}
 use Rattle.std.specs.Prelude.{option_map, option_and_then, unwrap_or, count_by}
 use Rattle.std.specs.Option.{option_map_or}
 use Rattle.std.specs.List.{list_all}
 use Rattle.std.proofs.lemmas.List.Sums.{sum_by-cons}
 use Rattle.ptp_units.specs.Sequence.{of_count}
 use Rattle.network_model.specs.declared.event.Event.{Event}
-use Rattle.network_model.specs.declared.event.Event.TheVariants.{Sync, SyncOne, Follow, Enter, Leave, Arrive, Hear, Request, Stamped, Tick, SetMaster, StepClock}
+use Rattle.network_model.specs.declared.event.Event.TheVariants.{Sync, SyncOne, Follow, Enter, Leave, Arrive, Hear}
+use Rattle.network_model.specs.declared.event.Event.TheVariants.{Request, Stamped, Tick, SetMaster, StepClock}
 use Rattle.network_model.specs.Network.{Network, NodeName, PortSetup}
 use Rattle.network_model.specs.Run.{place, site_of}
 use Rattle.network_model.specs.Kinds.{is_at, is_sync, draws_sync, is_request}
@@ -17,11 +19,14 @@ use Rattle.exchange_check.specs.declared.facts.Known.{Known}
 use Rattle.exchange_check.specs.declared.facts.Travel.{Travel}
 use Rattle.trace_model.specs.declared.line.TraceLine.{TraceLine}
 use Rattle.trace_model.specs.Line.{Lines, counts, is_made, completes}
-use Rattle.trace_model.specs.Record.{LinePlace, line_place, line_number, event_of, site, line_at, events, last_line, reading, reads_right, sequence}
-use Rattle.trace_model.specs.Journey.{Journey, stay_length, residence, begun, with_stay, copy_entered, left_from, journey_made, journey_of}
+use Rattle.trace_model.specs.Record.{LinePlace, line_place, line_number, event_of, site, line_at}
+use Rattle.trace_model.specs.Record.{events, last_line, reading, reads_right, sequence}
+use Rattle.trace_model.specs.Journey.{Journey, stay_length, residence, begun, with_stay}
+use Rattle.trace_model.specs.Journey.{copy_entered, left_from, journey_made, journey_of}
 use Rattle.trace_model.specs.Octets.{drawing_port, writes_right}
 use Rattle.trace_model.specs.Sound.{stay_reads_right, journey_reads_right, journey_writes_right}
-use Rattle.exchange_check.specs.Kept.{Facts, longest, number_by, known_by, travel_at, stayed, left_by, begun_by, travel_by, written_travel}
+use Rattle.exchange_check.specs.Kept.{Facts, longest, number_by, known_by, travel_at, stayed}
+use Rattle.exchange_check.specs.Kept.{left_by, begun_by, travel_by, written_travel}
 use Rattle.exchange_check.proofs.Noted.{site_at}
 
 -- what is kept of a journey
@@ -74,21 +79,29 @@ sum_count : (first n : ℕ) → of_count (first + of_count n) ≡ of_count (firs
 sum_count first n = omega arith
 
 number_is : (network : Network) (earlier : Lines) (event : Event) → number_by network (site_at network earlier) event
-    ≡ option_map_or (λ port. of_count (number_of port (place event (events network earlier)))) (drawing_port network event) 0
-number_is network earlier (Sync node at) = λ i. option_map_or (λ (port : PortSetup). sum_count port.first (count_by (is_at draws_sync node) (events network earlier)) i) (master_at network node) 0
-number_is network earlier (SyncOne node at) = λ i. option_map_or (λ (port : PortSetup). sum_count port.first (count_by (is_at draws_sync node) (events network earlier)) i) (master_at network node) 0
+    ≡ option_map_or (λ port. of_count (number_of port (place event (events network earlier))))
+    (drawing_port network event) 0
+number_is network earlier (Sync node at) =
+    λ i. option_map_or (λ (port : PortSetup). sum_count port.first
+    (count_by (is_at draws_sync node) (events network earlier)) i) (master_at network node) 0
+number_is network earlier (SyncOne node at) =
+    λ i. option_map_or (λ (port : PortSetup). sum_count port.first
+    (count_by (is_at draws_sync node) (events network earlier)) i) (master_at network node) 0
 number_is network earlier (Follow node) = refl
 number_is network earlier (Enter node copy at) = refl
 number_is network earlier (Leave node transit at) = refl
 number_is network earlier (Arrive node copy at) = refl
 number_is network earlier (Hear node copy) = refl
-number_is network earlier (Request node at) = λ i. option_map_or (λ (port : PortSetup). sum_count port.first (count_by (is_at is_request node) (events network earlier)) i) (slave_at network node) 0
+number_is network earlier (Request node at) =
+    λ i. option_map_or (λ (port : PortSetup). sum_count port.first
+    (count_by (is_at is_request node) (events network earlier)) i) (slave_at network node) 0
 number_is network earlier (Stamped node) = refl
 number_is network earlier (Tick node) = refl
 number_is network earlier (SetMaster node master) = refl
 number_is network earlier (StepClock node diff) = refl
 
-pub known_is : (network : Network) (line : TraceLine) (earlier : Lines) → known_by network (site_at network earlier) line (length earlier) ≡ known_of network (line_place line earlier)
+pub known_is : (network : Network) (line : TraceLine) (earlier : Lines)
+    → known_by network (site_at network earlier) line (length earlier) ≡ known_of network (line_place line earlier)
 known_is network line earlier = λ i. record {
   line = length earlier;
   reading = unwrap_or line.reading 0;
@@ -97,25 +110,35 @@ known_is network line earlier = λ i. record {
   last_sync = option_map line_number (last_line network is_sync (site_of line.event) earlier);
 }
 
-either_way : (network : Network) (line : TraceLine) (earlier : Lines) (n : ℕ) (here counted : Bool) → journey_of network earlier n ≡ option_and_then (journey_from network) (line_at network earlier n)
-    → cond here (cond counted (journey_made network line.event (line_place line earlier) (journey_of network earlier)) None) (journey_of network earlier n)
-    ≡ option_and_then (journey_from network) (cond here (cond counted (Some (line_place line earlier)) None) (line_at network earlier n))
+either_way : (network : Network) (line : TraceLine) (earlier : Lines) (n : ℕ) (here counted : Bool)
+    → journey_of network earlier n ≡ option_and_then (journey_from network) (line_at network earlier n)
+    → cond here (cond counted (journey_made network line.event (line_place line earlier) (journey_of network earlier))
+    None) (journey_of network earlier n)
+    ≡ option_and_then (journey_from network)
+    (cond here (cond counted (Some (line_place line earlier)) None) (line_at network earlier n))
 either_way network line earlier n true true h = refl
 either_way network line earlier n true false h = refl
 either_way network line earlier n false counted h = h
 
 -- the journey of a copy is that of the line which made it
-pub journey_of-line_at : (network : Network) (lines : Lines) (n : ℕ) → journey_of network lines n ≡ option_and_then (journey_from network) (line_at network lines n)
+pub journey_of-line_at : (network : Network) (lines : Lines) (n : ℕ)
+    → journey_of network lines n ≡ option_and_then (journey_from network) (line_at network lines n)
 journey_of-line_at network [] n = refl
-journey_of-line_at network (line ∷ earlier) n = either_way network line earlier n (eqb (length earlier) n) (counts network line) (journey_of-line_at network earlier n)
+journey_of-line_at network (line ∷ earlier) n =
+    either_way network line earlier n (eqb (length earlier) n) (counts network line)
+    (journey_of-line_at network earlier n)
 
-travel_from : (network : Network) (o : Option LinePlace) → option_and_then (λ (fact : Fact). fact.travel) (option_map (fact_of network) o) ≡ option_map (travel_of network) (option_and_then (journey_from network) o)
+travel_from : (network : Network) (o : Option LinePlace)
+    → option_and_then (λ (fact : Fact). fact.travel) (option_map (fact_of network) o)
+    ≡ option_map (travel_of network) (option_and_then (journey_from network) o)
 travel_from network None = refl
 travel_from network (Some e) = refl
 
 -- what is kept of a copy is its journey
-pub travel_at-is : (network : Network) (lines : Lines) (n : ℕ) → travel_at (facts_at network lines) n ≡ option_map (travel_of network) (journey_of network lines n)
-travel_at-is network lines n = travel_from network (line_at network lines n) ∙ ap (λ (o : Option Journey). option_map (travel_of network) o) (sym (journey_of-line_at network lines n))
+pub travel_at-is : (network : Network) (lines : Lines) (n : ℕ)
+    → travel_at (facts_at network lines) n ≡ option_map (travel_of network) (journey_of network lines n)
+travel_at-is network lines n = travel_from network (line_at network lines n)
+    ∙ ap (λ (o : Option Journey). option_map (travel_of network) o) (sym (journey_of-line_at network lines n))
 
 and_true : (b : Bool) → b && true ≡ b
 and_true true = refl
@@ -128,7 +151,8 @@ and_turned true false true = refl
 and_turned true false false = refl
 and_turned false l s = refl
 
-begun_is : (network : Network) (e : LinePlace) → written_travel (writes_right network e) (begun_by (known_of network e)) ≡ travel_of network (begun e)
+begun_is : (network : Network) (e : LinePlace)
+    → written_travel (writes_right network e) (begun_by (known_of network e)) ≡ travel_of network (begun e)
 begun_is network e = λ i. record {
   origin = line_number e;
   residence = 0;
@@ -139,41 +163,58 @@ begun_is network e = λ i. record {
 min_more : (r s : ℕ) → min (min r longest + s) longest ≡ min (s + r) longest
 min_more r s = omega arith
 
-residence_more : (e entered : LinePlace) (j : Journey) → min (min (residence j) longest + (reading e - reading entered)) longest ≡ min (residence (with_stay e entered j)) longest
+residence_more : (e entered : LinePlace) (j : Journey)
+    → min (min (residence j) longest + (reading e - reading entered)) longest
+    ≡ min (residence (with_stay e entered j)) longest
 residence_more e entered j =
     min_more (residence j) (reading e - reading entered)
     ∙ ap (λ (n : ℕ). min n longest) (sym (sum_by-cons stay_length (record { entered = entered; left = e }) j.stays))
 
-stayed_is : (network : Network) (e entered : LinePlace) (j : Journey) → written_travel (writes_right network e) (stayed (known_of network e) (fact_of network entered) (travel_of network j)) ≡ travel_of network (with_stay e entered j)
+stayed_is : (network : Network) (e entered : LinePlace) (j : Journey)
+    → written_travel (writes_right network e)
+    (stayed (known_of network e) (fact_of network entered) (travel_of network j))
+    ≡ travel_of network (with_stay e entered j)
 stayed_is network e entered j = λ i. record {
   origin = line_number j.origin;
   residence = residence_more e entered j i;
-  reads_right = and_turned (reads_right network j.origin) (list_all (stay_reads_right network) j.stays) (stay_reads_right network (record { entered = entered; left = e })) i;
-  writes_right = and_turned (writes_right network j.origin) (list_all (λ stay. writes_right network stay.left) j.stays) (writes_right network e) i;
+  reads_right = and_turned (reads_right network j.origin) (list_all (stay_reads_right network) j.stays)
+      (stay_reads_right network (record { entered = entered; left = e })) i;
+  writes_right = and_turned (writes_right network j.origin)
+      (list_all (λ stay. writes_right network stay.left) j.stays) (writes_right network e) i;
 }
 
 module _ (network : Network) (e : LinePlace) where
-  after_stay : (entered : LinePlace) (o : Option Journey) → option_map (written_travel (writes_right network e)) (option_map (stayed (known_of network e) (fact_of network entered)) (option_map (travel_of network) o))
+  after_stay : (entered : LinePlace) (o : Option Journey)
+      → option_map (written_travel (writes_right network e))
+      (option_map (stayed (known_of network e) (fact_of network entered)) (option_map (travel_of network) o))
       ≡ option_map (travel_of network) (option_map (with_stay e entered) o)
   after_stay entered None = refl
   after_stay entered (Some j) = ap Some (stayed_is network e entered j)
 
   after_copy : (entered : LinePlace) (c : Option ℕ)
-      → option_map (written_travel (writes_right network e)) (option_and_then (λ copy. option_map (stayed (known_of network e) (fact_of network entered)) (travel_at (facts_at network e.earlier) copy)) c)
-      ≡ option_map (travel_of network) (option_and_then (λ copy. option_map (with_stay e entered) (journey_of network e.earlier copy)) c)
+      → option_map (written_travel (writes_right network e))
+      (option_and_then (λ copy. option_map (stayed (known_of network e) (fact_of network entered))
+      (travel_at (facts_at network e.earlier) copy)) c)
+      ≡ option_map (travel_of network)
+      (option_and_then (λ copy. option_map (with_stay e entered) (journey_of network e.earlier copy)) c)
   after_copy entered None = refl
   after_copy entered (Some copy) =
-      ap (λ (o : Option Travel). option_map (written_travel (writes_right network e)) (option_map (stayed (known_of network e) (fact_of network entered)) o)) (travel_at-is network e.earlier copy)
+      ap (λ (o : Option Travel). option_map (written_travel (writes_right network e))
+      (option_map (stayed (known_of network e) (fact_of network entered)) o)) (travel_at-is network e.earlier copy)
       ∙ after_stay entered (journey_of network e.earlier copy)
 
   after_entered : (node : NodeName) (o : Option LinePlace)
-      → option_map (written_travel (writes_right network e)) (option_and_then (left_by (facts_at network e.earlier) node (known_of network e)) (option_map (fact_of network) o))
+      → option_map (written_travel (writes_right network e))
+      (option_and_then (left_by (facts_at network e.earlier) node (known_of network e))
+      (option_map (fact_of network) o))
       ≡ option_map (travel_of network) (option_and_then (left_from node e (journey_of network e.earlier)) o)
   after_entered node None = refl
   after_entered node (Some entered) = after_copy entered (copy_entered node entered)
 
   -- the journey that is kept of the copy that a line made
-  pub travel_is : (event : Event) → option_map (written_travel (writes_right network e)) (travel_by (facts_at network e.earlier) (known_of network e) event)
+  pub travel_is : (event : Event)
+      → option_map (written_travel (writes_right network e))
+      (travel_by (facts_at network e.earlier) (known_of network e) event)
       ≡ option_map (travel_of network) (journey_made network event e (journey_of network e.earlier))
   travel_is (Sync node at) = ap Some (begun_is network e)
   travel_is (SyncOne node at) = ap Some (begun_is network e)

@@ -1,6 +1,7 @@
--- How the checker judges a report by what it keeps. Its own functions cite these; what its callers are told is said by the
--- lines alone.
-use Rattle.std.specs.Prelude.{ℕ, ◌+◌, ℤ, pos, ◌-ℤ◌, Bool, true, false, ◌&&◌, ◌||◌, not, nat_lt, ◌==◌, is_some, if◌then◌else◌, Option, Some, None, option_map, option_and_then}
+-- How the checker judges a report by what it keeps. Its own functions cite these; what its callers are told is said
+-- by the lines alone.
+use Rattle.std.specs.Prelude.{ℕ, ◌+◌, ℤ, pos, ◌-ℤ◌, Bool, true, false, ◌&&◌, ◌||◌, not, nat_lt, ◌==◌, is_some}
+use Rattle.std.specs.Prelude.{if◌then◌else◌, Option, Some, None, option_map, option_and_then}
 use Rattle.std.specs.Option.{option_map_or}
 use Rattle.std.specs.Ordering.{int_eq}
 use Rattle.ptp_units.specs.Exchange.{offset2, path2}
@@ -9,14 +10,16 @@ use Rattle.slave_port.specs.declared.heard.Report.{Report}
 use Rattle.network_model.specs.declared.event.Event.{Event}
 use Rattle.network_model.specs.Network.{Network, NodeName, is_named}
 use Rattle.network_model.specs.Run.{site_of}
-use Rattle.network_model.specs.Kinds.{is_at, is_one_step_sync, draws_sync, is_follow, is_request, heard_copy, is_arrival, is_hearing}
+use Rattle.network_model.specs.Kinds.{is_at, is_one_step_sync, draws_sync, is_follow, is_request, heard_copy}
+use Rattle.network_model.specs.Kinds.{is_arrival, is_hearing}
 use Rattle.network_model.specs.Truth.{master_at, slave_at}
 use Rattle.exchange_check.specs.declared.facts.Fact.{Fact}
 use Rattle.exchange_check.specs.declared.facts.Found.{Found}
 use Rattle.exchange_check.specs.declared.facts.Site.{Site}
 use Rattle.exchange_check.specs.declared.facts.Way.{Way}
 use Rattle.trace_model.specs.declared.verdict.Why.{Why}
-use Rattle.trace_model.specs.declared.verdict.Why.TheVariants.{NoSuchLine, OtherNumber, OtherMaster, BrokenJourney, WrongReading, WrongValue, TooBig, Bytes}
+use Rattle.trace_model.specs.declared.verdict.Why.TheVariants.{NoSuchLine, OtherNumber, OtherMaster, BrokenJourney}
+use Rattle.trace_model.specs.declared.verdict.Why.TheVariants.{WrongReading, WrongValue, TooBig, Bytes}
 use Rattle.trace_model.specs.Sound.{where_passes, below, are_later, is_domain, is_of_line}
 use Rattle.exchange_check.specs.Kept.{Facts, Stamps, Sites, travel_at, longest}
 use Rattle.exchange_check.specs.Stays.{Once}
@@ -35,11 +38,13 @@ sender_by facts fact = option_and_then (below facts fact.line) (heard_copy fact.
 
 abbrev pub sync_by : Facts → NodeName → Report → Option Fact
 sync_by facts slave report =
-    where_passes (λ fact. is_some report.follow_tag || fact.completes) (line_of_by facts is_arrival slave report.sync_tag)
+    where_passes (λ fact. is_some report.follow_tag || fact.completes)
+    (line_of_by facts is_arrival slave report.sync_tag)
 
 abbrev pub follow_by : Facts → NodeName → ℕ → Option Fact
 follow_by facts slave hearing =
-    where_passes (λ fact. is_follow fact.event) (option_and_then (sender_by facts) (line_of_by facts is_hearing slave hearing))
+    where_passes (λ fact. is_follow fact.event)
+    (option_and_then (sender_by facts) (line_of_by facts is_hearing slave hearing))
 
 abbrev pub follows_by : Facts → NodeName → Option ℕ → Option (Option Fact)
 follows_by facts slave None = Some None
@@ -49,7 +54,9 @@ abbrev pub completion_by : Facts → NodeName → ℕ → Option Fact
 completion_by facts slave hearing = where_passes (λ fact. fact.completes) (line_of_by facts is_hearing slave hearing)
 
 abbrev pub arrival_by : Facts → NodeName → ℕ → Option Fact
-arrival_by facts slave hearing = where_passes (λ fact. is_arrival fact.event && fact.made) (option_and_then (sender_by facts) (completion_by facts slave hearing))
+arrival_by facts slave hearing =
+    where_passes (λ fact. is_arrival fact.event && fact.made)
+    (option_and_then (sender_by facts) (completion_by facts slave hearing))
 
 abbrev pub is_stamped_by : Stamps → (request hearing : ℕ) → Bool
 is_stamped_by stamps request hearing =
@@ -137,7 +144,8 @@ ways_reason network site slave report found sync request =
 abbrev pub both_ways : Network → Site → NodeName → Report → Found → Option Way → Option Way → Option Why
 both_ways network site slave report found None request = Some BrokenJourney
 both_ways network site slave report found (Some sync) None = Some BrokenJourney
-both_ways network site slave report found (Some sync) (Some request) = ways_reason network site slave report found sync request
+both_ways network site slave report found (Some sync) (Some request) =
+    ways_reason network site slave report found sync request
 
 abbrev pub found_reason : Network → Facts → Once → Site → NodeName → Report → Option Found → Option Why
 found_reason network facts once site slave report None = Some NoSuchLine

@@ -1,6 +1,8 @@
--- What the checker keeps of lines, so that it searches for nothing. Its own functions cite these; what its callers are told is
--- said by the lines alone.
-use Rattle.std.specs.Prelude.{ℕ, ◌+◌, ◌-◌, ◌^◌, ℤ, pos, ◌+ℤ◌, Bool, true, false, ◌&&◌, not, List, min, nat_lt, slice_get, unwrap_or, ◌==◌, is_some, if◌then◌else◌, Option, Some, None, option_map, option_and_then}
+-- What the checker keeps of lines, so that it searches for nothing. Its own functions cite these; what its callers
+-- are told is said by the lines alone.
+use Rattle.std.specs.Prelude.{ℕ, ◌+◌, ◌-◌, ◌^◌, ℤ, pos, ◌+ℤ◌, Bool, true, false, ◌&&◌, not, List, min, nat_lt}
+use Rattle.std.specs.Prelude.{slice_get, unwrap_or, ◌==◌, is_some, if◌then◌else◌, Option, Some, None, option_map}
+use Rattle.std.specs.Prelude.{option_and_then}
 use Rattle.std.specs.HashMap.{HashMap, get}
 use Rattle.std.specs.Str.{bytes_eq}
 use Rattle.std.specs.Option.{option_or, option_map_or}
@@ -9,10 +11,11 @@ use Rattle.event_codec.specs.Packet.{Contents}
 use Rattle.master_port.specs.Written.{follow_up, delay_resp}
 use Rattle.transparent_clock.specs.Forwarding.{resided}
 use Rattle.network_model.specs.declared.event.Event.{Event}
-use Rattle.network_model.specs.declared.event.Event.TheVariants.{Sync, SyncOne, Follow, Enter, Leave, Arrive, Hear, Request, Stamped, Tick, SetMaster, StepClock}
+use Rattle.network_model.specs.declared.event.Event.TheVariants.{Sync, SyncOne, Follow, Enter, Leave, Arrive, Hear}
+use Rattle.network_model.specs.declared.event.Event.TheVariants.{Request, Stamped, Tick, SetMaster, StepClock}
 use Rattle.network_model.specs.Network.{Network, NodeName, PortSetup, is_named}
 use Rattle.network_model.specs.Run.{site_of, true_moment}
-use Rattle.network_model.specs.Kinds.{entered_copy}
+use Rattle.network_model.specs.Kinds.{entered_copy, spent_transit, is_stamped}
 use Rattle.network_model.specs.Truth.{master_at, slave_at}
 use Rattle.exchange_check.specs.declared.facts.Fact.{Fact}
 use Rattle.exchange_check.specs.declared.facts.Known.{Known}
@@ -46,14 +49,17 @@ longest = 2 ^ 63 - 1
 
 -- the sequenceId that an event draws, 0 where it draws none
 abbrev pub number_by : Network → Sites → Event → ℕ
-number_by network sites (Sync node at) = option_map_or (λ port. of_count (port.first + (sites node).syncs.0)) (master_at network node) 0
-number_by network sites (SyncOne node at) = option_map_or (λ port. of_count (port.first + (sites node).syncs.0)) (master_at network node) 0
+number_by network sites (Sync node at) =
+    option_map_or (λ port. of_count (port.first + (sites node).syncs.0)) (master_at network node) 0
+number_by network sites (SyncOne node at) =
+    option_map_or (λ port. of_count (port.first + (sites node).syncs.0)) (master_at network node) 0
 number_by network sites (Follow node) = 0
 number_by network sites (Enter node copy at) = 0
 number_by network sites (Leave node transit at) = 0
 number_by network sites (Arrive node copy at) = 0
 number_by network sites (Hear node copy) = 0
-number_by network sites (Request node at) = option_map_or (λ port. of_count (port.first + (sites node).requests.0)) (slave_at network node) 0
+number_by network sites (Request node at) =
+    option_map_or (λ port. of_count (port.first + (sites node).requests.0)) (slave_at network node) 0
 number_by network sites (Stamped node) = 0
 number_by network sites (Tick node) = 0
 number_by network sites (SetMaster node master) = 0
@@ -87,7 +93,8 @@ abbrev pub stayed : Known → Fact → Travel → Travel
 stayed known entered before = record {
   origin = before.origin;
   residence = min (before.residence + (known.reading - entered.reading)) longest;
-  reads_right = before.reads_right && (entered.reads_right && known.reads && not (nat_lt known.reading entered.reading));
+  reads_right = before.reads_right
+      && (entered.reads_right && known.reads && not (nat_lt known.reading entered.reading));
   writes_right = before.writes_right;
 }
 
@@ -126,7 +133,8 @@ sent_by network event number now =
 -- the message at the end of a journey
 abbrev pub travelled_by : Network → Facts → Travel → Option Contents
 travelled_by network facts travel = option_and_then
-    (λ origin. option_map (λ m. resided m travel.residence) (sent_by network origin.event origin.number.0 origin.reading))
+    (λ origin. option_map (λ m. resided m travel.residence)
+    (sent_by network origin.event origin.number.0 origin.reading))
     (facts travel.origin)
 
 abbrev pub followed_by : Facts → PortSetup → Option ℕ → Option Contents
@@ -135,20 +143,24 @@ followed_by facts port last =
 
 abbrev pub answered_by : Network → Facts → PortSetup → (now : ℕ) → Option Travel → Option Contents
 answered_by network facts port now travel =
-    option_map (λ request. delay_resp port.config request.header now) (option_and_then (travelled_by network facts) travel)
+    option_map (λ request. delay_resp port.config request.header now)
+    (option_and_then (travelled_by network facts) travel)
 
 -- the message that a line made
 abbrev pub message_by : Network → Facts → Known → Option Travel → Event → Option Contents
 message_by network facts known travel (Sync node at) = sent_by network (Sync node at) known.number.0 known.reading
-message_by network facts known travel (SyncOne node at) = sent_by network (SyncOne node at) known.number.0 known.reading
+message_by network facts known travel (SyncOne node at) =
+    sent_by network (SyncOne node at) known.number.0 known.reading
 message_by network facts known travel (Follow node) =
     option_and_then (λ port. followed_by facts port known.last_sync) (master_at network node)
 message_by network facts known travel (Enter node copy at) = None
 message_by network facts known travel (Leave node transit at) = option_and_then (travelled_by network facts) travel
 message_by network facts known travel (Arrive node copy at) =
-    option_and_then (λ port. answered_by network facts port known.reading (travel_at facts copy)) (master_at network node)
+    option_and_then (λ port. answered_by network facts port known.reading (travel_at facts copy))
+    (master_at network node)
 message_by network facts known travel (Hear node copy) = None
-message_by network facts known travel (Request node at) = sent_by network (Request node at) known.number.0 known.reading
+message_by network facts known travel (Request node at) =
+    sent_by network (Request node at) known.number.0 known.reading
 message_by network facts known travel (Stamped node) = None
 message_by network facts known travel (Tick node) = None
 message_by network facts known travel (SetMaster node master) = None
@@ -185,7 +197,8 @@ fact_known network facts line known travel =
 abbrev pub fact_by : Network → Facts → Sites → TraceLine → ℕ → Option Fact
 fact_by network facts sites line n =
     if counts network line
-    then Some (fact_known network facts line (known_by network sites line n) (travel_by facts (known_by network sites line n) line.event))
+    then Some (fact_known network facts line (known_by network sites line n)
+    (travel_by facts (known_by network sites line n) line.event))
     else None
 
 -- what is kept of a node after an event of it at the line of this number
@@ -247,18 +260,7 @@ left_again transit leaves stay = if transit == stay then Some (is_some (leaves s
 
 -- the same after one more event
 abbrev pub leaves_after : Event → Leaves → Leaves
-leaves_after (Sync node at) leaves = leaves
-leaves_after (SyncOne node at) leaves = leaves
-leaves_after (Follow node) leaves = leaves
-leaves_after (Enter node copy at) leaves = leaves
-leaves_after (Leave node transit at) leaves = left_again transit leaves
-leaves_after (Arrive node copy at) leaves = leaves
-leaves_after (Hear node copy) leaves = leaves
-leaves_after (Request node at) leaves = leaves
-leaves_after (Stamped node) leaves = leaves
-leaves_after (Tick node) leaves = leaves
-leaves_after (SetMaster node master) leaves = leaves
-leaves_after (StepClock node diff) leaves = leaves
+leaves_after event leaves = option_map_or (λ transit. left_again transit leaves) (spent_transit event) leaves
 
 -- the line at which the departure of the request of each number was learned
 abbrev pub Stamps : Type 0
@@ -271,15 +273,5 @@ stamped last n stamps request =
 
 -- the same after an event at the line of this number
 abbrev pub stamps_after : Event → ℕ → Sites → Stamps → Stamps
-stamps_after (Sync node at) n sites stamps = stamps
-stamps_after (SyncOne node at) n sites stamps = stamps
-stamps_after (Follow node) n sites stamps = stamps
-stamps_after (Enter node copy at) n sites stamps = stamps
-stamps_after (Leave node transit at) n sites stamps = stamps
-stamps_after (Arrive node copy at) n sites stamps = stamps
-stamps_after (Hear node copy) n sites stamps = stamps
-stamps_after (Request node at) n sites stamps = stamps
-stamps_after (Stamped node) n sites stamps = stamped (sites node).last_request n stamps
-stamps_after (Tick node) n sites stamps = stamps
-stamps_after (SetMaster node master) n sites stamps = stamps
-stamps_after (StepClock node diff) n sites stamps = stamps
+stamps_after event n sites stamps =
+    if is_stamped event then stamped (sites (site_of event)).last_request n stamps else stamps

@@ -1,5 +1,5 @@
--- What the checker keeps after lines, and its verdict on them. Its own functions cite these; what its callers are told is said
--- by the lines alone.
+-- What the checker keeps after lines, and its verdict on them. Its own functions cite these; what its callers are
+-- told is said by the lines alone.
 use Rattle.std.specs.Prelude.{◌≡◌, ℕ, ◌≤◌, [], ◌∷◌, length, ◌==◌, if◌then◌else◌, Option, Some, None, option_map}
 use Rattle.std.specs.BTreeMap.{get}
 use Rattle.std.specs.Ordering.{nat_cmp}
@@ -12,7 +12,8 @@ use Rattle.trace_model.specs.declared.verdict.Verdict.{Verdict}
 use Rattle.trace_model.specs.declared.verdict.Verdict.TheVariants.{Accepted, Refused}
 use Rattle.trace_model.specs.Line.{Lines}
 use Rattle.trace_model.specs.Verdict.{report_in, one_more, accepted_count}
-use Rattle.exchange_check.specs.Kept.{Facts, Sites, Leaves, Stamps, new_site, fact_in, site_in, fact_by, sites_after, leaves_after, stamps_after}
+use Rattle.exchange_check.specs.Kept.{Facts, Sites, Leaves, Stamps, new_site, fact_in, site_in}
+use Rattle.exchange_check.specs.Kept.{fact_by, sites_after, leaves_after, stamps_after}
 use Rattle.exchange_check.specs.Stays.{Once, last_stays, once_of, AreStays}
 use Rattle.exchange_check.specs.Judged.{reason_by}
 
@@ -26,7 +27,13 @@ pub record Machine : Type 0 where
 
 -- before the first line
 abbrev pub start : Machine
-start = record { facts = λ n. None; sites = λ name. new_site; leaves = λ n. None; stamps = λ n. None; verdict = Accepted 0 }
+start = record {
+  facts = λ n. None;
+  sites = λ name. new_site;
+  leaves = λ n. None;
+  stamps = λ n. None;
+  verdict = Accepted 0;
+}
 
 -- with the fact of one more line
 abbrev pub with_fact : Facts → ℕ → Option Fact → Facts
@@ -60,7 +67,8 @@ with_line_told network out n m fact = record {
   sites = sites_told fact n m.sites;
   leaves = leaves_told fact m.leaves;
   stamps = stamps_told fact n m.sites m.stamps;
-  verdict = judged network (with_fact m.facts n fact) (once_of (last_stays m.facts) m.leaves) m.stamps m.sites fact out n m.verdict;
+  verdict = judged network (with_fact m.facts n fact)
+      (once_of (last_stays m.facts) m.leaves) m.stamps m.sites fact out n m.verdict;
 }
 
 -- after one more line, before which there were so many
@@ -72,12 +80,24 @@ abbrev pub machine : Network → Lines → Machine
 machine network [] = start
 machine network (line ∷ earlier) = after_line network line (length earlier) (machine network earlier)
 
+-- what is kept of lines
+abbrev pub facts_of : Kept → Facts
+facts_of kept = fact_in kept.facts.items
+
+-- what is kept of nodes
+abbrev pub sites_of : Kept → Sites
+sites_of kept = site_in kept.sites
+
+-- what is kept of requests
+abbrev pub stamps_of : Kept → Stamps
+stamps_of kept = get nat_cmp kept.stamps
+
 -- what is kept is this, after so many lines
 pub record IsKept (kept : Kept) (count : ℕ) (m : Machine) : Type 0 where
   pub count_is : length kept.facts.items ≡ count
-  pub facts : fact_in kept.facts.items ≡ m.facts
-  pub sites : site_in kept.sites ≡ m.sites
+  pub facts : facts_of kept ≡ m.facts
+  pub sites : sites_of kept ≡ m.sites
   pub stays : AreStays kept.stays (last_stays m.facts) m.leaves count
-  pub stamps : get nat_cmp kept.stamps ≡ m.stamps
+  pub stamps : stamps_of kept ≡ m.stamps
   pub verdict : kept.verdict ≡ m.verdict
   pub within : accepted_count m.verdict ≤ count

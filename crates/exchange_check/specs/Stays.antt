@@ -1,11 +1,14 @@
 -- The stays that journeys have, and which of them were ended twice.
-use Rattle.std.specs.Prelude.{◌≡◌, ℕ, zero, suc, ◌+◌, ◌<◌, ◌≤◌, Bool, true, false, ◌&&◌, not, List, [], ◌∷◌, nat_lt, slice_get, unwrap_or, ◌==◌, is_some, if◌then◌else◌, Option, Some, None, option_map, option_and_then}
+use Rattle.std.specs.Prelude.{◌≡◌, ℕ, zero, suc, ◌+◌, ◌<◌, ◌≤◌, Bool, true, false, ◌&&◌, not}
+use Rattle.std.specs.Prelude.{List, [], ◌∷◌, nat_lt, slice_get, unwrap_or, ◌==◌, is_some, if◌then◌else◌}
+use Rattle.std.specs.Prelude.{Option, Some, None, option_map, option_and_then, Result, MatchResult}
 use Rattle.std.specs.BTreeMap.{get}
 use Rattle.std.specs.Ordering.{nat_cmp}
 use Rattle.std.specs.Option.{option_map_or}
 use Rattle.network_model.specs.Kinds.{entered_copy, spent_transit}
 use Rattle.trace_model.specs.Sound.{where_passes, below}
 use Rattle.exchange_check.specs.declared.facts.Fact.{Fact}
+use Rattle.exchange_check.specs.declared.refusal.CheckFault.{CheckFault}
 use Rattle.exchange_check.specs.declared.stays.Branch.{Branch}
 use Rattle.exchange_check.specs.declared.stays.Stays.{Stays}
 use Rattle.exchange_check.specs.Kept.{Facts, Leaves}
@@ -17,7 +20,8 @@ LastStays = ℕ → Option (ℕ × ℕ)
 -- the stay that began at the line of this number, where that line and the copy that entered there are below a limit
 abbrev pub stay_below : Facts → (limit transit : ℕ) → Option (ℕ × ℕ)
 stay_below facts limit transit = option_and_then
-    (λ entered. option_map (λ copy. (transit, copy)) (where_passes (λ copy. nat_lt copy limit) (entered_copy entered.event)))
+    (λ entered. option_map (λ copy. (transit, copy))
+    (where_passes (λ copy. nat_lt copy limit) (entered_copy entered.event)))
     (below facts limit transit)
 
 -- the last stay of the copy that a line made
@@ -71,7 +75,8 @@ with_branch number branch branches copy = if number == copy then branch else bra
 -- the copies through which the order leads from a link to a copy, each deeper than this
 abbrev pub IsStretch : (depth : ℕ → ℕ) → (next : ℕ → Option ℕ) → (above : ℕ) → Option ℕ → List ℕ → ℕ → Type 0
 IsStretch depth next above from [] to = from ≡ Some to
-IsStretch depth next above from (copy ∷ later) to = (from ≡ Some copy) × (above < depth copy) × IsStretch depth next above (next copy) later to
+IsStretch depth next above from (copy ∷ later) to =
+    (from ≡ Some copy) × (above < depth copy) × IsStretch depth next above (next copy) later to
 
 -- there are such copies
 pub record Stretch (depth : ℕ → ℕ) (next : ℕ → Option ℕ) (above : ℕ) (from : Option ℕ) (to : ℕ) : Type 0 where
@@ -93,9 +98,10 @@ Firsts = ℕ → Option ℕ
 abbrev pub with_first : (transit number : ℕ) → Firsts → Firsts
 with_first transit number firsts stay = if transit == stay then Some number else firsts stay
 
--- The order of the copies below a number. Of copies that aren't marked, the links lead from a copy to each that grew from it
--- directly, through copies deeper than the first.
-pub record IsOrdered (branches : Branches) (firsts : Firsts) (stays : LastStays) (leaves : Leaves) (number : ℕ) : Type 0 where
+-- The order of the copies below a number. Of copies that aren't marked, the links lead from a copy to each that
+-- grew from it directly, through copies deeper than the first.
+pub record IsOrdered (branches : Branches) (firsts : Firsts) (stays : LastStays) (leaves : Leaves)
+    (number : ℕ) : Type 0 where
   -- a copy grew from an older one
   pub within : (n transit copy : ℕ) → stays n ≡ Some (transit, copy) → (copy < n) × (n < number)
   -- its last stay has a first Leave line, as each stay that was ended
@@ -103,15 +109,19 @@ pub record IsOrdered (branches : Branches) (firsts : Firsts) (stays : LastStays)
   pub known : (transit : ℕ) → is_some (firsts transit) ≡ is_some (leaves transit)
   -- which is below the number, and names that stay
   pub earlier : (transit first : ℕ) → firsts transit ≡ Some first → first < number
-  pub of_first : (transit first other copy : ℕ) → firsts transit ≡ Some first → stays first ≡ Some (other, copy) → other ≡ transit
+  pub of_first : (transit first other copy : ℕ) → firsts transit ≡ Some first → stays first ≡ Some (other, copy)
+      → other ≡ transit
   -- a copy that isn't marked left by the first Leave line of its stay
-  pub first : (n transit copy : ℕ) → stays n ≡ Some (transit, copy) → (branches n).once ≡ true → firsts transit ≡ Some n
+  pub first : (n transit copy : ℕ) → stays n ≡ Some (transit, copy) → (branches n).once ≡ true
+      → firsts transit ≡ Some n
   -- how deep copies are
   pub flat : (n : ℕ) → stays n ≡ None → (branches n).depth ≡ 0
   pub low : (n : ℕ) → (branches n).depth ≤ n
-  pub deeper : (n transit copy : ℕ) → stays n ≡ Some (transit, copy) → (branches n).once ≡ true → (branches n).depth ≡ (branches copy).depth + 1
+  pub deeper : (n transit copy : ℕ) → stays n ≡ Some (transit, copy) → (branches n).once ≡ true
+      → (branches n).depth ≡ (branches copy).depth + 1
   -- the links lead from a copy to what grew from it, never two to one copy, and none to a copy without a stay
-  pub runs : (n transit copy : ℕ) → stays n ≡ Some (transit, copy) → (branches n).once ≡ true → (branches copy).once ≡ true
+  pub runs : (n transit copy : ℕ) → stays n ≡ Some (transit, copy) → (branches n).once ≡ true
+      → (branches copy).once ≡ true
       → Stretch (depths branches) (nexts branches) (branches copy).depth (branches copy).next n
   pub one_before : (one other n : ℕ) → (branches one).next ≡ Some n → (branches other).next ≡ Some n → one ≡ other
   pub no_link_to_a_root : (n after : ℕ) → (branches n).next ≡ Some after → 0 < (branches after).depth
@@ -121,13 +131,24 @@ abbrev pub is_whole : Branches → Leaves → Option (ℕ × ℕ) → Bool
 is_whole branches leaves stay = option_map_or (λ s. is_once (leaves s.0) && (branches s.1).once) stay true
 
 -- what is kept of each copy below a number, with these last stays
-pub record AreBranches (branches : Branches) (firsts : Firsts) (stays : LastStays) (leaves : Leaves) (number : ℕ) : Type 0 where
+pub record AreBranches (branches : Branches) (firsts : Firsts) (stays : LastStays) (leaves : Leaves)
+    (number : ℕ) : Type 0 where
   pub ordered : IsOrdered branches firsts stays leaves number
   pub once : (n : ℕ) → (branches n).once ≡ is_whole branches leaves (stays n)
 
 -- the same of what is kept
 abbrev pub AreStays : Stays → LastStays → Leaves → ℕ → Type 0
-AreStays kept stays leaves number = AreBranches (branch_in kept.branches.items) (get nat_cmp kept.firsts) stays leaves number
+AreStays kept stays leaves number =
+    AreBranches (branch_in kept.branches.items) (get nat_cmp kept.firsts) stays leaves number
+
+-- the line of this number gives its copy this last stay, if any, and changes which stays were ended; where memory is
+-- refused, what is kept says the same as before
+abbrev pub StaysAfter : (old new : Stays) → ℕ → Option (ℕ × ℕ) → (Leaves → Leaves) → Result (Unit {0}) CheckFault
+    → Type 0
+StaysAfter old new number stay ended result =
+    (stays : LastStays) (leaves : Leaves) → AreStays old stays leaves number → MatchResult result
+    (λ _. AreStays new (with_stay number stay stays) (ended leaves) (number + 1))
+    (λ _. AreStays new stays leaves number)
 
 -- what is kept of each copy's journey
 abbrev pub once_in : Stays → Once

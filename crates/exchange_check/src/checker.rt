@@ -1,12 +1,11 @@
-ghost use Rattle.std.specs.Prelude.{◌≡◌, reverse, MatchResult, IfOk};
-ghost use Rattle.std.specs.Prelude.{◌++◌, ◌∷◌, [], length};
-ghost use Rattle.network_model.specs.Network.{Network};
-ghost use Rattle.exchange_check.specs.declared.refusal.CheckFault.TheVariants.{Memory};
+ghost use Rattle.std.specs.Prelude.{◌≡◌, reverse, MatchResult, IfOk, ◌++◌, ◌∷◌, [], length};
+ghost use Rattle.network_model.specs.Premises.{IsFreshAndTicked, IsWithinTurn, exact_limits};
 ghost use Rattle.trace_model.specs.Verdict.{verdict};
 ghost use Rattle.trace_model.specs.Soundness.{TellsSoundness};
 ghost use Rattle.trace_model.specs.Complete.{AcceptsTruth};
-ghost use Rattle.network_model.specs.Premises.{IsFreshAndTicked, IsWithinTurn, exact_limits};
+ghost use Rattle.exchange_check.specs.declared.refusal.CheckFault.TheVariants.{Memory};
 
+use crate::history::History;
 use crate::kept::Kept;
 use crate::refusal::CheckFault;
 use network_model::Nodes;
@@ -24,8 +23,10 @@ pub fn check(alloc: Global, nodes: &Nodes, lines: &[TraceLine]) -> Result<Verdic
         (λ fault. fault ≡ Memory) }
     ensures sound { IfOk result (λ answer. TellsSoundness nodes.now (reverse lines.now) answer) }
     // Nothing is missed: lines that tell a run with exact reports are accepted.
-    ensures complete { IfOk result (λ answer. AcceptsTruth (IsFreshAndTicked exact_limits) nodes.now (reverse lines.now) answer) }
-    ensures complete_within_one_turn { IfOk result (λ answer. AcceptsTruth IsWithinTurn nodes.now (reverse lines.now) answer) }
+    ensures complete { IfOk result
+        (λ answer. AcceptsTruth (IsFreshAndTicked exact_limits) nodes.now (reverse lines.now) answer) }
+    ensures complete_within_one_turn { IfOk result
+        (λ answer. AcceptsTruth IsWithinTurn nodes.now (reverse lines.now) answer) }
 {
     let mut kept = Kept::new(alloc);
     for line in lines {
@@ -38,7 +39,7 @@ pub fn check(alloc: Global, nodes: &Nodes, lines: &[TraceLine]) -> Result<Verdic
 #[derive(Drop)]
 pub struct Checker {
     nodes: Nodes,
-    lines: Vec<TraceLine>,
+    fed: History,
     kept: Kept,
 }
 
@@ -49,9 +50,9 @@ impl Model for Checker {
 
     ghost Value = { Transcript };
 
-    ghost view = { λ c. record { network = c.nodes; lines = c.lines.items } };
+    ghost view = { λ c. record { network = c.nodes; lines = reverse c.fed } };
 
-    ghost invariant = { λ c. IsKept c.kept (length c.lines.items) (machine c.nodes (reverse c.lines.items)) };
+    ghost invariant = { λ c. IsKept c.kept (length c.fed) (machine c.nodes c.fed) };
 }
 
 impl Checker {
@@ -64,7 +65,7 @@ impl Checker {
     {
         Ok(Checker {
             nodes,
-            lines: Vec::new(alloc),
+            fed: History::new(),
             kept: Kept::new(alloc),
         })
     }
@@ -76,12 +77,8 @@ impl Checker {
             (λ _. self.new ≡ record { network = self.old.network; lines = self.old.lines ++ line ∷ [] })
             (λ fault. (fault ≡ Memory) × (self.new ≡ self.old)) }
     {
-        if self.lines.reserve(1).is_err() {
-            return Err(CheckFault::Memory);
-        }
         self.kept.step(&self.nodes, &line)?;
-        let pushed = self.lines.push(line);
-        prove!(pushed.is_ok());
+        self.fed.push(&line);
         Ok(())
     }
 
@@ -89,14 +86,15 @@ impl Checker {
     pub fn len(&self) -> u64
         ensures { result ≡ length self.now.lines }
     {
-        self.lines.len() as u64
+        self.kept.facts.len() as u64
     }
 
     /// The verdict on the lines fed so far, as [`check`] answers it.
     pub fn verdict(&self) -> Verdict
         ensures verdict { result ≡ verdict self.now.network (reverse self.now.lines) }
         ensures sound { TellsSoundness self.now.network (reverse self.now.lines) result }
-        ensures complete { AcceptsTruth (IsFreshAndTicked exact_limits) self.now.network (reverse self.now.lines) result }
+        ensures complete { AcceptsTruth (IsFreshAndTicked exact_limits) self.now.network
+            (reverse self.now.lines) result }
         ensures complete_within_one_turn { AcceptsTruth IsWithinTurn self.now.network (reverse self.now.lines) result }
     {
         self.kept.verdict

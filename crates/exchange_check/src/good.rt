@@ -1,9 +1,8 @@
 //! Which lines are good, and tell of something done.
 
 ghost use Rattle.std.specs.Prelude.{◌≡◌};
-ghost use Rattle.network_model.specs.Network.{Network, NodeName};
 ghost use Rattle.trace_model.specs.Line.{is_done, is_made, is_entered, completes, is_heard, is_refused, is_ignored};
-ghost use Rattle.trace_model.specs.Line.{is_master, is_slave, is_clock, may_arrive, may_happen, counts};
+ghost use Rattle.trace_model.specs.Line.{is_master, is_slave, is_clock, may_arrive, counts, is_good};
 
 use network_model::{Event, Name, NodeKind, Nodes};
 use trace_model::{TraceLine, TraceOut};
@@ -89,8 +88,8 @@ fn may_arrive(nodes: &Nodes, node: &Name, out: &TraceOut) -> bool
 
 /// Whether a line is good: its nodes are of the kinds that the event is for, and it may have come
 /// out so.
-fn may_happen(nodes: &Nodes, event: &Event, out: &TraceOut) -> bool
-    ensures { result ≡ may_happen nodes.now event.now out.now }
+fn is_good(nodes: &Nodes, event: &Event, out: &TraceOut) -> bool
+    ensures { result ≡ is_good nodes.now event.now out.now }
 {
     match event {
         Event::Sync { node, .. } => is_master(nodes, node) && is_made(out),
@@ -114,5 +113,5 @@ fn may_happen(nodes: &Nodes, event: &Event, out: &TraceOut) -> bool
 pub(crate) fn counts(nodes: &Nodes, line: &TraceLine) -> bool
     ensures { result ≡ counts nodes.now line.now }
 {
-    may_happen(nodes, &line.event, &line.out) && !(is_refused(&line.out) || is_ignored(&line.out))
+    is_good(nodes, &line.event, &line.out) && !(is_refused(&line.out) || is_ignored(&line.out))
 }

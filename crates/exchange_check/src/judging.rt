@@ -1,17 +1,19 @@
 //! How a report is judged by what is kept.
 
 ghost use Rattle.std.specs.Prelude.{◌≡◌, ◌+◌, ◌<◌, ◌-ℤ◌, ◌&&◌, pos, option_map};
-ghost use Rattle.std.specs.BTreeMap.{get};
-ghost use Rattle.std.specs.Ordering.{nat_cmp};
-ghost use Rattle.ptp_units.specs.Exchange.{IsBracket, offset2, path2};
 ghost use Rattle.std.specs.Ordering.{int_eq};
+ghost use Rattle.ptp_units.specs.Exchange.{IsBracket, offset2, path2};
 ghost use Rattle.ptp_units.specs.Moment.{bound};
 ghost use Rattle.network_model.specs.Kinds.{draws_sync, is_request, is_arrival, is_hearing};
-ghost use Rattle.network_model.specs.Run.{site_of};
-ghost use Rattle.trace_model.specs.Sound.{is_of_line, is_domain, are_later, below};
-ghost use Rattle.exchange_check.specs.Kept.{fact_in, site_in, port_setup};
+ghost use Rattle.trace_model.specs.Sound.{is_of_line, is_domain, are_later};
+ghost use Rattle.exchange_check.specs.Kept.{port_setup};
 ghost use Rattle.exchange_check.specs.Stays.{once_in};
-ghost use Rattle.exchange_check.specs.Judged.{line_of_by, sender_by, sync_by, follow_by, follows_by, arrival_by, completion_by, is_here, is_stamped_by, found_by, way_at, way_from, way_to, is_followed_by, paired_by, is_told, of_master_by, readings_by, fraction_by, fits_by, bracket_by, results_by, octets_by, ways_reason, both_ways, found_reason, fact_reason, reason_by};
+ghost use Rattle.exchange_check.specs.Judged.{line_of_by, sender_by, sync_by, follow_by, follows_by, arrival_by};
+ghost use Rattle.exchange_check.specs.Judged.{completion_by, is_here, is_stamped_by, found_by, way_at, way_to};
+ghost use Rattle.exchange_check.specs.Judged.{is_followed_by, paired_by, is_told, of_master_by, readings_by};
+ghost use Rattle.exchange_check.specs.Judged.{fraction_by, fits_by, bracket_by, results_by, octets_by, ways_reason};
+ghost use Rattle.exchange_check.specs.Judged.{found_reason, reason_by};
+ghost use Rattle.exchange_check.specs.Machine.{facts_of, sites_of, stamps_of};
 
 use crate::facts::{Fact, Found, LONGEST, Site, Way};
 use crate::kept::Kept;
@@ -230,41 +232,41 @@ fn is_here(wanted: bool, event: &Event, slave: &Name) -> bool
 impl Kept {
     /// The arrival of this number at a slave.
     fn arrival_at(&self, slave: &Name, number: u64) -> Option<Fact>
-        ensures { result ≡ line_of_by (fact_in self.now.facts.items) is_arrival slave.now number }
+        ensures { result ≡ line_of_by (facts_of self.now) is_arrival slave.now number }
     {
         match self.at(number) {
-            Some(fact) if is_here(fact.event.is_arrival(), &fact.event, slave) => Some(fact),
+            Some(fact) if is_here(fact.event.is_arrival(), &fact.event, slave) => Some(*fact),
             _ => None,
         }
     }
 
     /// The hearing of this number at a slave.
     fn hearing_at(&self, slave: &Name, number: u64) -> Option<Fact>
-        ensures { result ≡ line_of_by (fact_in self.now.facts.items) is_hearing slave.now number }
+        ensures { result ≡ line_of_by (facts_of self.now) is_hearing slave.now number }
     {
         match self.at(number) {
-            Some(fact) if is_here(fact.event.is_hearing(), &fact.event, slave) => Some(fact),
+            Some(fact) if is_here(fact.event.is_hearing(), &fact.event, slave) => Some(*fact),
             _ => None,
         }
     }
 
     /// The request of this number at a slave.
     fn request_at(&self, slave: &Name, number: u64) -> Option<Fact>
-        ensures { result ≡ line_of_by (fact_in self.now.facts.items) is_request slave.now number }
+        ensures { result ≡ line_of_by (facts_of self.now) is_request slave.now number }
     {
         match self.at(number) {
-            Some(fact) if is_here(fact.event.is_request(), &fact.event, slave) => Some(fact),
+            Some(fact) if is_here(fact.event.is_request(), &fact.event, slave) => Some(*fact),
             _ => None,
         }
     }
 
     /// The line that made the copy which is heard at a line, and stands below it.
     fn sender(&self, fact: &Fact) -> Option<Fact>
-        ensures { result ≡ sender_by (fact_in self.now.facts.items) fact.now }
+        ensures { result ≡ sender_by (facts_of self.now) fact.now }
     {
         let copy = fact.event.heard_copy()?;
         if copy < fact.line {
-            self.at(copy)
+            self.at(copy).copied()
         } else {
             None
         }
@@ -272,7 +274,7 @@ impl Kept {
 
     /// The Sync's arrival.
     fn sync(&self, slave: &Name, report: &Report) -> Option<Fact>
-        ensures { result ≡ sync_by (fact_in self.now.facts.items) slave.now report.now }
+        ensures { result ≡ sync_by (facts_of self.now) slave.now report.now }
     {
         match self.arrival_at(slave, report.sync_tag) {
             Some(fact) if report.follow_tag.is_some() || fact.completes => Some(fact),
@@ -282,13 +284,9 @@ impl Kept {
 
     /// The line that sent the Follow_Up which was heard at the line of this number.
     fn follow(&self, slave: &Name, hearing: u64) -> Option<Fact>
-        ensures { result ≡ follow_by (fact_in self.now.facts.items) slave.now hearing }
+        ensures { result ≡ follow_by (facts_of self.now) slave.now hearing }
     {
-        let sender = match self.hearing_at(slave, hearing) {
-            Some(heard) => self.sender(&heard),
-            None => None,
-        };
-        match sender {
+        match self.sender(&self.hearing_at(slave, hearing)?) {
             Some(fact) if fact.event.is_follow() => Some(fact),
             _ => None,
         }
@@ -296,20 +294,17 @@ impl Kept {
 
     /// The same where the report has a Follow_Up.
     fn follows(&self, slave: &Name, hearing: Option<u64>) -> Option<Option<Fact>>
-        ensures { result ≡ follows_by (fact_in self.now.facts.items) slave.now hearing }
+        ensures { result ≡ follows_by (facts_of self.now) slave.now hearing }
     {
         match hearing {
-            Some(hearing) => match self.follow(slave, hearing) {
-                Some(fact) => Some(Some(fact)),
-                None => None,
-            },
+            Some(hearing) => Some(Some(self.follow(slave, hearing)?)),
             None => Some(None),
         }
     }
 
     /// The hearing of this number at a slave, where it completed a pair.
     fn completion_at(&self, slave: &Name, hearing: u64) -> Option<Fact>
-        ensures { result ≡ completion_by (fact_in self.now.facts.items) slave.now hearing }
+        ensures { result ≡ completion_by (facts_of self.now) slave.now hearing }
     {
         match self.hearing_at(slave, hearing) {
             Some(fact) if fact.completes => Some(fact),
@@ -319,13 +314,9 @@ impl Kept {
 
     /// The arrival at a master that sent the Delay_Resp which was heard at the line of this number.
     fn arrival(&self, slave: &Name, hearing: u64) -> Option<Fact>
-        ensures { result ≡ arrival_by (fact_in self.now.facts.items) slave.now hearing }
+        ensures { result ≡ arrival_by (facts_of self.now) slave.now hearing }
     {
-        let sender = match self.completion_at(slave, hearing) {
-            Some(heard) => self.sender(&heard),
-            None => None,
-        };
-        match sender {
+        match self.sender(&self.completion_at(slave, hearing)?) {
             Some(fact) if fact.event.is_arrival() && fact.made => Some(fact),
             _ => None,
         }
@@ -333,7 +324,7 @@ impl Kept {
 
     /// Whether the slave learned between these two lines when its request departed.
     fn is_stamped(&self, request: u64, hearing: u64) -> bool
-        ensures { result ≡ is_stamped_by (get nat_cmp self.now.stamps) request hearing }
+        ensures { result ≡ is_stamped_by (stamps_of self.now) request hearing }
     {
         let stamped = match self.stamps.get(&request) {
             Some(stamp) => *stamp < hearing,
@@ -344,43 +335,33 @@ impl Kept {
 
     /// The lines of a report of the line of this number.
     fn found(&self, slave: &Name, number: u64, report: &Report) -> Option<Found>
-        ensures { result ≡ found_by (fact_in self.now.facts.items) (get nat_cmp self.now.stamps) slave.now number report.now }
+        ensures { result ≡ found_by (facts_of self.now) (stamps_of self.now) slave.now number report.now }
     {
         if !(is_of_line(number, report)
             && self.is_stamped(report.request_tag, report.response_tag))
         {
             return None;
         }
-        match (
-            self.sync(slave, report),
-            self.follows(slave, report.follow_tag),
-            self.request_at(slave, report.request_tag),
-            self.arrival(slave, report.response_tag),
-        ) {
-            (Some(sync), Some(follow), Some(request), Some(arrival)) => Some(Found {
-                sync,
-                follow,
-                request,
-                arrival,
-            }),
-            _ => None,
-        }
+        Some(Found {
+            sync: self.sync(slave, report)?,
+            follow: self.follows(slave, report.follow_tag)?,
+            request: self.request_at(slave, report.request_tag)?,
+            arrival: self.arrival(slave, report.response_tag)?,
+        })
     }
 
     /// The journey of the copy that the line of this number made.
     fn way_at(&self, copy: u64) -> Option<Way>
-        ensures { result ≡ way_at (fact_in self.now.facts.items) copy }
+        ensures { result ≡ way_at (facts_of self.now) copy }
     {
         let travel = self.travel_at(copy)?;
-        match self.at(travel.origin) {
-            Some(origin) => Some(Way { travel, origin }),
-            None => None,
-        }
+        let origin = *self.at(travel.origin)?;
+        Some(Way { travel, origin })
     }
 
     /// The journey of a Sync that arrives at a line.
     fn sync_way(&self, arrival: &Fact) -> Option<Way>
-        ensures { result ≡ way_to (fact_in self.now.facts.items) (once_in self.now.stays) draws_sync arrival.now }
+        ensures { result ≡ way_to (facts_of self.now) (once_in self.now.stays) draws_sync arrival.now }
     {
         let copy = arrival.event.heard_copy()?;
         if copy >= arrival.line {
@@ -394,7 +375,7 @@ impl Kept {
 
     /// The journey of a Delay_Req that arrives at a line.
     fn request_way(&self, arrival: &Fact) -> Option<Way>
-        ensures { result ≡ way_to (fact_in self.now.facts.items) (once_in self.now.stays) is_request arrival.now }
+        ensures { result ≡ way_to (facts_of self.now) (once_in self.now.stays) is_request arrival.now }
     {
         let copy = arrival.event.heard_copy()?;
         if copy >= arrival.line {
@@ -414,7 +395,8 @@ impl Kept {
         report: &Report,
         found: Option<Found>,
     ) -> Option<Why>
-        ensures { result ≡ found_reason nodes.now (fact_in self.now.facts.items) (once_in self.now.stays) (site_in self.now.sites slave.now) slave.now report.now found }
+        ensures { result ≡ found_reason nodes.now (facts_of self.now) (once_in self.now.stays)
+            (sites_of self.now slave.now) slave.now report.now found }
     {
         let Some(found) = found else {
             return Some(Why::NoSuchLine);
@@ -431,7 +413,8 @@ impl Kept {
 
     /// Why a report at a line isn't sound, or nothing where it is.
     pub(crate) fn reason(&self, nodes: &Nodes, fact: &Option<Fact>, report: &Report) -> Option<Why>
-        ensures { result ≡ reason_by nodes.now (fact_in self.now.facts.items) (once_in self.now.stays) (get nat_cmp self.now.stamps) (site_in self.now.sites) fact.now report.now }
+        ensures { result ≡ reason_by nodes.now (facts_of self.now) (once_in self.now.stays) (stamps_of self.now)
+            (sites_of self.now) fact.now report.now }
     {
         let Some(fact) = fact else {
             return Some(Why::NoSuchLine);

@@ -1,19 +1,20 @@
 //! What is kept of the lines so far, and what one more line adds to it.
 
-ghost use Rattle.std.specs.Prelude.{◌≡◌, ◌≤ℤ◌, ◌+ℤ◌, ◌+◌, pos, option_map, option_and_then, unwrap_or, IfSome};
-ghost use Rattle.std.specs.Prelude.{ℕ, ◌==◌, is_some, if◌then◌else◌, Some, None, OnOk, OnErr};
-ghost use Rattle.std.specs.Prelude.{◌<◌, MatchResult};
+ghost use Rattle.std.specs.Prelude.{◌≡◌, ◌≤ℤ◌, ◌+ℤ◌, ◌+◌, pos, option_map, option_and_then, unwrap_or, IfSome, ℕ};
+ghost use Rattle.std.specs.Prelude.{◌==◌, Some, None, OnOk, OnErr, ◌<◌, MatchResult};
 ghost use Rattle.std.specs.BTreeMap.{get};
 ghost use Rattle.std.specs.Ordering.{nat_cmp};
 ghost use Rattle.trace_model.specs.Verdict.{accepted_count};
-ghost use Rattle.exchange_check.specs.Machine.{Machine, IsKept, start, judged, after_line, sites_told, leaves_told, stamps_told};
-ghost use Rattle.exchange_check.specs.Stays.{LastStays, stay_of, with_stay, AreStays, once_in};
+ghost use Rattle.exchange_check.specs.Machine.{Machine, IsKept, start, judged, after_line, sites_told, leaves_told};
+ghost use Rattle.exchange_check.specs.Machine.{stamps_told, facts_of, sites_of, stamps_of};
+ghost use Rattle.exchange_check.specs.Stays.{stay_of, once_in, StaysAfter};
 ghost use Rattle.network_model.specs.Kinds.{spent_transit};
-ghost use Rattle.std.specs.Option.{option_map_or, option_or};
-ghost use Rattle.network_model.specs.Network.{NodeName};
-ghost use Rattle.exchange_check.specs.Kept.{Leaves, moved, moved_at, stamped, sites_after, leaves_after, stamps_after};
+ghost use Rattle.std.specs.Option.{option_map_or};
+ghost use Rattle.exchange_check.specs.Kept.{moved, moved_at, stamped, sites_after, leaves_after, stamps_after};
+ghost use Rattle.exchange_check.specs.Kept.{site_in, travel_at, copy_entered_by, stayed, begun_by, travel_by};
+ghost use Rattle.exchange_check.specs.Kept.{travelled_by, followed_by, answered_by, message_by, known_by, number_by};
+ghost use Rattle.exchange_check.specs.Kept.{fact_known, fact_by, travel_left, written_travel, port_setup};
 ghost use Rattle.ptp_units.specs.Sequence.{of_count};
-ghost use Rattle.exchange_check.specs.Kept.{fact_in, site_in, travel_at, copy_entered_by, stayed, begun_by, travel_by, travelled_by, followed_by, answered_by, message_by, known_by, number_by, fact_known, fact_by, travel_left, written_travel, port_setup};
 ghost use Rattle.event_codec.specs.Profile.{contents_of};
 ghost use Rattle.trace_model.specs.Record.{is_reading};
 
@@ -134,38 +135,32 @@ impl Kept {
     }
 
     /// What is kept of the line of this number, where it tells of something done.
-    pub(crate) fn at(&self, number: u64) -> Option<Fact>
-        ensures { result ≡ fact_in self.now.facts.items number }
+    pub(crate) fn at(&self, number: u64) -> Option<&Fact>
+        ensures { option_map (λ fact. fact.now) result ≡ facts_of self.now number }
     {
         match self.facts.get(number as usize) {
-            Some(fact) => *fact,
-            None => None,
+            Some(Some(fact)) => Some(fact),
+            _ => None,
         }
     }
 
     /// What is kept of a node.
     pub(crate) fn site(&self, name: &Name) -> Site
-        ensures { result ≡ site_in self.now.sites name.now }
+        ensures { result ≡ sites_of self.now name.now }
     {
-        match self.sites.get(name) {
-            Some(site) => *site,
-            None => Site::default(),
-        }
+        site_in(&self.sites, name)
     }
 
     /// The journey of the copy that the line of this number made.
     pub(crate) fn travel_at(&self, copy: u64) -> Option<Travel>
-        ensures { result ≡ travel_at (fact_in self.now.facts.items) copy }
+        ensures { result ≡ travel_at (facts_of self.now) copy }
     {
-        match self.at(copy) {
-            Some(fact) => fact.travel,
-            None => None,
-        }
+        self.at(copy)?.travel
     }
 
     /// The sequenceId that an event draws.
     fn number(&self, nodes: &Nodes, event: &Event) -> Seq
-        ensures { result.0 ≡ number_by nodes.now (site_in self.now.sites) event.now }
+        ensures { result.0 ≡ number_by nodes.now (sites_of self.now) event.now }
     {
         match event {
             Event::Sync { node, .. } | Event::SyncOne { node, .. } => {
@@ -178,7 +173,7 @@ impl Kept {
 
     /// What is known of a line from the line itself and from its node.
     fn known(&self, nodes: &Nodes, line: &TraceLine, number: u64) -> Known
-        ensures { result ≡ known_by nodes.now (site_in self.now.sites) line.now number }
+        ensures { result ≡ known_by nodes.now (sites_of self.now) line.now number }
     {
         let site = self.site(&line.event.node());
         Known {
@@ -192,19 +187,17 @@ impl Kept {
 
     /// The journey of a copy that leaves a clock, its own octets left out.
     fn left(&self, clock: &Name, transit: u64, known: &Known) -> Option<Travel>
-        ensures { result ≡ travel_left (fact_in self.now.facts.items) clock.now transit known.now }
+        ensures { result ≡ travel_left (facts_of self.now) clock.now transit known.now }
     {
-        let Some(entered) = self.at(transit) else {
-            return None;
-        };
-        let copy = copy_entered(clock, &entered)?;
+        let entered = self.at(transit)?;
+        let copy = copy_entered(clock, entered)?;
         let before = self.travel_at(copy)?;
-        Some(stayed(known, &entered, &before))
+        Some(stayed(known, entered, &before))
     }
 
     /// The journey of the copy that a line made, its own octets left out.
     fn travel(&self, known: &Known, event: &Event) -> Option<Travel>
-        ensures { result ≡ travel_by (fact_in self.now.facts.items) known.now event.now }
+        ensures { result ≡ travel_by (facts_of self.now) known.now event.now }
     {
         match event {
             Event::Sync { .. } | Event::SyncOne { .. } | Event::Request { .. } => {
@@ -217,29 +210,19 @@ impl Kept {
 
     /// The message at the end of a journey.
     fn travelled(&self, nodes: &Nodes, travel: &Travel) -> Option<Written>
-        ensures value { option_map contents_of result ≡ travelled_by nodes.now (fact_in self.now.facts.items) travel.now }
+        ensures value { option_map contents_of result ≡ travelled_by nodes.now (facts_of self.now) travel.now }
         ensures sign { IfSome result (λ m. pos 0 ≤ℤ m.header.correction.0) }
     {
-        let Some(origin) = self.at(travel.origin) else {
-            return None;
-        };
-        let Fact {
-            event,
-            number,
-            reading,
-            ..
-        } = origin;
-        let message = sent(nodes, &event, number, reading)?;
+        let origin = self.at(travel.origin)?;
+        let message = sent(nodes, &origin.event, origin.number, origin.reading)?;
         Some(resided(&message, travel.residence))
     }
 
     /// The Follow_Up of the Sync line of this number.
     fn followed(&self, port: &Port, last: Option<u64>) -> Option<Written>
-        ensures { option_map contents_of result ≡ followed_by (fact_in self.now.facts.items) (port_setup port.now) last }
+        ensures { option_map contents_of result ≡ followed_by (facts_of self.now) (port_setup port.now) last }
     {
-        let Some(sync) = self.at(last?) else {
-            return None;
-        };
+        let sync = self.at(last?)?;
         Some(follow_up(&port.config, sync.number, sync.reading))
     }
 
@@ -251,7 +234,8 @@ impl Kept {
         now: ScaledTime,
         travel: Option<Travel>,
     ) -> Option<Written>
-        ensures { option_map contents_of result ≡ answered_by nodes.now (fact_in self.now.facts.items) (port_setup port.now) now travel }
+        ensures { option_map contents_of result
+            ≡ answered_by nodes.now (facts_of self.now) (port_setup port.now) now travel }
     {
         let request = self.travelled(nodes, &travel?)?;
         delay_resp(&port.config, &request.header, now)
@@ -265,7 +249,7 @@ impl Kept {
         travel: Option<Travel>,
         event: &Event,
     ) -> Option<Written>
-        ensures { option_map contents_of result ≡ message_by nodes.now (fact_in self.now.facts.items) known.now travel event.now }
+        ensures { option_map contents_of result ≡ message_by nodes.now (facts_of self.now) known.now travel event.now }
     {
         match event {
             Event::Sync { .. } | Event::SyncOne { .. } | Event::Request { .. } => {
@@ -283,7 +267,8 @@ impl Kept {
 
     /// What is kept of a line that tells of something done.
     fn told(&self, nodes: &Nodes, line: &TraceLine, known: &Known) -> Fact
-        ensures { result ≡ fact_known nodes.now (fact_in self.now.facts.items) line.now known.now (travel_by (fact_in self.now.facts.items) known.now line.now.event) }
+        ensures { result ≡ fact_known nodes.now (facts_of self.now) line.now known.now
+            (travel_by (facts_of self.now) known.now line.now.event) }
     {
         let travel = self.travel(known, &line.event);
         let message = self.message(nodes, known, travel, &line.event);
@@ -304,7 +289,7 @@ impl Kept {
 
     /// What is kept of a line of this number.
     pub(crate) fn fact(&self, nodes: &Nodes, line: &TraceLine, number: u64) -> Option<Fact>
-        ensures { result ≡ fact_by nodes.now (fact_in self.now.facts.items) (site_in self.now.sites) line.now number }
+        ensures { result ≡ fact_by nodes.now (facts_of self.now) (sites_of self.now) line.now number }
     {
         if !counts(nodes, line) {
             return None;
@@ -316,30 +301,27 @@ impl Kept {
     /// is known.
     fn entered(&self, fact: &Fact, transit: u64, number: u64) -> Option<u64>
         ensures stay { spent_transit fact.now.event ≡ Some transit
-            → option_map (λ copy. (transit, copy)) result ≡ stay_of (fact_in self.now.facts.items) number fact.now }
+            → option_map (λ copy. (transit, copy)) result ≡ stay_of (facts_of self.now) number fact.now }
         ensures below { IfSome result (λ copy. copy < number) }
     {
         if fact.travel.is_none() || transit >= number {
             return None;
         }
-        let copy = match self.at(transit) {
-            Some(entered) => entered.event.entered_copy()?,
-            None => return None,
-        };
+        let copy = self.at(transit)?.event.entered_copy()?;
         if copy < number { Some(copy) } else { None }
     }
 
     /// Notes the line of this number, of which this fact was kept.
     fn note(&mut self, fact: &Fact, number: u64) -> Result<(), CheckFault>
-        ensures sites { OnOk result (site_in self.new.sites ≡ sites_after fact.now.event number (site_in self.old.sites)) }
-        ensures stays { (stays : LastStays) (leaves : Leaves) → AreStays self.old.stays stays leaves number → MatchResult result
-            (λ _. AreStays self.new.stays (with_stay number (stay_of (fact_in self.old.facts.items) number fact.now) stays) (leaves_after fact.now.event leaves) (number + 1))
-            (λ _. AreStays self.new.stays stays leaves number) }
-        ensures stamps { OnOk result (get nat_cmp self.new.stamps ≡ stamps_after fact.now.event number (site_in self.old.sites) (get nat_cmp self.old.stamps)) }
-        ensures facts { self.new.facts.items ≡ self.old.facts.items }
+        ensures sites { OnOk result (sites_of self.new ≡ sites_after fact.now.event number (sites_of self.old)) }
+        ensures stays { StaysAfter self.old.stays self.new.stays number (stay_of (facts_of self.old) number fact.now)
+            (leaves_after fact.now.event) result }
+        ensures stamps { OnOk result
+            (stamps_of self.new ≡ stamps_after fact.now.event number (sites_of self.old) (stamps_of self.old)) }
+        ensures facts { self.new.facts ≡ self.old.facts }
         ensures verdict { self.new.verdict ≡ self.old.verdict }
-        ensures same_sites { OnErr result (site_in self.new.sites ≡ site_in self.old.sites) }
-        ensures same_stamps { OnErr result (get nat_cmp self.new.stamps ≡ get nat_cmp self.old.stamps) }
+        ensures same_sites { OnErr result (sites_of self.new ≡ sites_of self.old) }
+        ensures same_stamps { OnErr result (stamps_of self.new ≡ stamps_of self.old) }
     {
         match &fact.event {
             Event::Sync { .. }
@@ -361,15 +343,15 @@ impl Kept {
 
     /// Notes the line of this number, with this fact.
     fn tell(&mut self, fact: &Option<Fact>, number: u64) -> Result<(), CheckFault>
-        ensures sites { OnOk result (site_in self.new.sites ≡ sites_told fact.now number (site_in self.old.sites)) }
-        ensures stays { (stays : LastStays) (leaves : Leaves) → AreStays self.old.stays stays leaves number → MatchResult result
-            (λ _. AreStays self.new.stays (with_stay number (option_and_then (stay_of (fact_in self.old.facts.items) number) fact.now) stays) (leaves_told fact.now leaves) (number + 1))
-            (λ _. AreStays self.new.stays stays leaves number) }
-        ensures stamps { OnOk result (get nat_cmp self.new.stamps ≡ stamps_told fact.now number (site_in self.old.sites) (get nat_cmp self.old.stamps)) }
-        ensures facts { self.new.facts.items ≡ self.old.facts.items }
+        ensures sites { OnOk result (sites_of self.new ≡ sites_told fact.now number (sites_of self.old)) }
+        ensures stays { StaysAfter self.old.stays self.new.stays number
+            (option_and_then (stay_of (facts_of self.old) number) fact.now) (leaves_told fact.now) result }
+        ensures stamps { OnOk result
+            (stamps_of self.new ≡ stamps_told fact.now number (sites_of self.old) (stamps_of self.old)) }
+        ensures facts { self.new.facts ≡ self.old.facts }
         ensures verdict { self.new.verdict ≡ self.old.verdict }
-        ensures same_sites { OnErr result (site_in self.new.sites ≡ site_in self.old.sites) }
-        ensures same_stamps { OnErr result (get nat_cmp self.new.stamps ≡ get nat_cmp self.old.stamps) }
+        ensures same_sites { OnErr result (sites_of self.new ≡ sites_of self.old) }
+        ensures same_stamps { OnErr result (stamps_of self.new ≡ stamps_of self.old) }
     {
         match fact {
             Some(told) => self.note(told, number),
@@ -379,8 +361,9 @@ impl Kept {
 
     /// The verdict after a line of this number with this fact, which is kept already.
     fn judged(&self, nodes: &Nodes, fact: &Option<Fact>, out: &TraceOut, number: u64) -> Verdict
-        ensures { accepted_count self.now.verdict < 18446744073709551615 → result ≡ judged nodes.now (fact_in self.now.facts.items)
-            (once_in self.now.stays) (get nat_cmp self.now.stamps) (site_in self.now.sites) fact.now out.now number self.now.verdict }
+        ensures { accepted_count self.now.verdict < 18446744073709551615
+            → result ≡ judged nodes.now (facts_of self.now) (once_in self.now.stays) (stamps_of self.now)
+            (sites_of self.now) fact.now out.now number self.now.verdict }
     {
         let (Verdict::Accepted(count), TraceOut::Report(report)) = (self.verdict, out) else {
             return self.verdict;

@@ -5,6 +5,7 @@
 mod checker;
 mod facts;
 mod good;
+mod history;
 mod judging;
 mod kept;
 mod octets;

@@ -6,11 +6,13 @@
 //! it grew from. When a stay is ended again, what grew from the copy that left after it first follows
 //! that copy in the order: it is marked and taken out.
 
-ghost use Rattle.std.specs.Prelude.{◌≡◌, ℕ, ◌<◌, ◌+◌, true, false, IfSome, Some, None, option_map, length, OnOk, OnErr, MatchResult};
+ghost use Rattle.std.specs.Prelude.{◌≡◌, ℕ, ◌<◌, ◌+◌, true, false, IfSome, Some};
+ghost use Rattle.std.specs.Prelude.{None, option_map, length, OnOk, OnErr};
 ghost use Rattle.std.specs.BTreeMap.{get};
 ghost use Rattle.std.specs.Ordering.{nat_cmp};
 ghost use Rattle.exchange_check.specs.Kept.{Leaves, left_again};
-ghost use Rattle.exchange_check.specs.Stays.{LastStays, with_stay, is_once, Once, Branches, root, branch_in, with_branch, Firsts, with_first, AreBranches, AreStays, once_in};
+ghost use Rattle.exchange_check.specs.Stays.{LastStays, with_stay, is_once, root, branch_in, with_branch};
+ghost use Rattle.exchange_check.specs.Stays.{with_first, AreStays, StaysAfter, once_in};
 
 use crate::refusal::CheckFault;
 use std::alloc::Global;
@@ -88,7 +90,8 @@ impl Stays {
 
     fn set(&mut self, copy: u64, branch: Branch)
         requires { copy < length self.old.branches.items }
-        ensures branches { branch_in self.new.branches.items ≡ with_branch copy branch (branch_in self.old.branches.items) }
+        ensures branches { branch_in self.new.branches.items
+            ≡ with_branch copy branch (branch_in self.old.branches.items) }
         ensures length { length self.new.branches.items ≡ length self.old.branches.items }
         ensures firsts { self.new.firsts ≡ self.old.firsts }
     {
@@ -114,7 +117,8 @@ impl Stays {
     /// takes these out of the order. That copy stays in it, so over all calls each copy is taken out
     /// once at most.
     fn cut(&mut self, first: u64)
-        ensures stays { (stays : LastStays) (leaves : Leaves) (number transit : ℕ) → get nat_cmp self.old.firsts transit ≡ Some first
+        ensures stays { (stays : LastStays) (leaves : Leaves) (number transit : ℕ)
+            → get nat_cmp self.old.firsts transit ≡ Some first
             → AreStays self.old stays leaves number → AreStays self.new stays (left_again transit leaves) number }
         ensures length { length self.new.branches.items ≡ length self.old.branches.items }
         ensures firsts { self.new.firsts ≡ self.old.firsts }
@@ -160,7 +164,8 @@ impl Stays {
     fn grow(&mut self, from: u64, number: u64)
         requires room { number < length self.old.branches.items }
         requires below { from < number }
-        ensures stays { (stays : LastStays) (leaves : Leaves) (transit : ℕ) → AreStays self.old stays leaves (number + 1) → stays number ≡ None
+        ensures stays { (stays : LastStays) (leaves : Leaves) (transit : ℕ)
+            → AreStays self.old stays leaves (number + 1) → stays number ≡ None
             → get nat_cmp self.old.firsts transit ≡ Some number → is_once (leaves transit) ≡ true
             → ((other : ℕ) → get nat_cmp self.old.firsts other ≡ Some number → other ≡ transit)
             → AreStays self.new (with_stay number (Some (transit, from)) stays) leaves (number + 1) }
@@ -192,15 +197,13 @@ impl Stays {
     fn first(&self, transit: u64) -> Option<u64>
         ensures { result ≡ get nat_cmp self.now.firsts transit }
     {
-        match self.firsts.get(&transit) {
-            Some(first) => Some(*first),
-            None => None,
-        }
+        self.firsts.get(&transit).copied()
     }
 
     /// The Leave line of this number is the first that names a stay.
     fn keep_first(&mut self, transit: u64, number: u64) -> Result<(), CheckFault>
-        ensures named { OnOk result (get nat_cmp self.new.firsts ≡ with_first transit number (get nat_cmp self.old.firsts)) }
+        ensures named { OnOk result (get nat_cmp self.new.firsts
+            ≡ with_first transit number (get nat_cmp self.old.firsts)) }
         ensures unchanged { OnErr result (get nat_cmp self.new.firsts ≡ get nat_cmp self.old.firsts) }
         ensures branches { self.new.branches ≡ self.old.branches }
     {
@@ -220,9 +223,8 @@ impl Stays {
         from: Option<u64>,
     ) -> Result<(), CheckFault>
         requires { IfSome from (λ copy. copy < number) }
-        ensures { (stays : LastStays) (leaves : Leaves) → AreStays self.old stays leaves number → MatchResult result
-            (λ _. AreStays self.new (with_stay number (option_map (λ copy. (transit, copy)) from) stays) (left_again transit leaves) (number + 1))
-            (λ _. AreStays self.new stays leaves number) }
+        ensures { StaysAfter self.old self.new number (option_map (λ copy. (transit, copy)) from)
+            (left_again transit) result }
     {
         self.reach(number)?;
         if let Some(first) = self.first(transit) {

@@ -7,6 +7,7 @@ pub mod laws;
 mod name;
 mod node;
 mod nodes;
+mod octets;
 mod refusal;
 mod stepped;
 
@@ -14,6 +15,7 @@ pub use event::Event;
 pub use name::Name;
 pub use node::{NodeKind, NodeSpec};
 pub use nodes::Nodes;
+pub use octets::CopyOctets;
 pub use refusal::{RunStop, WorldRefusal};
 pub use slave_port::{Heard, Reason, Report};
 pub use stepped::{Outcome, Stepped};

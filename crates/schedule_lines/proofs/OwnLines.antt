@@ -1,5 +1,6 @@
 -- Each line that is read has just the keys of what is written of it.
-use Rattle.std.proofs.Common.{◌≡◌, ◌∙◌, ℕ, true, false, List, [], codes, Option, Some, None, IfSome, is_some, option_map, option_and_then, bytes_eq, refl, sym, ap}
+use Rattle.std.proofs.Common.{◌≡◌, ◌∙◌, ℕ, true, false, List, [], codes, Option, Some, None, IfSome, is_some}
+use Rattle.std.proofs.Common.{option_map, option_and_then, bytes_eq, refl, sym, ap}
 use Rattle.serde_json.specs.Data.{Data}
 use Rattle.serde_json.specs.Find.{get, as_str}
 use Rattle.slave_port.specs.declared.heard.Report.{Report}
@@ -8,28 +9,34 @@ use Rattle.ptp_units.specs.declared.sequence.Seq.{Seq}
 use Rattle.network_model.specs.Run.{true_moment}
 use Rattle.network_model.specs.Kinds.{named_master, step_of, spent_transit, named_copy}
 use Rattle.network_model.specs.declared.event.Event.{Event}
-use Rattle.network_model.specs.declared.event.Event.TheVariants as events
 use Rattle.network_model.specs.declared.node.NodeKind.{NodeKind}
-use Rattle.network_model.specs.declared.node.NodeKind.TheVariants as kinds
 use Rattle.network_model.specs.declared.node.NodeSpec.{NodeSpec}
 use Rattle.trace_model.specs.declared.line.TraceLine.{TraceLine}
 use Rattle.trace_model.specs.declared.line.TraceOut.{TraceOut}
-use Rattle.trace_model.specs.declared.line.TraceOut.TheVariants as outs
 use Rattle.schedule_lines.specs.declared.kind.EventKind.{EventKind}
-use Rattle.schedule_lines.specs.declared.kind.EventKind.TheVariants.{Sync, SyncOne, Follow, Enter, Leave, Arrive, Hear, Request, Stamped, Tick, SetMaster, StepClock}
-use Rattle.schedule_lines.specs.declared.schedule.Line.TheVariants as schedules
+use Rattle.schedule_lines.specs.declared.kind.EventKind.TheVariants.{Sync, SyncOne, Follow, Enter, Leave, Arrive}
+use Rattle.schedule_lines.specs.declared.kind.EventKind.TheVariants.{Hear, Request, Stamped, Tick, SetMaster}
+use Rattle.schedule_lines.specs.declared.kind.EventKind.TheVariants.{StepClock}
 use Rattle.schedule_lines.specs.declared.traced.TranscriptLine.{TranscriptLine}
-use Rattle.schedule_lines.specs.declared.traced.TranscriptLine.TheVariants as lines
-use Rattle.schedule_lines.specs.Json.{has_keys, field, whole_in, whole_below, moment_in, name_in, clock_in, signed_octet_in, octets_in, difference_in}
-use Rattle.schedule_lines.specs.Line.{kind_of, event_at, event_in, event_keys, scheduled_in, at_in, config_in, first_in, port_in, node_kind, node_spec_in}
-use Rattle.schedule_lines.specs.Traced.{report_of, report_in, out_of, reading_in, recorded_in, line_keys}
-use Rattle.schedule_lines.specs.Transcript.{node_data, kind_data, port_data, scheduled_data, made_octets, out_code, out_report}
-use Rattle.schedule_lines.specs.Keys.{HaveSameKeys, line_data, transcript_line_data, LinesHaveOwnKeys, TranscriptLinesHaveOwnKeys}
+use Rattle.schedule_lines.specs.Json.{has_keys, field, whole_in, whole_below, moment_in, name_in, clock_in}
+use Rattle.schedule_lines.specs.Json.{signed_octet_in, octets_in, difference_in}
+use Rattle.schedule_lines.specs.Line.{kind_of, event_at, event_in, event_keys, scheduled_in, at_in, config_in}
+use Rattle.schedule_lines.specs.Line.{first_in, port_in, node_kind, node_spec_in}
+use Rattle.schedule_lines.specs.Traced.{report_of, report_in, out_of, reading_in, line_keys, trace_line_in}
+use Rattle.schedule_lines.specs.Transcript.{node_data, kind_data, port_data, scheduled_data, made_octets, out_code}
+use Rattle.schedule_lines.specs.Transcript.{out_report}
+use Rattle.schedule_lines.specs.Keys.{HaveSameKeys, line_data, transcript_line_data, LinesHaveOwnKeys}
+use Rattle.schedule_lines.specs.Keys.{TranscriptLinesHaveOwnKeys}
 use Rattle.schedule_lines.proofs.Keys.{Field, event_fields, answer_fields, line_fields}
 use Rattle.schedule_lines.proofs.OwnKeys.{HasFields, own_keys}
 use Rattle.schedule_lines.proofs.Printed.{port_fields, clock_fields}
 use Rattle.schedule_lines.proofs.Ranges.{mapped, weaker, then_also, either}
 use Rattle.schedule_lines.proofs.Recorded.{event_count, line_count}
+use Rattle.network_model.specs.declared.event.Event.TheVariants as events
+use Rattle.network_model.specs.declared.node.NodeKind.TheVariants as kinds
+use Rattle.trace_model.specs.declared.line.TraceOut.TheVariants as outs
+use Rattle.schedule_lines.specs.declared.schedule.Line.TheVariants as schedules
+use Rattle.schedule_lines.specs.declared.traced.TranscriptLine.TheVariants as lines
 
 -- ---- keys
 
@@ -185,7 +192,7 @@ record HasRecorded (d : Data) (line : TraceLine) : Type 0 where
   text : Has (codes "out") d
   out : HasOut d line.out
 
-has_recorded : (d : Data) → IfSome (recorded_in d) (HasRecorded d)
+has_recorded : (d : Data) → IfSome (trace_line_in d) (HasRecorded d)
 has_recorded d =
     then_also (HasEvent d) (HasRecorded d) _ (event_in d) (has_event d) (λ event e.
     then_also (λ reading. HasFor reading (codes "reading") d) (HasRecorded d) _ (reading_in (true_moment event) d) (has_reading (true_moment event) d) (λ reading r.
@@ -288,7 +295,7 @@ pub transcript_lines_have_own_keys : TranscriptLinesHaveOwnKeys
 transcript_lines_have_own_keys d =
     let P : TranscriptLine → Type 0 = λ line. HaveSameKeys d (transcript_line_data line) in
     either P (is_some (get (codes "ev") d)) _ _
-    (λ _. then_also (HasRecorded d) P _ (recorded_in d) (has_recorded d) (λ line h.
+    (λ _. then_also (HasRecorded d) P _ (trace_line_in d) (has_recorded d) (λ line h.
     then_field P _ whole_in (codes "n") d (λ n number.
     either P (has_keys (line_keys line) d) (Some (lines.Event n line)) None
     (λ keys. own_keys d (line_fields n line) (line_keys line) refl (line_count n line) keys

@@ -29,7 +29,7 @@ use Rattle.schedule_lines.specs.Json.{signed_octet_in, has_keys, below, whole_in
 use Rattle.schedule_lines.specs.Line.{event_at, event_in, event_keys, scheduled_in, node_in, at_in, copy_in, kind_of, config_in, first_in, port_in, node_kind, node_spec_in, line_of}
 use Rattle.schedule_lines.specs.declared.schedule.Line.TheVariants as schedules
 use Rattle.schedule_lines.specs.declared.traced.TranscriptLine.TheVariants as lines
-use Rattle.schedule_lines.specs.Traced.{follow_in, report_of, report_in, code_in, out_of, reading_in, recorded_in, line_keys, traced_in, transcript_line_of}
+use Rattle.schedule_lines.specs.Traced.{follow_in, report_of, report_in, code_in, out_of, reading_in, trace_line_in, line_keys, traced_in, transcript_line_of}
 use Rattle.schedule_lines.specs.Recorded.{IsShort, IsEvent, IsOut, IsRecorded, IsConfig, IsKind, IsNode, IsLine, IsTranscriptLine, ReadsInRange}
 use Rattle.schedule_lines.proofs.Digits.{own}
 use Rattle.schedule_lines.proofs.Names.{IsName-from_test}
@@ -199,7 +199,7 @@ reading_read (Some at) d =
     mapped (IsReading (Some at)) Some shown
     (weaker (λ time. time < bound) (λ time. IsReading (Some at) (Some time)) shown (and_then (λ time. time < bound) moment_in (get (codes "reading") d) moment_read) (λ time x. (refl, x)))
 
-recorded_read : (d : Data) → IfSome (recorded_in d) IsRecorded
+recorded_read : (d : Data) → IfSome (trace_line_in d) IsRecorded
 recorded_read d =
     then_also IsEvent IsRecorded _ (event_in d) (event_read d) (λ event x.
     then_also (IsReading (true_moment event)) IsRecorded _ (reading_in (true_moment event) d) (reading_read (true_moment event) d) (λ reading y.
@@ -269,7 +269,7 @@ line_read d = either IsLine (is_some (get (codes "ev") d)) _ _
 
 traced_read : (d : Data) → IfSome (traced_in d) IsTranscriptLine
 traced_read d =
-    then_also IsRecorded IsTranscriptLine _ (recorded_in d) (recorded_read d) (λ line x.
+    then_also IsRecorded IsTranscriptLine _ (trace_line_in d) (recorded_read d) (λ line x.
     and_then IsTranscriptLine _ (field whole_in (codes "n") d) (λ n.
     either IsTranscriptLine (has_keys (line_keys line) d) (Some (lines.Event n line)) None (λ _. x) (λ _. tt)))
 

@@ -1,5 +1,6 @@
 -- A written line, read again.
-use Rattle.std.proofs.Common.{◌≡◌, ◌==◌, ℕ, ℤ, ◌+◌, ◌<◌, List, [], codes, Option, Some, None, true, is_some, IfSome, option_map, option_and_then, refl, ap, ◌∙◌, arith}
+use Rattle.std.proofs.Common.{◌≡◌, ◌==◌, ℕ, ℤ, ◌+◌, ◌<◌, List, [], codes, Option, Some, None, true, is_some, IfSome}
+use Rattle.std.proofs.Common.{option_map, option_and_then, refl, ap, ◌∙◌, arith}
 use Rattle.std.specs.Option.{option_or}
 use Rattle.std.proofs.lemmas.Bool.Decides.{nat_tests}
 use Rattle.serde_json.specs.Data.{Data, string, object}
@@ -7,23 +8,27 @@ use Rattle.serde_json.specs.Find.{get, as_str}
 use Rattle.ptp_units.specs.Moment.{bound}
 use Rattle.slave_port.specs.declared.heard.Report.{Report}
 use Rattle.network_model.specs.declared.event.Event.{Event}
-use Rattle.network_model.specs.declared.event.Event.TheVariants.{Sync, SyncOne, Follow, Enter, Leave, Arrive, Hear, Request, Stamped, Tick, SetMaster, StepClock}
+use Rattle.network_model.specs.declared.event.Event.TheVariants.{Sync, SyncOne, Follow, Enter, Leave, Arrive, Hear}
+use Rattle.network_model.specs.declared.event.Event.TheVariants.{Request, Stamped, Tick, SetMaster, StepClock}
 use Rattle.network_model.specs.Name.{IsName}
 use Rattle.network_model.specs.Run.{site_of, true_moment}
 use Rattle.network_model.specs.Kinds.{named_master, step_of, spent_transit, named_copy}
 use Rattle.trace_model.specs.declared.line.TraceLine.{TraceLine}
 use Rattle.trace_model.specs.declared.line.TraceOut.{TraceOut}
-use Rattle.trace_model.specs.declared.line.TraceOut.TheVariants as outs
-use Rattle.schedule_lines.specs.declared.traced.TranscriptLine.TheVariants as lines
-use Rattle.schedule_lines.specs.Json.{field, has_keys, moment_in, name_in, whole_in, whole_below, octets_in, difference_in}
-use Rattle.schedule_lines.specs.declared.schedule.Line.TheVariants as schedules
+use Rattle.schedule_lines.specs.Json.{field, has_keys, moment_in, name_in, whole_in, whole_below, octets_in}
+use Rattle.schedule_lines.specs.Json.{difference_in}
 use Rattle.schedule_lines.specs.Line.{event_in, event_keys, node_in, at_in, copy_in, line_of, one_if}
-use Rattle.schedule_lines.specs.Traced.{transcript_line_of, recorded_in, reading_in, out_of, out_keys, line_keys, code_in, report_in}
-use Rattle.schedule_lines.specs.Transcript.{whole, moment_data, difference_data, octets_data, tags_data, event_text, made_octets, out_text, out_code, out_report, scheduled_data, event_data}
+use Rattle.schedule_lines.specs.Traced.{transcript_line_of, reading_in, out_of, out_keys, line_keys, code_in}
+use Rattle.schedule_lines.specs.Traced.{report_in, trace_line_in}
+use Rattle.schedule_lines.specs.Transcript.{whole, moment_data, difference_data, octets_data, tags_data, event_text}
+use Rattle.schedule_lines.specs.Transcript.{made_octets, out_text, out_code, out_report, scheduled_data, event_data}
 use Rattle.schedule_lines.specs.Recorded.{IsShort, IsEvent, IsOut, IsRecorded, ScheduledReadBack, EventsReadBack}
 use Rattle.schedule_lines.proofs.Keys.{Field, members_of, event_fields, answer_fields, line_fields}
 use Rattle.schedule_lines.proofs.Lookup.{find, get_member-members_of, option_or-none, count, members_len-members_of}
 use Rattle.schedule_lines.proofs.Texts.{name_back, below_back, octets_back, moment_back, difference_back, report_back}
+use Rattle.trace_model.specs.declared.line.TraceOut.TheVariants as outs
+use Rattle.schedule_lines.specs.declared.traced.TranscriptLine.TheVariants as lines
+use Rattle.schedule_lines.specs.declared.schedule.Line.TheVariants as schedules
 
 -- ---- an event, from its keys
 
@@ -70,10 +75,10 @@ reading_back (Some at) (Some time) d timed read = rw read
 -- ---- a line
 
 recorded_back : (line : TraceLine) (d : Data) → event_in d ≡ Some line.event → reading_in (true_moment line.event) d ≡ Some line.reading
-    → field as_str (codes "out") d ≡ Some (out_text line.out) → out_of (out_text line.out) d ≡ Some line.out → recorded_in d ≡ Some line
+    → field as_str (codes "out") d ≡ Some (out_text line.out) → out_of (out_text line.out) d ≡ Some line.out → trace_line_in d ≡ Some line
 recorded_back line d event reading text out = rw (event, reading, text, out)
 
-line_back : (n : ℕ) (line : TraceLine) (d : Data) → get (codes "ev") d ≡ Some (string (event_text line.event)) → recorded_in d ≡ Some line
+line_back : (n : ℕ) (line : TraceLine) (d : Data) → get (codes "ev") d ≡ Some (string (event_text line.event)) → trace_line_in d ≡ Some line
     → field whole_in (codes "n") d ≡ Some n → has_keys (line_keys line) d ≡ true → transcript_line_of d ≡ Some (lines.Event n line)
 line_back n line d ev recorded number keys = rw (recorded, number, keys, ev)
 

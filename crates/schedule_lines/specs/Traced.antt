@@ -86,8 +86,8 @@ abbrev pub line_keys : TraceLine → ℕ
 line_keys line = event_keys line.event + one_if line.reading + out_keys line.out + 1
 
 -- what was recorded of an event, whatever keys stand beside those that tell it
-abbrev pub recorded_in : Data → Option TraceLine
-recorded_in d = do
+abbrev pub trace_line_in : Data → Option TraceLine
+trace_line_in d = do
   event ← event_in d
   reading ← reading_in (true_moment event) d
   text ← field as_str (codes "out") d
@@ -97,7 +97,7 @@ recorded_in d = do
 -- the event's number and what was recorded of it, with just their keys
 abbrev pub traced_in : Data → Option TranscriptLine
 traced_in d = do
-  line ← recorded_in d
+  line ← trace_line_in d
   n ← field whole_in (codes "n") d
   if has_keys (line_keys line) d then Some (lines.Event n line) else None
 

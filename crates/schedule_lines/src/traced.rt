@@ -1,7 +1,7 @@
 //! Lines of transcripts, read: nodes, and events with what was recorded of them.
 ghost use Rattle.std.specs.Prelude.{◌≡◌};
 ghost use Rattle.serde_json.specs.View.{view};
-ghost use Rattle.schedule_lines.specs.Traced.{transcript_line_of, traced_in, recorded_in, line_keys, reading_in, out_of, out_keys, made_in, code_in, report_in, report_of, follow_in};
+ghost use Rattle.schedule_lines.specs.Traced.{transcript_line_of, traced_in, trace_line_in, line_keys, reading_in, out_of, out_keys, made_in, code_in, report_in, report_of, follow_in};
 
 use crate::fields::{difference_in, has_items, has_keys, moment_in, octets_in, whole_below};
 use crate::schedule::{event_in, event_keys, node_spec_in};
@@ -44,7 +44,7 @@ impl TranscriptLine {
 fn traced_in(value: &Value) -> Option<TranscriptLine>
     ensures { result ≡ traced_in (view value.now) }
 {
-    let line = recorded_in(value)?;
+    let line = trace_line_in(value)?;
     let number = value.get("n")?.as_u64()?;
     if has_keys(value, line_keys(&line)) {
         Some(TranscriptLine::Event { number, line })
@@ -54,8 +54,8 @@ fn traced_in(value: &Value) -> Option<TranscriptLine>
 }
 
 /// What was recorded of an event, whatever keys stand beside those that tell it.
-fn recorded_in(value: &Value) -> Option<TraceLine>
-    ensures { result ≡ recorded_in (view value.now) }
+fn trace_line_in(value: &Value) -> Option<TraceLine>
+    ensures { result ≡ trace_line_in (view value.now) }
 {
     let event = event_in(value)?;
     let reading = reading_in(event.true_moment(), value)?;

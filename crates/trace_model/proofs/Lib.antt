@@ -1,6 +1,7 @@
 pub mod WorkedExchange
 pub mod Good
 pub mod Certain
+pub mod Lines
 pub mod Found
 pub mod Recorded
 pub mod Last

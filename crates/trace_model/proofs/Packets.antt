@@ -1,12 +1,14 @@
 -- The test of a message's octets decides `Packet`.
-use Rattle.std.proofs.Common.{◌≡◌, ℕ, ◌+◌, ◌*◌, ◌^◌, ◌<◌, ◌≤◌, Bool, true, false, ◌&&◌, not, List, [], ◌∷◌, length, drop, Decides, refl, sym, subst, ◌∙◌, arith, suc, ◌==◌, Some}
+use Rattle.std.proofs.Common.{◌≡◌, ℕ, ◌+◌, ◌*◌, ◌^◌, ◌<◌, ◌≤◌, Bool, true, false, ◌&&◌, not, List, [], ◌∷◌}
+use Rattle.std.proofs.Common.{length, drop, Decides, refl, sym, subst, ◌∙◌, arith, suc, ◌==◌, Some}
 use Rattle.std.specs.Prelude.{nat_lt, slice_index, slice_range, EachIndex}
 use Rattle.std.specs.Int.{w8, w64, cast_signed}
 use Rattle.std.specs.List.{list_all}
 use Rattle.std.specs.Ordering.{int_eq}
 use Rattle.std.specs.Str.{bytes_eq}
 use Rattle.std.proofs.lemmas.Bool.{and_from, lt-ltb, false≢true}
-use Rattle.std.proofs.lemmas.Bool.Decides.{Decides-eqb, Decides-int_eq, Decides-ltb, Decides-and, Decides-like, nat_tests, same_from_decides}
+use Rattle.std.proofs.lemmas.Bool.Decides.{Decides-eqb, Decides-int_eq, Decides-ltb, Decides-and}
+use Rattle.std.proofs.lemmas.Bool.Decides.{Decides-like, nat_tests, same_from_decides}
 use Rattle.std.proofs.lemmas.Slice.Eq.{bytes_eq-Decides}
 use Rattle.event_codec.specs.declared.message.Body.{Body}
 use Rattle.event_codec.specs.declared.message.Body.TheVariants as bodies
@@ -21,18 +23,22 @@ use Rattle.trace_model.specs.Octets.{is_identity_at, is_requesting, is_packet}
 
 octets_tested : (b : List ℕ) → EachIndex b (λ k. slice_index b k < 256) → list_all (λ octet. nat_lt octet 256) b ≡ true
 octets_tested [] h = refl
-octets_tested (x ∷ xs) h = and_from (nat_lt x 256) _ (lt-ltb x 256 (h 0 (omega arith))) (octets_tested xs (λ k within. h (suc k) (omega arith)))
+octets_tested (x ∷ xs) h = and_from (nat_lt x 256) _ (lt-ltb x 256 (h 0 (omega arith)))
+    (octets_tested xs (λ k within. h (suc k) (omega arith)))
 
-octets_decided : (b : List ℕ) → Decides (list_all (λ octet. nat_lt octet 256) b) (EachIndex b (λ k. slice_index b k < 256))
+octets_decided : (b : List ℕ)
+    → Decides (list_all (λ octet. nat_lt octet 256) b) (EachIndex b (λ k. slice_index b k < 256))
 octets_decided b = (all_octets b, octets_tested b)
 
 Decides-at_most : (m n : ℕ) → Decides (not (nat_lt n m)) (m ≤ n)
 Decides-at_most m n = grind (arith, nat_tests)
 
-identity_decided : (identity : PortIdentity) (b : List ℕ) (i : ℕ) → Decides (is_identity_at identity b i) (IsIdentityAt identity b i)
+identity_decided : (identity : PortIdentity) (b : List ℕ) (i : ℕ)
+    → Decides (is_identity_at identity b i) (IsIdentityAt identity b i)
 identity_decided identity b i = Decides-like (is_identity_at identity b i)
     (λ p. record { clock = p.0; port = p.1 }) (λ p. (p.clock, p.port))
-    (Decides-and (bytes_eq identity.clock (slice_range b i (i + 8))) (identity.port == number b (i + 8) 2) (bytes_eq-Decides _ _) (Decides-eqb _ _))
+    (Decides-and (bytes_eq identity.clock (slice_range b i (i + 8))) (identity.port == number b (i + 8) 2)
+    (bytes_eq-Decides _ _) (Decides-eqb _ _))
 
 requesting_decided : (body : Body) (b : List ℕ) → Decides (is_requesting body b) (IsRequesting body b)
 requesting_decided (bodies.Sync origin) b = (λ _. tt, λ _. refl)
@@ -53,7 +59,8 @@ abbrev tests1 : Contents → List ℕ → Bool
 tests1 m b = (list_all (λ octet. nat_lt octet 256) b) && number b 2 2 == length b
 
 decided1 : (m : Contents) (b : List ℕ) → Decides (tests1 m b) (Parts1 m b)
-decided1 m b = both (list_all (λ octet. nat_lt octet 256) b) (number b 2 2 == length b) (octets_decided b) (Decides-eqb _ _)
+decided1 m b = both (list_all (λ octet. nat_lt octet 256) b) (number b 2 2 == length b) (octets_decided b)
+    (Decides-eqb _ _)
 
 abbrev Parts2 : Contents → List ℕ → Type 0
 Parts2 m b = Both (Parts1 m b) (fields_length (type_of m.body) ≤ length b)
@@ -62,7 +69,8 @@ abbrev tests2 : Contents → List ℕ → Bool
 tests2 m b = (tests1 m b) && not (nat_lt (length b) (fields_length (type_of m.body)))
 
 decided2 : (m : Contents) (b : List ℕ) → Decides (tests2 m b) (Parts2 m b)
-decided2 m b = both (tests1 m b) (not (nat_lt (length b) (fields_length (type_of m.body)))) (decided1 m b) (Decides-at_most (fields_length (type_of m.body)) (length b))
+decided2 m b = both (tests1 m b) (not (nat_lt (length b) (fields_length (type_of m.body)))) (decided1 m b)
+    (Decides-at_most (fields_length (type_of m.body)) (length b))
 
 abbrev Parts3 : Contents → List ℕ → Type 0
 Parts3 m b = Both (Parts2 m b) (slice_index b 0 ≡ 16 * m.header.major_sdo + number_of (type_of m.body))
@@ -71,7 +79,8 @@ abbrev tests3 : Contents → List ℕ → Bool
 tests3 m b = (tests2 m b) && slice_index b 0 == 16 * m.header.major_sdo + number_of (type_of m.body)
 
 decided3 : (m : Contents) (b : List ℕ) → Decides (tests3 m b) (Parts3 m b)
-decided3 m b = both (tests2 m b) (slice_index b 0 == 16 * m.header.major_sdo + number_of (type_of m.body)) (decided2 m b) (Decides-eqb _ _)
+decided3 m b = both (tests2 m b) (slice_index b 0 == 16 * m.header.major_sdo + number_of (type_of m.body))
+    (decided2 m b) (Decides-eqb _ _)
 
 abbrev Parts4 : Contents → List ℕ → Type 0
 Parts4 m b = Both (Parts3 m b) (slice_index b 1 ≡ 16 * m.header.minor_version + 2)
@@ -116,7 +125,8 @@ abbrev tests8 : Contents → List ℕ → Bool
 tests8 m b = (tests7 m b) && int_eq m.header.correction.0 (cast_signed w64 (number b 8 8))
 
 decided8 : (m : Contents) (b : List ℕ) → Decides (tests8 m b) (Parts8 m b)
-decided8 m b = both (tests7 m b) (int_eq m.header.correction.0 (cast_signed w64 (number b 8 8))) (decided7 m b) (Decides-int_eq _ _)
+decided8 m b = both (tests7 m b) (int_eq m.header.correction.0 (cast_signed w64 (number b 8 8))) (decided7 m b)
+    (Decides-int_eq _ _)
 
 abbrev Parts9 : Contents → List ℕ → Type 0
 Parts9 m b = Both (Parts8 m b) (m.header.specific ≡ slice_range b 16 20)
@@ -125,7 +135,8 @@ abbrev tests9 : Contents → List ℕ → Bool
 tests9 m b = (tests8 m b) && bytes_eq m.header.specific (slice_range b 16 20)
 
 decided9 : (m : Contents) (b : List ℕ) → Decides (tests9 m b) (Parts9 m b)
-decided9 m b = both (tests8 m b) (bytes_eq m.header.specific (slice_range b 16 20)) (decided8 m b) (bytes_eq-Decides _ _)
+decided9 m b = both (tests8 m b) (bytes_eq m.header.specific (slice_range b 16 20)) (decided8 m b)
+    (bytes_eq-Decides _ _)
 
 abbrev Parts10 : Contents → List ℕ → Type 0
 Parts10 m b = Both (Parts9 m b) (IsIdentityAt m.header.source b 20)
@@ -134,7 +145,8 @@ abbrev tests10 : Contents → List ℕ → Bool
 tests10 m b = (tests9 m b) && is_identity_at m.header.source b 20
 
 decided10 : (m : Contents) (b : List ℕ) → Decides (tests10 m b) (Parts10 m b)
-decided10 m b = both (tests9 m b) (is_identity_at m.header.source b 20) (decided9 m b) (identity_decided m.header.source b 20)
+decided10 m b = both (tests9 m b) (is_identity_at m.header.source b 20) (decided9 m b)
+    (identity_decided m.header.source b 20)
 
 abbrev Parts11 : Contents → List ℕ → Type 0
 Parts11 m b = Both (Parts10 m b) (m.header.sequence.0 ≡ number b 30 2)
@@ -161,7 +173,8 @@ abbrev tests13 : Contents → List ℕ → Bool
 tests13 m b = (tests12 m b) && int_eq m.header.log (cast_signed w8 (slice_index b 33))
 
 decided13 : (m : Contents) (b : List ℕ) → Decides (tests13 m b) (Parts13 m b)
-decided13 m b = both (tests12 m b) (int_eq m.header.log (cast_signed w8 (slice_index b 33))) (decided12 m b) (Decides-int_eq _ _)
+decided13 m b = both (tests12 m b) (int_eq m.header.log (cast_signed w8 (slice_index b 33))) (decided12 m b)
+    (Decides-int_eq _ _)
 
 abbrev Parts14 : Contents → List ℕ → Type 0
 Parts14 m b = Both (Parts13 m b) ((stamp_in m.body).seconds ≡ number b 34 6)
@@ -206,38 +219,59 @@ abbrev tests18 : Contents → List ℕ → Bool
 tests18 m b = (tests17 m b) && bytes_eq m.suffix (drop (fields_length (type_of m.body)) b)
 
 decided18 : (m : Contents) (b : List ℕ) → Decides (tests18 m b) (Parts18 m b)
-decided18 m b = both (tests17 m b) (bytes_eq m.suffix (drop (fields_length (type_of m.body)) b)) (decided17 m b) (bytes_eq-Decides _ _)
+decided18 m b = both (tests17 m b) (bytes_eq m.suffix (drop (fields_length (type_of m.body)) b)) (decided17 m b)
+    (bytes_eq-Decides _ _)
 
 packet_told : (m : Contents) (b : List ℕ) → Parts18 m b → Packet m b
 packet_told m b p = record {
   octets = p.0.0.0.0.0.0.0.0.0.0.0.0.0.0.0.0.0.0;
   least = p.0.0.0.0.0.0.0.0.0.0.0.0.0.0.0.0.1;
-  header = record { major_sdo_and_type = p.0.0.0.0.0.0.0.0.0.0.0.0.0.0.0.1; minor_version_and_version = p.0.0.0.0.0.0.0.0.0.0.0.0.0.0.1; message_length = p.0.0.0.0.0.0.0.0.0.0.0.0.0.0.0.0.0.1; domain = p.0.0.0.0.0.0.0.0.0.0.0.0.0.1; minor_sdo = p.0.0.0.0.0.0.0.0.0.0.0.0.1; flags = p.0.0.0.0.0.0.0.0.0.0.0.1; correction = p.0.0.0.0.0.0.0.0.0.0.1; specific = p.0.0.0.0.0.0.0.0.0.1; source = p.0.0.0.0.0.0.0.0.1; sequence = p.0.0.0.0.0.0.0.1; control = p.0.0.0.0.0.0.1; log = p.0.0.0.0.0.1 };
+  header = record {
+    major_sdo_and_type = p.0.0.0.0.0.0.0.0.0.0.0.0.0.0.0.1;
+    minor_version_and_version = p.0.0.0.0.0.0.0.0.0.0.0.0.0.0.1;
+    message_length =
+        p.0.0.0.0.0.0.0.0.0.0.0.0.0.0.0.0.0.1;
+    domain = p.0.0.0.0.0.0.0.0.0.0.0.0.0.1;
+    minor_sdo =
+        p.0.0.0.0.0.0.0.0.0.0.0.0.1;
+    flags = p.0.0.0.0.0.0.0.0.0.0.0.1;
+    correction = p.0.0.0.0.0.0.0.0.0.0.1;
+    specific = p.0.0.0.0.0.0.0.0.0.1;
+    source = p.0.0.0.0.0.0.0.0.1;
+    sequence = p.0.0.0.0.0.0.0.1;
+    control = p.0.0.0.0.0.0.1;
+    log = p.0.0.0.0.0.1;
+  };
   timestamp = record { seconds = p.0.0.0.0.1; nanoseconds = p.0.0.0.1; within_second = p.0.0.1 };
   requesting = p.0.1;
   suffix = p.1;
 }
 
 parts_of : (m : Contents) (b : List ℕ) → Packet m b → Parts18 m b
-parts_of m b packet = ((((((((((((((((((packet.octets, packet.header.message_length), packet.least), packet.header.major_sdo_and_type), packet.header.minor_version_and_version), packet.header.domain), packet.header.minor_sdo), packet.header.flags), packet.header.correction), packet.header.specific), packet.header.source), packet.header.sequence), packet.header.control), packet.header.log), packet.timestamp.seconds), packet.timestamp.nanoseconds), packet.timestamp.within_second), packet.requesting), packet.suffix)
+parts_of m b packet =
+    ((((((((((((((((((packet.octets, packet.header.message_length), packet.least), packet.header.major_sdo_and_type), packet.header.minor_version_and_version), packet.header.domain), packet.header.minor_sdo), packet.header.flags), packet.header.correction), packet.header.specific), packet.header.source), packet.header.sequence), packet.header.control), packet.header.log), packet.timestamp.seconds), packet.timestamp.nanoseconds), packet.timestamp.within_second), packet.requesting), packet.suffix)
 
 -- the test is true exactly where the octets are the message
 pub is_packet-Decides : (m : Contents) (b : List ℕ) → Decides (is_packet m b) (Packet m b)
 is_packet-Decides m b = Decides-like (is_packet m b) (packet_told m b) (parts_of m b) (decided18 m b)
 
 -- octets are the message where they are the octets that were written of it
-pub is_packet-written : (m : Contents) (b room : List ℕ) (same : Bool) → Packet m room → ((c : List ℕ) → Packet m c → room ≡ c) → same ≡ bytes_eq b room → same ≡ is_packet m b
+pub is_packet-written : (m : Contents) (b room : List ℕ) (same : Bool) → Packet m room
+    → ((c : List ℕ) → Packet m c → room ≡ c) → same ≡ bytes_eq b room → same ≡ is_packet m b
 is_packet-written m b room same written again tested =
     let decided : Decides same (Packet m b) = (
-      λ h. let P : List ℕ → Type 0 = λ c. Packet m c in subst P (sym ((bytes_eq-Decides b room).0 (sym tested ∙ h))) written,
+      λ h. let P : List ℕ → Type 0 =
+          λ c. Packet m c in subst P (sym ((bytes_eq-Decides b room).0 (sym tested ∙ h))) written,
       λ packet. tested ∙ (bytes_eq-Decides b room).1 (sym (again b packet)),
     ) in same_from_decides same (is_packet m b) decided (is_packet-Decides m b)
 
-not_refused : (m : Contents) (refusal : EncodeRefusal) (n : ℕ) → n ≡ message_length m → n ≤ 54 → encode_refusal m 54 ≡ Some refusal → ⊥
+not_refused : (m : Contents) (refusal : EncodeRefusal) (n : ℕ) → n ≡ message_length m → n ≤ 54
+    → encode_refusal m 54 ≡ Some refusal → ⊥
 not_refused m refusal n same within refused = grind (arith, nat_tests)
 
 -- octets that are too few for a message aren't the message
-pub is_packet-refused : (m : Contents) (b : List ℕ) (refusal : EncodeRefusal) → length b ≤ 54 → encode_refusal m 54 ≡ Some refusal → false ≡ is_packet m b
+pub is_packet-refused : (m : Contents) (b : List ℕ) (refusal : EncodeRefusal) → length b ≤ 54
+    → encode_refusal m 54 ≡ Some refusal → false ≡ is_packet m b
 is_packet-refused m b refusal within refused =
     let decided : Decides false (Packet m b) = (
       λ h. absurd (false≢true h),

@@ -1,5 +1,6 @@
 -- A report line is sound exactly where there is no reason against it, and what verdicts say of that.
-use Rattle.std.proofs.Common.{◌≡◌, ◌∙◌, ℕ, ◌+◌, Bool, true, false, ◌&&◌, cond, not, [], ◌∷◌, ◌++◌, length, Option, Some, None, option_map, is_some, refl, sym, ap, subst, arith}
+use Rattle.std.proofs.Common.{◌≡◌, ◌∙◌, ℕ, ◌+◌, Bool, true, false, ◌&&◌, cond, not, [], ◌∷◌, ◌++◌, length}
+use Rattle.std.proofs.Common.{Option, Some, None, option_map, is_some, refl, sym, ap, subst, arith}
 use Rattle.std.proofs.lemmas.Bool.{and_parts}
 use Rattle.std.proofs.lemmas.List.Sums.{sum_by-cons}
 use Rattle.slave_port.specs.declared.heard.Report.{Report}
@@ -9,21 +10,26 @@ use Rattle.trace_model.specs.declared.line.TraceLine.{TraceLine}
 use Rattle.trace_model.specs.declared.verdict.Verdict.{Verdict}
 use Rattle.trace_model.specs.declared.verdict.Verdict.TheVariants.{Accepted, Refused}
 use Rattle.trace_model.specs.declared.verdict.Why.{Why}
-use Rattle.trace_model.specs.declared.verdict.Why.TheVariants.{OtherNumber, OtherMaster, WrongReading, WrongValue, TooBig, Bytes}
+use Rattle.trace_model.specs.declared.verdict.Why.TheVariants.{OtherNumber, OtherMaster, WrongReading}
+use Rattle.trace_model.specs.declared.verdict.Why.TheVariants.{WrongValue, TooBig, Bytes}
 use Rattle.trace_model.specs.Line.{Lines}
 use Rattle.trace_model.specs.Record.{LinePlace, line_place, line_number, site}
 use Rattle.trace_model.specs.Journey.{Journey}
-use Rattle.trace_model.specs.Sound.{Exchange, Sound, exchange_of, unbroken, are_paired, is_of_master, are_readings, fits, are_results, are_octets, journeys_reason, exchange_reason, reason}
+use Rattle.trace_model.specs.Sound.{Exchange, Sound, exchange_of, unbroken, are_paired, is_of_master, are_readings}
+use Rattle.trace_model.specs.Sound.{fits, are_results, are_octets, journeys_reason, exchange_reason, reason}
 use Rattle.trace_model.specs.Verdict.{report_in, one_more, with_line, verdict}
-use Rattle.trace_model.specs.Soundness.{ReasonsMissNothing, ReportLine, AllSound, report_count, FirstUnsound, TellsSoundness, VerdictsTellSoundness}
+use Rattle.trace_model.specs.Soundness.{ReasonsMissNothing, ReportLine, AllSound, report_count}
+use Rattle.trace_model.specs.Soundness.{FirstUnsound, TellsSoundness, VerdictsTellSoundness}
 
 -- the first of six tests that fails
 abbrev first_failing : (paired of_master readings fit results octets : Bool) → Option Why
 first_failing paired of_master readings fit results octets =
-    cond (not paired) (Some OtherNumber) (cond (not of_master) (Some OtherMaster) (cond (not readings) (Some WrongReading)
+    cond (not paired) (Some OtherNumber)
+    (cond (not of_master) (Some OtherMaster) (cond (not readings) (Some WrongReading)
     (cond (not fit) (Some TooBig) (cond (not results) (Some WrongValue) (cond (not octets) (Some Bytes) None)))))
 
-none_fails : (a b c d f g : Bool) → first_failing a b c d f g ≡ None → (a ≡ true) × (b ≡ true) × (c ≡ true) × (d ≡ true) × (f ≡ true) × (g ≡ true)
+none_fails : (a b c d f g : Bool) → first_failing a b c d f g ≡ None
+    → (a ≡ true) × (b ≡ true) × (c ≡ true) × (d ≡ true) × (f ≡ true) × (g ≡ true)
 none_fails true true true true true true h = (refl, refl, refl, refl, refl, refl)
 none_fails true true true true true false h = cc
 none_fails true true true true false g h = cc
@@ -38,13 +44,15 @@ module _ (network : Network) (e : LinePlace) (report : Report) where
       let has = s.exchange in
       ap (exchange_reason network e report) has.lines
       ∙ (λ i. journeys_reason network e report has.x (has.sync_unbroken i) (has.request_unbroken i))
-      ∙ (λ i. first_failing (has.paired i) (has.of_master i) (has.readings i) (has.sync_fits i && has.request_fits i) (has.results i) (s.octets i))
+      ∙ (λ i. first_failing (has.paired i) (has.of_master i) (has.readings i) (has.sync_fits i && has.request_fits i)
+      (has.results i) (s.octets i))
 
   journeys_sound : (x : Exchange) (sync request : Option Journey) → exchange_of network (site e) e report ≡ Some x
       → unbroken network e draws_sync x.sync ≡ sync → unbroken network e is_request x.arrival ≡ request
       → journeys_reason network e report x sync request ≡ None → Sound network e report
   journeys_sound x (Some sync) (Some request) lines s r h =
-      let p = none_fails (are_paired network x sync request) (is_of_master network (site e) e report x sync) (are_readings network x sync request)
+      let p = none_fails (are_paired network x sync request) (is_of_master network (site e) e report x sync)
+      (are_readings network x sync request)
       (fits sync && fits request) (are_results report x sync request) (are_octets network x sync request) h in
       let fit = and_parts (fits sync) (fits request) p.3 in
       record {
@@ -67,7 +75,8 @@ module _ (network : Network) (e : LinePlace) (report : Report) where
   journeys_sound x (Some sync) None lines s r h = cc
   journeys_sound x None request lines s r h = cc
 
-  exchange_sound : (o : Option Exchange) → exchange_of network (site e) e report ≡ o → exchange_reason network e report o ≡ None → Sound network e report
+  exchange_sound : (o : Option Exchange) → exchange_of network (site e) e report ≡ o
+      → exchange_reason network e report o ≡ None → Sound network e report
   exchange_sound None lines h = cc
   exchange_sound (Some x) lines h = journeys_sound x _ _ lines refl refl h
 
@@ -82,7 +91,8 @@ module _ (network : Network) where
   abbrev reasons : LinePlace → Option (Option Why)
   reasons e = option_map (reason network e) (report_in e.line.out)
 
-  counted : (line : TraceLine) (earlier : Lines) (o : Option Report) → report_in line.out ≡ o → report_count (line ∷ earlier) ≡ cond (is_some o) 1 0 + report_count earlier
+  counted : (line : TraceLine) (earlier : Lines) (o : Option Report) → report_in line.out ≡ o
+      → report_count (line ∷ earlier) ≡ cond (is_some o) 1 0 + report_count earlier
   counted line earlier o h =
       sum_by-cons (λ (x : TraceLine). cond (is_some (report_in x.out)) 1 0) line earlier
       ∙ ap (λ (r : Option Report). cond (is_some r) 1 0 + report_count earlier) h
@@ -94,15 +104,24 @@ module _ (network : Network) where
       at [] h = cc
       at (line ∷ later) h = cc
 
-  earlier_line : (line : TraceLine) (earlier : Lines) (e : LinePlace) (report : Report) → ReportLine earlier e report → ReportLine (line ∷ earlier) e report
-  earlier_line line earlier e report there = record { later = line ∷ there.later; there = ap (λ (xs : Lines). line ∷ xs) there.there; reports = there.reports }
+  earlier_line : (line : TraceLine) (earlier : Lines) (e : LinePlace) (report : Report) → ReportLine earlier e report
+      → ReportLine (line ∷ earlier) e report
+  earlier_line line earlier e report there =
+      record {
+        later = line ∷ there.later;
+        there =
+            ap (λ (xs : Lines). line ∷ xs) there.there;
+        reports = there.reports;
+      }
 
-  this_line : (line : TraceLine) (earlier : Lines) (report : Report) → report_in line.out ≡ Some report → ReportLine (line ∷ earlier) (line_place line earlier) report
+  this_line : (line : TraceLine) (earlier : Lines) (report : Report) → report_in line.out ≡ Some report
+      → ReportLine (line ∷ earlier) (line_place line earlier) report
   this_line line earlier report h = record { later = []; there = refl; reports = h }
 
   -- with one more line that has no report, or a sound one
   one_more_sound : (line : TraceLine) (earlier : Lines) → AllSound network earlier
-      → ((report : Report) → report_in line.out ≡ Some report → Sound network (line_place line earlier) report) → AllSound network (line ∷ earlier)
+      → ((report : Report) → report_in line.out ≡ Some report → Sound network (line_place line earlier) report)
+      → AllSound network (line ∷ earlier)
   one_more_sound line earlier before here e report there = at there.later there.there
     where
       at : (later : Lines) → line ∷ earlier ≡ later ++ e.line ∷ e.earlier → Sound network e report
@@ -110,7 +129,8 @@ module _ (network : Network) where
           let first : line ≡ e.line = cc in
           let rest : earlier ≡ e.earlier = cc in
           let one : line_place line earlier ≡ e = λ i. line_place (first i) (rest i) in
-          subst (λ (x : LinePlace). Sound network x report) one (here report (ap (λ (x : TraceLine). report_in x.out) first ∙ there.reports))
+          subst (λ (x : LinePlace). Sound network x report) one
+          (here report (ap (λ (x : TraceLine). report_in x.out) first ∙ there.reports))
       at (x ∷ later) h =
           let rest : earlier ≡ later ++ e.line ∷ e.earlier = cc in
           before e report (record { later = later; there = rest; reports = there.reports })
@@ -118,29 +138,39 @@ module _ (network : Network) where
   sound_counted : (lines : Lines) → AllSound network lines → verdict network lines ≡ Accepted (report_count lines)
   sound_counted [] all = refl
   sound_counted (line ∷ earlier) all =
-      ap (with_line network (line_place line earlier)) (sound_counted earlier (λ e report there. all e report (earlier_line line earlier e report there)))
+      ap (with_line network (line_place line earlier))
+      (sound_counted earlier (λ e report there. all e report (earlier_line line earlier e report there)))
       ∙ at (report_in line.out) refl
     where
-      at : (o : Option Report) → report_in line.out ≡ o → with_line network (line_place line earlier) (Accepted (report_count earlier)) ≡ Accepted (report_count (line ∷ earlier))
+      at : (o : Option Report) → report_in line.out ≡ o
+          → with_line network (line_place line earlier) (Accepted (report_count earlier))
+          ≡ Accepted (report_count (line ∷ earlier))
       at None h =
-          ap (λ (o : Option Report). one_more (report_count earlier) (length earlier) (option_map (reason network (line_place line earlier)) o)) h
+          ap (λ (o : Option Report). one_more (report_count earlier) (length earlier)
+          (option_map (reason network (line_place line earlier)) o)) h
           ∙ ap Accepted (sym (counted line earlier None h ∙ omega arith))
       at (Some report) h =
-          ap (λ (o : Option Report). one_more (report_count earlier) (length earlier) (option_map (reason network (line_place line earlier)) o)) h
-          ∙ ap (λ (o : Option Why). one_more (report_count earlier) (length earlier) (Some o)) (sound_reason network (line_place line earlier) report (all (line_place line earlier) report (this_line line earlier report h)))
+          ap (λ (o : Option Report). one_more (report_count earlier) (length earlier)
+          (option_map (reason network (line_place line earlier)) o)) h
+          ∙ ap (λ (o : Option Why). one_more (report_count earlier) (length earlier) (Some o))
+          (sound_reason network (line_place line earlier) report
+          (all (line_place line earlier) report (this_line line earlier report h)))
           ∙ ap Accepted (sym (counted line earlier (Some report) h ∙ omega arith))
 
-  unsound_line : (number count : ℕ) (why : Why) (e : LinePlace) (report : Report) → report_in e.line.out ≡ Some report → reason network e report ≡ Some why
+  unsound_line : (number count : ℕ) (why : Why) (e : LinePlace) (report : Report) → report_in e.line.out ≡ Some report
+      → reason network e report ≡ Some why
       → with_line network e (Accepted count) ≡ Refused (line_number e) why
   unsound_line number count why e report h fails =
       ap (λ (o : Option Report). one_more count (line_number e) (option_map (reason network e) o)) h
       ∙ ap (λ (o : Option Why). one_more count (line_number e) (Some o)) fails
 
-  unsound_refused : (lines : Lines) (number : ℕ) (why : Why) → FirstUnsound network lines number why → verdict network lines ≡ Refused number why
+  unsound_refused : (lines : Lines) (number : ℕ) (why : Why) → FirstUnsound network lines number why
+      → verdict network lines ≡ Refused number why
   unsound_refused lines number why first =
       ap (verdict network) first.there.there ∙ at first.there.later ∙ ap (λ (n : ℕ). Refused n why) first.number_is
     where
-      at : (later : Lines) → verdict network (later ++ first.e.line ∷ first.e.earlier) ≡ Refused (line_number first.e) why
+      at : (later : Lines) → verdict network (later ++ first.e.line ∷ first.e.earlier)
+          ≡ Refused (line_number first.e) why
       at [] =
           ap (with_line network first.e) (sound_counted first.e.earlier first.before)
           ∙ unsound_line number (report_count first.e.earlier) why first.e first.report first.there.reports first.fails
@@ -151,16 +181,21 @@ module _ (network : Network) where
   Says lines (Accepted count) = AllSound network lines
   Says lines (Refused number why) = FirstUnsound network lines number why
 
-  said_here : (line : TraceLine) (earlier : Lines) (count : ℕ) (o : Option Report) → report_in line.out ≡ o → AllSound network earlier
-      → Says (line ∷ earlier) (one_more count (length earlier) (option_map (reason network (line_place line earlier)) o))
-  said_here line earlier count None h before = one_more_sound line earlier before (λ report some. let no : None ≡ Some report = sym h ∙ some in cc)
+  said_here : (line : TraceLine) (earlier : Lines) (count : ℕ) (o : Option Report) → report_in line.out ≡ o
+      → AllSound network earlier
+      → Says (line ∷ earlier) (one_more count (length earlier)
+      (option_map (reason network (line_place line earlier)) o))
+  said_here line earlier count None h before =
+      one_more_sound line earlier before (λ report some. let no : None ≡ Some report = sym h ∙ some in cc)
   said_here line earlier count (Some report) h before = at (reason network (line_place line earlier) report) refl
     where
-      at : (o : Option Why) → reason network (line_place line earlier) report ≡ o → Says (line ∷ earlier) (one_more count (length earlier) (Some o))
+      at : (o : Option Why) → reason network (line_place line earlier) report ≡ o
+          → Says (line ∷ earlier) (one_more count (length earlier) (Some o))
       at None fails = one_more_sound line earlier before
           (λ other some. let both : Some report ≡ Some other = sym h ∙ some in
           let one : report ≡ other = cc in
-          subst (λ (r : Report). Sound network (line_place line earlier) r) one (reason_sound network (line_place line earlier) report fails))
+          subst (λ (r : Report). Sound network (line_place line earlier) r) one
+          (reason_sound network (line_place line earlier) report fails))
       at (Some why) fails = record {
         e = line_place line earlier;
         report = report;
@@ -168,10 +203,12 @@ module _ (network : Network) where
         number_is = refl;
         before = before;
         fails = fails;
-        unsound = λ sound. let no : Some why ≡ None = sym fails ∙ sound_reason network (line_place line earlier) report sound in cc;
+        unsound = λ sound. let no : Some why ≡ None =
+            sym fails ∙ sound_reason network (line_place line earlier) report sound in cc;
       }
 
-  said_more : (line : TraceLine) (earlier : Lines) (v : Verdict) → Says earlier v → Says (line ∷ earlier) (with_line network (line_place line earlier) v)
+  said_more : (line : TraceLine) (earlier : Lines) (v : Verdict) → Says earlier v
+      → Says (line ∷ earlier) (with_line network (line_place line earlier) v)
   said_more line earlier (Accepted count) before = said_here line earlier count (report_in line.out) refl before
   said_more line earlier (Refused number why) first = record {
     e = first.e;

@@ -1,6 +1,7 @@
--- The checker misses nothing: of lines that tell a run, each report line is sound. In two parts: all but the octets follows from
--- the definitions of runs and from what exact reports are, and the octets from readings, numbers and what ports and clocks write.
--- `laws::verdicts_miss_nothing`, `laws::verdicts_miss_nothing_within_one_turn` and `laws::each_message_is_written` promise it.
+-- The checker misses nothing: of lines that tell a run, each report line is sound. In two parts: all but the octets
+-- follows from the definitions of runs and from what exact reports are, and the octets from readings, numbers and
+-- what ports and clocks write. `laws::verdicts_miss_nothing`, `laws::verdicts_miss_nothing_within_one_turn` and
+-- `laws::each_message_is_written` promise it.
 use Rattle.std.specs.Prelude.{◌≡◌, ℕ, ◌+◌, Bool, true, false, [], ◌∷◌, IsTrue, Ok, Err, Result, if◌then◌else◌}
 use Rattle.slave_port.specs.declared.heard.Heard.{Heard}
 use Rattle.slave_port.specs.declared.heard.Heard.TheVariants as answers
@@ -23,22 +24,26 @@ use Rattle.trace_model.specs.Verdict.{verdict}
 use Rattle.trace_model.specs.Told.{TellsRun}
 use Rattle.trace_model.specs.Faithful.{TellsPlace}
 
--- Each line that tells of a message that was made has the octets that its port or its clock writes, by the lines before it.
+-- Each line that tells of a message that was made has the octets that its port or its clock writes, by the lines
+-- before it.
 abbrev pub EachMessageIsWritten : Type 0
 EachMessageIsWritten =
-    (network : Network) (p : Place) (e : LinePlace) → TellsPlace network p e → outcome_of network p.earlier p.event ≡ Ok outcomes.Made
+    (network : Network) (p : Place) (e : LinePlace) → TellsPlace network p e
+    → outcome_of network p.earlier p.event ≡ Ok outcomes.Made
     → IsTrue (writes_right network e)
 
 -- Each line that tells a report has its exchange.
 abbrev pub EachReportHasExchange : Premise → Type 0
 EachReportHasExchange premise =
-    (network : Network) (answered : Place) (e : LinePlace) (report : Report) → premise network (until answered) → TellsPlace network answered e
+    (network : Network) (answered : Place) (e : LinePlace) (report : Report) → premise network (until answered)
+    → TellsPlace network answered e
     → Reports network answered report → HasExchange network e report
 
 -- Whatever exchange a line has by lines that tell a run, its octets are those that ports and clocks write.
 abbrev pub EachExchangeIsWritten : Type 0
 EachExchangeIsWritten =
-    (network : Network) (p : Place) (e : LinePlace) (report : Report) → TellsPlace network p e → (has : HasExchange network e report)
+    (network : Network) (p : Place) (e : LinePlace) (report : Report) → TellsPlace network p e
+    → (has : HasExchange network e report)
     → IsTrue (are_octets network has.x has.sync has.request)
 
 -- a slave answers a report
@@ -61,16 +66,19 @@ answers_report (Err refusal) = false
 abbrev pub reports_in : Network → Run → ℕ
 reports_in network [] = 0
 reports_in network (event ∷ earlier) =
-    if answers_report (outcome_of network earlier event) then reports_in network earlier + 1 else reports_in network earlier
+    if answers_report (outcome_of network earlier event) then reports_in network earlier + 1
+    else reports_in network earlier
 
--- a verdict accepts the truth: where its lines tell a run that meets the premise, it is accepted, with the number of the run's reports
+-- a verdict accepts the truth: where its lines tell a run that meets the premise, it is accepted, with the number
+-- of the run's reports
 abbrev pub AcceptsTruth : Premise → Network → Lines → Verdict → Type 0
 AcceptsTruth premise network lines answer =
     (run : Run) → premise network run → TellsRun network run lines → answer ≡ Accepted (reports_in network run)
 
 -- Each verdict accepts the truth.
 abbrev pub MissesNothing : Premise → Type 0
-MissesNothing premise = (network : Network) (lines : Lines) → AcceptsTruth premise network lines (verdict network lines)
+MissesNothing premise = (network : Network) (lines : Lines)
+    → AcceptsTruth premise network lines (verdict network lines)
 
 -- Over runs of any length that are fresh and ticked, each report line has its exchange, and all lines are accepted.
 pub record Complete : Type 0 where

@@ -1,5 +1,6 @@
--- What lines that tell a run have of it: which of them count, the line of each tag, what clocks read and which numbers were
--- drawn, and journeys. `laws::each_line_is_good`, `laws::each_reading_is_recorded` and `laws::each_journey_is_told` promise it.
+-- What lines that tell a run have of it: which of them count, the line of each tag, what clocks read and which
+-- numbers were drawn, and journeys. `laws::each_line_is_good`, `laws::each_reading_is_recorded` and
+-- `laws::each_journey_is_told` promise it.
 use Rattle.std.specs.Prelude.{◌≡◌, ℕ, List, [], ◌∷◌, is_some, Bool, true, false, Some, Ok, Err, Result}
 use Rattle.network_model.specs.declared.event.Event.{Event}
 use Rattle.network_model.specs.declared.refusal.WorldRefusal.{WorldRefusal}
@@ -12,7 +13,7 @@ use Rattle.network_model.specs.Journey as made
 use Rattle.network_model.specs.Outcome.{outcome_of, IsRun}
 use Rattle.network_model.specs.Premises.{is_of_use}
 use Rattle.trace_model.specs.declared.line.TraceLine.{TraceLine}
-use Rattle.trace_model.specs.Line.{Lines, counts, may_happen}
+use Rattle.trace_model.specs.Line.{Lines, counts, is_good}
 use Rattle.trace_model.specs.Record.{LinePlace, line_at, reads_right}
 use Rattle.trace_model.specs.Journey as lined
 use Rattle.trace_model.specs.Told.{TellsEvent, TellsRun}
@@ -32,7 +33,7 @@ took_effect (Err refusal) = false
 
 -- a good line, which counts exactly where its event took effect
 pub record IsGood (network : Network) (event : Event) (earlier : Run) (line : TraceLine) : Type 0 where
-  pub good : may_happen network line.event line.out ≡ true
+  pub good : is_good network line.event line.out ≡ true
   pub counts : counts network line ≡ took_effect (outcome_of network earlier event)
 
 -- Each line that tells an event is good, and counts exactly where the event took effect.

@@ -1,7 +1,7 @@
 -- Journeys over lines: the way of a copy of an event message from the line that sent it, through clocks (IEEE
 -- 1588-2019, 10.2).
-use Rattle.std.specs.Prelude.{ℕ, ◌-◌, Bool, ◌&&◌, List, [], ◌∷◌, length, sum_by, count_by, nat_lt, ◌==◌, if◌then◌else◌}
-use Rattle.std.specs.Prelude.{Option, Some, None, option_map, option_and_then}
+use Rattle.std.specs.Prelude.{ℕ, ◌-◌, Bool, ◌&&◌, List, [], ◌∷◌, length, sum_by, count_by, nat_lt, ◌==◌}
+use Rattle.std.specs.Prelude.{if◌then◌else◌, Option, Some, None, option_map, option_and_then}
 use Rattle.std.specs.List.{list_all}
 use Rattle.network_model.specs.declared.event.Event.{Event}
 use Rattle.network_model.specs.declared.event.Event.TheVariants.{Sync, SyncOne, Leave, Request}
@@ -64,8 +64,7 @@ journey_of network [] n = None
 journey_of network (line ∷ earlier) n =
     if length earlier == n
     then (if counts network line
-    then journey_made network line.event (line_place line earlier) (journey_of network earlier)
-    else None)
+    then journey_made network line.event (line_place line earlier) (journey_of network earlier) else None)
     else journey_of network earlier n
 
 -- each stay of a journey was ended by one Leave line alone

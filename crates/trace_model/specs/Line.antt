@@ -4,11 +4,11 @@ use Rattle.network_model.specs.declared.event.Event.{Event}
 use Rattle.network_model.specs.declared.event.Event.TheVariants.{Sync, SyncOne, Follow, Enter, Leave, Arrive, Hear}
 use Rattle.network_model.specs.declared.event.Event.TheVariants.{Request, Stamped, Tick, SetMaster, StepClock}
 use Rattle.network_model.specs.declared.node.NodeKind.{NodeKind}
-use Rattle.network_model.specs.declared.node.NodeKind.TheVariants as kinds
 use Rattle.network_model.specs.Network.{Network, NodeName, kind_of}
 use Rattle.network_model.specs.Truth.{master_at, slave_at}
 use Rattle.trace_model.specs.declared.line.TraceLine.{TraceLine}
 use Rattle.trace_model.specs.declared.line.TraceOut.{TraceOut}
+use Rattle.network_model.specs.declared.node.NodeKind.TheVariants as kinds
 use Rattle.trace_model.specs.declared.line.TraceOut.TheVariants as outs
 
 -- lines, newest first; a line's number is the number of lines before it
@@ -83,21 +83,21 @@ may_arrive network node out =
     is_master network node && (is_made out || is_refused out) || is_slave network node && is_heard out
 
 -- a good line: its nodes are of the kinds that its event is for, and the event may have come out so
-abbrev pub may_happen : Network → Event → TraceOut → Bool
-may_happen network (Sync node at) out = is_master network node && is_made out
-may_happen network (SyncOne node at) out = is_master network node && is_made out
-may_happen network (Follow node) out = is_master network node && is_made out
-may_happen network (Enter node copy at) out = is_clock network node && is_entered out
-may_happen network (Leave node transit at) out = is_clock network node && (is_made out || is_refused out)
-may_happen network (Arrive node copy at) out = may_arrive network node out
-may_happen network (Hear node copy) out = is_slave network node && is_heard out
-may_happen network (Request node at) out = is_slave network node && is_made out
-may_happen network (Stamped node) out = is_slave network node && (is_done out || is_refused out)
-may_happen network (Tick node) out = is_slave network node && is_done out
-may_happen network (SetMaster node master) out = is_slave network node && is_master network master && is_done out
-may_happen network (StepClock node diff) out = is_some (kind_of network node) && is_done out
+abbrev pub is_good : Network → Event → TraceOut → Bool
+is_good network (Sync node at) out = is_master network node && is_made out
+is_good network (SyncOne node at) out = is_master network node && is_made out
+is_good network (Follow node) out = is_master network node && is_made out
+is_good network (Enter node copy at) out = is_clock network node && is_entered out
+is_good network (Leave node transit at) out = is_clock network node && (is_made out || is_refused out)
+is_good network (Arrive node copy at) out = may_arrive network node out
+is_good network (Hear node copy) out = is_slave network node && is_heard out
+is_good network (Request node at) out = is_slave network node && is_made out
+is_good network (Stamped node) out = is_slave network node && (is_done out || is_refused out)
+is_good network (Tick node) out = is_slave network node && is_done out
+is_good network (SetMaster node master) out = is_slave network node && is_master network master && is_done out
+is_good network (StepClock node diff) out = is_some (kind_of network node) && is_done out
 
 -- A line that tells of something done: it is good, and its event was neither refused nor ignored. To the lines after it
 -- every other line is as if it weren't there.
 abbrev pub counts : Network → TraceLine → Bool
-counts network line = may_happen network line.event line.out && not (is_refused line.out || is_ignored line.out)
+counts network line = is_good network line.event line.out && not (is_refused line.out || is_ignored line.out)

@@ -1,6 +1,8 @@
--- When a report line is sound: eight conditions, asked of lines of any origin. A report names four lines by their numbers:
--- the Sync's arrival, the hearing of the Follow_Up (none for a one-step Sync), the request, the hearing of the Delay_Resp.
-use Rattle.std.specs.Prelude.{◌≡◌, ℕ, ◌+◌, ◌-◌, ◌^◌, ℤ, pos, ◌-ℤ◌, Bool, true, false, ◌&&◌, ◌||◌, not, ◌∷◌, nat_lt, ◌==◌, is_some, IsTrue, if◌then◌else◌, Option, Some, None, option_map, option_and_then}
+-- When a report line is sound: eight conditions, asked of lines of any origin. A report names four lines by their
+-- numbers: the Sync's arrival, the hearing of the Follow_Up (none for a one-step Sync), the request, the hearing of
+-- the Delay_Resp.
+use Rattle.std.specs.Prelude.{◌≡◌, ℕ, ◌+◌, ◌-◌, ◌^◌, ℤ, pos, ◌-ℤ◌, Bool, true, false, ◌&&◌, ◌||◌, not, ◌∷◌, nat_lt}
+use Rattle.std.specs.Prelude.{◌==◌, is_some, IsTrue, if◌then◌else◌, Option, Some, None, option_map, option_and_then}
 use Rattle.std.specs.List.{list_all}
 use Rattle.std.specs.Option.{option_map_or}
 use Rattle.std.specs.Ordering.{int_eq}
@@ -9,12 +11,15 @@ use Rattle.ptp_units.specs.Moment.{fraction_of}
 use Rattle.slave_port.specs.declared.heard.Report.{Report}
 use Rattle.network_model.specs.declared.event.Event.{Event}
 use Rattle.network_model.specs.Network.{Network, NodeName, PortSetup, is_named}
-use Rattle.network_model.specs.Kinds.{is_at, is_sync, is_one_step_sync, draws_sync, is_follow, is_request, is_set_master, named_master, heard_copy, is_arrival, is_hearing}
+use Rattle.network_model.specs.Kinds.{is_at, is_sync, is_one_step_sync, draws_sync, is_follow, is_request}
+use Rattle.network_model.specs.Kinds.{is_set_master, named_master, heard_copy, is_arrival, is_hearing}
 use Rattle.network_model.specs.Truth.{master_at, slave_at}
 use Rattle.trace_model.specs.declared.verdict.Why.{Why}
-use Rattle.trace_model.specs.declared.verdict.Why.TheVariants.{NoSuchLine, OtherNumber, OtherMaster, BrokenJourney, WrongReading, WrongValue, TooBig, Bytes}
+use Rattle.trace_model.specs.declared.verdict.Why.TheVariants.{NoSuchLine, OtherNumber, OtherMaster, BrokenJourney}
+use Rattle.trace_model.specs.declared.verdict.Why.TheVariants.{WrongReading, WrongValue, TooBig, Bytes}
 use Rattle.trace_model.specs.Line.{Lines, counts, is_made, completes}
-use Rattle.trace_model.specs.Record.{LinePlace, line_number, event_of, site, line_at, events, last_line, first_stamp, reading, reads_right}
+use Rattle.trace_model.specs.Record.{LinePlace, line_number, event_of, site, line_at, events, last_line, first_stamp}
+use Rattle.trace_model.specs.Record.{reading, reads_right}
 use Rattle.trace_model.specs.Journey.{Stay, Journey, journey_of, residence, left_once}
 use Rattle.trace_model.specs.Octets.{writes_right}
 
@@ -46,7 +51,8 @@ pub record Exchange : Type 0 where
 
 -- the line of this number, where it is of this kind and at this node
 abbrev pub line_of : Network → Lines → (Event → Bool) → NodeName → ℕ → Option LinePlace
-line_of network lines kind node number = where_passes (λ e. is_at kind node (event_of e)) (line_at network lines number)
+line_of network lines kind node number =
+    where_passes (λ e. is_at kind node (event_of e)) (line_at network lines number)
 
 -- the line that made the copy which is heard at a line, and stands below it
 abbrev pub sender : Network → Lines → LinePlace → Option LinePlace
@@ -55,12 +61,14 @@ sender network lines e = option_and_then (below (line_at network lines) (line_nu
 -- the Sync's arrival: it is used by the slave, and where there is no Follow_Up it completes by itself
 abbrev pub sync_line : Network → Lines → NodeName → Report → Option LinePlace
 sync_line network lines slave report =
-    where_passes (λ e. is_some report.follow_tag || completes e.line.out) (line_of network lines is_arrival slave report.sync_tag)
+    where_passes (λ e. is_some report.follow_tag || completes e.line.out)
+    (line_of network lines is_arrival slave report.sync_tag)
 
 -- the line that sent the Follow_Up which the slave heard and used at the line of this number
 abbrev pub follow_line : Network → Lines → NodeName → ℕ → Option LinePlace
 follow_line network lines slave hearing =
-    where_passes (λ e. is_follow (event_of e)) (option_and_then (sender network lines) (line_of network lines is_hearing slave hearing))
+    where_passes (λ e. is_follow (event_of e))
+    (option_and_then (sender network lines) (line_of network lines is_hearing slave hearing))
 
 -- the same where the report has a Follow_Up; nothing is asked where it has none
 abbrev pub follow_lines : Network → Lines → NodeName → Option ℕ → Option (Option LinePlace)
@@ -71,12 +79,14 @@ follow_lines network lines slave (Some hearing) = option_map Some (follow_line n
 abbrev pub arrival_line : Network → Lines → NodeName → ℕ → Option LinePlace
 arrival_line network lines slave hearing =
     where_passes (λ e. is_arrival (event_of e) && is_made e.line.out)
-    (option_and_then (sender network lines) (where_passes (λ e. completes e.line.out) (line_of network lines is_hearing slave hearing)))
+    (option_and_then (sender network lines)
+    (where_passes (λ e. completes e.line.out) (line_of network lines is_hearing slave hearing)))
 
 -- a report is of the line at which it is answered
 abbrev pub is_of_line : ℕ → Report → Bool
 is_of_line number report =
-    report.sync_tag == number || option_map_or (λ hearing. hearing == number) report.follow_tag false || report.response_tag == number
+    report.sync_tag == number || option_map_or (λ hearing. hearing == number) report.follow_tag false
+    || report.response_tag == number
 
 -- the slave learned between these two lines when its request departed
 abbrev pub is_stamped_between : Network → Lines → (request hearing : ℕ) → Bool
@@ -118,11 +128,13 @@ unbroken network e kind arrival =
 
 -- 702: one Sync, and the slave's own request
 
--- the Follow_Up follows this Sync: it is its master's last two-step Sync before it. Without a Follow_Up the Sync is one-step.
+-- the Follow_Up follows this Sync: it is its master's last two-step Sync before it. Without a Follow_Up the Sync is
+-- one-step.
 abbrev pub is_followed : Network → Option LinePlace → (origin : LinePlace) → Bool
 is_followed network None origin = is_one_step_sync (event_of origin)
 is_followed network (Some follow) origin =
-    option_map_or (λ last. line_number last == line_number origin) (last_line network is_sync (site follow) follow.earlier) false
+    option_map_or (λ last. line_number last == line_number origin)
+    (last_line network is_sync (site follow) follow.earlier) false
 
 abbrev pub are_paired : Network → Exchange → (sync request : Journey) → Bool
 are_paired network x sync request =
@@ -139,7 +151,8 @@ are_later number report =
 -- the slave was told this master last, before all four lines
 abbrev pub is_present_master : Network → NodeName → NodeName → LinePlace → Report → Bool
 is_present_master network slave master e report = option_map_or
-    (λ set. option_map_or (λ named. is_named named master) (named_master (event_of set)) false && are_later (line_number set) report)
+    (λ set. option_map_or (λ named. is_named named master) (named_master (event_of set)) false
+    && are_later (line_number set) report)
     (last_line network is_set_master slave e.earlier) false
 
 -- two ports have one domainNumber
@@ -163,7 +176,8 @@ stay_reads_right network s =
 
 -- all readings of a journey are right
 abbrev pub journey_reads_right : Network → Journey → Bool
-journey_reads_right network journey = reads_right network journey.origin && list_all (stay_reads_right network) journey.stays
+journey_reads_right network journey =
+    reads_right network journey.origin && list_all (stay_reads_right network) journey.stays
 
 abbrev pub are_readings : Network → Exchange → (sync request : Journey) → Bool
 are_readings network x sync request =
@@ -203,8 +217,8 @@ are_octets network x sync request =
     journey_writes_right network sync && option_map_or (writes_right network) x.follow true
     && journey_writes_right network request && writes_right network x.arrival
 
--- the conditions of a sound line that don't speak of octets: its lines, its two journeys, one Sync and one Delay_Req, the
--- present master, the readings, what fits, and the two results
+-- the conditions of a sound line that don't speak of octets: its lines, its two journeys, one Sync and one
+-- Delay_Req, the present master, the readings, what fits, and the two results
 pub record HasExchange (network : Network) (e : LinePlace) (report : Report) : Type 0 where
   pub x : Exchange
   pub sync : Journey

@@ -39,8 +39,8 @@ pub record FirstUnsound (network : Network) (lines : Lines) (number : ℕ) (why 
   pub unsound : Sound network e report → ⊥
   pub fails : reason network e report ≡ Some why
 
--- A verdict is Accepted(n) exactly where each report line is sound and there are n of them, and Refused exactly where one isn't:
--- it names the first such line, and the first condition that it fails.
+-- A verdict is Accepted(n) exactly where each report line is sound and there are n of them, and Refused exactly
+-- where one isn't: it names the first such line, and the first condition that it fails.
 pub record TellsSoundness (network : Network) (lines : Lines) (answer : Verdict) : Type 0 where
   pub accepted : (count : ℕ) → answer ≡ Accepted count ↔ (AllSound network lines × (count ≡ report_count lines))
   pub refused : (number : ℕ) (why : Why) → answer ≡ Refused number why ↔ FirstUnsound network lines number why

@@ -43,7 +43,8 @@ TellsOutcome copy (outcomes.Heard heard) out = out ≡ heard_out heard
 TellsOutcome copy (outcomes.Refused code) out = out ≡ outs.Refused code
 
 -- a line has this event, and what it was answered in a world with this run
-pub record TellsAnswer (network : Network) (run : Run) (happened : Event) (stepped : Stepped) (line : TraceLine) : Type 0 where
+pub record TellsAnswer (network : Network) (run : Run) (happened : Event) (stepped : Stepped)
+    (line : TraceLine) : Type 0 where
   pub event : line.event ≡ happened
   pub reading : line.reading ≡ stepped.reading
   pub outcome : TellsOutcome (copy_of network run stepped.tag) stepped.outcome line.out
@@ -57,6 +58,7 @@ pub record TellsEvent (network : Network) (event : Event) (earlier : Run) (line 
 -- lines tell a run, a line an event
 abbrev pub TellsRun : Network → Run → Lines → Type 0
 TellsRun network [] [] = Unit {0}
-TellsRun network (event ∷ earlier) (line ∷ lines) = TellsEvent network event earlier line × TellsRun network earlier lines
+TellsRun network (event ∷ earlier) (line ∷ lines) =
+    TellsEvent network event earlier line × TellsRun network earlier lines
 TellsRun network [] (line ∷ lines) = ⊥
 TellsRun network (event ∷ earlier) [] = ⊥

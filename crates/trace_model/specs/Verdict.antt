@@ -24,7 +24,8 @@ one_more count number (Some (Some why)) = Refused number why
 
 -- the verdict after one more line
 abbrev pub with_line : Network → LinePlace → Verdict → Verdict
-with_line network e (Accepted count) = one_more count (line_number e) (option_map (reason network e) (report_in e.line.out))
+with_line network e (Accepted count) =
+    one_more count (line_number e) (option_map (reason network e) (report_in e.line.out))
 with_line network e (Refused number why) = Refused number why
 
 -- the verdict on all lines

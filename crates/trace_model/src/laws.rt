@@ -1,8 +1,10 @@
 //! Laws of lines, each the contract of a function that does nothing: a caller that needs the law in its
 //! proof calls it.
 
-ghost use Rattle.trace_model.specs.Complete.{Complete, CompleteWithinOneTurn, EachExchangeIsWritten, EachMessageIsWritten};
-ghost use Rattle.trace_model.specs.Faithful.{EachEventHasItsLine, EachEventIsRecorded, EachJourneyIsTold, EachLineIsGood};
+ghost use Rattle.trace_model.specs.Complete.{Complete, CompleteWithinOneTurn, EachExchangeIsWritten};
+ghost use Rattle.trace_model.specs.Complete.{EachMessageIsWritten};
+ghost use Rattle.trace_model.specs.Faithful.{EachEventHasItsLine, EachEventIsRecorded};
+ghost use Rattle.trace_model.specs.Faithful.{EachJourneyIsTold, EachLineIsGood};
 ghost use Rattle.trace_model.specs.Octets.{EachPacketIsTested};
 ghost use Rattle.trace_model.specs.Soundness.{ReasonsMissNothing, VerdictsTellSoundness};
 

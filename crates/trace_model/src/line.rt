@@ -3,9 +3,8 @@ ghost use Rattle.network_model.specs.Truth.{copy_of};
 ghost use Rattle.trace_model.specs.Told.{TellsAnswer, TellsOutcome, TellsMade, heard_out};
 
 use arrayvec::ArrayVec;
-use network_model::{Event, Heard, Outcome, Report, Stepped};
+use network_model::{CopyOctets, Event, Heard, Outcome, Report, Stepped};
 use ptp_units::ScaledTime;
-use world_model::World;
 
 /// What a line says that its event brought about.
 #[derive(Debug, PartialEq, Eq, Drop)]
@@ -43,8 +42,8 @@ impl TraceLine {
     /// The line that tells what became of an event of a world: its reading and its outcome, and
     /// where it made a message, the octets that the world has under its tag, none where it has
     /// none. It takes no memory.
-    pub fn of(event: &Event, stepped: &Stepped, world: &World) -> TraceLine
-        ensures { TellsAnswer world.now.network world.now.run event.now stepped.now result }
+    pub fn of<C: CopyOctets>(event: &Event, stepped: &Stepped, world: &C) -> TraceLine
+        ensures { TellsAnswer (C.network world.now) (C.run world.now) event.now stepped.now result }
     {
         TraceLine {
             event: *event,
@@ -55,8 +54,9 @@ impl TraceLine {
 }
 
 /// What a line has of an outcome.
-fn out_of(stepped: &Stepped, world: &World) -> TraceOut
-    ensures { TellsOutcome (copy_of world.now.network world.now.run stepped.now.tag) stepped.now.outcome result }
+fn out_of<C: CopyOctets>(stepped: &Stepped, world: &C) -> TraceOut
+    ensures { TellsOutcome (copy_of (C.network world.now) (C.run world.now) stepped.now.tag) stepped.now.outcome
+        result }
 {
     match &stepped.outcome {
         Outcome::Done => TraceOut::Done,
@@ -80,8 +80,8 @@ fn heard_out(heard: &Heard) -> TraceOut
 }
 
 /// What a line has of the copy of this tag.
-fn made(tag: u64, world: &World) -> TraceOut
-    ensures { TellsMade (copy_of world.now.network world.now.run tag) result }
+fn made<C: CopyOctets>(tag: u64, world: &C) -> TraceOut
+    ensures { TellsMade (copy_of (C.network world.now) (C.run world.now) tag) result }
 {
     let mut copy = ArrayVec::new();
     if let Some(octets) = world.octets(tag) {

@@ -10,7 +10,7 @@ ghost use Rattle.world_model.specs.Exact.{IsTimely, IsExactAnswer, RunsKeepLaws}
 use crate::entry::{Entry, octets_of};
 use crate::station::{Station, stations_of};
 use crate::stepping::step;
-use network_model::{Event, Nodes, Stepped, WorldRefusal};
+use network_model::{CopyOctets, Event, Nodes, Stepped, WorldRefusal};
 use std::alloc::Global;
 use std::marker::Model;
 
@@ -108,5 +108,15 @@ impl World {
         ensures run { IsRun self.now.network self.now.run }
     {
         let _ = &self.nodes;
+    }
+}
+
+impl CopyOctets for World {
+    ghost network = { λ w. w.network };
+
+    ghost run = { λ w. w.run };
+
+    fn octets(&self, copy: u64) -> Option<&[u8]> {
+        self.octets(copy)
     }
 }

@@ -1,4 +1,5 @@
-use Rattle.std.proofs.Common.{◌≡◌, ◌∙◌, ℕ, ◌+◌, ◌<◌, ◌≤◌, eqb, true, false, Some, None, length, Bool, cond, refl, sym, ap, subst, arith}
+use Rattle.std.proofs.Common.{◌≡◌, ◌∙◌, ℕ, ◌+◌, ◌<◌, ◌≤◌, eqb, true, false, Some, None}
+use Rattle.std.proofs.Common.{length, Bool, cond, refl, sym, ap, subst, arith}
 use Rattle.std.specs.BTreeMap.{get}
 use Rattle.std.specs.Ordering.{nat_cmp}
 use Rattle.std.proofs.lemmas.Bool.{eqb-true}
@@ -15,12 +16,14 @@ use Rattle.exchange_check.proofs.stays.Stays.cut.Goals as goal
 
 pub returns-then-depth-eq0-clause-stays : goal.returns-then-depth-eq0-clause-stays
 returns-then-depth-eq0-clause-stays c stays leaves number transit first h =
-    cut_flat (branch_in c.args.self.now.branches.items) (get nat_cmp c.args.self.now.firsts) stays leaves number transit c.args.first h first
+    cut_flat (branch_in c.args.self.now.branches.items)
+    (get nat_cmp c.args.self.now.firsts) stays leaves number transit c.args.first h first
     (ap (λ (b : Branch). b.depth) (sym c.at-left.ensures) ∙ c.if-depth-eq0.true)
 
 pub set-requires : goal.set-requires
 set-requires c =
-    let same : c.at-left.result.depth ≡ (branch_in c.args.self.now.branches.items c.args.first).depth = ap (λ (b : Branch). b.depth) c.at-left.ensures in
+    let same : c.at-left.result.depth ≡ (branch_in c.args.self.now.branches.items c.args.first).depth =
+    ap (λ (b : Branch). b.depth) c.at-left.ensures in
     let deep : c.at-left.result.depth ≡ 0 → ⊥ = c.if-depth-eq0.false in
     deep_within c.args.self.now.branches.items c.args.first (omega (arith, same, deep))
 
@@ -32,10 +35,13 @@ loop-copy-init c =
     let same : c.at-left.result.depth ≡ (branches f).depth = ap (λ (b : Branch). b.depth) c.at-left.ensures in
     let nonzero : c.at-left.result.depth ≡ 0 → ⊥ = c.if-depth-eq0.false in
     let at_f : after f ≡ record (branches f) { once = false } =
-    (λ i. c.set.ensures.branches i f) ∙ with_branch-here branches f _ ∙ ap (λ (b : Branch). let d : Branch = record b { once = false } in d) c.at-left.ensures in
-    let others : (x : ℕ) → eqb f x ≡ false → after x ≡ branches x = λ x e. (λ i. c.set.ensures.branches i x) ∙ with_branch-there branches f _ x e in (
+    (λ i. c.set.ensures.branches i f) ∙ with_branch-here branches f _
+    ∙ ap (λ (b : Branch). let d : Branch = record b { once = false } in d) c.at-left.ensures in
+    let others : (x : ℕ) → eqb f x ≡ false → after x ≡ branches x =
+    λ x e. (λ i. c.set.ensures.branches i x) ∙ with_branch-there branches f _ x e in (
       λ stays leaves number transit first h.
-          cut_start branches (get nat_cmp c.args.self.now.firsts) stays leaves number transit f h first after (omega (arith, same, nonzero)) at_f others,
+          cut_start branches (get nat_cmp c.args.self.now.firsts) stays leaves number transit f h first after
+          (omega (arith, same, nonzero)) at_f others,
       c.set.ensures.firsts,
       c.set.ensures.length,
       same ∙ sym (ap (λ (b : Branch). b.depth) at_f),
@@ -47,20 +53,26 @@ returns-then-grown-depth-clause-stays c stays leaves number transit first h =
     let branches : Branches = branch_in c.loop-copy.self.branches.items in
     let inv = c.loop-copy.invariant in
     let cutting = inv.0 stays leaves number transit first h in
-    let link_is : (branches c.args.first).next ≡ Some c.in-Some.copy = ap (λ (b : Branch). b.next) (sym c.at.ensures) ∙ c.in-Some.is in
-    let over : (y : ℕ) → (branches c.args.first).next ≡ Some y → (branches y).depth ≤ (branches c.args.first).depth = λ y e.
+    let link_is : (branches c.args.first).next ≡ Some c.in-Some.copy =
+    ap (λ (b : Branch). b.next) (sym c.at.ensures) ∙ c.in-Some.is in
+    let over : (y : ℕ) → (branches c.args.first).next ≡ Some y → (branches y).depth ≤ (branches c.args.first).depth =
+    λ y e.
     let same : c.in-Some.copy ≡ y = same_Some _ _ (sym link_is ∙ e) in
-    let grown : c.at-grown.result.depth ≡ (branches y).depth = ap (λ (b : Branch). b.depth) c.at-grown.ensures ∙ ap (λ (x : ℕ). (branches x).depth) same in
+    let grown : c.at-grown.result.depth ≡ (branches y).depth =
+    ap (λ (b : Branch). b.depth) c.at-grown.ensures ∙ ap (λ (x : ℕ). (branches x).depth) same in
     let low : c.at-grown.result.depth ≤ c.at-left.result.depth = c.if-grown-depth.true in
     let deep : c.at-left.result.depth ≡ (branches c.args.first).depth = inv.3 in
     omega (arith, grown, low, deep) in
-    subst (λ (f : Firsts). AreBranches branches f stays (left_again transit leaves) number) (sym (ap (get nat_cmp) inv.1))
-    (cut_done branches (get nat_cmp c.args.self.now.firsts) stays (left_again transit leaves) number c.args.first cutting over)
+    subst (λ (f : Firsts). AreBranches branches f stays (left_again transit leaves) number)
+    (sym (ap (get nat_cmp) inv.1))
+    (cut_done branches (get nat_cmp c.args.self.now.firsts) stays
+    (left_again transit leaves) number c.args.first cutting over)
 
 pub set-requires-in-Some : goal.set-requires-in-Some
 set-requires-in-Some c =
     let branches : Branches = branch_in c.loop-copy.self.branches.items in
-    let grown : c.at-grown.result.depth ≡ (branches c.in-Some.copy).depth = ap (λ (b : Branch). b.depth) c.at-grown.ensures in
+    let grown : c.at-grown.result.depth ≡ (branches c.in-Some.copy).depth =
+    ap (λ (b : Branch). b.depth) c.at-grown.ensures in
     let low = c.if-grown-depth.false in
     deep_within c.loop-copy.self.branches.items c.in-Some.copy (omega (arith, grown, low))
 
@@ -69,12 +81,15 @@ set-requires-in-Some-2 c =
     let inv = c.loop-copy.invariant in
     let deep : c.at-left.result.depth ≡ (branch_in c.loop-copy.self.branches.items c.args.first).depth = inv.3 in
     let some : 0 < c.at-left.result.depth = inv.4 in
-    let within : c.args.first < length c.loop-copy.self.branches.items = deep_within c.loop-copy.self.branches.items c.args.first (omega (arith, deep, some)) in
-    let same : length c.set-in-Some.new.self.branches.items ≡ length c.loop-copy.self.branches.items = c.set-in-Some.ensures.length in
+    let within : c.args.first < length c.loop-copy.self.branches.items =
+    deep_within c.loop-copy.self.branches.items c.args.first (omega (arith, deep, some)) in
+    let same : length c.set-in-Some.new.self.branches.items ≡ length c.loop-copy.self.branches.items =
+    c.set-in-Some.ensures.length in
     omega (arith, within, same)
 
 -- after an iteration
-module _ (branches middle after : Branches) (f y depth : ℕ) (grown : Branch) (at : branches y ≡ grown) (deep : depth ≡ (branches f).depth) (deeper : grown.depth ≤ depth → ⊥)
+module _ (branches middle after : Branches) (f y depth : ℕ) (grown : Branch) (at : branches y ≡ grown)
+    (deep : depth ≡ (branches f).depth) (deeper : grown.depth ≤ depth → ⊥)
     (first : middle ≡ with_branch y (record { once = false; depth = grown.depth; next = None }) branches)
     (second : after ≡ with_branch f (record { once = false; depth = depth; next = grown.next }) middle) where
   pub is_deeper : (branches f).depth < (branches y).depth
@@ -103,16 +118,21 @@ module _ (branches middle after : Branches) (f y depth : ℕ) (grown : Branch) (
       ∙ (λ i. let d : Branch = record { once = sym off i; depth = deep i; next = (sym at i).next } in d)
 
   pub then_others : (x : ℕ) → eqb f x ≡ false → eqb y x ≡ false → after x ≡ branches x
-  then_others x e g = (λ i. second i x) ∙ with_branch-there middle f _ x e ∙ (λ i. first i x) ∙ with_branch-there branches y _ x g
+  then_others x e g = (λ i. second i x) ∙ with_branch-there middle f _ x e ∙ (λ i. first i x)
+      ∙ with_branch-there branches y _ x g
 
   -- one copy less has another after it
   pub fewer : (n : ℕ) → (branches f).next ≡ Some y → y < n → f < n → links after n < links branches n
   fewer n follows in_y in_f =
-      let one : links middle n + link (branches y) ≡ links branches n + 0 = (λ i. links (first i) n + link (branches y)) ∙ links_with branches y _ n in_y in
-      let two : links after n + link (middle f) ≡ links middle n + link (record { once = false; depth = depth; next = grown.next }) =
+      let one : links middle n + link (branches y) ≡ links branches n + 0 =
+      (λ i. links (first i) n + link (branches y)) ∙ links_with branches y _ n in_y in
+      let two : links after n + link (middle f)
+      ≡ links middle n + link (record { once = false; depth = depth; next = grown.next }) =
       (λ i. links (second i) n + link (middle f)) ∙ links_with middle f _ n in_f in
-      let mid : link (middle f) ≡ 1 = ap link ((λ i. first i f) ∙ with_branch-there branches y _ f (turned apart)) ∙ (λ i. cond (is_some (follows i)) 1 0) in
-      let same : link (branches y) ≡ link (record { once = false; depth = depth; next = grown.next }) = (λ i. cond (is_some (at i).next) 1 0) in
+      let mid : link (middle f) ≡ 1 = ap link ((λ i. first i f) ∙ with_branch-there branches y _ f (turned apart))
+      ∙ (λ i. cond (is_some (follows i)) 1 0) in
+      let same : link (branches y) ≡ link (record { once = false; depth = depth; next = grown.next }) =
+      (λ i. cond (is_some (at i).next) 1 0) in
       omega (arith, one, two, mid, same)
     where
       turned : eqb f y ≡ false → eqb y f ≡ false
@@ -133,10 +153,15 @@ loop-copy-smaller c =
     let more : c.at-left.result.depth < grown.depth = c.if-grown-depth.false in
     let in_f : f < length items = deep_within items f (omega (arith, deep, some)) in
     let in_y : y < length items = deep_within items y (omega (arith, same, more)) in
-    let kept : length c.set-in-Some-2.new.self.branches.items ≡ length items = c.set-in-Some-2.ensures.length ∙ c.set-in-Some.ensures.length in
-    let less = fewer branches (branch_in c.set-in-Some.new.self.branches.items) (branch_in c.set-in-Some-2.new.self.branches.items) f y c.at-left.result.depth grown
-    (sym c.at-grown.ensures) deep (λ low. absurd (omega (arith, low, more))) c.set-in-Some.ensures.branches c.set-in-Some-2.ensures.branches (length items) follows in_y in_f in
-    subst (λ (n : ℕ). links (branch_in c.set-in-Some-2.new.self.branches.items) n < links branches (length items)) (sym kept) less
+    let kept : length c.set-in-Some-2.new.self.branches.items ≡ length items =
+    c.set-in-Some-2.ensures.length ∙ c.set-in-Some.ensures.length in
+    let less = fewer branches (branch_in c.set-in-Some.new.self.branches.items)
+    (branch_in c.set-in-Some-2.new.self.branches.items) f y c.at-left.result.depth grown
+    (sym c.at-grown.ensures) deep
+    (λ low. absurd (omega (arith, low, more))) c.set-in-Some.ensures.branches c.set-in-Some-2.ensures.branches
+    (length items) follows in_y in_f in
+    subst (λ (n : ℕ). links (branch_in c.set-in-Some-2.new.self.branches.items) n < links branches (length items))
+    (sym kept) less
 
 pub loop-copy-preserved : goal.loop-copy-preserved
 loop-copy-preserved c =
@@ -154,10 +179,12 @@ loop-copy-preserved c =
     let first = c.set-in-Some.ensures.branches in
     let second = c.set-in-Some-2.ensures.branches in
     let at = sym c.at-grown.ensures in
-    let own : depth ≡ (after f).depth = sym (ap (λ (b : Branch). b.depth) ((λ i. second i f) ∙ with_branch-here middle f _)) in (
+    let own : depth ≡ (after f).depth =
+    sym (ap (λ (b : Branch). b.depth) ((λ i. second i f) ∙ with_branch-here middle f _)) in (
       λ stays leaves number transit named h.
           let cutting = inv.0 stays leaves number transit named h in
-          cut_step branches (get nat_cmp c.args.self.now.firsts) stays (left_again transit leaves) number f cutting after y follows
+          cut_step branches (get nat_cmp c.args.self.now.firsts) stays
+          (left_again transit leaves) number f cutting after y follows
           (is_deeper branches middle after f y depth grown at inv.3 shallow first second)
           (then_at_y branches middle after f y depth grown at inv.3 shallow first second)
           (then_at_f branches middle after f y depth grown at inv.3 shallow first second cutting.off)
@@ -173,6 +200,9 @@ returns-clause-stays c stays leaves number transit first h =
     let branches : Branches = branch_in c.loop-copy.self.branches.items in
     let inv = c.loop-copy.invariant in
     let cutting = inv.0 stays leaves number transit first h in
-    let over : (y : ℕ) → (branches c.args.first).next ≡ Some y → (branches y).depth ≤ (branches c.args.first).depth = λ y e. absurd (none-some y (sym c.in_default.is ∙ ap (λ (b : Branch). b.next) c.at.ensures ∙ e)) in
-    subst (λ (f : Firsts). AreBranches branches f stays (left_again transit leaves) number) (sym (ap (get nat_cmp) inv.1))
-    (cut_done branches (get nat_cmp c.args.self.now.firsts) stays (left_again transit leaves) number c.args.first cutting over)
+    let over : (y : ℕ) → (branches c.args.first).next ≡ Some y → (branches y).depth ≤ (branches c.args.first).depth =
+    λ y e. absurd (none-some y (sym c.in_default.is ∙ ap (λ (b : Branch). b.next) c.at.ensures ∙ e)) in
+    subst (λ (f : Firsts). AreBranches branches f stays (left_again transit leaves) number)
+    (sym (ap (get nat_cmp) inv.1))
+    (cut_done branches (get nat_cmp c.args.self.now.firsts) stays
+    (left_again transit leaves) number c.args.first cutting over)

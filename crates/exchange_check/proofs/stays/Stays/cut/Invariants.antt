@@ -9,8 +9,10 @@ use Rattle.exchange_check.proofs.stays.Stays.cut.Given as goal
 
 abbrev pub invariant-loop-copy : goal.invariant-loop-copy
 invariant-loop-copy l =
-    ((stays : LastStays) (leaves : Leaves) (number transit : ℕ) → get nat_cmp l.fn.self.firsts transit ≡ Some l.fn.first → AreStays l.fn.self stays leaves number
-    → IsCutting (branch_in l.self.branches.items) (get nat_cmp l.fn.self.firsts) stays (left_again transit leaves) number l.fn.first)
+    ((stays : LastStays) (leaves : Leaves) (number transit : ℕ)
+    → get nat_cmp l.fn.self.firsts transit ≡ Some l.fn.first → AreStays l.fn.self stays leaves number
+    → IsCutting (branch_in l.self.branches.items) (get nat_cmp l.fn.self.firsts) stays
+    (left_again transit leaves) number l.fn.first)
     × (l.self.firsts ≡ l.fn.self.firsts) × (length l.self.branches.items ≡ length l.fn.self.branches.items)
     × (l.depth ≡ (branch_in l.self.branches.items l.fn.first).depth) × (0 < l.depth)
 

@@ -5,5 +5,8 @@ use Rattle.exchange_check.proofs.stays.Stays.reach.Goals as goal
 
 pub loop-self-preserved : goal.loop-self-preserved
 loop-self-preserved c =
-    let pushed : c.push.new.self.items ≡ c.loop-self.self.branches.items ++ root ∷ [] = search rules in
-    (ap branch_in pushed ∙ push_root c.loop-self.self.branches.items ∙ c.loop-self.invariant.0, c.loop-self.invariant.1)
+    let pushed : c.push.new.self.items ≡ c.loop-self.self.branches.items ++ root ∷ [] = search rules in (
+      ap branch_in pushed ∙ push_root c.loop-self.self.branches.items
+          ∙ c.loop-self.invariant.0,
+      c.loop-self.invariant.1,
+    )

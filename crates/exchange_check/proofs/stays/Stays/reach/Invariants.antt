@@ -3,7 +3,8 @@ use Rattle.exchange_check.specs.Stays.{branch_in}
 use Rattle.exchange_check.proofs.stays.Stays.reach.Given as goal
 
 abbrev pub invariant-loop-self : goal.invariant-loop-self
-invariant-loop-self l = (branch_in l.self.branches.items ≡ branch_in l.fn.self.branches.items) × (l.self.firsts ≡ l.fn.self.firsts)
+invariant-loop-self l = (branch_in l.self.branches.items ≡ branch_in l.fn.self.branches.items)
+    × (l.self.firsts ≡ l.fn.self.firsts)
 
 abbrev pub decreases-loop-self : goal.decreases-loop-self
 decreases-loop-self l = l.number + 1 - length l.self.branches.items
