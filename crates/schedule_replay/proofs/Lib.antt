@@ -3,8 +3,6 @@ pub mod ReadAhead
 pub mod Cutting
 pub mod Reading
 pub mod Bounds
-pub mod Printing
-pub mod Joining
 pub mod ShownLines
 pub mod Entries
 pub mod Records
@@ -25,11 +23,6 @@ pub mod OneTranscript
 pub mod NoMistakes
 pub mod ReplayedRanges
 pub mod CheckedLines
-pub mod ErrorKinds
-pub mod FlagWords
-pub mod SubcommandNames
-pub mod CommandLines
-pub mod Invocations
 pub mod OneReading
 pub mod OneText
 pub mod OneLine

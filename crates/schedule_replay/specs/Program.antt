@@ -7,8 +7,8 @@ use Rattle.schedule_replay.specs.Fault.{FailedWith}
 use Rattle.schedule_replay.specs.declared.fault.Fault.{Fault}
 use Rattle.trace_model.specs.declared.verdict.Verdict.{Verdict}
 use Rattle.trace_model.specs.declared.verdict.Verdict.TheVariants.{Accepted, Refused}
-use Rattle.schedule_replay.specs.declared.words.Subcommand.TheVariants.{Show, Replay, Check}
-use Rattle.schedule_replay.specs.Words.{Names, NamesNothing, HasHelpFlag, BeginsWithHelp}
+use Rattle.command_line.specs.declared.arguments.Subcommand.TheVariants.{Show, Replay, Check}
+use Rattle.command_line.specs.Arguments.{Names, NamesNothing, HasHelpFlag, BeginsWithHelp}
 
 -- the arguments ask for `show`
 abbrev pub AsksShow : List (List ℕ) → Type 0

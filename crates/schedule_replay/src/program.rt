@@ -6,14 +6,14 @@ ghost use Rattle.schedule_replay.specs.Counted.{device_of};
 ghost use Rattle.schedule_replay.specs.Show.{ShowsAnswer};
 ghost use Rattle.schedule_replay.specs.Replay.{ReplaysAnswer};
 ghost use Rattle.schedule_replay.specs.CheckText.{ChecksAnswer};
-ghost use Rattle.schedule_replay.specs.Words.{HasHelpFlag, NamesNothing};
+ghost use Rattle.command_line.specs.Arguments.{HasHelpFlag, NamesNothing};
 
 use crate::checking::check_text;
 use crate::counted::Counted;
 use crate::fault::{Fault, FaultKind};
 use crate::replaying::replay;
 use crate::showing::show;
-use crate::words::{Invocation, Subcommand, parse};
+use command_line::{Invocation, Subcommand, parse};
 use exchange_check::Verdict;
 use std::alloc::Global;
 use std::io::{Read, Write};

@@ -1,7 +1,7 @@
 use Rattle.std.proofs.Common.{map, inl}
 use Rattle.std.specs.Prelude.{string_bytes}
-use Rattle.schedule_replay.specs.declared.words.Subcommand.TheVariants.{Show, Replay, Check}
-use Rattle.schedule_replay.proofs.Invocations.{named_asks_no_help, names_show_or_replay, names_show_or_check, names_replay_or_check}
+use Rattle.command_line.specs.declared.arguments.Subcommand.TheVariants.{Show, Replay, Check}
+use Rattle.command_line.proofs.Invocations.{named_asks_no_help, names_show_or_replay, names_show_or_check, names_replay_or_check}
 use Rattle.schedule_replay.proofs.program.command.Goals as goal
 
 pub returns-in-Ok-Run-Show-clause-help : goal.returns-in-Ok-Run-Show-clause-help
