@@ -1,10 +1,10 @@
 -- What clap makes of all the words, by what stands in the place of a subcommand's name and after it.
-use Rattle.std.proofs.Common.{◌≡◌, ◌∙◌, ◌⊎◌, inl, inr, Bool, true, false, refl, sym, ap, subst, List, [], ◌∷◌, Some, None, codes, option_map}
+use Rattle.std.proofs.Common.{◌≡◌, ◌∙◌, ◌⊎◌, inl, inr, Bool, true, false, refl, sym, ap, subst, List, [], ◌∷◌, Some, None, codes}
 use Rattle.std.specs.Prelude.{slice_get}
 use Rattle.std.specs.Str.{bytes_eq}
 use Rattle.std.proofs.lemmas.Slice.Eq.{bytes_eq-Decides}
 use Rattle.clap.specs.Walk.{Text, idle, subcommand_met, walked}
-use Rattle.clap.specs.Simple.{is_simple, subcommand_of}
+use Rattle.clap.specs.Simple.{is_simple}
 use Rattle.clap.specs.Kinds.{Kinds}
 use Rattle.clap.specs.Faults.{fault_of, is_simple_and_free, walk_fault}
 use Rattle.clap.specs.declared.error.kind.ErrorKind.TheVariants as kind
@@ -13,7 +13,7 @@ use Rattle.command_line.specs.Arguments.{AsksHelp, BeginsWithHelp, HasHelpFlag, 
 use Rattle.command_line.specs.declared.arguments.Subcommand.{Subcommand}
 use Rattle.command_line.proofs.ErrorKinds.{IsFlagOrMistake, IsHelp, IsMistake, flag_or_mistake_lasts, help_lasts, missing_subcommand, unknown_name}
 use Rattle.command_line.proofs.FlagWords.{flag_is_help, flag_or_mistake, same_in}
-use Rattle.command_line.proofs.SubcommandNames.{IsNamed, alone_meets, alone_runs, first_word, flag_is_help_after_name, flag_or_mistake_after_name, known_names, marked_meets, marked_runs, mistake_after_mark, named, program_level}
+use Rattle.command_line.proofs.SubcommandNames.{IsNamed, Meets, computed, first_word, flag_is_help_after_name, flag_or_mistake_after_name, known_names, mistake_after_mark, named, program_level}
 
 pub is_simple_program : is_simple program ≡ true
 unfolding clap_on_literals
@@ -49,12 +49,12 @@ help_first program_name rest = refl
 -- ---- any words
 
 -- the words name this subcommand, and clap meets it
-abbrev Runs : List Text → Kinds → Type 0
-Runs words kinds = (s : Subcommand) × (kinds ≡ []) × Names words s × (option_map (λ p. p.0) (subcommand_of program words) ≡ Some (name_of s))
+abbrev Runs : List Text → Type 0
+Runs words = (s : Subcommand) × Names words s × Meets s words
 
 -- what a parse's kinds of error say of the words
 abbrev pub Verdict : List Text → Kinds → Type 0
-Verdict words kinds = Runs words kinds
+Verdict words kinds = Runs words
     ⊎ ((IsHelp kinds × HasHelpFlag words)
     ⊎ ((BeginsWithHelp words × (kinds ≡ kind.DisplayHelp ∷ kind.InvalidSubcommand ∷ []))
     ⊎ IsMistake kinds))
@@ -69,11 +69,11 @@ flag_verdict words word kinds stands (inr mistake) = inr (inr (inr mistake))
 
 -- words with a subcommand's name in its place
 name_verdict : (s : Subcommand) (program_name : Text) (rest : List Text) → Verdict (program_name ∷ name_of s ∷ rest) (fault_of program (program_name ∷ name_of s ∷ rest))
-name_verdict s program_name [] = inl (s, alone_runs s program_name, inl refl, alone_meets s program_name)
+name_verdict s program_name [] = inl (s, inl refl, (computed s).alone program_name)
 name_verdict s program_name (word ∷ rest) = by_mark (bytes_eq word (codes "--")) refl rest
   where
     after_mark : (rest : List Text) → Verdict (program_name ∷ name_of s ∷ codes "--" ∷ rest) (fault_of program (program_name ∷ name_of s ∷ codes "--" ∷ rest))
-    after_mark [] = inl (s, marked_runs s program_name, inr refl, marked_meets s program_name)
+    after_mark [] = inl (s, inr refl, (computed s).marked program_name)
     after_mark (next ∷ rest) = inr (inr (inr (mistake_after_mark s program_name next rest)))
 
     by_mark : (is_mark : Bool) → bytes_eq word (codes "--") ≡ is_mark → (rest : List Text)
@@ -110,8 +110,8 @@ verdict (program_name ∷ word ∷ rest) = by_name (named word)
 pub names_run : (words : List Text) (s : Subcommand) → Names words s → fault_of program words ≡ []
 names_run [] s (inl is) = cc
 names_run [] s (inr is) = cc
-names_run (program_name ∷ rest) s (inl is) = ap (λ words. fault_of program (program_name ∷ words)) is ∙ alone_runs s program_name
-names_run (program_name ∷ rest) s (inr is) = ap (λ words. fault_of program (program_name ∷ words)) is ∙ marked_runs s program_name
+names_run (program_name ∷ rest) s (inl is) = ap (λ words. fault_of program (program_name ∷ words)) is ∙ ((computed s).alone program_name).0
+names_run (program_name ∷ rest) s (inr is) = ap (λ words. fault_of program (program_name ∷ words)) is ∙ ((computed s).marked program_name).0
 
 flag_is_no_name : (word : Text) → AsksHelp word → subcommand_met known_names idle word ≡ None
 flag_is_no_name word (inl is) = ap (subcommand_met known_names idle) is

@@ -1,6 +1,7 @@
 -- What a parse of the words answers is what they ask for.
-use Rattle.std.proofs.Common.{◌≡◌, ◌≢◌, ◌∙◌, ◌⊎◌, inl, inr, true, refl, sym, ap, subst, arith, ℕ, List, [], ◌∷◌, Option, Some, None, codes, drop, option_map}
-use Rattle.std.specs.Prelude.{Box, IfOk, Result}
+use Rattle.std.proofs.Common.{◌≡◌, ◌≢◌, ◌∙◌, ◌⊎◌, inl, inr, true, refl, sym, ap, subst, List, [], ◌∷◌, Option, Some, None, codes, drop, option_map}
+use Rattle.std.specs.Prelude.{Box, IfOk, Result, find, slice_get}
+use Rattle.std.specs.Str.{bytes_eq}
 use Rattle.std.specs.Box.{box_value}
 use Rattle.std.proofs.lemmas.Result.{IfOk-weaker}
 use Rattle.clap.specs.Walk.{Text}
@@ -15,7 +16,7 @@ use Rattle.clap.specs.declared.error.kind.ErrorKind.TheVariants as kind
 use Rattle.clap.specs.declared.parser.matches.ArgMatches.{ArgMatches}
 use Rattle.clap.specs.declared.parser.matches.ArgMatches.TheViews.{out-ArgMatches, out-SubCommand}
 use Rattle.clap.specs.declared.parser.matches.SubCommand.{SubCommand}
-use Rattle.command_line.specs.Arguments.{Asks, BeginsWithHelp, HasHelpFlag, Names, ShowsKind, name_of, program}
+use Rattle.command_line.specs.Arguments.{Asks, BeginsWithHelp, HasHelpFlag, Names, ShowsKind, name_of, program, subcommands}
 use Rattle.command_line.specs.declared.arguments.Invocation.{Invocation}
 use Rattle.command_line.specs.declared.arguments.Invocation.TheVariants.{Run, Help, Mistake}
 use Rattle.command_line.specs.declared.arguments.Subcommand.{Subcommand}
@@ -38,7 +39,7 @@ run_of : (words : List Text) (m : ArgMatches) → fault_of program words ≡ [] 
 run_of words m none has = by_verdict (verdict words)
   where
     by_verdict : Verdict words (fault_of program words) → (s : Subcommand) × Names words s × (subcommand_name_of m ≡ Some (name_of s))
-    by_verdict (inl (s, empty, is, met)) = (s, is, name_is m ∙ ap (option_map (λ p. p.0)) (has is_simple_program).1 ∙ met)
+    by_verdict (inl (s, is, meets)) = (s, is, name_is m ∙ ap (option_map (λ p. p.0)) (has is_simple_program).1 ∙ meets.1)
     by_verdict (inr (inl (help, flag))) = absurd (some_kind _ _ (sym help ∙ none))
     by_verdict (inr (inr (inl (first, help)))) = absurd (some_kind _ _ (sym help ∙ none))
     by_verdict (inr (inr (inr mistake))) = absurd (mistake.0 none)
@@ -69,12 +70,12 @@ text_of words k r among shows = by_verdict r (verdict words) shows
 
     by_verdict : (r : Invocation) → Verdict words kinds → ShowsKind k r → Asks words r
     by_verdict (Run s) judged h = absurd h
-    by_verdict (Help t) (inl (s, empty, is, met)) h = absurd (among_these [] empty (λ e. help_is_no_memory (sym h ∙ e)))
+    by_verdict (Help t) (inl (s, is, meets)) h = absurd (among_these [] meets.0 (λ e. help_is_no_memory (sym h ∙ e)))
     by_verdict (Help t) (inr (inl (help, flag))) h = inl flag
     by_verdict (Help t) (inr (inr (inl (first, help)))) h = inr first
     by_verdict (Help t) (inr (inr (inr mistake))) h =
         absurd (mistake.1 (subst (λ x. IsAmong x kinds) h (among_these kinds refl (λ e. help_is_no_memory (sym h ∙ e)))))
-    by_verdict (Mistake t) (inl (s, empty, is, met)) h = absurd (among_these [] empty h.1)
+    by_verdict (Mistake t) (inl (s, is, meets)) h = absurd (among_these [] meets.0 h.1)
     by_verdict (Mistake t) judged h = (
       λ s is. absurd (among_these [] (names_run words s is) h.1),
       λ flag. elim (among_these _ (flags_help words flag) h.1) [ inl e ↦ absurd (h.0 e) | inr e ↦ absurd e ],
@@ -104,34 +105,20 @@ named_asks_no_help (program_name ∷ word ∷ rest) s named (inr begins) =
 
 -- ---- no words name two subcommands
 
-first_letter : List (List ℕ) → ℕ
-first_letter [] = 0
-first_letter ([] ∷ words) = 0
-first_letter ((letter ∷ letters) ∷ words) = letter
+-- the subcommand of this name
+abbrev known_as : Text → Option Subcommand
+known_as name = find (λ s. bytes_eq (name_of s) name) subcommands
 
-begins_as : (words : List (List ℕ)) (s : Subcommand) → Names words s → first_letter (drop 1 words) ≡ first_letter (name_of s ∷ [])
-unfolding first_letter
-begins_as words Show (inl named) = ap first_letter named
-begins_as words Show (inr named) = ap first_letter named
-begins_as words Replay (inl named) = ap first_letter named
-begins_as words Replay (inr named) = ap first_letter named
-begins_as words Check (inl named) = ap first_letter named
-begins_as words Check (inr named) = ap first_letter named
+own_name : (s : Subcommand) → known_as (name_of s) ≡ Some s
+own_name Show = refl
+own_name Replay = refl
+own_name Check = refl
 
-pub names_show_or_replay : (words : List (List ℕ)) → Names words Show → Names words Replay → ⊥
-unfolding first_letter
-names_show_or_replay words show replay =
-    let same : 115 ≡ 114 = sym (begins_as words Show show) ∙ begins_as words Replay replay in
-    absurd (omega (arith, same))
+first_is : (words : List Text) (s : Subcommand) → Names words s → slice_get (drop 1 words) 0 ≡ Some (name_of s)
+first_is words s (inl is) = ap (λ rest. slice_get rest 0) is
+first_is words s (inr is) = ap (λ rest. slice_get rest 0) is
 
-pub names_show_or_check : (words : List (List ℕ)) → Names words Show → Names words Check → ⊥
-unfolding first_letter
-names_show_or_check words show check =
-    let same : 115 ≡ 99 = sym (begins_as words Show show) ∙ begins_as words Check check in
-    absurd (omega (arith, same))
-
-pub names_replay_or_check : (words : List (List ℕ)) → Names words Replay → Names words Check → ⊥
-unfolding first_letter
-names_replay_or_check words replay check =
-    let same : 114 ≡ 99 = sym (begins_as words Replay replay) ∙ begins_as words Check check in
-    absurd (omega (arith, same))
+pub names_one : (words : List Text) (s t : Subcommand) → Names words s → Names words t → s ≡ t
+names_one words s t one other =
+    let same : name_of s ≡ name_of t = cc (first_is words s one, first_is words t other) in
+    cc (own_name s, own_name t, ap known_as same)

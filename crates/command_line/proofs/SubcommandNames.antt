@@ -1,7 +1,6 @@
 -- What clap makes of a word in the place of a subcommand's name, and of the words after it.
--- One more subcommand is a variant, a `Command` and an arm of `chosen` in src/words.rt; its name and its place in
--- `subcommands` in specs/Words.antt; an arm and a clause of `command` in src/program.rt; and here its clause of
--- `computed`, with the same right side as the others. No other proof names a subcommand but that of `command`.
+-- One more subcommand has, besides its texts, a clause of `computed` here and one of `own_name` in Invocations, each with
+-- the same right side as the others.
 use Rattle.std.proofs.Common.{◌≡◌, ◌∙◌, ◌⊎◌, inl, inr, ◌++◌, Bool, true, false, refl, sym, ap, ap₂, subst, List, [], ◌∷◌, Option, Some, None, is_some, codes, map, option_map}
 use Rattle.std.specs.Prelude.{find, fold, unwrap_or}
 use Rattle.std.specs.Str.{bytes_eq}
@@ -60,54 +59,26 @@ fault_is program_name words = refl
 
 -- ---- what clap computes at each subcommand
 
-record IsComputed (s : Subcommand) : Type 0 where
-  walk : (rest : List Text) → walk_fault program_level known_names at_first_word (name_of s ∷ rest)
-      ≡ walk_fault program_level known_names (stopped_at s) rest
-  stop : (rest : List Text) → stop_after help_rules known_names (name_of s ∷ rest) ≡ (fold (walked help_rules known_names) (stopped_at s) rest).stopped
-  enters : (rest : List Text) → program_fault [] (Some (name_of s, rest)) (name_of s ∷ rest)
-      ≡ after_walk program_level known_names (name_of s ∷ rest) true (inner_fault s rest)
-  level : level_of s ≡ with_help_alone (level_of s)
-  mark : (word : Text) (rest : List Text) → inner_fault s (codes "--" ∷ word ∷ rest) ≡ kind.UnknownArgument ∷ []
-  alone : (program_name : Text) → fault_of program (program_name ∷ name_of s ∷ []) ≡ []
-  marked : (program_name : Text) → fault_of program (program_name ∷ name_of s ∷ codes "--" ∷ []) ≡ []
-  met_alone : (program_name : Text) → option_map (λ p. p.0) (subcommand_of program (program_name ∷ name_of s ∷ [])) ≡ Some (name_of s)
-  met_marked : (program_name : Text) → option_map (λ p. p.0) (subcommand_of program (program_name ∷ name_of s ∷ codes "--" ∷ [])) ≡ Some (name_of s)
+-- words that name the subcommand: no error, and clap meets it
+abbrev pub Meets : Subcommand → List Text → Type 0
+Meets s words = (fault_of program words ≡ []) × (option_map (λ p. p.0) (subcommand_of program words) ≡ Some (name_of s))
 
-computed : (s : Subcommand) → IsComputed s
+pub record IsComputed (s : Subcommand) : Type 0 where
+  pub walk : (rest : List Text) → walk_fault program_level known_names at_first_word (name_of s ∷ rest)
+      ≡ walk_fault program_level known_names (stopped_at s) rest
+  pub stop : (rest : List Text) → stop_after help_rules known_names (name_of s ∷ rest) ≡ (fold (walked help_rules known_names) (stopped_at s) rest).stopped
+  pub enters : (rest : List Text) → program_fault [] (Some (name_of s, rest)) (name_of s ∷ rest)
+      ≡ after_walk program_level known_names (name_of s ∷ rest) true (inner_fault s rest)
+  pub level : level_of s ≡ with_help_alone (level_of s)
+  pub mark : (word : Text) (rest : List Text) → inner_fault s (codes "--" ∷ word ∷ rest) ≡ kind.UnknownArgument ∷ []
+  pub alone : (program_name : Text) → Meets s (program_name ∷ name_of s ∷ [])
+  pub marked : (program_name : Text) → Meets s (program_name ∷ name_of s ∷ codes "--" ∷ [])
+
+pub computed : (s : Subcommand) → IsComputed s
 unfolding clap_on_literals walk_fault walked
-computed Show = record {
-  walk = λ rest. refl;
-  stop = λ rest. refl;
-  enters = λ rest. refl;
-  level = refl;
-  mark = λ word rest. refl;
-  alone = λ name. refl;
-  marked = λ name. refl;
-  met_alone = λ name. refl;
-  met_marked = λ name. refl;
-}
-computed Replay = record {
-  walk = λ rest. refl;
-  stop = λ rest. refl;
-  enters = λ rest. refl;
-  level = refl;
-  mark = λ word rest. refl;
-  alone = λ name. refl;
-  marked = λ name. refl;
-  met_alone = λ name. refl;
-  met_marked = λ name. refl;
-}
-computed Check = record {
-  walk = λ rest. refl;
-  stop = λ rest. refl;
-  enters = λ rest. refl;
-  level = refl;
-  mark = λ word rest. refl;
-  alone = λ name. refl;
-  marked = λ name. refl;
-  met_alone = λ name. refl;
-  met_marked = λ name. refl;
-}
+computed Show = record { walk = λ r. refl; stop = λ r. refl; enters = λ r. refl; level = refl; mark = λ w r. refl; alone = λ p. (refl, refl); marked = λ p. (refl, refl) }
+computed Replay = record { walk = λ r. refl; stop = λ r. refl; enters = λ r. refl; level = refl; mark = λ w r. refl; alone = λ p. (refl, refl); marked = λ p. (refl, refl) }
+computed Check = record { walk = λ r. refl; stop = λ r. refl; enters = λ r. refl; level = refl; mark = λ w r. refl; alone = λ p. (refl, refl); marked = λ p. (refl, refl) }
 
 -- ---- a word in the place of a subcommand's name
 
@@ -190,19 +161,3 @@ pub mistake_after_mark : (s : Subcommand) (program_name word : Text) (rest : Lis
     → IsMistake (fault_of program (program_name ∷ name_of s ∷ codes "--" ∷ word ∷ rest))
 mistake_after_mark s program_name word rest = subst IsMistake (sym (fault_after_name s program_name (codes "--" ∷ word ∷ rest)))
     (mistake_lasts (inner_fault s (codes "--" ∷ word ∷ rest)) _ (subst IsMistake (sym ((computed s).mark word rest)) unknown_argument))
-
--- ---- a name alone, or with `--` after it
-
-pub alone_runs : (s : Subcommand) (program_name : Text) → fault_of program (program_name ∷ name_of s ∷ []) ≡ []
-alone_runs s = (computed s).alone
-
-pub marked_runs : (s : Subcommand) (program_name : Text) → fault_of program (program_name ∷ name_of s ∷ codes "--" ∷ []) ≡ []
-marked_runs s = (computed s).marked
-
-pub alone_meets : (s : Subcommand) (program_name : Text)
-    → option_map (λ p. p.0) (subcommand_of program (program_name ∷ name_of s ∷ [])) ≡ Some (name_of s)
-alone_meets s = (computed s).met_alone
-
-pub marked_meets : (s : Subcommand) (program_name : Text)
-    → option_map (λ p. p.0) (subcommand_of program (program_name ∷ name_of s ∷ codes "--" ∷ [])) ≡ Some (name_of s)
-marked_meets s = (computed s).met_marked

@@ -50,6 +50,10 @@ HasHelpFlag words = (word : List ℕ) × AsksHelp word
 abbrev pub BeginsWithHelp : List (List ℕ) → Type 0
 BeginsWithHelp words = slice_get words 1 ≡ Some (codes "help")
 
+-- the arguments ask for no subcommand and no help
+abbrev pub AsksNothing : List (List ℕ) → Type 0
+AsksNothing words = NamesNothing words × (HasHelpFlag words → ⊥) × (BeginsWithHelp words → ⊥)
+
 -- the invocation is what the arguments ask for; where they begin with `help`, it may be either kind of text
 abbrev pub Asks : List (List ℕ) → Invocation → Type 0
 Asks words (Run s) = Names words s
