@@ -1,6 +1,6 @@
 -- At each accepted event that has a true moment the node's clock shows a moment, its reading.
 -- So what a message says of its times is what the clocks showed.
-use Rattle.std.proofs.Common.{◌≡◌, ◌∙◌, ℕ, ℤ, pos, negsuc, Bool, true, false, Option, Some, None, Ok, IsOk, refl, sym, ap, if◌then◌else◌, option_and_then}
+use Rattle.std.proofs.Common.{◌≡◌, ◌∙◌, ℕ, ℤ, pos, negsuc, Bool, true, false, Option, Some, None, Ok, IsOk, refl, sym, ap, if◌then◌else◌, ◌∷◌, option_and_then, option_map}
 use Rattle.std.specs.Prelude.{ok_or, unwrap_or, nat_lt, is_some}
 use Rattle.ptp_units.specs.Moment.{bound}
 use Rattle.transparent_clock.specs.Forwarding.{forwarded}
@@ -10,10 +10,10 @@ use Rattle.network_model.specs.declared.event.Event.TheVariants.{Sync, SyncOne, 
 use Rattle.network_model.specs.declared.stepped.Outcome.TheVariants as outcomes
 use Rattle.network_model.specs.declared.refusal.WorldRefusal.TheVariants.{NoCopy, NoTransit, ReadingOutOfRange}
 use Rattle.network_model.specs.Network.{Network, master_port, slave_port}
-use Rattle.network_model.specs.Run.{Run, Place, place, place_at, tag_of, IsIn, true_moment}
+use Rattle.network_model.specs.Run.{Run, Place, place, place_at, tag_of, site_of, IsIn, true_moment}
 use Rattle.network_model.specs.Kinds.{draws_sync, is_request}
 use Rattle.ptp_units.specs.Moment.{moment_of}
-use Rattle.network_model.specs.Clock.{shown_at, reading_of, reading}
+use Rattle.network_model.specs.Clock.{clock_shows, shown_at, reading_of, reading}
 use Rattle.network_model.specs.Truth.{copy_of}
 use Rattle.network_model.specs.Outcome.{◌>>=◌, node_as, clock_of, port_of, reads, open_transit, copy_in, left_outcome, arrived_outcome, outcome_of, IsRun}
 use Rattle.network_model.proofs.Options.{ok_value, ok_step, ok_some}
@@ -111,3 +111,13 @@ request_timed (Stamped node) is = cc
 request_timed (Tick node) is = cc
 request_timed (SetMaster node master) is = cc
 request_timed (StepClock node diff) is = cc
+
+-- a reading stands just where there is a true moment
+pub reading_there : (network : Network) (event : Event) (earlier : Run) → IsRun network (event ∷ earlier) → is_some (reading_of (place event earlier)) ≡ is_some (true_moment event)
+reading_there network event earlier accepted = by (true_moment event) refl
+  where
+    by : (moment : Option ℕ) → true_moment event ≡ moment → is_some (reading_of (place event earlier)) ≡ is_some moment
+    by None is = ap (λ (o : Option ℕ). is_some (option_and_then moment_of (option_map (clock_shows (site_of event) earlier) o))) is
+    by (Some at) is =
+        let now = read_at network event earlier accepted.0 (ap (λ (o : Option ℕ). is_some o) is) in
+        ap (λ (o : Option ℕ). is_some o) (ok_some (reading_of (place event earlier)) ReadingOutOfRange {x = now.0} now.1)

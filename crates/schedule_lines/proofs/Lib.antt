@@ -12,3 +12,7 @@ pub mod Ranges
 pub mod OneText
 pub mod OwnKeys
 pub mod OwnLines
+pub mod ToldTags
+pub mod ToldLines
+pub mod ShownTexts
+pub mod LineTexts

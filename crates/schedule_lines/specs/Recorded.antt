@@ -1,10 +1,12 @@
 -- What may be recorded of an event, what a node may be, and that a line that tells it is read as it was written.
-use Rattle.std.specs.Prelude.{◌≡◌, ℕ, ◌+◌, ◌^◌, ◌<◌, ◌≤◌, ◌≤ℤ◌, ℤ, pos, negsuc, length, Some, IfSome, is_some}
+use Rattle.std.specs.Prelude.{◌≡◌, ℕ, ◌+◌, ◌^◌, ◌<◌, ◌≤◌, ◌≤ℤ◌, ℤ, pos, negsuc, ◌∷◌, length, Some, IfSome, is_some}
 use Rattle.hex.specs.Hex.{IsBytes}
 use Rattle.event_codec.specs.declared.port.PortConfig.{PortConfig}
 use Rattle.ptp_units.specs.Moment.{bound}
 use Rattle.network_model.specs.Name.{IsName}
-use Rattle.network_model.specs.Run.{site_of, true_moment}
+use Rattle.network_model.specs.Network.{Network}
+use Rattle.network_model.specs.Premises.{Premise}
+use Rattle.network_model.specs.Run.{Run, site_of, true_moment}
 use Rattle.network_model.specs.Kinds.{named_master, step_of, spent_transit}
 use Rattle.network_model.specs.declared.event.Event.{Event}
 use Rattle.network_model.specs.declared.node.NodeKind.{NodeKind}
@@ -13,6 +15,7 @@ use Rattle.network_model.specs.declared.node.NodeSpec.{NodeSpec}
 use Rattle.trace_model.specs.declared.line.TraceLine.{TraceLine}
 use Rattle.trace_model.specs.declared.line.TraceOut.{TraceOut}
 use Rattle.trace_model.specs.declared.line.TraceOut.TheVariants as outs
+use Rattle.trace_model.specs.Told.{TellsEvent}
 use Rattle.serde_json.specs.Data.{Data}
 use Rattle.serde_json.specs.Read.{read}
 use Rattle.serde_json.specs.Written.{compact_text}
@@ -125,3 +128,15 @@ NodeTextsReadBack = (node : NodeSpec) → IsNode node → read (compact_text (no
 -- and so is the compact text of an event's line
 abbrev pub EventTextsReadBack : Type 0
 EventTextsReadBack = (n : ℕ) (line : TraceLine) → IsRecorded line → IsTagged n line → read (compact_text (event_data n line)) ≡ Some (event_data n line)
+
+-- Each line that tells an event within its ranges is within its own.
+abbrev pub EachToldLineIsRecorded : Premise → Type 0
+EachToldLineIsRecorded premise =
+    (network : Network) (event : Event) (earlier : Run) (line : TraceLine) → premise network (event ∷ earlier) → IsEvent event
+    → TellsEvent network event earlier line → IsRecorded line
+
+-- The tags of each line that tells an event have 64 bits, where the number of the event has.
+abbrev pub EachToldLineIsTagged : Premise → Type 0
+EachToldLineIsTagged premise =
+    (network : Network) (event : Event) (earlier : Run) (line : TraceLine) → premise network (event ∷ earlier) → length earlier < 2 ^ 64
+    → TellsEvent network event earlier line → IsTagged (length earlier) line

@@ -11,13 +11,6 @@ pub mod EventLines
 pub mod StageLines
 pub mod ReplayedLines
 pub mod WorkedSchedule
-pub mod BareCopies
-pub mod ToldOutcomes
-pub mod ToldReports
-pub mod ToldTags
-pub mod ToldLines
-pub mod ShownTexts
-pub mod LineTexts
 pub mod Transcribed
 pub mod OneTranscript
 pub mod NoMistakes

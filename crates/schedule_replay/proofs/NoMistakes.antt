@@ -15,7 +15,7 @@ use Rattle.schedule_replay.specs.Lines.{lines_of, without_cr, reading_fault}
 use Rattle.schedule_replay.specs.Replay.{nodes_text}
 use Rattle.schedule_replay.specs.CheckText.{recorded_in, AreRecorded, numbered, transcript_of, IsOutOfPlace, MistakesIn, MistakesAt, MistakesAtEnd, StopsCheckAfter}
 use Rattle.schedule_replay.specs.Accepted.{IsOfDevice, EachRunIsChecked}
-use Rattle.schedule_replay.proofs.ToldLines.{IsExact}
+use Rattle.network_model.proofs.ExactPremises.{IsExact}
 use Rattle.schedule_replay.proofs.Transcribed.{transcribed}
 use Rattle.schedule_replay.proofs.OneReading.{same_entries, one_entry, next_is, all_taken}
 use Rattle.schedule_replay.proofs.OneTranscript.{nodes_in, lines_after, nodes_in-nodes, lines_after-nodes, nodes_of_transcript, lines_of_transcript}

@@ -12,7 +12,7 @@ use Rattle.schedule_replay.specs.Replay.{nodes_text}
 use Rattle.schedule_replay.specs.CheckText.{recorded_in, numbered, transcript_of}
 use Rattle.schedule_replay.specs.Accepted.{EachRunIsAccepted}
 use Rattle.schedule_replay.proofs.OneReading.{same_entries}
-use Rattle.schedule_replay.proofs.ToldLines.{IsExact}
+use Rattle.network_model.proofs.ExactPremises.{IsExact}
 use Rattle.schedule_replay.proofs.Transcribed.{transcribed}
 
 -- ---- the nodes and the lines of a transcript

@@ -19,7 +19,7 @@ use Rattle.schedule_replay.specs.declared.fault.FaultKind.TheVariants.{Field, To
 use Rattle.schedule_replay.specs.Lines.{lines_of, lines_limit, line_limit, without_cr}
 use Rattle.schedule_replay.specs.Schedule.{value_in, entry_of_value, AreEntries, schedule_of}
 use Rattle.schedule_replay.specs.Accepted.{IsInRange, EachReplayIsAccepted}
-use Rattle.schedule_replay.proofs.ToldLines.{IsExact}
+use Rattle.network_model.proofs.ExactPremises.{IsExact}
 use Rattle.schedule_replay.proofs.OneTranscript.{accepted_by}
 use Rattle.schedule_replay.proofs.NoMistakes.{checked_by}
 

@@ -33,9 +33,10 @@ use Rattle.schedule_replay.specs.CheckText.{recorded_of_value, recorded_in, AreR
 use Rattle.schedule_replay.specs.Accepted.{EachRunIsTranscribed}
 use Rattle.schedule_replay.proofs.Cutting.{IsUnended, lines_of-ended}
 use Rattle.schedule_replay.proofs.Entries.{value_read}
-use Rattle.schedule_replay.proofs.ShownTexts.{is_shown, Fits}
-use Rattle.schedule_replay.proofs.LineTexts.{event_fits, node_fits}
-use Rattle.schedule_replay.proofs.ToldLines.{IsExact, lines_recorded, lines_tagged}
+use Rattle.schedule_lines.proofs.ShownTexts.{is_shown, Fits}
+use Rattle.schedule_lines.proofs.LineTexts.{event_fits, node_fits}
+use Rattle.network_model.proofs.ExactPremises.{IsExact}
+use Rattle.schedule_lines.proofs.ToldLines.{lines_recorded, lines_tagged}
 
 -- ---- octets that are shown
 

@@ -1,6 +1,7 @@
 use Rattle.network_model.specs.Premises.{exact_limits, IsFreshAndTicked, IsWithinTurn}
-use Rattle.schedule_replay.proofs.ToldLines.{fresh, in_turn, lines_recorded, lines_tagged}
-use Rattle.schedule_replay.proofs.laws.told_lines_are_recorded.Goals as goal
+use Rattle.network_model.proofs.ExactPremises.{fresh, in_turn}
+use Rattle.schedule_lines.proofs.ToldLines.{lines_recorded, lines_tagged}
+use Rattle.schedule_lines.proofs.laws.told_lines_are_recorded.Goals as goal
 
 pub returns-clause-recorded : goal.returns-clause-recorded
 returns-clause-recorded c = lines_recorded (IsFreshAndTicked exact_limits) fresh

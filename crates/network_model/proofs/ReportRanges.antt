@@ -1,27 +1,23 @@
--- A report of a run can be written: readings are moments, and residences are below 2^63.
-use Rattle.std.proofs.Common.{◌≡◌, ◌∙◌, ℕ, ℤ, pos, negsuc, ◌^◌, ◌<◌, ◌-ℤ◌, Bool, true, false, nat_lt, int_lt, Option, Some, None, IfSome, refl, sym, ap, arith, option_map, option_and_then, if◌then◌else◌}
-use Rattle.std.specs.Prelude.{is_some, unwrap_or}
+-- The readings of a run are moments, and residences of messages that are used are below 2^63. So the two results of a
+-- report have 31 digits at the most.
+use Rattle.std.proofs.Common.{◌≡◌, ◌∙◌, ℕ, ℤ, pos, negsuc, ◌^◌, ◌<◌, ◌-ℤ◌, Bool, true, false, nat_lt, int_lt, Option, Some, None, IfSome, refl, sym, ap, arith, option_and_then, if◌then◌else◌}
+use Rattle.std.specs.Prelude.{is_some, unsigned_abs, unwrap_or}
 use Rattle.std.proofs.lemmas.Bool.Decides.{nat_tests}
 use Rattle.std.proofs.lemmas.Int.{ints}
 use Rattle.ptp_units.specs.Exchange.{offset2, path2}
 use Rattle.ptp_units.specs.Interval.{with_residence, too_big}
-use Rattle.ptp_units.specs.Moment.{bound, moment_of, fraction_of}
-use Rattle.ptp_units.specs.Sequence.{of_count}
+use Rattle.ptp_units.specs.Moment.{bound, moment_of}
 use Rattle.event_codec.specs.Packet.{Contents}
-use Rattle.master_port.specs.Written.{sync, one_step_sync}
-use Rattle.slave_port.specs.Written.{delay_req}
 use Rattle.slave_port.specs.declared.heard.Report.{Report}
 use Rattle.slave_port.proofs.Uses.{some_image}
 use Rattle.transparent_clock.specs.Forwarding.{resided}
 use Rattle.network_model.specs.declared.event.Event.{Event}
-use Rattle.network_model.specs.declared.event.Event.TheVariants.{Sync, SyncOne, Follow, Enter, Leave, Arrive, Hear, Request, Stamped, Tick, SetMaster, StepClock}
-use Rattle.network_model.specs.Network.{Network, PortSetup}
-use Rattle.network_model.specs.Run.{Run, Place, place, until, site_of, IsIn, true_moment}
+use Rattle.network_model.specs.Network.{Network}
+use Rattle.network_model.specs.Run.{Run, Place, until, site_of, IsIn, true_moment}
 use Rattle.network_model.specs.Kinds.{draws_sync, is_request}
 use Rattle.network_model.specs.Clock.{shown_at, reading_of, reading}
 use Rattle.network_model.specs.Journey.{Journey, residence}
-use Rattle.network_model.specs.Numbering.{number_of}
-use Rattle.network_model.specs.Truth.{master_at, slave_at, drawn}
+use Rattle.network_model.specs.Truth.{drawn}
 use Rattle.network_model.specs.Outcome.{IsRun}
 use Rattle.network_model.specs.Premises.{IsAcceptedRun}
 use Rattle.network_model.specs.Reported.{Reports}
@@ -33,7 +29,7 @@ use Rattle.network_model.proofs.Places.{IsIn-place_at, IsIn-within}
 use Rattle.network_model.proofs.Readings.{shown_reading, sync_timed, request_timed}
 use Rattle.network_model.proofs.Sites.{at_kind}
 use Rattle.network_model.proofs.TrueTime.{origin_drawn}
-use Rattle.schedule_lines.specs.Recorded.{IsShort}
+use Rattle.network_model.proofs.BareCopies.{IsAtLeastZero, zero_drawn}
 
 moment_if : (n : ℕ) (below : Bool) → nat_lt n bound ≡ below → IfSome (if below then Some n else None) (λ time. time < bound)
 moment_if n true is = grind (arith, nat_tests)
@@ -57,32 +53,6 @@ or_zero (Some time) h = h
 
 number_below : (p : Place) → reading p < bound
 number_below p = or_zero (reading_of p) (reading_below p)
-
-mapped : {A B : Type 0} (P : B → Type 0) (f : A → B) (o : Option A) → ((a : A) → P (f a)) → IfSome (option_map f o) P
-mapped P f None each = tt
-mapped P f (Some a) each = each a
-
--- the correction isn't negative
-abbrev IsAtLeastZero : Contents → Type 0
-IsAtLeastZero m = (c : ℕ) × (m.header.correction.0 ≡ pos c)
-
-zero_drawn : (network : Network) (event : Event) (earlier : Run) → IfSome (drawn network event earlier) IsAtLeastZero
-zero_drawn network (Sync node at) earlier =
-    mapped IsAtLeastZero (λ (port : PortSetup). sync port.config (of_count (number_of port (place (Sync node at) earlier)))) (master_at network node) (λ port. (0, refl))
-zero_drawn network (SyncOne node at) earlier =
-    mapped IsAtLeastZero (λ (port : PortSetup). one_step_sync port.config (of_count (number_of port (place (SyncOne node at) earlier))) (reading (place (SyncOne node at) earlier))) (master_at network node)
-    (λ port. (fraction_of (reading (place (SyncOne node at) earlier)), refl))
-zero_drawn network (Request node at) earlier =
-    mapped IsAtLeastZero (λ (port : PortSetup). delay_req port.config (of_count (number_of port (place (Request node at) earlier)))) (slave_at network node) (λ port. (0, refl))
-zero_drawn network (Follow node) earlier = tt
-zero_drawn network (Enter node copy at) earlier = tt
-zero_drawn network (Leave node transit at) earlier = tt
-zero_drawn network (Arrive node copy at) earlier = tt
-zero_drawn network (Hear node copy) earlier = tt
-zero_drawn network (Stamped node) earlier = tt
-zero_drawn network (Tick node) earlier = tt
-zero_drawn network (SetMaster node master) earlier = tt
-zero_drawn network (StepClock node diff) earlier = tt
 
 of_some : (o : Option Contents) (m : Contents) → o ≡ Some m → IfSome o IsAtLeastZero → IsAtLeastZero m
 of_some None m is h = cc
@@ -116,23 +86,23 @@ bracket_is network run arrival journey a accepted there timed origin_there origi
     ∙ ap (λ (z : ℤ). (z -ℤ is.left) -ℤ pos (residence journey)) one
     ∙ ap (λ (z : ℤ). (pos (reading arrival) -ℤ z) -ℤ pos (residence journey)) other
 
-short_offset : (z : ℤ) (p q r s t u : ℕ) → p < bound → q < bound → r < 2 ^ 63 → s < bound → t < bound → u < 2 ^ 63
-    → z ≡ offset2 (bracket_by p q r) (bracket_by s t u) → IsShort z
-short_offset (pos n) p q r s t u a b c d e f is = omega (arith, ints)
-short_offset (negsuc n) p q r s t u a b c d e f is = omega (arith, ints)
+small_offset : (z : ℤ) (p q r s t u : ℕ) → p < bound → q < bound → r < 2 ^ 63 → s < bound → t < bound → u < 2 ^ 63
+    → z ≡ offset2 (bracket_by p q r) (bracket_by s t u) → unsigned_abs z < 10 ^ 31
+small_offset (pos n) p q r s t u a b c d e f is = omega (arith, ints)
+small_offset (negsuc n) p q r s t u a b c d e f is = omega (arith, ints)
 
-short_path : (z : ℤ) (p q r s t u : ℕ) → p < bound → q < bound → r < 2 ^ 63 → s < bound → t < bound → u < 2 ^ 63
-    → z ≡ path2 (bracket_by p q r) (bracket_by s t u) → IsShort z
-short_path (pos n) p q r s t u a b c d e f is = omega (arith, ints)
-short_path (negsuc n) p q r s t u a b c d e f is = omega (arith, ints)
+small_path : (z : ℤ) (p q r s t u : ℕ) → p < bound → q < bound → r < 2 ^ 63 → s < bound → t < bound → u < 2 ^ 63
+    → z ≡ path2 (bracket_by p q r) (bracket_by s t u) → unsigned_abs z < 10 ^ 31
+small_path (pos n) p q r s t u a b c d e f is = omega (arith, ints)
+small_path (negsuc n) p q r s t u a b c d e f is = omega (arith, ints)
 
--- the two results of a report can be written
-abbrev pub IsShortReport : Report → Type 0
-IsShortReport report = IsShort report.offset2 × IsShort report.path2
+-- the two results of a report have 31 digits at the most
+abbrev pub IsSmallReport : Report → Type 0
+IsSmallReport report = (unsigned_abs report.offset2 < 10 ^ 31) × (unsigned_abs report.path2 < 10 ^ 31)
 
-pub short_report : (network : Network) (answered : Place) (report : Report) → IsAcceptedRun network (until answered) → Reports network answered report
-    → IsMeasurement (until answered) (site_of answered.event) report → IsShortReport report
-short_report network answered report accepted reports measured =
+pub small_report : (network : Network) (answered : Place) (report : Report) → IsAcceptedRun network (until answered) → Reports network answered report
+    → IsMeasurement (until answered) (site_of answered.event) report → IsSmallReport report
+small_report network answered report accepted reports measured =
     let run : Run = until answered in
     let evidence = each_has_evidence network answered report accepted reports in
     let shown = shown_of network run (site_of answered.event) report evidence.sync evidence.request measured in
@@ -156,6 +126,6 @@ short_report network answered report accepted reports measured =
     measured.exact.offset ∙ (λ i. offset2 (a i) (b i)) in
     let path : report.path2 ≡ path2 (bracket_by (reading os.arrival) (reading os.journey.origin) (residence os.journey)) (bracket_by (reading or.arrival) (reading or.journey.origin) (residence or.journey)) =
     measured.exact.path ∙ (λ i. path2 (a i) (b i)) in (
-      short_offset report.offset2 _ _ _ _ _ _ (number_below os.arrival) (number_below os.journey.origin) sync_small (number_below or.arrival) (number_below or.journey.origin) request_small offset,
-      short_path report.path2 _ _ _ _ _ _ (number_below os.arrival) (number_below os.journey.origin) sync_small (number_below or.arrival) (number_below or.journey.origin) request_small path,
+      small_offset report.offset2 _ _ _ _ _ _ (number_below os.arrival) (number_below os.journey.origin) sync_small (number_below or.arrival) (number_below or.journey.origin) request_small offset,
+      small_path report.path2 _ _ _ _ _ _ (number_below os.arrival) (number_below os.journey.origin) sync_small (number_below or.arrival) (number_below or.journey.origin) request_small path,
     )

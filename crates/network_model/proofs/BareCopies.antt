@@ -1,6 +1,7 @@
--- No message of a run has a suffix, so its octets are 54 at the most.
-use Rattle.std.proofs.Common.{◌≡◌, ℕ, ◌≤◌, Bool, true, false, ◌==◌, List, [], ◌∷◌, length, int_lt, Option, Some, None, IfSome, Ok, Err, refl, ap, arith, length-drop, option_map, option_and_then, if◌then◌else◌}
+-- No message of a run has a suffix, so its octets are 54 at the most; and none is drawn with a correction below zero.
+use Rattle.std.proofs.Common.{◌≡◌, ℕ, pos, ◌≤◌, Bool, true, false, ◌==◌, List, [], ◌∷◌, length, int_lt, Option, Some, None, IfSome, Ok, Err, refl, ap, arith, length-drop, option_map, option_and_then, if◌then◌else◌}
 use Rattle.std.specs.Result.{result_ok}
+use Rattle.std.proofs.lemmas.Option.{IfSome_then}
 use Rattle.ptp_units.specs.Interval.{less_fraction, least}
 use Rattle.ptp_units.specs.Moment.{fraction_of}
 use Rattle.ptp_units.specs.Sequence.{of_count}
@@ -31,35 +32,48 @@ mapped : {A B : Type 0} (P : B → Type 0) (f : A → B) (o : Option A) → ((a 
 mapped P f None each = tt
 mapped P f (Some a) each = each a
 
-mapped_of : {A B : Type 0} (P : A → Type 0) (Q : B → Type 0) (f : A → B) (o : Option A) → IfSome o P → ((a : A) → P a → Q (f a)) → IfSome (option_map f o) Q
-mapped_of P Q f None h each = tt
-mapped_of P Q f (Some a) h each = each a h
-
 and_then : {A B : Type 0} (P : B → Type 0) (f : A → Option B) (o : Option A) → ((a : A) → IfSome (f a) P) → IfSome (option_and_then f o) P
 and_then P f None each = tt
 and_then P f (Some a) each = each a
 
+-- the correction isn't negative
+abbrev pub IsAtLeastZero : Contents → Type 0
+IsAtLeastZero m = (c : ℕ) × (m.header.correction.0 ≡ pos c)
+
+abbrev IsPlain : Contents → Type 0
+IsPlain m = IsBare m × IsAtLeastZero m
+
+plain_drawn : (network : Network) (event : Event) (earlier : Run) → IfSome (drawn network event earlier) IsPlain
+plain_drawn network (Sync node at) earlier =
+    mapped IsPlain (λ (port : PortSetup). sync port.config (of_count (number_of port (place (Sync node at) earlier)))) (master_at network node) (λ port. (refl, (0, refl)))
+plain_drawn network (SyncOne node at) earlier =
+    mapped IsPlain (λ (port : PortSetup). one_step_sync port.config (of_count (number_of port (place (SyncOne node at) earlier))) (reading (place (SyncOne node at) earlier))) (master_at network node)
+    (λ port. (refl, (fraction_of (reading (place (SyncOne node at) earlier)), refl)))
+plain_drawn network (Request node at) earlier =
+    mapped IsPlain (λ (port : PortSetup). delay_req port.config (of_count (number_of port (place (Request node at) earlier)))) (slave_at network node) (λ port. (refl, (0, refl)))
+plain_drawn network (Follow node) earlier = tt
+plain_drawn network (Enter node copy at) earlier = tt
+plain_drawn network (Leave node transit at) earlier = tt
+plain_drawn network (Arrive node copy at) earlier = tt
+plain_drawn network (Hear node copy) earlier = tt
+plain_drawn network (Stamped node) earlier = tt
+plain_drawn network (Tick node) earlier = tt
+plain_drawn network (SetMaster node master) earlier = tt
+plain_drawn network (StepClock node diff) earlier = tt
+
 bare_drawn : (network : Network) (event : Event) (earlier : Run) → IfSome (drawn network event earlier) IsBare
-bare_drawn network (Sync node at) earlier =
-    mapped IsBare (λ (port : PortSetup). sync port.config (of_count (number_of port (place (Sync node at) earlier)))) (master_at network node) (λ port. refl)
-bare_drawn network (SyncOne node at) earlier =
-    mapped IsBare (λ (port : PortSetup). one_step_sync port.config (of_count (number_of port (place (SyncOne node at) earlier))) (reading (place (SyncOne node at) earlier))) (master_at network node) (λ port. refl)
-bare_drawn network (Request node at) earlier =
-    mapped IsBare (λ (port : PortSetup). delay_req port.config (of_count (number_of port (place (Request node at) earlier)))) (slave_at network node) (λ port. refl)
-bare_drawn network (Follow node) earlier = tt
-bare_drawn network (Enter node copy at) earlier = tt
-bare_drawn network (Leave node transit at) earlier = tt
-bare_drawn network (Arrive node copy at) earlier = tt
-bare_drawn network (Hear node copy) earlier = tt
-bare_drawn network (Stamped node) earlier = tt
-bare_drawn network (Tick node) earlier = tt
-bare_drawn network (SetMaster node master) earlier = tt
-bare_drawn network (StepClock node diff) earlier = tt
+bare_drawn network event earlier = IfSome_then (drawn network event earlier) (plain_drawn network event earlier) (λ m plain. plain.0)
+
+pub zero_drawn : (network : Network) (event : Event) (earlier : Run) → IfSome (drawn network event earlier) IsAtLeastZero
+zero_drawn network event earlier = IfSome_then (drawn network event earlier) (plain_drawn network event earlier) (λ m plain. plain.1)
 
 bare_travelled : (network : Network) (journey : Journey) → IfSome (travelled network journey) IsBare
 bare_travelled network journey =
-    mapped_of IsBare IsBare (λ (m : Contents). resided m (residence journey)) (drawn network journey.origin.event journey.origin.earlier)
-    (bare_drawn network journey.origin.event journey.origin.earlier) (λ m h. h)
+    of_mapped (drawn network journey.origin.event journey.origin.earlier) (bare_drawn network journey.origin.event journey.origin.earlier)
+  where
+    of_mapped : (o : Option Contents) → IfSome o IsBare → IfSome (option_map (λ (m : Contents). resided m (residence journey)) o) IsBare
+    of_mapped None h = tt
+    of_mapped (Some m) h = h
 
 bare_if : (same low : Bool) (m : Contents) → IsBare m → IfSome (result_ok (if same then (if low then Err CorrectionTooLow else Ok m) else Err OtherDomain)) IsBare
 bare_if true true m h = tt

@@ -29,7 +29,7 @@ use Rattle.schedule_lines.specs.Recorded.{IsShort, IsOut, IsConfig, IsKind, IsNo
 use Rattle.schedule_lines.proofs.Keys.{Field, members_of, line_fields}
 use Rattle.schedule_lines.proofs.Lookup.{one_if, count, members_len-members_of}
 use Rattle.schedule_lines.proofs.Recorded.{code_out}
-use Rattle.schedule_replay.proofs.ShownTexts.{is_shown, Fits, fits_more, fits_quoted, fits_whole, fits_signed, fits_hex, fits_three, fits_four, fits_object, IsShownValue, AreShownFields, field_shown, members_shown}
+use Rattle.schedule_lines.proofs.ShownTexts.{is_shown, Fits, fits_more, fits_quoted, fits_whole, fits_signed, fits_hex, fits_three, fits_four, fits_object, IsShownValue, AreShownFields, field_shown, members_shown}
 
 -- ---- values
 
