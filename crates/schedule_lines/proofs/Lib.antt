@@ -2,7 +2,7 @@ pub mod Compact
 pub mod Digits
 pub mod Keys
 pub mod Lookup
-pub mod Recorded
+pub mod ReadBack
 pub mod Texts
 pub mod Floats
 pub mod Names

@@ -24,11 +24,11 @@ use Rattle.network_model.specs.declared.node.NodeSpec.{NodeSpec}
 use Rattle.trace_model.specs.declared.line.TraceLine.{TraceLine}
 use Rattle.trace_model.specs.declared.line.TraceOut.{TraceOut}
 use Rattle.trace_model.specs.declared.line.TraceOut.TheVariants as outs
-use Rattle.schedule_lines.specs.Transcript.{whole, moment_data, difference_data, octets_data, port_data, kind_data, node_data, named_copy, event_text, out_text, made_octets, out_code, out_report, follow_data, tags_data, event_data}
-use Rattle.schedule_lines.specs.Recorded.{IsShort, IsOut, IsConfig, IsKind, IsNode, IsTag, HasTags, IsTagged, IsRecorded}
+use Rattle.schedule_lines.specs.Written.{whole, moment_data, difference_data, octets_data, port_data, kind_data, node_data, named_copy, event_text, out_text, made_octets, out_code, out_report, follow_data, tags_data, event_data}
+use Rattle.schedule_lines.specs.Ranges.{IsShort, IsOut, IsConfig, IsKind, IsNode, IsTag, HasTags, IsTagged, IsRecorded}
 use Rattle.schedule_lines.proofs.Keys.{Field, members_of, line_fields}
 use Rattle.schedule_lines.proofs.Lookup.{one_if, count, members_len-members_of}
-use Rattle.schedule_lines.proofs.Recorded.{code_out}
+use Rattle.schedule_lines.proofs.ReadBack.{code_out}
 use Rattle.schedule_lines.proofs.ShownTexts.{is_shown, Fits, fits_more, fits_quoted, fits_whole, fits_signed, fits_hex, fits_three, fits_four, fits_object, IsShownValue, AreShownFields, field_shown, members_shown}
 
 -- ---- values

@@ -8,7 +8,7 @@ use Rattle.serde_json.specs.Data.{Data, Members, no_members, member, put}
 use Rattle.serde_json.specs.Events.{members_len}
 use Rattle.serde_json.specs.Find.{get_member}
 use Rattle.serde_json.proofs.Views.{get_member-put, get_member-put_other}
-use Rattle.schedule_lines.specs.Transcript.{with_some}
+use Rattle.schedule_lines.specs.Written.{with_some}
 use Rattle.schedule_lines.proofs.Keys.{Field, members_of}
 
 -- the value at a key, of the first field that has one there

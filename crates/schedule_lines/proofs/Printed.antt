@@ -16,11 +16,11 @@ use Rattle.network_model.specs.declared.node.NodeKind.TheVariants as kinds
 use Rattle.network_model.specs.Run.{true_moment}
 use Rattle.network_model.specs.Kinds.{named_master, step_of, spent_transit}
 use Rattle.trace_model.specs.declared.line.TraceLine.{TraceLine}
-use Rattle.schedule_lines.specs.Transcript.{whole, moment_data, difference_data, octets_data, follow_data, tags_data, port_data, kind_data, named_copy, made_octets, out_code, out_report}
-use Rattle.schedule_lines.specs.Recorded.{IsConfig, IsKind, IsTag, HasTags, IsTagged, IsRecorded, NodeTextsReadBack, EventTextsReadBack}
+use Rattle.schedule_lines.specs.Written.{whole, moment_data, difference_data, octets_data, follow_data, tags_data, port_data, kind_data, named_copy, made_octets, out_code, out_report}
+use Rattle.schedule_lines.specs.Ranges.{IsConfig, IsKind, IsTag, HasTags, IsTagged, IsRecorded, NodeTextsReadBack, EventTextsReadBack}
 use Rattle.schedule_lines.proofs.Keys.{Field, members_of, line_fields}
 use Rattle.schedule_lines.proofs.Compact.{IsReadable, AreReadableFields, read_object, text_readable, whole_readable, field_readable, members_readable, members_ascending}
-use Rattle.schedule_lines.proofs.Recorded.{always, code_out}
+use Rattle.schedule_lines.proofs.ReadBack.{always, code_out}
 
 moment_readable : (time : ℕ) → time < bound → IsReadable (moment_data time)
 moment_readable time h =

@@ -14,8 +14,8 @@ use Rattle.json.specs.Print.{escape_byte, escape, quoted}
 use Rattle.serde_json.specs.Data.{Data, array, object, item, no_items, Members, member, no_members, put}
 use Rattle.serde_json.specs.Events.{members_len}
 use Rattle.serde_json.specs.Written.{compact_text, members_text}
-use Rattle.schedule_lines.specs.Transcript.{whole, with_some}
-use Rattle.schedule_lines.specs.Recorded.{IsShort}
+use Rattle.schedule_lines.specs.Written.{whole, with_some}
+use Rattle.schedule_lines.specs.Ranges.{IsShort}
 use Rattle.schedule_lines.proofs.Keys.{Field, members_of}
 
 -- an octet that is shown, of ASCII: no control character

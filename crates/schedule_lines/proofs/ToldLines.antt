@@ -23,7 +23,7 @@ use Rattle.trace_model.specs.declared.line.TraceLine.{TraceLine}
 use Rattle.trace_model.specs.declared.line.TraceOut.{TraceOut}
 use Rattle.trace_model.specs.declared.line.TraceOut.TheVariants as outs
 use Rattle.trace_model.specs.Told.{TellsOctets, TellsMade, TellsOutcome, TellsEvent, heard_out}
-use Rattle.schedule_lines.specs.Recorded.{IsEvent, IsOut, IsRecorded, IsShort, EachToldLineIsRecorded, EachToldLineIsTagged}
+use Rattle.schedule_lines.specs.Ranges.{IsEvent, IsOut, IsRecorded, IsShort, EachToldLineIsRecorded, EachToldLineIsTagged}
 use Rattle.network_model.proofs.BareCopies.{IsBare, bare_copy, few_octets}
 use Rattle.network_model.proofs.OutcomeCodes.{IsCoded, coded_outcome, coded_reason}
 use Rattle.schedule_lines.proofs.ToldTags.{tagged_line}

@@ -30,8 +30,8 @@ use Rattle.trace_model.specs.declared.line.TraceLine.{TraceLine}
 use Rattle.trace_model.specs.declared.line.TraceOut.{TraceOut}
 use Rattle.trace_model.specs.declared.line.TraceOut.TheVariants as outs
 use Rattle.trace_model.specs.Told.{TellsMade, TellsOutcome, TellsEvent, heard_out}
-use Rattle.schedule_lines.specs.Transcript.{named_copy, out_report}
-use Rattle.schedule_lines.specs.Recorded.{IsTag, HasTags, IsTagged}
+use Rattle.schedule_lines.specs.Written.{named_copy, out_report}
+use Rattle.schedule_lines.specs.Ranges.{IsTag, HasTags, IsTagged}
 
 under : {A : Type 0} (o : Result A WorldRefusal) (f : A → Result Outcome WorldRefusal) (P : Type 0) → IsOk (o >>= f)
     → ((a : A) → o ≡ Ok a → IsOk (f a) → P) → P

@@ -10,10 +10,10 @@ use Rattle.network_model.specs.declared.event.Event.TheVariants as events
 use Rattle.network_model.specs.declared.node.NodeKind.{NodeKind}
 use Rattle.network_model.specs.declared.node.NodeKind.TheVariants as kinds
 use Rattle.network_model.specs.declared.node.NodeSpec.{NodeSpec}
-use Rattle.schedule_lines.specs.declared.kind.EventKind.{EventKind}
-use Rattle.schedule_lines.specs.declared.kind.EventKind.TheVariants.{Sync, SyncOne, Follow, Enter, Leave, Arrive, Hear, Request, Stamped, Tick, SetMaster, StepClock}
-use Rattle.schedule_lines.specs.declared.schedule.Line.{Line}
-use Rattle.schedule_lines.specs.declared.schedule.Line.TheVariants as lines
+use Rattle.schedule_lines.specs.declared.reading.kind.EventKind.{EventKind}
+use Rattle.schedule_lines.specs.declared.reading.kind.EventKind.TheVariants.{Sync, SyncOne, Follow, Enter, Leave, Arrive, Hear, Request, Stamped, Tick, SetMaster, StepClock}
+use Rattle.schedule_lines.specs.declared.reading.schedule.Line.{Line}
+use Rattle.schedule_lines.specs.declared.reading.schedule.Line.TheVariants as lines
 use Rattle.schedule_lines.specs.Json.{field, has_keys, name_in, moment_in, whole_in, whole_below, signed_octet_in, clock_in, difference_in}
 
 -- the kind of event that the text of `ev` names

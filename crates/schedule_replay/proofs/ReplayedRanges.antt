@@ -9,10 +9,10 @@ use Rattle.network_model.specs.Network.{Network}
 use Rattle.network_model.specs.Run.{Run}
 use Rattle.network_model.specs.Premises.{Premise}
 use Rattle.trace_model.specs.Complete.{MissesNothing}
-use Rattle.schedule_lines.specs.declared.schedule.Line.{Line}
-use Rattle.schedule_lines.specs.declared.schedule.Line.TheVariants as entries
+use Rattle.schedule_lines.specs.declared.reading.schedule.Line.{Line}
+use Rattle.schedule_lines.specs.declared.reading.schedule.Line.TheVariants as entries
 use Rattle.schedule_lines.specs.Line.{line_of}
-use Rattle.schedule_lines.specs.Recorded.{IsNode, IsEvent, IsLine}
+use Rattle.schedule_lines.specs.Ranges.{IsNode, IsEvent, IsLine}
 use Rattle.schedule_lines.proofs.Ranges.{reads_in_range}
 use Rattle.schedule_replay.specs.declared.fault.FaultKind.{FaultKind}
 use Rattle.schedule_replay.specs.declared.fault.FaultKind.TheVariants.{Field, TooManyLines, LineTooLong}

@@ -10,7 +10,7 @@ use Rattle.trace_model.specs.declared.verdict.Verdict.TheVariants.{Accepted}
 use Rattle.trace_model.specs.Line.{Lines}
 use Rattle.trace_model.specs.Told.{TellsRun}
 use Rattle.trace_model.specs.Complete.{reports_in}
-use Rattle.schedule_lines.specs.Recorded.{IsEvent, IsNode}
+use Rattle.schedule_lines.specs.Ranges.{IsEvent, IsNode}
 use Rattle.schedule_replay.specs.declared.fault.Fault.{Fault}
 use Rattle.schedule_replay.specs.declared.fault.FaultKind.{FaultKind}
 use Rattle.schedule_replay.specs.declared.fault.FaultKind.TheVariants.{Read, Write, LineTooLong, TooManyLines, Json, Field, World, Memory}

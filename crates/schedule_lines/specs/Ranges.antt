@@ -20,13 +20,13 @@ use Rattle.serde_json.specs.Data.{Data}
 use Rattle.serde_json.specs.Read.{read}
 use Rattle.serde_json.specs.Written.{compact_text}
 use Rattle.slave_port.specs.declared.heard.Report.{Report}
-use Rattle.schedule_lines.specs.declared.schedule.Line.{Line}
-use Rattle.schedule_lines.specs.declared.schedule.Line.TheVariants as schedules
-use Rattle.schedule_lines.specs.declared.traced.TranscriptLine.{TranscriptLine}
-use Rattle.schedule_lines.specs.declared.traced.TranscriptLine.TheVariants as lines
+use Rattle.schedule_lines.specs.declared.reading.schedule.Line.{Line}
+use Rattle.schedule_lines.specs.declared.reading.schedule.Line.TheVariants as schedules
+use Rattle.schedule_lines.specs.declared.reading.transcript.TranscriptLine.{TranscriptLine}
+use Rattle.schedule_lines.specs.declared.reading.transcript.TranscriptLine.TheVariants as lines
 use Rattle.schedule_lines.specs.Line.{line_of}
-use Rattle.schedule_lines.specs.Traced.{transcript_line_of}
-use Rattle.schedule_lines.specs.Transcript.{named_copy, out_report, node_data, scheduled_data, event_data}
+use Rattle.schedule_lines.specs.TranscriptLine.{transcript_line_of}
+use Rattle.schedule_lines.specs.Written.{named_copy, out_report, node_data, scheduled_data, event_data}
 
 -- a whole number whose text has 32 octets at the most
 abbrev pub IsShort : ℤ → Type 0

@@ -1,6 +1,6 @@
 use Rattle.std.proofs.Common.{◌≡◌, ◌∙◌, nat_lt, slice_index, true}
 use Rattle.schedule_lines.proofs.Digits.{parsed_positive}
-use Rattle.schedule_lines.proofs.fields.positive_of.Goals as goal
+use Rattle.schedule_lines.proofs.reading.fields.positive_of.Goals as goal
 
 pub returns : goal.returns
 returns c =

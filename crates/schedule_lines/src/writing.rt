@@ -3,10 +3,12 @@ ghost use Rattle.std.specs.Prelude.{◌≡◌, false, IfOk, OnOk, Some, string_b
 ghost use Rattle.serde_json.specs.Written.{has_float};
 ghost use Rattle.serde_json.specs.View.{view, members_view};
 ghost use Rattle.network_model.specs.Kinds.{step_of, spent_transit};
-ghost use Rattle.schedule_lines.specs.Transcript.{node_data, port_data, event_data, line_text, event_text, named_copy, out_text, out_code, follow_data, tags_data, with_event, with_answer, with_report};
+ghost use Rattle.schedule_lines.specs.Written.{node_data, port_data, event_data, line_text, event_text, named_copy, out_text, out_code, follow_data, tags_data, with_event, with_answer, with_report};
 
-use crate::members::{put_difference, put_moment, put_octets, put_text, put_whole};
+mod members;
+
 use event_codec::PortConfig;
+use members::{put_difference, put_moment, put_octets, put_text, put_whole};
 use network_model::{Event, NodeKind, NodeSpec, Report};
 use ptp_units::Seq;
 use serde_json::{Map, Value, json, put};

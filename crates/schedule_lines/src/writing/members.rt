@@ -2,7 +2,7 @@
 ghost use Rattle.std.specs.Prelude.{◌≡◌, OnOk, IfOk, option_map, Some};
 ghost use Rattle.serde_json.specs.Data.{string};
 ghost use Rattle.serde_json.specs.View.{view, members_view};
-ghost use Rattle.schedule_lines.specs.Transcript.{whole, moment_data, difference_data, octets_data, with_some};
+ghost use Rattle.schedule_lines.specs.Written.{whole, moment_data, difference_data, octets_data, with_some};
 
 use ptp_units::ScaledTime;
 use serde_json::{Map, Value, json, put};

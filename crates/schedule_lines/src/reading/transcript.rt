@@ -1,10 +1,12 @@
 //! Lines of transcripts, read: nodes, and events with what was recorded of them.
 ghost use Rattle.std.specs.Prelude.{◌≡◌};
 ghost use Rattle.serde_json.specs.View.{view};
-ghost use Rattle.schedule_lines.specs.Traced.{transcript_line_of, traced_in, recorded_in, line_keys, reading_in, out_of, out_keys, made_in, code_in, report_in, report_of, follow_in};
+ghost use Rattle.schedule_lines.specs.TranscriptLine.{transcript_line_of, traced_in, recorded_in, line_keys, reading_in, out_of, out_keys, made_in, code_in, report_in, report_of, follow_in};
 
-use crate::fields::{difference_in, has_items, has_keys, moment_in, octets_in, whole_below};
-use crate::schedule::{event_in, event_keys, node_spec_in};
+use crate::reading::fields::{
+    difference_in, has_items, has_keys, moment_in, octets_in, whole_below,
+};
+use crate::reading::schedule::{event_in, event_keys, node_spec_in};
 use network_model::{NodeSpec, Report};
 use ptp_units::ScaledTime;
 use serde_json::Value;

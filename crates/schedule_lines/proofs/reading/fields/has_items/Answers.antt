@@ -1,6 +1,6 @@
 use Rattle.std.proofs.Common.{◌≡◌, ◌==◌, length, sym, ap, ◌∙◌, arith}
 use Rattle.serde_json.proofs.Views.{items_len-items_view}
-use Rattle.schedule_lines.proofs.fields.has_items.Goals as goal
+use Rattle.schedule_lines.proofs.reading.fields.has_items.Goals as goal
 
 pub returns-in-Some : goal.returns-in-Some
 returns-in-Some c =

@@ -3,10 +3,10 @@ ghost use Rattle.std.specs.Prelude.{◌≡◌};
 ghost use Rattle.serde_json.specs.View.{view};
 ghost use Rattle.schedule_lines.specs.Line.{line_of, scheduled_in, event_in, event_at, event_keys, node_in, at_in, copy_in, config_in, first_in, node_kind, node_spec_in};
 
-use crate::fields::{
+use crate::reading::fields::{
     clock_in, difference_in, has_keys, moment_in, name_in, signed_octet_in, whole_below,
 };
-use crate::kind::{EventKind, kind_of};
+use crate::reading::kind::{EventKind, kind_of};
 use event_codec::{PortConfig, PortIdentity};
 use network_model::{Event, Name, NodeKind, NodeSpec};
 use ptp_units::{ScaledTime, Seq};

@@ -3,9 +3,9 @@ use Rattle.serde_json.specs.Data.{object, no_members}
 use Rattle.serde_json.specs.View.{members_view}
 use Rattle.serde_json.specs.Written.{has_float}
 use Rattle.serde_json.proofs.Views.{view-Object}
-use Rattle.schedule_lines.specs.Transcript.{with_event, with_answer}
+use Rattle.schedule_lines.specs.Written.{with_event, with_answer}
 use Rattle.schedule_lines.proofs.Floats.{float-event_data}
-use Rattle.schedule_lines.proofs.transcript.event_value.Goals as goal
+use Rattle.schedule_lines.proofs.writing.event_value.Goals as goal
 
 pub returns-clause-no_float : goal.returns-clause-no_float
 returns-clause-no_float c =

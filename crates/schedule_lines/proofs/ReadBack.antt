@@ -14,13 +14,13 @@ use Rattle.network_model.specs.Kinds.{named_master, step_of, spent_transit}
 use Rattle.trace_model.specs.declared.line.TraceLine.{TraceLine}
 use Rattle.trace_model.specs.declared.line.TraceOut.{TraceOut}
 use Rattle.trace_model.specs.declared.line.TraceOut.TheVariants as outs
-use Rattle.schedule_lines.specs.declared.traced.TranscriptLine.TheVariants as lines
+use Rattle.schedule_lines.specs.declared.reading.transcript.TranscriptLine.TheVariants as lines
 use Rattle.schedule_lines.specs.Json.{field, has_keys, moment_in, name_in, whole_in, whole_below, octets_in, difference_in}
-use Rattle.schedule_lines.specs.declared.schedule.Line.TheVariants as schedules
+use Rattle.schedule_lines.specs.declared.reading.schedule.Line.TheVariants as schedules
 use Rattle.schedule_lines.specs.Line.{event_in, event_keys, node_in, at_in, copy_in, line_of}
-use Rattle.schedule_lines.specs.Traced.{transcript_line_of, recorded_in, reading_in, reading_keys, out_of, out_keys, line_keys, code_in, report_in}
-use Rattle.schedule_lines.specs.Transcript.{whole, moment_data, difference_data, octets_data, tags_data, named_copy, event_text, made_octets, out_text, out_code, out_report, scheduled_data, event_data}
-use Rattle.schedule_lines.specs.Recorded.{IsShort, IsEvent, IsOut, IsRecorded, ScheduledReadBack, EventsReadBack}
+use Rattle.schedule_lines.specs.TranscriptLine.{transcript_line_of, recorded_in, reading_in, reading_keys, out_of, out_keys, line_keys, code_in, report_in}
+use Rattle.schedule_lines.specs.Written.{whole, moment_data, difference_data, octets_data, tags_data, named_copy, event_text, made_octets, out_text, out_code, out_report, scheduled_data, event_data}
+use Rattle.schedule_lines.specs.Ranges.{IsShort, IsEvent, IsOut, IsRecorded, ScheduledReadBack, EventsReadBack}
 use Rattle.schedule_lines.proofs.Keys.{Field, members_of, event_fields, answer_fields, line_fields}
 use Rattle.schedule_lines.proofs.Lookup.{find, get_member-members_of, option_or-none, one_if, count, members_len-members_of}
 use Rattle.schedule_lines.proofs.Texts.{name_back, below_back, octets_back, moment_back, difference_back, report_back}
