@@ -19,7 +19,8 @@ name_of Check = codes "check"
 abbrev pub subcommands : List Subcommand
 subcommands = Show ∷ Replay ∷ Check ∷ []
 
--- the program without its subcommands, as clap's specifications have it: a subcommand is required, and there is no other argument
+-- the program without its subcommands, as clap's specifications have it: a subcommand is required, and there is no
+-- other argument
 abbrev pub bare_program : App
 bare_program = on_top (λ top. record top { subcommand_required = true }) (new_app (codes "ptpx"))
 

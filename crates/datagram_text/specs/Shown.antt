@@ -1,5 +1,6 @@
 -- The text of a datagram.
-use Rattle.std.specs.Prelude.{◌≡◌, ℕ, ◌-◌, ◌≤◌, ◌⊎◌, ℤ, int_lt, replicate, List, [], ◌∷◌, ◌++◌, length, take, slice_index, codes, Some, if◌then◌else◌}
+use Rattle.std.specs.Prelude.{◌≡◌, ℕ, ◌-◌, ◌≤◌, ◌⊎◌, ℤ, int_lt, replicate, List, [], ◌∷◌}
+use Rattle.std.specs.Prelude.{◌++◌, length, take, slice_index, codes, Some, if◌then◌else◌}
 use Rattle.std.specs.Fmt.{decimal, signed_decimal}
 use Rattle.hex.specs.Hex.{encode_lower, lower_digits}
 use Rattle.ptp_units.specs.Moment.{Stamp}

@@ -2,7 +2,8 @@ ghost use Rattle.std.specs.Prelude.{◌≡◌, ◌++◌, ◌<◌, ◌≤◌, len
 ghost use Rattle.std.specs.String.{string_bytes};
 ghost use Rattle.hex.specs.Hex.{encode_lower, lower_digits};
 ghost use Rattle.event_codec.specs.Packet.{contents};
-ghost use Rattle.datagram_text.specs.Shown.{name_of, identity_text, correction_text, stamp_text, requesting_text, header_text, message_text, refusal_text, AppendsShown};
+ghost use Rattle.datagram_text.specs.Shown.{name_of, identity_text, correction_text, stamp_text, requesting_text};
+ghost use Rattle.datagram_text.specs.Shown.{header_text, message_text, refusal_text, AppendsShown};
 
 use event_codec::{Body, DecodeRefusal, Header, Message, PortIdentity, decode};
 use ptp_units::{Interval, Timestamp};

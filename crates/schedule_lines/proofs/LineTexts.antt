@@ -138,51 +138,29 @@ report_out (outs.Report answer) h = h
 report_out (outs.Ignored reason) h = tt
 report_out (outs.Refused reason) h = tt
 
+-- a field's value in front of others
+pair : {A B : Type 0} → A → B → A × B
+pair a b = (a, b)
+
 fields_shown : (n : ℕ) (line : TraceLine) → IsRecorded line → IsTagged n line → AreShownFields (line_fields n line)
 fields_shown n line h tagged =
-    let e = line.event in (
-      field_shown moment_data (true_moment e) (λ time. time < bound) shown_moment h.event.moment,
-      (
-        field_shown whole (named_copy e) IsTag shown_whole tagged.copy,
-        (
-          field_shown difference_data (step_of e) IsShort shown_difference h.event.step,
-          (
-            shown_string _ (fits_event e) (omega arith),
-            (
-              field_shown string (named_master e) IsName shown_name h.event.master,
-              (
-                shown_name _ h.event.node,
-                (
-                  field_shown whole (spent_transit e) IsTag shown_whole tagged.transit,
-                  (
-                    field_shown whole (out_code line.out) (λ code. code < 65536) shown_code (code_out line.out h.out),
-                    (
-                      field_shown octets_data (made_octets line.out) AreOctets (λ octets are. shown_octets octets are.0 are.1) (octets_out line.out h.out),
-                      (
-                        shown_whole n tagged.number,
-                        (
-                          shown_string _ (fits_out line.out) (omega arith),
-                          (
-                            field_shown moment_data line.reading (λ time. time < bound) shown_moment h.reading,
-                            (
-                              field_shown (λ r. difference_data r.offset2) (out_report line.out) IsShortReport (λ r short. shown_difference r.offset2 short.0) (report_out line.out h.out),
-                              (
-                                field_shown (λ r. difference_data r.path2) (out_report line.out) IsShortReport (λ r short. shown_difference r.path2 short.1) (report_out line.out h.out),
-                                (field_shown tags_data (out_report line.out) HasTags shown_tags tagged.report, tt),
-                              ),
-                            ),
-                          ),
-                        ),
-                      ),
-                    ),
-                  ),
-                ),
-              ),
-            ),
-          ),
-        ),
-      ),
-    )
+    let e = line.event in
+    let short = report_out line.out h.out in
+    pair (field_shown moment_data (true_moment e) (λ time. time < bound) shown_moment h.event.moment)
+    (pair (field_shown whole (named_copy e) IsTag shown_whole tagged.copy)
+    (pair (field_shown difference_data (step_of e) IsShort shown_difference h.event.step)
+    (pair (shown_string _ (fits_event e) (omega arith))
+    (pair (field_shown string (named_master e) IsName shown_name h.event.master)
+    (pair (shown_name _ h.event.node)
+    (pair (field_shown whole (spent_transit e) IsTag shown_whole tagged.transit)
+    (pair (field_shown whole (out_code line.out) (λ code. code < 65536) shown_code (code_out line.out h.out))
+    (pair (field_shown octets_data (made_octets line.out) AreOctets (λ octets are. shown_octets octets are.0 are.1) (octets_out line.out h.out))
+    (pair (shown_whole n tagged.number)
+    (pair (shown_string _ (fits_out line.out) (omega arith))
+    (pair (field_shown moment_data line.reading (λ time. time < bound) shown_moment h.reading)
+    (pair (field_shown (λ r. difference_data r.offset2) (out_report line.out) IsShortReport (λ r short. shown_difference r.offset2 short.0) short)
+    (pair (field_shown (λ r. difference_data r.path2) (out_report line.out) IsShortReport (λ r short. shown_difference r.path2 short.1) short)
+    (pair (field_shown tags_data (out_report line.out) HasTags shown_tags tagged.report) tt))))))))))))))
 
 one_or_none : (o : Option Data) → one_if o ≤ 1
 one_or_none None = omega arith
@@ -223,26 +201,14 @@ port_fits : (name kind : List ℕ) (config : PortConfig) (first : Seq) → IsNam
     → Fits 4096 (compact_text (port_data name kind config first))
 port_fits name kind config first is_name is_kind h fits =
     let fs = port_fields name kind config first in
-    let shown : AreShownFields fs = (
-      shown_code config.domain (omega (arith, h.domain)),
-      (
-        shown_code first.0 fits,
-        (
-          shown_octets config.identity.clock (omega (arith, h.clock.0)) h.clock.1,
-          (
-            shown_string kind is_kind (omega arith),
-            (
-              shown_integer config.log h.log.0 h.log.1,
-              (
-                shown_name name is_name,
-                (shown_code config.identity.port h.port, tt),
-              ),
-            ),
-          ),
-        ),
-      ),
-    )
-    in
+    let shown : AreShownFields fs =
+    pair (shown_code config.domain (omega (arith, h.domain)))
+    (pair (shown_code first.0 fits)
+    (pair (shown_octets config.identity.clock (omega (arith, h.clock.0)) h.clock.1)
+    (pair (shown_string kind is_kind (omega arith))
+    (pair (shown_integer config.log h.log.0 h.log.1)
+    (pair (shown_name name is_name)
+    (pair (shown_code config.identity.port h.port) tt)))))) in
     fits_object (members_of fs) (members_shown fs refl shown) (omega arith)
 
 clock_fits : (name : List ℕ) → IsName name → Fits 4096 (compact_text (kind_data name kinds.Clock))

@@ -1,5 +1,7 @@
 -- The values of JSON fields.
-use Rattle.std.specs.Prelude.{ℕ, ◌==◌, ◌&&◌, nat_lt, nat_le, ℤ, pos, negsuc, int_le, neg_ℤ, List, length, drop, slice_index, codes, Bool, false, if◌then◌else◌, Option, Some, None, option_map, option_and_then, unwrap_or}
+use Rattle.std.specs.Prelude.{ℕ, ◌==◌, ◌&&◌, nat_lt, nat_le, ℤ, pos, negsuc, int_le, neg_ℤ, List}
+use Rattle.std.specs.Prelude.{length, drop, slice_index, codes, Bool, false, if◌then◌else◌}
+use Rattle.std.specs.Prelude.{Option, Some, None, option_map, option_and_then, unwrap_or}
 use Rattle.std.specs.List.{list_all}
 use Rattle.std.specs.Result.{result_ok}
 use Rattle.std.specs.Str.{all_ascii_digits, bytes_eq}
@@ -26,7 +28,8 @@ whole_below bound d = option_and_then (below bound) (whole_in d)
 -- a whole number from -128 to 127
 abbrev pub signed_octet_in : Data → Option ℤ
 signed_octet_in d =
-    option_and_then (λ z. if int_le (negsuc 127) z && int_le z (pos 127) then Some z else None) (option_and_then as_i64 (as_number d))
+    option_and_then (λ z. if int_le (negsuc 127) z && int_le z (pos 127) then Some z else None)
+    (option_and_then as_i64 (as_number d))
 
 -- whether a text is a node's name
 abbrev pub is_name : List ℕ → Bool
@@ -56,7 +59,8 @@ has_items count d = unwrap_or (option_map (λ items. items_len items == count) (
 abbrev pub moment_in : Data → Option ℕ
 moment_in d =
     if has_items 3 d then
-    option_and_then (λ s. option_and_then (λ n. option_map (moment (stamp s n)) (item_at (whole_below 65536) 2 d)) (item_at (whole_below 1000000000) 1 d)) (item_at (whole_below 281474976710656) 0 d)
+    option_and_then (λ s. option_and_then (λ n. option_map (moment (stamp s n)) (item_at (whole_below 65536) 2 d))
+    (item_at (whole_below 1000000000) 1 d)) (item_at (whole_below 281474976710656) 0 d)
     else None
 
 -- the value of a key, where it is what is asked for
@@ -69,9 +73,11 @@ has_keys count d = unwrap_or (option_map (λ members. members_len members == cou
 
 -- a number above 0, in decimal without leading zeros
 abbrev pub positive_of : List ℕ → Option ℕ
-positive_of digits = if nat_lt 48 (slice_index digits 0) && all_ascii_digits digits then Some (digits_value 10 digits) else None
+positive_of digits =
+    if nat_lt 48 (slice_index digits 0) && all_ascii_digits digits then Some (digits_value 10 digits) else None
 
--- a whole number in decimal, within 32 octets: a sign stands in front of negative ones alone, and there are no leading zeros and no `-0`
+-- a whole number in decimal, within 32 octets: a sign stands in front of negative ones alone, and there are no leading
+-- zeros and no `-0`
 abbrev pub difference_of : List ℕ → Option ℤ
 difference_of text =
     if bytes_eq text (codes "0") then Some (pos 0)

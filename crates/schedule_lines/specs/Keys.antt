@@ -31,8 +31,10 @@ LinesHaveOwnKeys = (d : Data) → IfSome (line_of d) (λ line. HaveSameKeys d (l
 
 -- and so has what is read as a line of a transcript
 abbrev pub TranscriptLinesHaveOwnKeys : Type 0
-TranscriptLinesHaveOwnKeys = (d : Data) → IfSome (transcript_line_of d) (λ line. HaveSameKeys d (transcript_line_data line))
+TranscriptLinesHaveOwnKeys =
+    (d : Data) → IfSome (transcript_line_of d) (λ line. HaveSameKeys d (transcript_line_data line))
 
 -- texts that are read as one number are the same text
 abbrev pub NumbersHaveOneText : Type 0
-NumbersHaveOneText = (z : ℤ) (one other : List ℕ) → difference_of one ≡ Some z → difference_of other ≡ Some z → one ≡ other
+NumbersHaveOneText =
+    (z : ℤ) (one other : List ℕ) → difference_of one ≡ Some z → difference_of other ≡ Some z → one ≡ other

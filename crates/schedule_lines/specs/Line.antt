@@ -1,4 +1,5 @@
--- Which node or event a line is, from its JSON value. Each form has just its keys: as many as it has, and each of these.
+-- Which node or event a line is, from its JSON value. Each form has just its keys: as many as it has, and each of
+-- these.
 use Rattle.std.specs.Prelude.{ℕ, List, codes, if◌then◌else◌, Option, Some, None, option_map, option_and_then, is_some}
 use Rattle.std.specs.Str.{bytes_eq}
 use Rattle.serde_json.specs.Data.{Data}
@@ -11,10 +12,13 @@ use Rattle.network_model.specs.declared.node.NodeKind.{NodeKind}
 use Rattle.network_model.specs.declared.node.NodeKind.TheVariants as kinds
 use Rattle.network_model.specs.declared.node.NodeSpec.{NodeSpec}
 use Rattle.schedule_lines.specs.declared.reading.kind.EventKind.{EventKind}
-use Rattle.schedule_lines.specs.declared.reading.kind.EventKind.TheVariants.{Sync, SyncOne, Follow, Enter, Leave, Arrive, Hear, Request, Stamped, Tick, SetMaster, StepClock}
+use Rattle.schedule_lines.specs.declared.reading.kind.EventKind.TheVariants.{Sync, SyncOne, Follow, Enter, Leave}
+use Rattle.schedule_lines.specs.declared.reading.kind.EventKind.TheVariants.{Arrive, Hear, Request, Stamped}
+use Rattle.schedule_lines.specs.declared.reading.kind.EventKind.TheVariants.{Tick, SetMaster, StepClock}
 use Rattle.schedule_lines.specs.declared.reading.schedule.Line.{Line}
 use Rattle.schedule_lines.specs.declared.reading.schedule.Line.TheVariants as lines
-use Rattle.schedule_lines.specs.Json.{field, has_keys, name_in, moment_in, whole_in, whole_below, signed_octet_in, clock_in, difference_in}
+use Rattle.schedule_lines.specs.Json.{field, has_keys, name_in, moment_in, whole_in}
+use Rattle.schedule_lines.specs.Json.{whole_below, signed_octet_in, clock_in, difference_in}
 
 -- the kind of event that the text of `ev` names
 abbrev pub kind_of : List ℕ → Option EventKind
@@ -61,7 +65,8 @@ event_at StepClock node d = option_map (events.StepClock node) (field difference
 -- the event that an object's keys are, whatever keys stand beside them
 abbrev pub event_in : Data → Option Event
 event_in d =
-    option_and_then (λ kind. option_and_then (λ node. event_at kind node d) (node_in d)) (option_and_then kind_of (field as_str (codes "ev") d))
+    option_and_then (λ kind. option_and_then (λ node. event_at kind node d) (node_in d))
+    (option_and_then kind_of (field as_str (codes "ev") d))
 
 -- how many keys an event has, `ev` and `node` among them
 abbrev pub event_keys : Event → ℕ
@@ -87,7 +92,8 @@ abbrev pub config_in : Data → Option PortConfig
 config_in d =
     option_and_then (λ clock. option_and_then (λ port. option_and_then (λ domain. option_map (λ log.
     record { identity = record { clock = clock; port = port }; domain = domain; log = log })
-    (field signed_octet_in (codes "log") d)) (field (whole_below 256) (codes "domain") d)) (field (whole_below 65536) (codes "port") d)) (field clock_in (codes "id") d)
+    (field signed_octet_in (codes "log") d)) (field (whole_below 256) (codes "domain") d))
+    (field (whole_below 65536) (codes "port") d)) (field clock_in (codes "id") d)
 
 -- the number that a node's port draws first
 abbrev pub first_in : Data → Option Seq
@@ -109,8 +115,12 @@ node_kind text d =
 -- the node that an object without key `ev` is
 abbrev pub node_spec_in : Data → Option NodeSpec
 node_spec_in d =
-    option_and_then (λ text. option_and_then (λ name. option_map (λ kind. record { name = name; kind = kind }) (node_kind text d)) (node_in d)) (field as_str (codes "kind") d)
+    option_and_then (λ text. option_and_then (λ name.
+    option_map (λ kind. record { name = name; kind = kind }) (node_kind text d)) (node_in d))
+    (field as_str (codes "kind") d)
 
 -- the line that a value is; None where a key is missing, one is too many, or one's value isn't what is asked for
 abbrev pub line_of : Data → Option Line
-line_of d = if is_some (get (codes "ev") d) then option_map lines.Event (scheduled_in d) else option_map lines.Node (node_spec_in d)
+line_of d =
+    if is_some (get (codes "ev") d) then option_map lines.Event (scheduled_in d)
+    else option_map lines.Node (node_spec_in d)

@@ -51,7 +51,8 @@ IsOut (outs.Report report) = IsShort report.offset2 × IsShort report.path2
 IsOut (outs.Ignored code) = code < 65536
 IsOut (outs.Refused code) = code < 65536
 
--- what may be recorded of an event: its values are within their ranges, and it has a reading where the event has a true moment
+-- what may be recorded of an event: its values are within their ranges, and it has a reading where the event has a true
+-- moment
 pub record IsRecorded (line : TraceLine) : Type 0 where
   pub event : IsEvent line.event
   pub timed : is_some line.reading ≡ is_some (true_moment line.event)
@@ -79,7 +80,8 @@ IsNode node = IsName node.name × IsKind node.kind
 abbrev pub NodesReadBack : Type 0
 NodesReadBack =
     (node : NodeSpec) → IsNode node
-    → (line_of (node_data node) ≡ Some (schedules.Node node)) × (transcript_line_of (node_data node) ≡ Some (lines.Node node))
+    → (line_of (node_data node) ≡ Some (schedules.Node node))
+    × (transcript_line_of (node_data node) ≡ Some (lines.Node node))
 
 -- what an event's own keys say in a schedule is read as the event
 abbrev pub ScheduledReadBack : Type 0
@@ -87,7 +89,8 @@ ScheduledReadBack = (event : Event) → IsEvent event → line_of (scheduled_dat
 
 -- each line that tells what may be recorded is read as it was written
 abbrev pub EventsReadBack : Type 0
-EventsReadBack = (n : ℕ) (line : TraceLine) → IsRecorded line → transcript_line_of (event_data n line) ≡ Some (lines.Event n line)
+EventsReadBack =
+    (n : ℕ) (line : TraceLine) → IsRecorded line → transcript_line_of (event_data n line) ≡ Some (lines.Event n line)
 
 -- a line of a schedule whose values are within their ranges
 abbrev pub IsLine : Line → Type 0
@@ -127,16 +130,18 @@ NodeTextsReadBack = (node : NodeSpec) → IsNode node → read (compact_text (no
 
 -- and so is the compact text of an event's line
 abbrev pub EventTextsReadBack : Type 0
-EventTextsReadBack = (n : ℕ) (line : TraceLine) → IsRecorded line → IsTagged n line → read (compact_text (event_data n line)) ≡ Some (event_data n line)
+EventTextsReadBack =
+    (n : ℕ) (line : TraceLine) → IsRecorded line → IsTagged n line
+    → read (compact_text (event_data n line)) ≡ Some (event_data n line)
 
 -- Each line that tells an event within its ranges is within its own.
 abbrev pub EachToldLineIsRecorded : Premise → Type 0
 EachToldLineIsRecorded premise =
-    (network : Network) (event : Event) (earlier : Run) (line : TraceLine) → premise network (event ∷ earlier) → IsEvent event
-    → TellsEvent network event earlier line → IsRecorded line
+    (network : Network) (event : Event) (earlier : Run) (line : TraceLine) → premise network (event ∷ earlier)
+    → IsEvent event → TellsEvent network event earlier line → IsRecorded line
 
 -- The tags of each line that tells an event have 64 bits, where the number of the event has.
 abbrev pub EachToldLineIsTagged : Premise → Type 0
 EachToldLineIsTagged premise =
-    (network : Network) (event : Event) (earlier : Run) (line : TraceLine) → premise network (event ∷ earlier) → length earlier < 2 ^ 64
-    → TellsEvent network event earlier line → IsTagged (length earlier) line
+    (network : Network) (event : Event) (earlier : Run) (line : TraceLine) → premise network (event ∷ earlier)
+    → length earlier < 2 ^ 64 → TellsEvent network event earlier line → IsTagged (length earlier) line

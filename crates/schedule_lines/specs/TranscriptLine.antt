@@ -1,5 +1,6 @@
 -- Which node or event with its answer a line of a transcript is, from its JSON value. Each form has just its keys.
-use Rattle.std.specs.Prelude.{ℕ, ℤ, ◌+◌, List, codes, if◌then◌else◌, Option, Some, None, option_map, option_and_then, is_some}
+use Rattle.std.specs.Prelude.{ℕ, ℤ, ◌+◌, List, codes, if◌then◌else◌, Option}
+use Rattle.std.specs.Prelude.{Some, None, option_map, option_and_then, is_some}
 use Rattle.std.specs.Str.{bytes_eq}
 use Rattle.serde_json.specs.Data.{Data, null, boolean, number, string, array, object}
 use Rattle.serde_json.specs.Find.{get, as_str}
@@ -10,7 +11,8 @@ use Rattle.trace_model.specs.declared.line.TraceOut.{TraceOut}
 use Rattle.trace_model.specs.declared.line.TraceOut.TheVariants as outs
 use Rattle.schedule_lines.specs.declared.reading.transcript.TranscriptLine.{TranscriptLine}
 use Rattle.schedule_lines.specs.declared.reading.transcript.TranscriptLine.TheVariants as lines
-use Rattle.schedule_lines.specs.Json.{field, has_keys, has_items, item_at, moment_in, whole_in, whole_below, octets_in, difference_in}
+use Rattle.schedule_lines.specs.Json.{field, has_keys, has_items, item_at, moment_in}
+use Rattle.schedule_lines.specs.Json.{whole_in, whole_below, octets_in, difference_in}
 use Rattle.schedule_lines.specs.Line.{event_in, event_keys, node_spec_in}
 
 -- what a value is, and then what it is with that
@@ -35,7 +37,14 @@ report_of offset2 path2 tags =
       follow ← item_at follow_in 1 tags
       request ← item_at whole_in 2 tags
       response ← item_at whole_in 3 tags
-      Some (record { offset2 = offset2; path2 = path2; sync_tag = sync; follow_tag = follow; request_tag = request; response_tag = response }))
+      Some (record {
+        offset2 = offset2;
+        path2 = path2;
+        sync_tag = sync;
+        follow_tag = follow;
+        request_tag = request;
+        response_tag = response;
+      }))
     else None
 
 -- the report that a slave gave

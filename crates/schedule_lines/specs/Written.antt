@@ -3,7 +3,8 @@ use Rattle.std.specs.Prelude.{ℕ, ℤ, List, [], ◌∷◌, ◌++◌, codes, Op
 use Rattle.std.specs.Option.{option_or}
 use Rattle.std.specs.Fmt.{signed_decimal}
 use Rattle.hex.specs.Hex.{encode_lower}
-use Rattle.serde_json.specs.Data.{Data, null, number, unsigned, string, array, object, item, no_items, Members, member, no_members, put}
+use Rattle.serde_json.specs.Data.{Data, null, number, unsigned, string, array, object}
+use Rattle.serde_json.specs.Data.{item, no_items, Members, member, no_members, put}
 use Rattle.serde_json.specs.Find.{of_integer}
 use Rattle.serde_json.specs.Written.{compact_text}
 use Rattle.event_codec.specs.declared.port.PortConfig.{PortConfig}
@@ -11,7 +12,8 @@ use Rattle.ptp_units.specs.declared.sequence.Seq.{Seq}
 use Rattle.ptp_units.specs.Moment.{stamp_of, fraction_of}
 use Rattle.slave_port.specs.declared.heard.Report.{Report}
 use Rattle.network_model.specs.declared.event.Event.{Event}
-use Rattle.network_model.specs.declared.event.Event.TheVariants.{Sync, SyncOne, Follow, Enter, Leave, Arrive, Hear, Request, Stamped, Tick, SetMaster, StepClock}
+use Rattle.network_model.specs.declared.event.Event.TheVariants.{Sync, SyncOne, Follow, Enter, Leave, Arrive, Hear}
+use Rattle.network_model.specs.declared.event.Event.TheVariants.{Request, Stamped, Tick, SetMaster, StepClock}
 use Rattle.network_model.specs.declared.node.NodeKind.{NodeKind}
 use Rattle.network_model.specs.declared.node.NodeKind.TheVariants as kinds
 use Rattle.network_model.specs.declared.node.NodeSpec.{NodeSpec}
@@ -27,7 +29,9 @@ whole n = number (unsigned n)
 
 -- a moment `[s,n,f]`: seconds, nanoseconds, and 2^-16 ns
 abbrev pub moment_data : ℕ → Data
-moment_data time = array (item (whole (stamp_of time).seconds) (item (whole (stamp_of time).nanos) (item (whole (fraction_of time)) no_items)))
+moment_data time =
+    array (item (whole (stamp_of time).seconds) (item (whole (stamp_of time).nanos)
+    (item (whole (fraction_of time)) no_items)))
 
 -- a signed number, as its text
 abbrev pub difference_data : ℤ → Data
@@ -45,15 +49,17 @@ with_some key (Some value) members = put key value members
 -- a node with a port
 abbrev pub port_data : List ℕ → List ℕ → PortConfig → Seq → Data
 port_data name kind config first = object
-    (member (codes "domain") (whole config.domain) (member (codes "first") (whole first.0) (member (codes "id") (octets_data config.identity.clock)
-    (member (codes "kind") (string kind) (member (codes "log") (number (of_integer config.log)) (member (codes "node") (string name)
+    (member (codes "domain") (whole config.domain) (member (codes "first") (whole first.0)
+    (member (codes "id") (octets_data config.identity.clock) (member (codes "kind") (string kind)
+    (member (codes "log") (number (of_integer config.log)) (member (codes "node") (string name)
     (member (codes "port") (whole config.identity.port) no_members)))))))
 
 -- a node
 abbrev pub kind_data : List ℕ → NodeKind → Data
 kind_data name (kinds.Master config first) = port_data name (codes "master") config first
 kind_data name (kinds.Slave config first) = port_data name (codes "slave") config first
-kind_data name kinds.Clock = object (member (codes "kind") (string (codes "clock")) (member (codes "node") (string name) no_members))
+kind_data name kinds.Clock =
+    object (member (codes "kind") (string (codes "clock")) (member (codes "node") (string name) no_members))
 
 abbrev pub node_data : NodeSpec → Data
 node_data node = kind_data node.name node.kind
@@ -143,7 +149,9 @@ follow_data (Some tag) = whole tag
 
 -- the tags of a report: sync, follow, request, response
 abbrev pub tags_data : Report → Data
-tags_data report = array (item (whole report.sync_tag) (item (follow_data report.follow_tag) (item (whole report.request_tag) (item (whole report.response_tag) no_items))))
+tags_data report =
+    array (item (whole report.sync_tag) (item (follow_data report.follow_tag)
+    (item (whole report.request_tag) (item (whole report.response_tag) no_items))))
 
 -- the keys that a report has
 abbrev pub with_report : Option Report → Members → Members

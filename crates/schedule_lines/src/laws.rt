@@ -3,7 +3,9 @@
 
 ghost use Rattle.network_model.specs.Premises.{exact_limits, IsFreshAndTicked, IsWithinTurn};
 ghost use Rattle.schedule_lines.specs.Keys.{LinesHaveOwnKeys, TranscriptLinesHaveOwnKeys, NumbersHaveOneText};
-ghost use Rattle.schedule_lines.specs.Ranges.{NodesReadBack, ScheduledReadBack, EventsReadBack, NodeTextsReadBack, EventTextsReadBack, ReadsInRange, EachToldLineIsRecorded, EachToldLineIsTagged};
+ghost use Rattle.schedule_lines.specs.Ranges.{NodesReadBack, ScheduledReadBack, EventsReadBack};
+ghost use Rattle.schedule_lines.specs.Ranges.{NodeTextsReadBack, EventTextsReadBack, ReadsInRange};
+ghost use Rattle.schedule_lines.specs.Ranges.{EachToldLineIsRecorded, EachToldLineIsTagged};
 
 /// What is written of a node is read as that node, what an event's own keys say in a schedule as that
 /// event, and what is written of an event as the number and what was recorded that it was written

@@ -3,7 +3,9 @@ ghost use Rattle.std.specs.Prelude.{◌≡◌, false, IfOk, OnOk, Some, string_b
 ghost use Rattle.serde_json.specs.Written.{has_float};
 ghost use Rattle.serde_json.specs.View.{view, members_view};
 ghost use Rattle.network_model.specs.Kinds.{step_of, spent_transit};
-ghost use Rattle.schedule_lines.specs.Written.{node_data, port_data, event_data, line_text, event_text, named_copy, out_text, out_code, follow_data, tags_data, with_event, with_answer, with_report};
+ghost use Rattle.schedule_lines.specs.Written.{node_data, port_data, event_data, line_text, event_text};
+ghost use Rattle.schedule_lines.specs.Written.{named_copy, out_text, out_code, follow_data, tags_data};
+ghost use Rattle.schedule_lines.specs.Written.{with_event, with_answer, with_report};
 
 mod members;
 
@@ -118,7 +120,8 @@ fn put_report(
     alloc: Global,
     report: &Report,
 ) -> Result<(), AllocError>
-    ensures { OnOk result (members_view members.new.entries ≡ with_report (Some report.now) (members_view members.old.entries)) }
+    ensures { OnOk result (members_view members.new.entries
+        ≡ with_report (Some report.now) (members_view members.old.entries)) }
 {
     put(members, alloc, "tags", tags_value(alloc, report)?)?;
     put_difference(members, alloc, "path2", Some(report.path2))?;

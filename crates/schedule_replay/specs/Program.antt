@@ -29,9 +29,11 @@ abbrev pub Meaning : (A R W : Type 0) → Type 1
 Meaning A R W = Result A Fault → (input input' : Counted R) (output output' : Counted W) → Type 0
 
 -- a subcommand ended in an answer, which gave the status
-abbrev pub EndsIn : {A R W : Type 0} → (Result A Fault → ℕ) → Meaning A R W → ℕ → (input input' : Counted R) (output output' : Counted W) → Type 0
+abbrev pub EndsIn : {A R W : Type 0} → (Result A Fault → ℕ) → Meaning A R W → ℕ
+    → (input input' : Counted R) (output output' : Counted W) → Type 0
 EndsIn {A} status_by Means status input input' output output' =
-    (answer : Result A Fault) × (status ≡ status_by answer) × FailedWith answer input input' output output' × Means answer input input' output output'
+    (answer : Result A Fault) × (status ≡ status_by answer)
+    × FailedWith answer input input' output output' × Means answer input input' output output'
 
 -- the subcommand ran: its answer gave the status, and says what was read and written
 abbrev pub Runs : {R W : Type 0} → (R → Option (List ℕ)) → (W → Option (List ℕ)) → Subcommand → ℕ
@@ -48,6 +50,7 @@ EndsBefore status input input' output output' = (status ≡ 3) × (input' ≡ in
 -- out. Status 3: nothing went out, for want of memory, or a write failed.
 abbrev pub EndsUnread : {W : Type 0} → (W → Option (List ℕ)) → ℕ → Counted W → Counted W → Type 0
 EndsUnread contents status old new =
-    ((status ≡ 0) × HasNotFailed old new × (text : List ℕ) × Appends (contents (device_of old)) (contents (device_of new)) text)
+    ((status ≡ 0) × HasNotFailed old new
+    × (text : List ℕ) × Appends (contents (device_of old)) (contents (device_of new)) text)
     ⊎ (((status ≡ 2) × (new ≡ old))
     ⊎ ((status ≡ 3) × ((new ≡ old) ⊎ HasFailed old new)))

@@ -26,7 +26,8 @@ pub fn command<R: Read, W: Write, E: Write>(
     output: &mut Counted<W>,
     errors: &mut E,
 ) -> u8
-    // Where they name a subcommand, the status and what is read and written are its, unless memory was refused before it.
+    // Where they name a subcommand, it gives the status and what is read and written, unless memory was
+    // refused before it.
     ensures runs { (s : Subcommand) → Names (map string_bytes words.now) s →
         Runs R.remaining W.contents s result input.old input.new output.old output.new
         ⊎ EndsBefore result input.old input.new output.old output.new }

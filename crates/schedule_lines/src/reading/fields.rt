@@ -1,7 +1,9 @@
 //! The values of fields.
 ghost use Rattle.std.specs.Prelude.{◌≡◌, ◌≢◌, ◌≤◌, ◌&&◌, ℕ, pos, neg_ℤ, nat_lt, drop, length, slice_index, option_map};
 ghost use Rattle.serde_json.specs.View.{view};
-ghost use Rattle.schedule_lines.specs.Json.{field, has_keys, has_items, whole_in, whole_below, item_at, octets_in, signed_octet_in, name_in, clock_in, moment_in, positive_of, difference_of, difference_in};
+ghost use Rattle.schedule_lines.specs.Json.{field, has_keys, has_items, whole_in, whole_below};
+ghost use Rattle.schedule_lines.specs.Json.{item_at, octets_in, signed_octet_in, name_in, clock_in};
+ghost use Rattle.schedule_lines.specs.Json.{moment_in, positive_of, difference_of, difference_in};
 
 use arrayvec::ArrayVec;
 use hex::FromHex;

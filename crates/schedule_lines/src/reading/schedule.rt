@@ -1,7 +1,8 @@
 //! Lines of schedules, read: nodes and events.
 ghost use Rattle.std.specs.Prelude.{◌≡◌};
 ghost use Rattle.serde_json.specs.View.{view};
-ghost use Rattle.schedule_lines.specs.Line.{line_of, scheduled_in, event_in, event_at, event_keys, node_in, at_in, copy_in, config_in, first_in, node_kind, node_spec_in};
+ghost use Rattle.schedule_lines.specs.Line.{line_of, scheduled_in, event_in, event_at, event_keys, node_in};
+ghost use Rattle.schedule_lines.specs.Line.{at_in, copy_in, config_in, first_in, node_kind, node_spec_in};
 
 use crate::reading::fields::{
     clock_in, difference_in, has_keys, moment_in, name_in, signed_octet_in, whole_below,

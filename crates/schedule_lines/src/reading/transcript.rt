@@ -1,7 +1,9 @@
 //! Lines of transcripts, read: nodes, and events with what was recorded of them.
 ghost use Rattle.std.specs.Prelude.{◌≡◌};
 ghost use Rattle.serde_json.specs.View.{view};
-ghost use Rattle.schedule_lines.specs.TranscriptLine.{transcript_line_of, traced_in, recorded_in, line_keys, reading_in, out_of, out_keys, made_in, code_in, report_in, report_of, follow_in};
+ghost use Rattle.schedule_lines.specs.TranscriptLine.{transcript_line_of, traced_in, recorded_in};
+ghost use Rattle.schedule_lines.specs.TranscriptLine.{line_keys, reading_in, out_of, out_keys, made_in};
+ghost use Rattle.schedule_lines.specs.TranscriptLine.{code_in, report_in, report_of, follow_in};
 
 use crate::reading::fields::{
     difference_in, has_items, has_keys, moment_in, octets_in, whole_below,
