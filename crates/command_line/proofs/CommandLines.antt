@@ -5,7 +5,6 @@ use Rattle.std.specs.Str.{bytes_eq}
 use Rattle.std.proofs.lemmas.Slice.Eq.{bytes_eq-Decides}
 use Rattle.clap.specs.Walk.{Text, idle, subcommand_met, walked}
 use Rattle.clap.specs.Simple.{is_simple}
-use Rattle.clap.specs.Kinds.{Kinds}
 use Rattle.clap.specs.Faults.{fault_of, is_simple_and_free, walk_fault}
 use Rattle.clap.specs.declared.error.kind.ErrorKind.TheVariants as kind
 use Rattle.clap.proofs.OnLiterals.{clap_on_literals}
@@ -48,61 +47,52 @@ help_first program_name rest = refl
 
 -- ---- any words
 
--- the words name this subcommand, and clap meets it
-abbrev Runs : List Text → Type 0
-Runs words = (s : Subcommand) × Names words s × Meets s words
-
--- what a parse's kinds of error say of the words
-abbrev pub Verdict : List Text → Kinds → Type 0
-Verdict words kinds = Runs words
-    ⊎ ((IsHelp kinds × HasHelpFlag words)
-    ⊎ ((BeginsWithHelp words × (kinds ≡ kind.DisplayHelp ∷ kind.InvalidSubcommand ∷ []))
-    ⊎ IsMistake kinds))
+-- what a parse says of the words
+pub data Verdict (words : List Text) : Type 0 where
+  Runs : (s : Subcommand) → Names words s → Meets s words → Verdict words
+  Helps : IsHelp (fault_of program words) → HasHelpFlag words → Verdict words
+  Begins : BeginsWithHelp words → fault_of program words ≡ kind.DisplayHelp ∷ kind.InvalidSubcommand ∷ [] → Verdict words
+  Mistakes : IsMistake (fault_of program words) → Verdict words
 
 -- the word stands where a flag for help is read
 abbrev StandsForHelp : List Text → Text → Type 0
 StandsForHelp words word = (slice_get words 1 ≡ Some word) ⊎ ((s : Subcommand) × (slice_get words 1 ≡ Some (name_of s)) × (slice_get words 2 ≡ Some word))
 
-flag_verdict : (words : List Text) (word : Text) (kinds : Kinds) → StandsForHelp words word → IsFlagOrMistake word kinds → Verdict words kinds
-flag_verdict words word kinds stands (inl (help, asks)) = inr (inl (help, (word, asks, stands)))
-flag_verdict words word kinds stands (inr mistake) = inr (inr (inr mistake))
+flag_verdict : (words : List Text) (word : Text) → StandsForHelp words word → IsFlagOrMistake word (fault_of program words) → Verdict words
+flag_verdict words word stands (inl (help, asks)) = Helps help (word, asks, stands)
+flag_verdict words word stands (inr mistake) = Mistakes mistake
 
 -- words with a subcommand's name in its place
-name_verdict : (s : Subcommand) (program_name : Text) (rest : List Text) → Verdict (program_name ∷ name_of s ∷ rest) (fault_of program (program_name ∷ name_of s ∷ rest))
-name_verdict s program_name [] = inl (s, inl refl, (computed s).alone program_name)
+name_verdict : (s : Subcommand) (program_name : Text) (rest : List Text) → Verdict (program_name ∷ name_of s ∷ rest)
+name_verdict s program_name [] = Runs s (inl refl) ((computed s).alone program_name)
 name_verdict s program_name (word ∷ rest) = by_mark (bytes_eq word (codes "--")) refl rest
   where
-    after_mark : (rest : List Text) → Verdict (program_name ∷ name_of s ∷ codes "--" ∷ rest) (fault_of program (program_name ∷ name_of s ∷ codes "--" ∷ rest))
-    after_mark [] = inl (s, inr refl, (computed s).marked program_name)
-    after_mark (next ∷ rest) = inr (inr (inr (mistake_after_mark s program_name next rest)))
+    after_mark : (rest : List Text) → Verdict (program_name ∷ name_of s ∷ codes "--" ∷ rest)
+    after_mark [] = Runs s (inr refl) ((computed s).marked program_name)
+    after_mark (next ∷ rest) = Mistakes (mistake_after_mark s program_name next rest)
 
-    by_mark : (is_mark : Bool) → bytes_eq word (codes "--") ≡ is_mark → (rest : List Text)
-        → Verdict (program_name ∷ name_of s ∷ word ∷ rest) (fault_of program (program_name ∷ name_of s ∷ word ∷ rest))
-    by_mark true is rest = subst (λ w. Verdict (program_name ∷ name_of s ∷ w ∷ rest) (fault_of program (program_name ∷ name_of s ∷ w ∷ rest)))
-        (sym ((bytes_eq-Decides _ _).0 is)) (after_mark rest)
-    by_mark false is rest = flag_verdict (program_name ∷ name_of s ∷ word ∷ rest) word (fault_of program (program_name ∷ name_of s ∷ word ∷ rest)) (inr (s, refl, refl))
+    by_mark : (is_mark : Bool) → bytes_eq word (codes "--") ≡ is_mark → (rest : List Text) → Verdict (program_name ∷ name_of s ∷ word ∷ rest)
+    by_mark true is rest = subst (λ w. Verdict (program_name ∷ name_of s ∷ w ∷ rest)) (sym ((bytes_eq-Decides _ _).0 is)) (after_mark rest)
+    by_mark false is rest = flag_verdict (program_name ∷ name_of s ∷ word ∷ rest) word (inr (s, refl, refl))
         (flag_or_mistake_after_name s program_name word rest is)
 
-pub verdict : (words : List Text) → Verdict words (fault_of program words)
-verdict [] = inr (inr (inr no_words))
-verdict (program_name ∷ []) = inr (inr (inr (name_alone program_name)))
+pub verdict : (words : List Text) → Verdict words
+verdict [] = Mistakes no_words
+verdict (program_name ∷ []) = Mistakes (name_alone program_name)
 verdict (program_name ∷ word ∷ rest) = by_name (named word)
   where
-    after_mark : (rest : List Text) → Verdict (program_name ∷ codes "--" ∷ rest) (fault_of program (program_name ∷ codes "--" ∷ rest))
-    after_mark [] = inr (inr (inr (mark_alone program_name)))
-    after_mark (next ∷ rest) = inr (inr (inr (mark_first program_name next rest)))
+    after_mark : (rest : List Text) → Verdict (program_name ∷ codes "--" ∷ rest)
+    after_mark [] = Mistakes (mark_alone program_name)
+    after_mark (next ∷ rest) = Mistakes (mark_first program_name next rest)
 
-    by_mark : subcommand_met known_names idle word ≡ None → (is_mark : Bool) → bytes_eq word (codes "--") ≡ is_mark
-        → Verdict (program_name ∷ word ∷ rest) (fault_of program (program_name ∷ word ∷ rest))
-    by_mark unnamed true is = subst (λ w. Verdict (program_name ∷ w ∷ rest) (fault_of program (program_name ∷ w ∷ rest)))
-        (sym ((bytes_eq-Decides _ _).0 is)) (after_mark rest)
-    by_mark unnamed false is = flag_verdict (program_name ∷ word ∷ rest) word (fault_of program (program_name ∷ word ∷ rest)) (inl refl)
+    by_mark : subcommand_met known_names idle word ≡ None → (is_mark : Bool) → bytes_eq word (codes "--") ≡ is_mark → Verdict (program_name ∷ word ∷ rest)
+    by_mark unnamed true is = subst (λ w. Verdict (program_name ∷ w ∷ rest)) (sym ((bytes_eq-Decides _ _).0 is)) (after_mark rest)
+    by_mark unnamed false is = flag_verdict (program_name ∷ word ∷ rest) word (inl refl)
         (first_word (IsFlagOrMistake word) (flag_or_mistake_lasts word) program_name word rest (flag_or_mistake program_level known_names word unnamed is))
 
-    by_name : IsNamed known_names word → Verdict (program_name ∷ word ∷ rest) (fault_of program (program_name ∷ word ∷ rest))
-    by_name (inl (s, is)) = subst (λ w. Verdict (program_name ∷ w ∷ rest) (fault_of program (program_name ∷ w ∷ rest))) is (name_verdict s program_name rest)
-    by_name (inr (inl is)) = subst (λ w. Verdict (program_name ∷ w ∷ rest) (fault_of program (program_name ∷ w ∷ rest))) is
-        (inr (inr (inl (refl, help_first program_name rest))))
+    by_name : IsNamed known_names word → Verdict (program_name ∷ word ∷ rest)
+    by_name (inl (s, is)) = subst (λ w. Verdict (program_name ∷ w ∷ rest)) is (name_verdict s program_name rest)
+    by_name (inr (inl is)) = subst (λ w. Verdict (program_name ∷ w ∷ rest)) is (Begins refl (help_first program_name rest))
     by_name (inr (inr unnamed)) = by_mark unnamed _ refl
 
 -- ---- words that a subcommand's name or a flag for help makes out

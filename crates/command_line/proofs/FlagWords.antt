@@ -73,23 +73,6 @@ char_turn level word y ys first =
 abbrev rule_if_help : Bool → Option Rule
 rule_if_help is_help = find (λ rule. is_help || false) help_rules
 
-turn_is : (level : Shape) (known : NamesOf) (word : Text)
-    → turn_fault (with_help_alone level) known at_first_word word ≡ named_turn level word (subcommand_met known idle word)
-turn_is level known word = refl
-
-unnamed_is : (level : Shape) (word : Text) → named_turn level word None ≡ mark_turn level word (bytes_eq word (codes "--"))
-unnamed_is level word = refl
-
-unmarked_is : (level : Shape) (word : Text) → mark_turn level word false ≡ long_turn level word (long_of word)
-unmarked_is level word = refl
-
-long_is : (level : Shape) (word : Text) (flag : Text × Option Text)
-    → long_turn level word (Some flag) ≡ found_turn level word (rule_if_help (bytes_eq (codes "help") flag.0)) flag.1
-long_is level word flag = refl
-
-no_long_is : (level : Shape) (word : Text) → long_turn level word None ≡ short_turn level word (short_of word)
-no_long_is level word = refl
-
 short_is : (level : Shape) (word : Text) (y : ℕ) (ys : Text)
     → short_turn level word (Some (y ∷ ys)) ≡ char_turn level word y ys (slice_get (chars (y ∷ ys)) 0)
 unfolding bundle_met flags_fault

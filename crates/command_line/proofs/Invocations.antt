@@ -23,7 +23,7 @@ use Rattle.command_line.specs.declared.arguments.Subcommand.{Subcommand}
 use Rattle.command_line.specs.declared.arguments.Subcommand.TheVariants.{Show, Replay, Check}
 use Rattle.command_line.proofs.ErrorKinds.{some_kind}
 use Rattle.command_line.proofs.FlagWords.{same_in}
-use Rattle.command_line.proofs.CommandLines.{Verdict, flags_help, help_first, is_free_program, is_simple_program, names_run, verdict}
+use Rattle.command_line.proofs.CommandLines.{Verdict, Runs, Helps, Begins, Mistakes, flags_help, help_first, is_free_program, is_simple_program, names_run, verdict}
 
 -- ---- a parse that succeeds
 
@@ -38,11 +38,11 @@ run_of : (words : List Text) (m : ArgMatches) → fault_of program words ≡ [] 
     → (s : Subcommand) × Names words s × (subcommand_name_of m ≡ Some (name_of s))
 run_of words m none has = by_verdict (verdict words)
   where
-    by_verdict : Verdict words (fault_of program words) → (s : Subcommand) × Names words s × (subcommand_name_of m ≡ Some (name_of s))
-    by_verdict (inl (s, is, meets)) = (s, is, name_is m ∙ ap (option_map (λ p. p.0)) (has is_simple_program).1 ∙ meets.1)
-    by_verdict (inr (inl (help, flag))) = absurd (some_kind _ _ (sym help ∙ none))
-    by_verdict (inr (inr (inl (first, help)))) = absurd (some_kind _ _ (sym help ∙ none))
-    by_verdict (inr (inr (inr mistake))) = absurd (mistake.0 none)
+    by_verdict : Verdict words → (s : Subcommand) × Names words s × (subcommand_name_of m ≡ Some (name_of s))
+    by_verdict (Runs s is meets) = (s, is, name_is m ∙ ap (option_map (λ p. p.0)) (has is_simple_program).1 ∙ meets.1)
+    by_verdict (Helps help flag) = absurd (some_kind _ _ (sym help ∙ none))
+    by_verdict (Begins first help) = absurd (some_kind _ _ (sym help ∙ none))
+    by_verdict (Mistakes mistake) = absurd (mistake.0 none)
 
 -- the same, of the command that was built
 pub run_from : (a : App) → a ≡ program → (words : List Text) (m : ArgMatches) → (is_simple_and_free a ≡ true → fault_of a words ≡ []) → HasMatchesOf a words m
@@ -68,14 +68,14 @@ text_of words k r among shows = by_verdict r (verdict words) shows
     help_is_no_memory : kind.DisplayHelp ≢ kind.OutOfMemory
     help_is_no_memory e = cc
 
-    by_verdict : (r : Invocation) → Verdict words kinds → ShowsKind k r → Asks words r
+    by_verdict : (r : Invocation) → Verdict words → ShowsKind k r → Asks words r
     by_verdict (Run s) judged h = absurd h
-    by_verdict (Help t) (inl (s, is, meets)) h = absurd (among_these [] meets.0 (λ e. help_is_no_memory (sym h ∙ e)))
-    by_verdict (Help t) (inr (inl (help, flag))) h = inl flag
-    by_verdict (Help t) (inr (inr (inl (first, help)))) h = inr first
-    by_verdict (Help t) (inr (inr (inr mistake))) h =
+    by_verdict (Help t) (Runs s is meets) h = absurd (among_these [] meets.0 (λ e. help_is_no_memory (sym h ∙ e)))
+    by_verdict (Help t) (Helps help flag) h = inl flag
+    by_verdict (Help t) (Begins first help) h = inr first
+    by_verdict (Help t) (Mistakes mistake) h =
         absurd (mistake.1 (subst (λ x. IsAmong x kinds) h (among_these kinds refl (λ e. help_is_no_memory (sym h ∙ e)))))
-    by_verdict (Mistake t) (inl (s, is, meets)) h = absurd (among_these [] meets.0 h.1)
+    by_verdict (Mistake t) (Runs s is meets) h = absurd (among_these [] meets.0 h.1)
     by_verdict (Mistake t) judged h = (
       λ s is. absurd (among_these [] (names_run words s is) h.1),
       λ flag. elim (among_these _ (flags_help words flag) h.1) [ inl e ↦ absurd (h.0 e) | inr e ↦ absurd e ],
