@@ -1,5 +1,5 @@
 -- No message of a run has a suffix, so its octets are 54 at the most; and none is drawn with a correction below zero.
-use Rattle.std.proofs.Common.{◌≡◌, ℕ, pos, ◌≤◌, Bool, true, false, ◌==◌, List, [], ◌∷◌, length, int_lt, Option, Some, None, IfSome, Ok, Err, refl, ap, arith, length-drop, option_map, option_and_then, if◌then◌else◌}
+use Rattle.std.proofs.Common.{◌≡◌, ℕ, pos, ◌≤◌, Bool, true, false, ◌==◌, List, [], ◌∷◌, length, int_lt, Option, IfSome, Ok, Err, refl, ap, arith, length-drop, option_map, option_and_then, if◌then◌else◌}
 use Rattle.std.specs.Result.{result_ok}
 use Rattle.std.proofs.lemmas.Option.{IfSome_then}
 use Rattle.ptp_units.specs.Interval.{less_fraction, least}
@@ -23,18 +23,11 @@ use Rattle.network_model.specs.Clock.{reading}
 use Rattle.network_model.specs.Journey.{Journey, residence, journey_made, journey_of}
 use Rattle.network_model.specs.Numbering.{number_of, waiting_sync}
 use Rattle.network_model.specs.Truth.{master_at, slave_at, drawn, travelled, followed, responded, copy_made, copy_of}
+use Rattle.network_model.proofs.Options.{and_then, each_mapped, mapped, either}
 
 -- a message without suffix
 abbrev pub IsBare : Contents → Type 0
 IsBare m = m.suffix ≡ []
-
-mapped : {A B : Type 0} (P : B → Type 0) (f : A → B) (o : Option A) → ((a : A) → P (f a)) → IfSome (option_map f o) P
-mapped P f None each = tt
-mapped P f (Some a) each = each a
-
-and_then : {A B : Type 0} (P : B → Type 0) (f : A → Option B) (o : Option A) → ((a : A) → IfSome (f a) P) → IfSome (option_and_then f o) P
-and_then P f None each = tt
-and_then P f (Some a) each = each a
 
 -- the correction isn't negative
 abbrev pub IsAtLeastZero : Contents → Type 0
@@ -45,12 +38,12 @@ IsPlain m = IsBare m × IsAtLeastZero m
 
 plain_drawn : (network : Network) (event : Event) (earlier : Run) → IfSome (drawn network event earlier) IsPlain
 plain_drawn network (Sync node at) earlier =
-    mapped IsPlain (λ (port : PortSetup). sync port.config (of_count (number_of port (place (Sync node at) earlier)))) (master_at network node) (λ port. (refl, (0, refl)))
+    each_mapped IsPlain (λ (port : PortSetup). sync port.config (of_count (number_of port (place (Sync node at) earlier)))) (master_at network node) (λ port. (refl, (0, refl)))
 plain_drawn network (SyncOne node at) earlier =
-    mapped IsPlain (λ (port : PortSetup). one_step_sync port.config (of_count (number_of port (place (SyncOne node at) earlier))) (reading (place (SyncOne node at) earlier))) (master_at network node)
+    each_mapped IsPlain (λ (port : PortSetup). one_step_sync port.config (of_count (number_of port (place (SyncOne node at) earlier))) (reading (place (SyncOne node at) earlier))) (master_at network node)
     (λ port. (refl, (fraction_of (reading (place (SyncOne node at) earlier)), refl)))
 plain_drawn network (Request node at) earlier =
-    mapped IsPlain (λ (port : PortSetup). delay_req port.config (of_count (number_of port (place (Request node at) earlier)))) (slave_at network node) (λ port. (refl, (0, refl)))
+    each_mapped IsPlain (λ (port : PortSetup). delay_req port.config (of_count (number_of port (place (Request node at) earlier)))) (slave_at network node) (λ port. (refl, (0, refl)))
 plain_drawn network (Follow node) earlier = tt
 plain_drawn network (Enter node copy at) earlier = tt
 plain_drawn network (Leave node transit at) earlier = tt
@@ -69,11 +62,8 @@ zero_drawn network event earlier = IfSome_then (drawn network event earlier) (pl
 
 bare_travelled : (network : Network) (journey : Journey) → IfSome (travelled network journey) IsBare
 bare_travelled network journey =
-    of_mapped (drawn network journey.origin.event journey.origin.earlier) (bare_drawn network journey.origin.event journey.origin.earlier)
-  where
-    of_mapped : (o : Option Contents) → IfSome o IsBare → IfSome (option_map (λ (m : Contents). resided m (residence journey)) o) IsBare
-    of_mapped None h = tt
-    of_mapped (Some m) h = h
+    mapped IsBare (λ (m : Contents). resided m (residence journey)) (drawn network journey.origin.event journey.origin.earlier)
+    (bare_drawn network journey.origin.event journey.origin.earlier)
 
 bare_if : (same low : Bool) (m : Contents) → IsBare m → IfSome (result_ok (if same then (if low then Err CorrectionTooLow else Ok m) else Err OtherDomain)) IsBare
 bare_if true true m h = tt
@@ -92,7 +82,7 @@ bare_made network (Sync node at) earlier copies = bare_drawn network (Sync node 
 bare_made network (SyncOne node at) earlier copies = bare_drawn network (SyncOne node at) earlier
 bare_made network (Follow node) earlier copies =
     and_then IsBare (λ (port : PortSetup). option_map (followed port) (waiting_sync node earlier)) (master_at network node)
-    (λ port. mapped IsBare (followed port) (waiting_sync node earlier) (λ waiting. refl))
+    (λ port. each_mapped IsBare (followed port) (waiting_sync node earlier) (λ waiting. refl))
 bare_made network (Enter node copy at) earlier copies = tt
 bare_made network (Leave node transit at) earlier copies =
     and_then IsBare (travelled network) (journey_made (Leave node transit at) earlier (journey_of earlier)) (bare_travelled network)
@@ -107,16 +97,12 @@ bare_made network (Tick node) earlier copies = tt
 bare_made network (SetMaster node master) earlier copies = tt
 bare_made network (StepClock node diff) earlier copies = tt
 
-either : (b : Bool) (x y : Option Contents) → IfSome x IsBare → IfSome y IsBare → IfSome (if b then x else y) IsBare
-either true x y h k = h
-either false x y h k = k
-
 -- each copy of a run is without suffix
 pub bare_copy : (network : Network) (run : Run) (tag : ℕ) → IfSome (copy_of network run tag) IsBare
 bare_copy network [] tag = tt
 bare_copy network (event ∷ earlier) tag =
-    either (length earlier == tag) (copy_made network event earlier (copy_of network earlier)) (copy_of network earlier tag)
-    (bare_made network event earlier (copy_of network earlier)) (bare_copy network earlier tag)
+    either IsBare (length earlier == tag) (copy_made network event earlier (copy_of network earlier)) (copy_of network earlier tag)
+    (λ _. bare_made network event earlier (copy_of network earlier)) (λ _. bare_copy network earlier tag)
 
 fields_few : (body : Body) → fields_length (type_of body) ≤ 54
 fields_few (bodies.Sync origin) = omega arith

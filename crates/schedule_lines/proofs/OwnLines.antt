@@ -28,7 +28,7 @@ use Rattle.schedule_lines.specs.Keys.{HaveSameKeys, line_data, transcript_line_d
 use Rattle.schedule_lines.proofs.Keys.{Field, event_fields, answer_fields, line_fields}
 use Rattle.schedule_lines.proofs.OwnKeys.{HasFields, own_keys}
 use Rattle.schedule_lines.proofs.Printed.{port_fields, clock_fields}
-use Rattle.schedule_lines.proofs.Ranges.{mapped, weaker, then_also, either}
+use Rattle.network_model.proofs.Options.{mapped, weaker, then_also, either}
 use Rattle.schedule_lines.proofs.ReadBack.{event_count, line_count}
 
 -- ---- keys

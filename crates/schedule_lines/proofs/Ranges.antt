@@ -31,32 +31,11 @@ use Rattle.schedule_lines.specs.declared.reading.schedule.Line.TheVariants as sc
 use Rattle.schedule_lines.specs.declared.reading.transcript.TranscriptLine.TheVariants as lines
 use Rattle.schedule_lines.specs.TranscriptLine.{follow_in, report_of, report_in, code_in, out_of, reading_in, recorded_in, line_keys, traced_in, transcript_line_of}
 use Rattle.schedule_lines.specs.Ranges.{IsShort, IsEvent, IsOut, IsRecorded, IsConfig, IsKind, IsNode, IsLine, IsTranscriptLine, ReadsInRange}
+use Rattle.network_model.proofs.Options.{and_then, mapped, weaker, then_also, either}
 use Rattle.schedule_lines.proofs.Digits.{own}
 use Rattle.schedule_lines.proofs.Names.{IsName-from_test}
 
 -- ---- options
-
-pub and_then : {A B : Type 0} (P : B → Type 0) (f : A → Option B) (o : Option A) → ((a : A) → IfSome (f a) P) → IfSome (option_and_then f o) P
-and_then P f None each = tt
-and_then P f (Some a) each = each a
-
-pub mapped : {A B : Type 0} (P : B → Type 0) (f : A → B) (o : Option A) → IfSome o (λ a. P (f a)) → IfSome (option_map f o) P
-mapped P f None h = tt
-mapped P f (Some a) h = h
-
-pub weaker : {A : Type 0} (P Q : A → Type 0) (o : Option A) → IfSome o P → ((a : A) → P a → Q a) → IfSome o Q
-weaker P Q None h more = tt
-weaker P Q (Some a) h more = more a h
-
--- what was read first is in its range when the next is read
-pub then_also : {A B : Type 0} (P : A → Type 0) (Q : B → Type 0) (f : A → Option B) (o : Option A) → IfSome o P → ((a : A) → P a → IfSome (f a) Q)
-    → IfSome (option_and_then f o) Q
-then_also P Q f None h each = tt
-then_also P Q f (Some a) h each = each a h
-
-pub either : {A : Type 0} (P : A → Type 0) (b : Bool) (x y : Option A) → (b ≡ true → IfSome x P) → (b ≡ false → IfSome y P) → IfSome (if b then x else y) P
-either P true x y h k = h refl
-either P false x y h k = k refl
 
 nothing : {A : Type 0} (o : Option A) → IfSome o (λ _. Unit {0})
 nothing None = tt
