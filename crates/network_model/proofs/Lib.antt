@@ -52,3 +52,7 @@ pub mod Completing
 pub mod HeardMessages
 pub mod Shown
 pub mod Evidence
+pub mod BareCopies
+pub mod OutcomeCodes
+pub mod ReportRanges
+pub mod ExactPremises

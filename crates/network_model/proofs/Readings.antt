@@ -1,23 +1,24 @@
 -- At each accepted event that has a true moment the node's clock shows a moment, its reading.
 -- So what a message says of its times is what the clocks showed.
-use Rattle.std.proofs.Common.{◌≡◌, ◌∙◌, ℕ, ℤ, pos, negsuc, Bool, true, false, Option, Some, None, Ok, IsOk, refl, sym, ap, if◌then◌else◌, option_and_then}
+use Rattle.std.proofs.Common.{◌≡◌, ◌∙◌, ℕ, ℤ, pos, negsuc, Bool, true, false, Option, Some, None, Ok, IsOk, refl, sym}
+use Rattle.std.proofs.Common.{ap, if◌then◌else◌, option_and_then, ◌∷◌, option_map}
 use Rattle.std.specs.Prelude.{ok_or, unwrap_or, nat_lt, is_some}
-use Rattle.ptp_units.specs.Moment.{bound}
+use Rattle.ptp_units.specs.Moment.{bound, moment_of}
 use Rattle.transparent_clock.specs.Forwarding.{forwarded}
 use Rattle.slave_port.proofs.Options.{some_step}
 use Rattle.network_model.specs.declared.event.Event.{Event}
 use Rattle.network_model.specs.declared.event.Event.TheVariants.{Sync, SyncOne, Enter, Leave, Arrive, Request}
-use Rattle.network_model.specs.declared.stepped.Outcome.TheVariants as outcomes
 use Rattle.network_model.specs.declared.refusal.WorldRefusal.TheVariants.{NoCopy, NoTransit, ReadingOutOfRange}
 use Rattle.network_model.specs.Network.{Network, master_port, slave_port}
-use Rattle.network_model.specs.Run.{Run, Place, place, place_at, tag_of, IsIn, true_moment}
+use Rattle.network_model.specs.Run.{Run, Place, place, place_at, tag_of, IsIn, true_moment, site_of}
 use Rattle.network_model.specs.Kinds.{draws_sync, is_request}
-use Rattle.ptp_units.specs.Moment.{moment_of}
-use Rattle.network_model.specs.Clock.{shown_at, reading_of, reading}
+use Rattle.network_model.specs.Clock.{shown_at, reading_of, reading, clock_shows}
 use Rattle.network_model.specs.Truth.{copy_of}
-use Rattle.network_model.specs.Outcome.{◌>>=◌, node_as, clock_of, port_of, reads, open_transit, copy_in, left_outcome, arrived_outcome, outcome_of, IsRun}
+use Rattle.network_model.specs.Outcome.{◌>>=◌, node_as, clock_of, port_of, reads, open_transit, copy_in, left_outcome}
+use Rattle.network_model.specs.Outcome.{arrived_outcome, outcome_of, IsRun}
 use Rattle.network_model.proofs.Options.{ok_value, ok_step, ok_some}
 use Rattle.network_model.proofs.Places.{accepted-place_at}
+use Rattle.network_model.specs.declared.stepped.Outcome.TheVariants as outcomes
 
 -- an accepted event with a true moment is read
 read_at : (network : Network) (event : Event) (earlier : Run) → IsOk (outcome_of network earlier event) → is_some (true_moment event) ≡ true
@@ -87,3 +88,13 @@ sync_timed _ is = cc
 pub request_timed : (event : Event) → is_request event ≡ true → is_some (true_moment event) ≡ true
 request_timed (Request node at) is = refl
 request_timed _ is = cc
+
+-- a reading stands just where there is a true moment
+pub reading_there : (network : Network) (event : Event) (earlier : Run) → IsRun network (event ∷ earlier) → is_some (reading_of (place event earlier)) ≡ is_some (true_moment event)
+reading_there network event earlier accepted = by (true_moment event) refl
+  where
+    by : (moment : Option ℕ) → true_moment event ≡ moment → is_some (reading_of (place event earlier)) ≡ is_some moment
+    by None is = ap (λ (o : Option ℕ). is_some (option_and_then moment_of (option_map (clock_shows (site_of event) earlier) o))) is
+    by (Some at) is =
+        let now = read_at network event earlier accepted.0 (ap (λ (o : Option ℕ). is_some o) is) in
+        ap (λ (o : Option ℕ). is_some o) (ok_some (reading_of (place event earlier)) ReadingOutOfRange {x = now.0} now.1)

@@ -14,7 +14,7 @@ use Rattle.serde_json.specs.Read.{of_json, of_members, read, max_depth}
 use Rattle.serde_json.specs.Written.{outline, members_outline, compact_text}
 use Rattle.serde_json.proofs.Numbers.{number_of-decimal}
 use Rattle.serde_json.proofs.Texts.{print-outline}
-use Rattle.schedule_lines.specs.Transcript.{whole, with_some}
+use Rattle.schedule_lines.specs.Written.{whole, with_some}
 use Rattle.schedule_lines.proofs.Keys.{Field, members_of}
 
 -- what is read of a text that was printed

@@ -1,5 +1,6 @@
 -- What is written holds no float.
-use Rattle.std.proofs.Common.{◌≡◌, ℕ, List, [], ◌∷◌, false, Option, Some, None, option_map, Ordering, Less, Equal, Greater, nat_cmp, refl}
+use Rattle.std.proofs.Common.{◌≡◌, ℕ, List, [], ◌∷◌, false, Option, Some, None, option_map, Ordering, Less, Equal}
+use Rattle.std.proofs.Common.{Greater, nat_cmp, refl}
 use Rattle.std.proofs.lemmas.Bool.{or_from, or_parts}
 use Rattle.std.specs.Cmp.Lexicographic.{slice_cmp}
 use Rattle.std.specs.Ordering.{match_ordering}
@@ -9,8 +10,9 @@ use Rattle.slave_port.specs.declared.heard.Report.{Report}
 use Rattle.network_model.specs.Run.{true_moment}
 use Rattle.network_model.specs.Kinds.{named_master, step_of, spent_transit, named_copy}
 use Rattle.trace_model.specs.declared.line.TraceLine.{TraceLine}
-use Rattle.schedule_lines.specs.Transcript.{whole, moment_data, difference_data, octets_data, follow_data, tags_data, with_some, made_octets, out_code, out_report, event_data}
 use Rattle.schedule_lines.proofs.Keys.{Field, members_of, line_fields}
+use Rattle.schedule_lines.specs.Written.{whole, moment_data, difference_data, octets_data, follow_data, tags_data}
+use Rattle.schedule_lines.specs.Written.{with_some, named_copy, made_octets, out_code, out_report, event_data}
 
 chosen : (o : Ordering) (a b c : Members) → members_have_float a ≡ false → members_have_float b ≡ false → members_have_float c ≡ false
     → members_have_float (match_ordering o a b c) ≡ false

@@ -2,7 +2,7 @@ pub mod Compact
 pub mod Digits
 pub mod Keys
 pub mod Lookup
-pub mod Recorded
+pub mod ReadBack
 pub mod Texts
 pub mod Floats
 pub mod Names
@@ -12,3 +12,7 @@ pub mod Ranges
 pub mod OneText
 pub mod OwnKeys
 pub mod OwnLines
+pub mod ToldTags
+pub mod ToldLines
+pub mod ShownTexts
+pub mod LineTexts

@@ -14,11 +14,11 @@ use Rattle.network_model.specs.declared.node.NodeSpec.{NodeSpec}
 use Rattle.network_model.specs.Name.{IsName}
 use Rattle.schedule_lines.specs.Json.{signed_octet_in, clock_in}
 use Rattle.schedule_lines.specs.Line.{config_in, first_in, node_spec_in, line_of}
-use Rattle.schedule_lines.specs.Traced.{transcript_line_of}
-use Rattle.schedule_lines.specs.declared.schedule.Line.TheVariants as schedules
-use Rattle.schedule_lines.specs.declared.traced.TranscriptLine.TheVariants as lines
-use Rattle.schedule_lines.specs.Transcript.{octets_data, port_data, kind_data}
-use Rattle.schedule_lines.specs.Recorded.{IsConfig, IsKind, NodesReadBack}
+use Rattle.schedule_lines.specs.TranscriptLine.{transcript_line_of}
+use Rattle.schedule_lines.specs.declared.reading.schedule.Line.TheVariants as schedules
+use Rattle.schedule_lines.specs.declared.reading.transcript.TranscriptLine.TheVariants as lines
+use Rattle.schedule_lines.specs.Written.{octets_data, port_data, kind_data}
+use Rattle.schedule_lines.specs.Ranges.{IsConfig, IsKind, NodesReadBack}
 use Rattle.schedule_lines.proofs.Texts.{name_back, below_back}
 
 clock_back : (clock : List ℕ) → length clock ≡ 8 → IsBytes clock → clock_in (octets_data clock) ≡ Some clock

@@ -13,7 +13,7 @@ use Rattle.std.proofs.lemmas.Int.Digits.{digits_value-lt}
 use Rattle.schedule_lines.specs.Json.{positive_of, difference_of}
 use Rattle.schedule_lines.specs.Keys.{NumbersHaveOneText}
 use Rattle.schedule_lines.proofs.Digits.{own}
-use Rattle.schedule_lines.proofs.Ranges.{mapped, either}
+use Rattle.network_model.proofs.Options.{mapped, either}
 
 -- ---- digits
 

@@ -13,30 +13,31 @@ use Rattle.network_model.specs.declared.node.NodeKind.{NodeKind}
 use Rattle.network_model.specs.declared.node.NodeSpec.{NodeSpec}
 use Rattle.trace_model.specs.declared.line.TraceLine.{TraceLine}
 use Rattle.trace_model.specs.declared.line.TraceOut.{TraceOut}
-use Rattle.schedule_lines.specs.declared.kind.EventKind.{EventKind}
-use Rattle.schedule_lines.specs.declared.kind.EventKind.TheVariants.{Sync, SyncOne, Follow, Enter, Leave, Arrive}
-use Rattle.schedule_lines.specs.declared.kind.EventKind.TheVariants.{Hear, Request, Stamped, Tick, SetMaster}
-use Rattle.schedule_lines.specs.declared.kind.EventKind.TheVariants.{StepClock}
-use Rattle.schedule_lines.specs.declared.traced.TranscriptLine.{TranscriptLine}
 use Rattle.schedule_lines.specs.Json.{has_keys, field, whole_in, whole_below, moment_in, name_in, clock_in}
 use Rattle.schedule_lines.specs.Json.{signed_octet_in, octets_in, difference_in}
 use Rattle.schedule_lines.specs.Line.{kind_of, event_at, event_in, event_keys, scheduled_in, at_in, config_in}
 use Rattle.schedule_lines.specs.Line.{first_in, port_in, node_kind, node_spec_in}
-use Rattle.schedule_lines.specs.Traced.{report_of, report_in, out_of, reading_in, line_keys, trace_line_in}
-use Rattle.schedule_lines.specs.Transcript.{node_data, kind_data, port_data, scheduled_data, made_octets, out_code}
-use Rattle.schedule_lines.specs.Transcript.{out_report}
+use Rattle.schedule_lines.specs.Traced.{trace_line_in}
 use Rattle.schedule_lines.specs.Keys.{HaveSameKeys, line_data, transcript_line_data, LinesHaveOwnKeys}
 use Rattle.schedule_lines.specs.Keys.{TranscriptLinesHaveOwnKeys}
 use Rattle.schedule_lines.proofs.Keys.{Field, event_fields, answer_fields, line_fields}
 use Rattle.schedule_lines.proofs.OwnKeys.{HasFields, own_keys}
 use Rattle.schedule_lines.proofs.Printed.{port_fields, clock_fields}
-use Rattle.schedule_lines.proofs.Ranges.{mapped, weaker, then_also, either}
-use Rattle.schedule_lines.proofs.Recorded.{event_count, line_count}
+use Rattle.schedule_lines.specs.declared.reading.kind.EventKind.{EventKind}
+use Rattle.schedule_lines.specs.declared.reading.kind.EventKind.TheVariants.{Sync, SyncOne, Follow, Enter, Leave}
+use Rattle.schedule_lines.specs.declared.reading.kind.EventKind.TheVariants.{Arrive, Hear, Request, Stamped, Tick}
+use Rattle.schedule_lines.specs.declared.reading.kind.EventKind.TheVariants.{SetMaster, StepClock}
+use Rattle.schedule_lines.specs.declared.reading.transcript.TranscriptLine.{TranscriptLine}
+use Rattle.schedule_lines.specs.TranscriptLine.{report_of, report_in, out_of, reading_in, recorded_in, line_keys}
+use Rattle.schedule_lines.specs.Written.{node_data, kind_data, port_data, scheduled_data, named_copy, made_octets}
+use Rattle.schedule_lines.specs.Written.{out_code, out_report}
+use Rattle.network_model.proofs.Options.{mapped, weaker, then_also, either}
+use Rattle.schedule_lines.proofs.ReadBack.{event_count, line_count}
 use Rattle.network_model.specs.declared.event.Event.TheVariants as events
 use Rattle.network_model.specs.declared.node.NodeKind.TheVariants as kinds
 use Rattle.trace_model.specs.declared.line.TraceOut.TheVariants as outs
-use Rattle.schedule_lines.specs.declared.schedule.Line.TheVariants as schedules
-use Rattle.schedule_lines.specs.declared.traced.TranscriptLine.TheVariants as lines
+use Rattle.schedule_lines.specs.declared.reading.schedule.Line.TheVariants as schedules
+use Rattle.schedule_lines.specs.declared.reading.transcript.TranscriptLine.TheVariants as lines
 
 -- ---- keys
 

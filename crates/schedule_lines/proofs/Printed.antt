@@ -1,5 +1,6 @@
 -- The texts of lines, read as their values.
-use Rattle.std.proofs.Common.{◌≡◌, ◌<◌, ◌≤ℤ◌, ◌^◌, ◌/◌, ◌%◌, ◌-◌, ℕ, ℤ, pos, negsuc, List, [], ◌∷◌, codes, Option, Some, None, IfSome, option_map, ap, arith}
+use Rattle.std.proofs.Common.{◌≡◌, ◌<◌, ◌≤ℤ◌, ◌^◌, ◌/◌, ◌%◌, ◌-◌, ℕ, ℤ, pos, negsuc, List, [], ◌∷◌, codes, Option}
+use Rattle.std.proofs.Common.{Some, None, IfSome, option_map, ap, arith}
 use Rattle.std.proofs.lemmas.Int.{ints}
 use Rattle.json.proofs.Printed.Decimals.{IsNumber-decimal, IsNumber-signed_decimal}
 use Rattle.serde_json.specs.Data.{string, number}
@@ -12,15 +13,18 @@ use Rattle.ptp_units.specs.declared.sequence.Seq.{Seq}
 use Rattle.ptp_units.specs.Moment.{bound}
 use Rattle.slave_port.specs.declared.heard.Report.{Report}
 use Rattle.network_model.specs.declared.node.NodeKind.{NodeKind}
-use Rattle.network_model.specs.declared.node.NodeKind.TheVariants as kinds
 use Rattle.network_model.specs.Run.{true_moment}
 use Rattle.network_model.specs.Kinds.{named_master, step_of, spent_transit, named_copy}
 use Rattle.trace_model.specs.declared.line.TraceLine.{TraceLine}
-use Rattle.schedule_lines.specs.Transcript.{whole, moment_data, difference_data, octets_data, tags_data, port_data, kind_data, made_octets, out_code, out_report}
-use Rattle.schedule_lines.specs.Recorded.{IsConfig, IsKind, IsTag, HasTags, IsTagged, IsRecorded, NodeTextsReadBack, EventTextsReadBack}
 use Rattle.schedule_lines.proofs.Keys.{Field, members_of, line_fields}
-use Rattle.schedule_lines.proofs.Compact.{IsReadable, AreReadableFields, read_object, text_readable, whole_readable, field_readable, members_readable, members_ascending}
-use Rattle.schedule_lines.proofs.Recorded.{always, code_out}
+use Rattle.schedule_lines.proofs.Compact.{IsReadable, AreReadableFields, read_object, text_readable, whole_readable}
+use Rattle.schedule_lines.proofs.Compact.{field_readable, members_readable, members_ascending}
+use Rattle.schedule_lines.specs.Written.{whole, moment_data, difference_data, octets_data, follow_data, tags_data}
+use Rattle.schedule_lines.specs.Written.{port_data, kind_data, named_copy, made_octets, out_code, out_report}
+use Rattle.schedule_lines.specs.Ranges.{IsConfig, IsKind, IsTag, HasTags, IsTagged, IsRecorded, NodeTextsReadBack}
+use Rattle.schedule_lines.specs.Ranges.{EventTextsReadBack}
+use Rattle.schedule_lines.proofs.ReadBack.{always, code_out}
+use Rattle.network_model.specs.declared.node.NodeKind.TheVariants as kinds
 
 moment_readable : (time : ℕ) → time < bound → IsReadable (moment_data time)
 moment_readable time h =

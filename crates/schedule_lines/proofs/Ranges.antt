@@ -1,5 +1,8 @@
 -- What is read is within its ranges.
-use Rattle.std.proofs.Common.{◌≡◌, ◌==◌, ◌^◌, ◌<◌, ◌≤◌, ◌≤ℤ◌, ◌&&◌, ℕ, zero, suc, ℤ, pos, negsuc, neg_ℤ, nat_lt, int_le, List, length, drop, slice_index, codes, Bool, true, false, is_some, Option, Some, None, IfSome, option_map, option_and_then, if◌then◌else◌, bytes_eq, Result, Ok, Err, refl, sym, ◌∙◌, arith}
+use Rattle.std.proofs.Common.{◌≡◌, ◌==◌, ◌^◌, ◌<◌, ◌≤◌, ◌≤ℤ◌, ◌&&◌, ℕ, zero, suc, ℤ, pos, negsuc, neg_ℤ, nat_lt}
+use Rattle.std.proofs.Common.{int_le, List, length, drop, slice_index, codes, Bool, true, false, is_some, Option}
+use Rattle.std.proofs.Common.{Some, None, IfSome, option_map, option_and_then, if◌then◌else◌, bytes_eq, Result, Ok}
+use Rattle.std.proofs.Common.{Err, refl, sym, ◌∙◌, arith}
 use Rattle.std.specs.Result.{result_ok}
 use Rattle.std.specs.Str.{all_ascii_digits}
 use Rattle.std.specs.Str.Parse.{digits_value}
@@ -15,48 +18,35 @@ use Rattle.ptp_units.specs.Moment.{bound, stamp, moment}
 use Rattle.slave_port.specs.declared.heard.Report.{Report}
 use Rattle.network_model.specs.Name.{IsName}
 use Rattle.network_model.specs.Run.{true_moment}
-use Rattle.trace_model.specs.declared.line.TraceOut.TheVariants as outs
 use Rattle.network_model.specs.declared.event.Event.{Event}
 use Rattle.network_model.specs.declared.node.NodeKind.{NodeKind}
-use Rattle.network_model.specs.declared.node.NodeKind.TheVariants as kinds
 use Rattle.event_codec.specs.declared.port.PortConfig.{PortConfig}
 use Rattle.ptp_units.specs.declared.sequence.Seq.{Seq}
 use Rattle.std.proofs.lemmas.Int.{ints}
-use Rattle.network_model.specs.declared.event.Event.TheVariants as events
-use Rattle.schedule_lines.specs.declared.kind.EventKind.{EventKind}
-use Rattle.schedule_lines.specs.declared.kind.EventKind.TheVariants.{Sync, SyncOne, Follow, Enter, Leave, Arrive, Hear, Request, Stamped, Tick, SetMaster, StepClock}
-use Rattle.schedule_lines.specs.Json.{signed_octet_in, has_keys, below, whole_in, whole_below, item_at, field, has_items, is_name, name_in, octets_in, clock_in, moment_in, positive_of, difference_of, difference_in}
-use Rattle.schedule_lines.specs.Line.{event_at, event_in, event_keys, scheduled_in, node_in, at_in, copy_in, kind_of, config_in, first_in, port_in, node_kind, node_spec_in, line_of}
-use Rattle.schedule_lines.specs.declared.schedule.Line.TheVariants as schedules
-use Rattle.schedule_lines.specs.declared.traced.TranscriptLine.TheVariants as lines
-use Rattle.schedule_lines.specs.Traced.{follow_in, report_of, report_in, code_in, out_of, reading_in, trace_line_in, line_keys, traced_in, transcript_line_of}
-use Rattle.schedule_lines.specs.Recorded.{IsShort, IsEvent, IsOut, IsRecorded, IsConfig, IsKind, IsNode, IsLine, IsTranscriptLine, ReadsInRange}
+use Rattle.schedule_lines.specs.Json.{signed_octet_in, has_keys, below, whole_in, whole_below, item_at, field}
+use Rattle.schedule_lines.specs.Json.{has_items, is_name, name_in, octets_in, clock_in, moment_in, positive_of}
+use Rattle.schedule_lines.specs.Json.{difference_of, difference_in}
+use Rattle.schedule_lines.specs.Line.{event_at, event_in, event_keys, scheduled_in, node_in, at_in, copy_in, kind_of}
+use Rattle.schedule_lines.specs.Line.{config_in, first_in, port_in, node_kind, node_spec_in, line_of}
+use Rattle.schedule_lines.specs.Traced.{trace_line_in}
 use Rattle.schedule_lines.proofs.Digits.{own}
 use Rattle.schedule_lines.proofs.Names.{IsName-from_test}
+use Rattle.schedule_lines.specs.declared.reading.kind.EventKind.{EventKind}
+use Rattle.schedule_lines.specs.declared.reading.kind.EventKind.TheVariants.{Sync, SyncOne, Follow, Enter, Leave}
+use Rattle.schedule_lines.specs.declared.reading.kind.EventKind.TheVariants.{Arrive, Hear, Request, Stamped, Tick}
+use Rattle.schedule_lines.specs.declared.reading.kind.EventKind.TheVariants.{SetMaster, StepClock}
+use Rattle.schedule_lines.specs.TranscriptLine.{follow_in, report_of, report_in, code_in, out_of, reading_in}
+use Rattle.schedule_lines.specs.TranscriptLine.{recorded_in, line_keys, traced_in, transcript_line_of}
+use Rattle.schedule_lines.specs.Ranges.{IsShort, IsEvent, IsOut, IsRecorded, IsConfig, IsKind, IsNode, IsLine}
+use Rattle.schedule_lines.specs.Ranges.{IsTranscriptLine, ReadsInRange}
+use Rattle.network_model.proofs.Options.{and_then, mapped, weaker, then_also, either}
+use Rattle.trace_model.specs.declared.line.TraceOut.TheVariants as outs
+use Rattle.network_model.specs.declared.node.NodeKind.TheVariants as kinds
+use Rattle.network_model.specs.declared.event.Event.TheVariants as events
+use Rattle.schedule_lines.specs.declared.reading.schedule.Line.TheVariants as schedules
+use Rattle.schedule_lines.specs.declared.reading.transcript.TranscriptLine.TheVariants as lines
 
 -- ---- options
-
-pub and_then : {A B : Type 0} (P : B → Type 0) (f : A → Option B) (o : Option A) → ((a : A) → IfSome (f a) P) → IfSome (option_and_then f o) P
-and_then P f None each = tt
-and_then P f (Some a) each = each a
-
-pub mapped : {A B : Type 0} (P : B → Type 0) (f : A → B) (o : Option A) → IfSome o (λ a. P (f a)) → IfSome (option_map f o) P
-mapped P f None h = tt
-mapped P f (Some a) h = h
-
-pub weaker : {A : Type 0} (P Q : A → Type 0) (o : Option A) → IfSome o P → ((a : A) → P a → Q a) → IfSome o Q
-weaker P Q None h more = tt
-weaker P Q (Some a) h more = more a h
-
--- what was read first is in its range when the next is read
-pub then_also : {A B : Type 0} (P : A → Type 0) (Q : B → Type 0) (f : A → Option B) (o : Option A) → IfSome o P → ((a : A) → P a → IfSome (f a) Q)
-    → IfSome (option_and_then f o) Q
-then_also P Q f None h each = tt
-then_also P Q f (Some a) h each = each a h
-
-pub either : {A : Type 0} (P : A → Type 0) (b : Bool) (x y : Option A) → (b ≡ true → IfSome x P) → (b ≡ false → IfSome y P) → IfSome (if b then x else y) P
-either P true x y h k = h refl
-either P false x y h k = k refl
 
 nothing : {A : Type 0} (o : Option A) → IfSome o (λ _. Unit {0})
 nothing None = tt

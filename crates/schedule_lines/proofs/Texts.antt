@@ -14,9 +14,9 @@ use Rattle.ptp_units.specs.Moment.{bound, stamp_of, fraction_of, moment}
 use Rattle.network_model.specs.Name.{IsName}
 use Rattle.slave_port.specs.declared.heard.Report.{Report}
 use Rattle.schedule_lines.specs.Json.{whole_below, name_in, octets_in, moment_in, positive_of, difference_of, difference_in}
-use Rattle.schedule_lines.specs.Traced.{follow_in, report_of}
-use Rattle.schedule_lines.specs.Transcript.{whole, moment_data, difference_data, octets_data, follow_data, tags_data}
-use Rattle.schedule_lines.specs.Recorded.{IsShort}
+use Rattle.schedule_lines.specs.TranscriptLine.{follow_in, report_of}
+use Rattle.schedule_lines.specs.Written.{whole, moment_data, difference_data, octets_data, follow_data, tags_data}
+use Rattle.schedule_lines.specs.Ranges.{IsShort}
 use Rattle.schedule_lines.proofs.Names.{test-from_IsName}
 
 own : IsNumeralModel (λ ds. all_ascii_digits ds ≡ true) (digits_value 10)

@@ -1,6 +1,6 @@
 pub mod Json
 pub mod Line
-pub mod Recorded
-pub mod Traced
-pub mod Transcript
+pub mod Ranges
+pub mod TranscriptLine
+pub mod Written
 pub mod Keys

@@ -10,17 +10,18 @@ use Rattle.ptp_units.specs.declared.sequence.Seq.{Seq}
 use Rattle.network_model.specs.Run.{true_moment}
 use Rattle.network_model.specs.Kinds.{named_copy, named_master, step_of, spent_transit}
 use Rattle.network_model.specs.declared.event.Event.{Event}
-use Rattle.network_model.specs.declared.event.Event.TheVariants as events
 use Rattle.network_model.specs.declared.node.NodeKind.{NodeKind}
-use Rattle.network_model.specs.declared.node.NodeKind.TheVariants as kinds
 use Rattle.network_model.specs.declared.node.NodeSpec.{NodeSpec}
-use Rattle.schedule_lines.specs.declared.kind.EventKind.{EventKind}
-use Rattle.schedule_lines.specs.declared.kind.EventKind.TheVariants.{Sync, SyncOne, Follow, Enter, Leave, Arrive, Hear}
-use Rattle.schedule_lines.specs.declared.kind.EventKind.TheVariants.{Request, Stamped, Tick, SetMaster, StepClock}
-use Rattle.schedule_lines.specs.declared.schedule.Line.{Line}
-use Rattle.schedule_lines.specs.declared.schedule.Line.TheVariants as lines
 use Rattle.schedule_lines.specs.Json.{field, has_keys, name_in, moment_in, whole_in, whole_below, signed_octet_in}
 use Rattle.schedule_lines.specs.Json.{clock_in, difference_in}
+use Rattle.schedule_lines.specs.declared.reading.kind.EventKind.{EventKind}
+use Rattle.schedule_lines.specs.declared.reading.kind.EventKind.TheVariants.{Sync, SyncOne, Follow, Enter, Leave}
+use Rattle.schedule_lines.specs.declared.reading.kind.EventKind.TheVariants.{Arrive, Hear, Request, Stamped, Tick}
+use Rattle.schedule_lines.specs.declared.reading.kind.EventKind.TheVariants.{SetMaster, StepClock}
+use Rattle.schedule_lines.specs.declared.reading.schedule.Line.{Line}
+use Rattle.network_model.specs.declared.event.Event.TheVariants as events
+use Rattle.network_model.specs.declared.node.NodeKind.TheVariants as kinds
+use Rattle.schedule_lines.specs.declared.reading.schedule.Line.TheVariants as lines
 
 -- the kind of event that the text of `ev` names
 abbrev pub kind_of : List ℕ → Option EventKind
@@ -114,9 +115,9 @@ node_kind text d =
 -- the node that an object without key `ev` is
 abbrev pub node_spec_in : Data → Option NodeSpec
 node_spec_in d =
-    option_and_then
-    (λ text. option_and_then (λ name. option_map (λ kind. record { name = name; kind = kind }) (node_kind text d))
-    (node_in d)) (field as_str (codes "kind") d)
+    option_and_then (λ text. option_and_then (λ name.
+    option_map (λ kind. record { name = name; kind = kind }) (node_kind text d)) (node_in d))
+    (field as_str (codes "kind") d)
 
 -- the line that a value is; None where a key is missing, one is too many, or one's value isn't what is asked for
 abbrev pub line_of : Data → Option Line

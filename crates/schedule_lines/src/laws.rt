@@ -1,8 +1,11 @@
 //! Laws that follow from the definitions, each the contract of a function that does nothing: a caller
 //! that needs one in its proof calls it.
 
+ghost use Rattle.network_model.specs.Premises.{exact_limits, IsFreshAndTicked, IsWithinTurn};
 ghost use Rattle.schedule_lines.specs.Keys.{LinesHaveOwnKeys, TranscriptLinesHaveOwnKeys, NumbersHaveOneText};
-ghost use Rattle.schedule_lines.specs.Recorded.{NodesReadBack, ScheduledReadBack, EventsReadBack, NodeTextsReadBack, EventTextsReadBack, ReadsInRange};
+ghost use Rattle.schedule_lines.specs.Ranges.{NodesReadBack, ScheduledReadBack, EventsReadBack};
+ghost use Rattle.schedule_lines.specs.Ranges.{NodeTextsReadBack, EventTextsReadBack, ReadsInRange};
+ghost use Rattle.schedule_lines.specs.Ranges.{EachToldLineIsRecorded, EachToldLineIsTagged};
 
 /// What is written of a node is read as that node, what an event's own keys say in a schedule as that
 /// event, and what is written of an event as the number and what was recorded that it was written
@@ -38,4 +41,14 @@ pub fn read_lines_have_own_keys()
 /// A signed number has one text: texts that are read as the same number are the same.
 pub fn numbers_have_one_text()
     ensures { NumbersHaveOneText }
+{}
+
+/// Each line that tells an event of a run is within its ranges, where the event is: its reading is a
+/// moment, it is there exactly where the event has a true moment, and what it has of the outcome can
+/// be written. Its tags have 64 bits, where its number has.
+pub fn told_lines_are_recorded()
+    ensures recorded { EachToldLineIsRecorded (IsFreshAndTicked exact_limits) }
+    ensures recorded_within_turn { EachToldLineIsRecorded IsWithinTurn }
+    ensures tagged { EachToldLineIsTagged (IsFreshAndTicked exact_limits) }
+    ensures tagged_within_turn { EachToldLineIsTagged IsWithinTurn }
 {}

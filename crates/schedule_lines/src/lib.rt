@@ -2,14 +2,9 @@
 //! and events.
 #![tactic(auto)]
 
-mod fields;
-mod kind;
 pub mod laws;
-mod members;
-mod schedule;
-mod traced;
-mod transcript;
+mod reading;
+mod writing;
 
-pub use schedule::Line;
-pub use traced::TranscriptLine;
-pub use transcript::{event_value, line_text, node_value};
+pub use reading::{Line, TranscriptLine};
+pub use writing::{event_value, line_text, node_value};

@@ -9,8 +9,8 @@ use Rattle.trace_model.specs.declared.line.TraceLine.{TraceLine}
 use Rattle.trace_model.specs.declared.verdict.Verdict.{Verdict}
 use Rattle.trace_model.specs.Line.{Lines}
 use Rattle.trace_model.specs.Verdict.{verdict}
-use Rattle.schedule_lines.specs.declared.traced.TranscriptLine.{TranscriptLine}
-use Rattle.schedule_lines.specs.declared.traced.TranscriptLine.TheVariants as recorded
+use Rattle.schedule_lines.specs.declared.reading.transcript.TranscriptLine.{TranscriptLine}
+use Rattle.schedule_lines.specs.declared.reading.transcript.TranscriptLine.TheVariants as recorded
 use Rattle.schedule_replay.specs.declared.checking.Progress.{Progress}
 use Rattle.schedule_replay.specs.declared.checking.Progress.TheVariants.{Nodes, Events}
 use Rattle.schedule_replay.specs.declared.counted.Counted.{Counted}

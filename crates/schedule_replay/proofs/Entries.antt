@@ -5,7 +5,7 @@ use Rattle.std.specs.Str.{IsUtf8, is_utf8}
 use Rattle.std.proofs.lemmas.Str.{is_utf8-from_IsUtf8, IsUtf8-from_is_utf8}
 use Rattle.serde_json.specs.Data.{Data}
 use Rattle.serde_json.specs.Read.{read}
-use Rattle.schedule_lines.specs.declared.schedule.Line.{Line}
+use Rattle.schedule_lines.specs.declared.reading.schedule.Line.{Line}
 use Rattle.schedule_lines.specs.Line.{line_of}
 use Rattle.schedule_replay.specs.declared.fault.FaultKind.{FaultKind}
 use Rattle.schedule_replay.specs.declared.fault.FaultKind.TheVariants.{Json, Field}

@@ -12,7 +12,7 @@ use Rattle.network_model.specs.Outcome.{IsStepped}
 use Rattle.world_model.specs.State.{State, after, IsRefused}
 use Rattle.trace_model.specs.declared.line.TraceLine.{TraceLine}
 use Rattle.trace_model.specs.Told.{TellsAnswer}
-use Rattle.schedule_lines.specs.Transcript.{event_data, line_text}
+use Rattle.schedule_lines.specs.Written.{event_data, line_text}
 use Rattle.schedule_replay.specs.declared.fault.FaultKind.{FaultKind}
 use Rattle.schedule_replay.specs.declared.fault.FaultKind.TheVariants as kinds
 use Rattle.schedule_replay.specs.Fault.{fault_of}

@@ -7,15 +7,15 @@ use Rattle.network_model.specs.Clash.{first_clash}
 use Rattle.network_model.specs.Premises.{Premise}
 use Rattle.trace_model.specs.declared.line.TraceLine.{TraceLine}
 use Rattle.trace_model.specs.Line.{Lines}
-use Rattle.schedule_lines.specs.declared.traced.TranscriptLine.{TranscriptLine}
-use Rattle.schedule_lines.specs.declared.traced.TranscriptLine.TheVariants as recorded
+use Rattle.schedule_lines.specs.declared.reading.transcript.TranscriptLine.{TranscriptLine}
+use Rattle.schedule_lines.specs.declared.reading.transcript.TranscriptLine.TheVariants as recorded
 use Rattle.schedule_replay.specs.declared.fault.FaultKind.{FaultKind}
 use Rattle.schedule_replay.specs.declared.fault.FaultKind.TheVariants.{Read, Write, LineTooLong, TooManyLines, Json, Field, World, Memory}
 use Rattle.schedule_replay.specs.Lines.{lines_of, without_cr, reading_fault}
 use Rattle.schedule_replay.specs.Replay.{nodes_text}
 use Rattle.schedule_replay.specs.CheckText.{recorded_in, AreRecorded, numbered, transcript_of, IsOutOfPlace, MistakesIn, MistakesAt, MistakesAtEnd, StopsCheckAfter}
 use Rattle.schedule_replay.specs.Accepted.{IsOfDevice, EachRunIsChecked}
-use Rattle.schedule_replay.proofs.ToldLines.{IsExact}
+use Rattle.network_model.proofs.ExactPremises.{IsExact}
 use Rattle.schedule_replay.proofs.Transcribed.{transcribed}
 use Rattle.schedule_replay.proofs.OneReading.{same_entries, one_entry, next_is, all_taken}
 use Rattle.schedule_replay.proofs.OneTranscript.{nodes_in, lines_after, nodes_in-nodes, lines_after-nodes, nodes_of_transcript, lines_of_transcript}

@@ -7,7 +7,7 @@ use Rattle.network_model.specs.declared.refusal.WorldRefusal.{WorldRefusal}
 use Rattle.network_model.specs.declared.refusal.WorldRefusal.TheVariants.{SameName, SameIdentity, NoNode, WrongKind, NoCopy, NoTransit, ReadingOutOfRange, NothingWaiting, Memory}
 use Rattle.network_model.specs.Network.{Network}
 use Rattle.network_model.specs.Clash.{first_clash}
-use Rattle.schedule_lines.specs.Transcript.{node_data, line_text}
+use Rattle.schedule_lines.specs.Written.{node_data, line_text}
 use Rattle.schedule_replay.specs.declared.fault.FaultKind.{FaultKind}
 use Rattle.schedule_replay.specs.declared.fault.FaultKind.TheVariants as kinds
 use Rattle.schedule_replay.specs.Fault.{fault_of}

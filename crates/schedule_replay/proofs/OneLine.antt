@@ -16,7 +16,7 @@ use Rattle.trace_model.specs.declared.line.TraceLine.{TraceLine}
 use Rattle.trace_model.specs.declared.line.TraceOut.{TraceOut}
 use Rattle.trace_model.specs.declared.line.TraceOut.TheVariants as outs
 use Rattle.trace_model.specs.Told.{TellsEvent, TellsOctets, TellsMade, TellsOutcome}
-use Rattle.schedule_lines.specs.Transcript.{whole, octets_data, moment_data, with_some, with_event, with_report, out_code, made_octets, out_report, out_text, event_data, line_text}
+use Rattle.schedule_lines.specs.Written.{whole, octets_data, moment_data, with_some, with_event, with_report, out_code, made_octets, out_report, out_text, event_data, line_text}
 use Rattle.schedule_replay.specs.Replay.{IsEventLine, WritesRun}
 
 one_copy : (copy : Option Contents) (a b : List ℕ) → TellsOctets copy a → TellsOctets copy b → a ≡ b

@@ -7,8 +7,8 @@ use Rattle.network_model.specs.declared.refusal.WorldRefusal.{WorldRefusal}
 use Rattle.network_model.specs.Network.{Network}
 use Rattle.network_model.specs.Clash.{first_clash}
 use Rattle.trace_model.specs.Line.{Lines}
-use Rattle.schedule_lines.specs.declared.traced.TranscriptLine.{TranscriptLine}
-use Rattle.schedule_lines.specs.declared.traced.TranscriptLine.TheVariants as recorded
+use Rattle.schedule_lines.specs.declared.reading.transcript.TranscriptLine.{TranscriptLine}
+use Rattle.schedule_lines.specs.declared.reading.transcript.TranscriptLine.TheVariants as recorded
 use Rattle.schedule_replay.specs.declared.fault.FaultKind.{FaultKind}
 use Rattle.schedule_replay.specs.declared.fault.FaultKind.TheVariants.{Read, Write, LineTooLong, TooManyLines, Json, Field, World, Memory}
 use Rattle.schedule_replay.specs.Lines.{without_cr, reading_fault}

@@ -10,8 +10,8 @@ use Rattle.network_model.specs.Network.{Network}
 use Rattle.network_model.specs.Run.{Run}
 use Rattle.network_model.specs.Clash.{first_clash}
 use Rattle.world_model.specs.State.{State}
-use Rattle.schedule_lines.specs.declared.schedule.Line.{Line}
-use Rattle.schedule_lines.specs.declared.schedule.Line.TheVariants as entries
+use Rattle.schedule_lines.specs.declared.reading.schedule.Line.{Line}
+use Rattle.schedule_lines.specs.declared.reading.schedule.Line.TheVariants as entries
 use Rattle.schedule_replay.specs.declared.counted.Counted.{Counted}
 use Rattle.schedule_replay.specs.declared.fault.Fault.{Fault}
 use Rattle.schedule_replay.specs.declared.fault.FaultKind.{FaultKind}

@@ -9,17 +9,17 @@ use Rattle.network_model.specs.Network.{Network}
 use Rattle.network_model.specs.Run.{Run}
 use Rattle.network_model.specs.Premises.{Premise}
 use Rattle.trace_model.specs.Complete.{MissesNothing}
-use Rattle.schedule_lines.specs.declared.schedule.Line.{Line}
-use Rattle.schedule_lines.specs.declared.schedule.Line.TheVariants as entries
+use Rattle.schedule_lines.specs.declared.reading.schedule.Line.{Line}
+use Rattle.schedule_lines.specs.declared.reading.schedule.Line.TheVariants as entries
 use Rattle.schedule_lines.specs.Line.{line_of}
-use Rattle.schedule_lines.specs.Recorded.{IsNode, IsEvent, IsLine}
+use Rattle.schedule_lines.specs.Ranges.{IsNode, IsEvent, IsLine}
 use Rattle.schedule_lines.proofs.Ranges.{reads_in_range}
 use Rattle.schedule_replay.specs.declared.fault.FaultKind.{FaultKind}
 use Rattle.schedule_replay.specs.declared.fault.FaultKind.TheVariants.{Field, TooManyLines, LineTooLong}
 use Rattle.schedule_replay.specs.Lines.{lines_of, lines_limit, line_limit, without_cr}
 use Rattle.schedule_replay.specs.Schedule.{value_in, entry_of_value, AreEntries, schedule_of}
 use Rattle.schedule_replay.specs.Accepted.{IsInRange, EachReplayIsAccepted}
-use Rattle.schedule_replay.proofs.ToldLines.{IsExact}
+use Rattle.network_model.proofs.ExactPremises.{IsExact}
 use Rattle.schedule_replay.proofs.OneTranscript.{accepted_by}
 use Rattle.schedule_replay.proofs.NoMistakes.{checked_by}
 

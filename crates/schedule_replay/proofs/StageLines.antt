@@ -8,7 +8,7 @@ use Rattle.network_model.specs.declared.node.NodeSpec.{NodeSpec}
 use Rattle.network_model.specs.declared.refusal.WorldRefusal.{WorldRefusal}
 use Rattle.network_model.specs.Clash.{first_clash}
 use Rattle.world_model.specs.State.{State, after}
-use Rattle.schedule_lines.specs.declared.schedule.Line.TheVariants as entries
+use Rattle.schedule_lines.specs.declared.reading.schedule.Line.TheVariants as entries
 use Rattle.schedule_replay.specs.declared.fault.FaultKind.{FaultKind}
 use Rattle.schedule_replay.specs.declared.fault.FaultKind.TheVariants.{Read, Write, LineTooLong, TooManyLines, Json, Field, World, Memory}
 use Rattle.schedule_replay.specs.declared.replaying.Stage.{Stage}

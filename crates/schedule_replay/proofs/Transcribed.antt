@@ -17,14 +17,14 @@ use Rattle.network_model.specs.Premises.{Premise}
 use Rattle.trace_model.specs.declared.line.TraceLine.{TraceLine}
 use Rattle.trace_model.specs.Line.{Lines}
 use Rattle.trace_model.specs.Told.{TellsRun}
-use Rattle.schedule_lines.specs.declared.traced.TranscriptLine.{TranscriptLine}
-use Rattle.schedule_lines.specs.declared.traced.TranscriptLine.TheVariants as recorded
-use Rattle.schedule_lines.specs.Traced.{transcript_line_of}
-use Rattle.schedule_lines.specs.Transcript.{node_data, event_data, line_text}
-use Rattle.schedule_lines.specs.Recorded.{IsNode, IsEvent, IsRecorded, IsTagged}
+use Rattle.schedule_lines.specs.declared.reading.transcript.TranscriptLine.{TranscriptLine}
+use Rattle.schedule_lines.specs.declared.reading.transcript.TranscriptLine.TheVariants as recorded
+use Rattle.schedule_lines.specs.TranscriptLine.{transcript_line_of}
+use Rattle.schedule_lines.specs.Written.{node_data, event_data, line_text}
+use Rattle.schedule_lines.specs.Ranges.{IsNode, IsEvent, IsRecorded, IsTagged}
 use Rattle.schedule_lines.proofs.Nodes.{nodes_back}
 use Rattle.schedule_lines.proofs.Printed.{event_texts_back, node_texts_back}
-use Rattle.schedule_lines.proofs.Recorded.{reads_back}
+use Rattle.schedule_lines.proofs.ReadBack.{reads_back}
 use Rattle.schedule_replay.specs.declared.fault.FaultKind.{FaultKind}
 use Rattle.schedule_replay.specs.declared.fault.FaultKind.TheVariants.{Field}
 use Rattle.schedule_replay.specs.Lines.{lines_of, without_cr, lines_limit, line_limit, reading_fault}
@@ -33,9 +33,10 @@ use Rattle.schedule_replay.specs.CheckText.{recorded_of_value, recorded_in, AreR
 use Rattle.schedule_replay.specs.Accepted.{EachRunIsTranscribed}
 use Rattle.schedule_replay.proofs.Cutting.{IsUnended, lines_of-ended}
 use Rattle.schedule_replay.proofs.Entries.{value_read}
-use Rattle.schedule_replay.proofs.ShownTexts.{is_shown, Fits}
-use Rattle.schedule_replay.proofs.LineTexts.{event_fits, node_fits}
-use Rattle.schedule_replay.proofs.ToldLines.{IsExact, lines_recorded, lines_tagged}
+use Rattle.schedule_lines.proofs.ShownTexts.{is_shown, Fits}
+use Rattle.schedule_lines.proofs.LineTexts.{event_fits, node_fits}
+use Rattle.network_model.proofs.ExactPremises.{IsExact}
+use Rattle.schedule_lines.proofs.ToldLines.{lines_recorded, lines_tagged}
 
 -- ---- octets that are shown
 

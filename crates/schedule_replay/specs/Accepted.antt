@@ -1,36 +1,23 @@
--- What `replay` writes of runs, as `check_text` reads it. `laws::told_lines_are_recorded`, `laws::replayed_runs_are_transcripts`,
+-- What `replay` writes of runs, as `check_text` reads it. `laws::replayed_runs_are_transcripts`,
 -- `laws::replayed_runs_are_accepted` and `laws::replays_are_accepted` promise it.
-use Rattle.std.specs.Prelude.{◌≡◌, ℕ, ◌+◌, ◌^◌, ◌<◌, ◌≤◌, List, ◌∷◌, ◌++◌, length, All, Option, None, Result, MatchResult, ⊤}
-use Rattle.network_model.specs.declared.event.Event.{Event}
+use Rattle.std.specs.Prelude.{◌≡◌, ℕ, ◌+◌, ◌≤◌, List, ◌++◌, length, All, Option, None, Result, MatchResult, ⊤}
 use Rattle.network_model.specs.Network.{Network}
 use Rattle.network_model.specs.Run.{Run}
 use Rattle.network_model.specs.Clash.{first_clash}
 use Rattle.network_model.specs.Premises.{Premise}
-use Rattle.trace_model.specs.declared.line.TraceLine.{TraceLine}
 use Rattle.trace_model.specs.declared.verdict.Verdict.{Verdict}
 use Rattle.trace_model.specs.declared.verdict.Verdict.TheVariants.{Accepted}
 use Rattle.trace_model.specs.Line.{Lines}
-use Rattle.trace_model.specs.Told.{TellsEvent, TellsRun}
+use Rattle.trace_model.specs.Told.{TellsRun}
 use Rattle.trace_model.specs.Complete.{reports_in}
-use Rattle.schedule_lines.specs.Recorded.{IsEvent, IsNode, IsRecorded, IsTagged}
+use Rattle.schedule_lines.specs.Ranges.{IsEvent, IsNode}
 use Rattle.schedule_replay.specs.declared.fault.Fault.{Fault}
 use Rattle.schedule_replay.specs.declared.fault.FaultKind.{FaultKind}
-use Rattle.schedule_replay.specs.declared.fault.FaultKind.TheVariants.{Read, Write, LineTooLong, TooManyLines, Json, Field, World, Memory}
+use Rattle.schedule_replay.specs.declared.fault.FaultKind.TheVariants.{Read, Write, LineTooLong, TooManyLines}
+use Rattle.schedule_replay.specs.declared.fault.FaultKind.TheVariants.{Json, Field, World, Memory}
 use Rattle.schedule_replay.specs.Lines.{lines_of, lines_limit}
 use Rattle.schedule_replay.specs.Replay.{nodes_text, WritesRun, ReplaysAll}
 use Rattle.schedule_replay.specs.CheckText.{AreRecorded, transcript_of, ChecksAll, ChecksUntil, Checks}
-
--- Each line that tells an event within its ranges is within its own.
-abbrev pub EachToldLineIsRecorded : Premise → Type 0
-EachToldLineIsRecorded premise =
-    (network : Network) (event : Event) (earlier : Run) (line : TraceLine) → premise network (event ∷ earlier) → IsEvent event
-    → TellsEvent network event earlier line → IsRecorded line
-
--- The tags of each line that tells an event have 64 bits, where the number of the event has.
-abbrev pub EachToldLineIsTagged : Premise → Type 0
-EachToldLineIsTagged premise =
-    (network : Network) (event : Event) (earlier : Run) (line : TraceLine) → premise network (event ∷ earlier) → length earlier < 2 ^ 64
-    → TellsEvent network event earlier line → IsTagged (length earlier) line
 
 -- nodes and events whose values are within their ranges, and no more than lines are allowed
 pub record IsInRange (nodes : Network) (run : Run) : Type 0 where
@@ -53,8 +40,9 @@ EachRunIsTranscribed premise =
 -- And whatever verdict is answered over it, that accepts it, with the number of the run's reports.
 abbrev pub EachRunIsAccepted : Premise → Type 0
 EachRunIsAccepted premise =
-    (nodes : Network) (run : Run) (text : List ℕ) (left before after : Option (List ℕ)) (answer : Verdict) → premise nodes run → IsInRange nodes run
-    → WritesRun nodes run text → ChecksAll (nodes_text nodes ++ text) left before after answer → answer ≡ Accepted (reports_in nodes run)
+    (nodes : Network) (run : Run) (text : List ℕ) (left before after : Option (List ℕ)) (answer : Verdict)
+    → premise nodes run → IsInRange nodes run → WritesRun nodes run text
+    → ChecksAll (nodes_text nodes ++ text) left before after answer → answer ≡ Accepted (reports_in nodes run)
 
 -- a fault that isn't in a text: of a device, or of memory
 abbrev pub IsOfDevice : FaultKind → Type 0
@@ -70,17 +58,19 @@ IsOfDevice Memory = ⊤
 -- Where there is no verdict over it, a device failed or memory was refused.
 abbrev pub EachRunIsChecked : Premise → Type 0
 EachRunIsChecked premise =
-    (nodes : Network) (run : Run) (text : List ℕ) (left before after : Option (List ℕ)) (stop : Fault) → first_clash nodes ≡ None → premise nodes run
-    → IsInRange nodes run → WritesRun nodes run text → ChecksUntil (nodes_text nodes ++ text) left before after stop → IsOfDevice stop.what
+    (nodes : Network) (run : Run) (text : List ℕ) (left before after : Option (List ℕ)) (stop : Fault)
+    → first_clash nodes ≡ None → premise nodes run → IsInRange nodes run → WritesRun nodes run text
+    → ChecksUntil (nodes_text nodes ++ text) left before after stop → IsOfDevice stop.what
 
 -- an answer of `check_text`: it accepts, with so many reports, or a device failed or memory was refused
 abbrev pub AnswersAcceptance : ℕ → Result Verdict Fault → Type 0
-AnswersAcceptance reports answer = MatchResult answer (λ verdict. verdict ≡ Accepted reports) (λ stop. IsOfDevice stop.what)
+AnswersAcceptance reports answer =
+    MatchResult answer (λ verdict. verdict ≡ Accepted reports) (λ stop. IsOfDevice stop.what)
 
 -- So of what was replayed on Ok, whatever octets the schedule was.
 abbrev pub EachReplayIsAccepted : Premise → Type 0
 EachReplayIsAccepted premise =
-    (octets : List ℕ) (left before after : Option (List ℕ)) (events : ℕ) (replayed : ReplaysAll octets left before after events)
-    → premise replayed.nodes replayed.run → (left' before' after' : Option (List ℕ)) (answer : Result Verdict Fault)
+    (octets : List ℕ) (left before after : Option (List ℕ)) (events : ℕ)
+    (replayed : ReplaysAll octets left before after events) → premise replayed.nodes replayed.run → (left' before' after' : Option (List ℕ)) (answer : Result Verdict Fault)
     → Checks (nodes_text replayed.nodes ++ replayed.text) left' before' after' answer
     → AnswersAcceptance (reports_in replayed.nodes replayed.run) answer

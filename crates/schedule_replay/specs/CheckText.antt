@@ -11,9 +11,9 @@ use Rattle.trace_model.specs.declared.verdict.Verdict.TheVariants as verdicts
 use Rattle.trace_model.specs.Line.{Lines}
 use Rattle.trace_model.specs.Verdict.{verdict}
 use Rattle.trace_model.specs.Refusal.{code_of}
-use Rattle.schedule_lines.specs.declared.traced.TranscriptLine.{TranscriptLine}
-use Rattle.schedule_lines.specs.declared.traced.TranscriptLine.TheVariants as recorded
-use Rattle.schedule_lines.specs.Traced.{transcript_line_of}
+use Rattle.schedule_lines.specs.declared.reading.transcript.TranscriptLine.{TranscriptLine}
+use Rattle.schedule_lines.specs.declared.reading.transcript.TranscriptLine.TheVariants as recorded
+use Rattle.schedule_lines.specs.TranscriptLine.{transcript_line_of}
 use Rattle.schedule_replay.specs.declared.counted.Counted.{Counted}
 use Rattle.schedule_replay.specs.declared.fault.Fault.{Fault}
 use Rattle.schedule_replay.specs.declared.fault.FaultKind.{FaultKind}

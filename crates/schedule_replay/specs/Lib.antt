@@ -2,12 +2,10 @@ pub mod Fault
 pub mod Counted
 pub mod OctetReader
 pub mod Lines
-pub mod Shown
 pub mod Show
 pub mod Schedule
 pub mod Replay
 pub mod Stage
-pub mod Words
 pub mod Program
 pub mod CheckText
 pub mod Accepted

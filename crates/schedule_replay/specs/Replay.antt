@@ -8,7 +8,7 @@ use Rattle.network_model.specs.Run.{Run}
 use Rattle.network_model.specs.Clash.{first_clash}
 use Rattle.trace_model.specs.declared.line.TraceLine.{TraceLine}
 use Rattle.trace_model.specs.Told.{TellsEvent}
-use Rattle.schedule_lines.specs.Transcript.{node_data, event_data, line_text}
+use Rattle.schedule_lines.specs.Written.{node_data, event_data, line_text}
 use Rattle.schedule_replay.specs.declared.counted.Counted.{Counted}
 use Rattle.schedule_replay.specs.declared.fault.Fault.{Fault}
 use Rattle.schedule_replay.specs.declared.fault.FaultKind.{FaultKind}

@@ -9,7 +9,7 @@ use Rattle.schedule_replay.specs.declared.fault.FaultKind.{FaultKind}
 use Rattle.schedule_replay.specs.declared.fault.FaultKind.TheVariants.{Read, Write, Field, Memory}
 use Rattle.schedule_replay.specs.Counted.{device_of, HasFailed, HasNotFailed}
 use Rattle.schedule_replay.specs.Lines.{lines_of, lfs_in, after_lines, without_cr, reading_fault, LeavesUnread}
-use Rattle.schedule_replay.specs.Shown.{IsShownAs}
+use Rattle.datagram_text.specs.Shown.{IsShownAs}
 
 -- the digits are a datagram in hexadecimal, and this is its text with an LF
 pub record IsAnswer (digits written : List ℕ) : Type 0 where

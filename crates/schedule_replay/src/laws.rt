@@ -1,36 +1,14 @@
 //! What follows from the definitions alone, for any octets and for what is written of any run.
-ghost use Rattle.std.specs.Prelude.{◌≡◌, ℕ, List};
 ghost use Rattle.network_model.specs.Premises.{exact_limits, IsFreshAndTicked, IsWithinTurn};
-ghost use Rattle.schedule_replay.specs.Accepted.{EachToldLineIsRecorded, EachToldLineIsTagged, EachRunIsTranscribed, EachRunIsAccepted, EachRunIsChecked, EachReplayIsAccepted};
-ghost use Rattle.schedule_replay.specs.Shown.{IsShownAs};
+ghost use Rattle.schedule_replay.specs.Accepted.{EachRunIsTranscribed, EachRunIsAccepted};
+ghost use Rattle.schedule_replay.specs.Accepted.{EachRunIsChecked, EachReplayIsAccepted};
 ghost use Rattle.schedule_replay.specs.Show.{Shows};
 ghost use Rattle.schedule_replay.specs.Replay.{Replays};
 ghost use Rattle.schedule_replay.specs.CheckText.{Checks};
 ghost use Rattle.schedule_replay.specs.OneAnswer.{HasOneAnswer};
 
-use event_codec::decode;
-
-/// A datagram is shown by no two texts.
-pub fn shown_by_one_text()
-    ensures { (octets one other : List ℕ) → IsShownAs octets one → IsShownAs octets other → one ≡ other }
-{}
-
-/// Any datagram is shown by some text.
-pub fn shown_by_some_text(octets: &[u8])
-    ensures { (text : List ℕ) × IsShownAs octets.now text }
-{
-    let _ = decode(octets).is_ok();
-}
-
-/// Each line that tells an event of a run is within its ranges, where the event is: its reading is a
-/// moment, it is there exactly where the event has a true moment, and what it has of the outcome can
-/// be written. Its tags have 64 bits, where its number has.
-pub fn told_lines_are_recorded()
-    ensures recorded { EachToldLineIsRecorded (IsFreshAndTicked exact_limits) }
-    ensures recorded_within_turn { EachToldLineIsRecorded IsWithinTurn }
-    ensures tagged { EachToldLineIsTagged (IsFreshAndTicked exact_limits) }
-    ensures tagged_within_turn { EachToldLineIsTagged IsWithinTurn }
-{}
+pub use datagram_text::laws::{shown_by_one_text, shown_by_some_text};
+pub use schedule_lines::laws::told_lines_are_recorded;
 
 /// What is written of nodes and of a fresh and ticked run of them is a transcript that tells the run,
 /// where all values are within their ranges and there are no more lines than are allowed. So each

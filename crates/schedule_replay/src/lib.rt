@@ -4,15 +4,12 @@
 mod checking;
 mod counted;
 mod fault;
-mod help;
 pub mod laws;
 mod lines;
 mod octet_reader;
 mod program;
 mod replaying;
 mod showing;
-mod shown;
-mod words;
 
 pub use checking::check_text;
 pub use counted::Counted;

@@ -1,19 +1,14 @@
 ghost use Rattle.std.specs.Prelude.{◌≡◌, ◌≢◌, ◌⊎◌, map, string_bytes};
-ghost use Rattle.std.specs.Option.{ForSome};
-ghost use Rattle.schedule_replay.specs.Program.{AsksShow, AsksReplay, AsksCheck, AsksNothing, EndsRun, EndsUnread, status_of, check_status};
+ghost use Rattle.schedule_replay.specs.Program.{EndsBefore, EndsUnread, Runs, check_status, status_of};
 ghost use Rattle.schedule_replay.specs.Lines.{input_limit, GivesWithin};
-ghost use Rattle.schedule_replay.specs.Counted.{device_of};
-ghost use Rattle.schedule_replay.specs.Show.{ShowsAnswer};
-ghost use Rattle.schedule_replay.specs.Replay.{ReplaysAnswer};
-ghost use Rattle.schedule_replay.specs.CheckText.{ChecksAnswer};
-ghost use Rattle.schedule_replay.specs.Words.{HasHelpFlag, NamesNothing};
+ghost use Rattle.command_line.specs.Arguments.{AsksNothing, HasHelpFlag, Names, NamesNothing};
 
 use crate::checking::check_text;
 use crate::counted::Counted;
 use crate::fault::{Fault, FaultKind};
 use crate::replaying::replay;
 use crate::showing::show;
-use crate::words::{Invocation, Subcommand, parse};
+use command_line::{Invocation, Subcommand, parse};
 use exchange_check::Verdict;
 use std::alloc::Global;
 use std::io::{Read, Write};
@@ -31,18 +26,11 @@ pub fn command<R: Read, W: Write, E: Write>(
     output: &mut Counted<W>,
     errors: &mut E,
 ) -> u8
-    // The status and what is read and written are those of `show`, unless memory was refused before it.
-    ensures show { AsksShow (map string_bytes words.now) →
-        EndsRun status_of (λ answer. ShowsAnswer R.remaining W.contents answer input.old input.new output.old output.new)
-        result input.old input.new output.old output.new }
-    // They are those of `replay`, where the arguments ask for that.
-    ensures replay { AsksReplay (map string_bytes words.now) →
-        EndsRun status_of (λ answer. ReplaysAnswer R.remaining W.contents answer input.old input.new output.old output.new)
-        result input.old input.new output.old output.new }
-    // They are those of `check`, where the arguments ask for that.
-    ensures check { AsksCheck (map string_bytes words.now) →
-        EndsRun check_status (λ answer. ChecksAnswer R.remaining W.contents answer input.old input.new output.old output.new)
-        result input.old input.new output.old output.new }
+    // Where they name a subcommand, it gives the status and what is read and written, unless memory was
+    // refused before it.
+    ensures runs { (s : Subcommand) → Names (map string_bytes words.now) s →
+        Runs R.remaining W.contents s result input.old input.new output.old output.new
+        ⊎ EndsBefore result input.old input.new output.old output.new }
     // Of any reader only so much is read, whatever the arguments and the writer are.
     ensures bounded { GivesWithin R.remaining input_limit input.old input.new }
     // Other arguments read nothing. Which text help is, and what comes of arguments that begin with `help`, is clap's.
@@ -55,11 +43,7 @@ pub fn command<R: Read, W: Write, E: Write>(
         ((result ≡ 2) ⊎ (result ≡ 3)) × (input.new ≡ input.old) × (output.new ≡ output.old) }
 {
     match parse(alloc, words) {
-        Ok(Invocation::Run(Subcommand::Show)) => finish(errors, show(alloc, input, output)),
-        Ok(Invocation::Run(Subcommand::Replay)) => finish(errors, replay(alloc, input, output)),
-        Ok(Invocation::Run(Subcommand::Check)) => {
-            finish_check(errors, check_text(alloc, input, output))
-        }
+        Ok(Invocation::Run(subcommand)) => run(alloc, subcommand, input, output, errors),
         Ok(Invocation::Help(text)) => match output.write_all(text.as_bytes()) {
             Ok(()) => 0,
             Err(_) => report(errors, before_lines(FaultKind::Write)),
@@ -69,6 +53,24 @@ pub fn command<R: Read, W: Write, E: Write>(
             2
         }
         Err(_) => report(errors, before_lines(FaultKind::Memory)),
+    }
+}
+
+/// Runs a subcommand, and answers its exit status.
+fn run<R: Read, W: Write, E: Write>(
+    alloc: Global,
+    subcommand: Subcommand,
+    input: &mut Counted<R>,
+    output: &mut Counted<W>,
+    errors: &mut E,
+) -> u8
+    ensures runs { Runs R.remaining W.contents subcommand result input.old input.new output.old output.new }
+    ensures bounded { GivesWithin R.remaining input_limit input.old input.new }
+{
+    match subcommand {
+        Subcommand::Show => finish(errors, show(alloc, input, output)),
+        Subcommand::Replay => finish(errors, replay(alloc, input, output)),
+        Subcommand::Check => finish_check(errors, check_text(alloc, input, output)),
     }
 }
 

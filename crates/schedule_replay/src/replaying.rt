@@ -6,7 +6,7 @@ ghost use Rattle.serde_json.specs.View.{view};
 ghost use Rattle.serde_json.specs.Written.{has_float};
 ghost use Rattle.network_model.specs.Clash.{first_clash};
 ghost use Rattle.world_model.specs.State.{new_state, after};
-ghost use Rattle.schedule_lines.specs.Transcript.{line_text};
+ghost use Rattle.schedule_lines.specs.Written.{line_text};
 ghost use Rattle.schedule_replay.specs.Counted.{device_of, HasNotFailed};
 ghost use Rattle.schedule_replay.specs.Fault.{FailedWith};
 ghost use Rattle.schedule_replay.specs.Lines.{input_limit, GivesWithin};

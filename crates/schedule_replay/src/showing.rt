@@ -10,7 +10,7 @@ ghost use Rattle.schedule_replay.specs.Show.{IsAnswer, digits_fault, own_fault, 
 use crate::counted::Counted;
 use crate::fault::{Fault, FaultKind};
 use crate::lines::{LINE_LIMIT, Lines};
-use crate::shown::push_datagram;
+use datagram_text::push_datagram;
 use std::alloc::Global;
 use std::io::{Read, Write};
 

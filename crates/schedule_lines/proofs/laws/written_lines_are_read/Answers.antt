@@ -1,5 +1,5 @@
 use Rattle.schedule_lines.proofs.Nodes.{nodes_back}
-use Rattle.schedule_lines.proofs.Recorded.{scheduled_reads_back, reads_back}
+use Rattle.schedule_lines.proofs.ReadBack.{scheduled_reads_back, reads_back}
 use Rattle.schedule_lines.proofs.laws.written_lines_are_read.Goals as goal
 
 pub returns-clause-nodes : goal.returns-clause-nodes

@@ -1,5 +1,5 @@
 use Rattle.network_model.specs.Premises.{exact_limits, IsFreshAndTicked, IsWithinTurn}
-use Rattle.schedule_replay.proofs.ToldLines.{fresh, in_turn}
+use Rattle.network_model.proofs.ExactPremises.{fresh, in_turn}
 use Rattle.schedule_replay.proofs.Transcribed.{transcribed}
 use Rattle.schedule_replay.proofs.laws.replayed_runs_are_transcripts.Goals as goal
 

@@ -1,0 +1,121 @@
+//! What the arguments of `ptpx` ask for, as `clap` reads them.
+ghost use Rattle.std.specs.Prelude.{◌≡◌, false, IfOk, Some, map, string_bytes};
+ghost use Rattle.clap.specs.Matches.{subcommand_name_of};
+ghost use Rattle.clap.specs.declared.builder.command.Command.TheViews.{out-Command as fields_of};
+ghost use Rattle.clap.specs.Simple.{app_of, new_shape, shape_of};
+ghost use Rattle.clap.specs.Values.{kind_of};
+ghost use Rattle.command_line.specs.Arguments.{Asks, ShowsKind, bare_program, name_of, program};
+
+use crate::help;
+use clap::error::ErrorKind;
+use clap::{ArgMatches, Command, Error};
+use std::alloc::{AllocError, Global};
+
+/// A subcommand of `ptpx`.
+#[derive(Clone, Copy, Debug, PartialEq, Eq)]
+pub enum Subcommand {
+    /// Print the datagrams that standard input gives in hexadecimal.
+    Show,
+    /// Print what comes of the schedule that standard input gives.
+    Replay,
+    /// Print the verdict on the transcript that standard input gives.
+    Check,
+}
+
+/// What the arguments ask for.
+#[derive(Debug, Drop)]
+pub enum Invocation {
+    /// Run the subcommand.
+    Run(Subcommand),
+    /// Write this help to standard output, with exit status 0.
+    Help(String),
+    /// The arguments are no command: write this text to standard error, with exit status 2.
+    Mistake(String),
+}
+
+/// A subcommand as `clap` has it, with a line that says what it does, and its help.
+fn with_help<'a>(
+    alloc: Global,
+    name: &'static str,
+    about: &'static str,
+    help: &'static str,
+) -> Command<'a>
+    ensures shape { shape_of result ≡ new_shape name.now }
+    ensures local { (fields_of result).has_globals ≡ false }
+{
+    Command::new(alloc, name).about(about).after_help(help)
+}
+
+/// `ptpx` without its subcommands, as `clap` has it.
+fn bare_program<'a>(alloc: Global) -> Result<Command<'a>, AllocError>
+    ensures app { IfOk result (λ c. app_of c ≡ bare_program) }
+{
+    let program = Command::new(alloc, "ptpx")
+        .bin_name("ptpx")?
+        .about("The delay request-response exchange of the Precision Time Protocol (IEEE 1588)")
+        .after_help(help::PROGRAM)
+        .subcommand_required(true);
+    Ok(program)
+}
+
+/// `ptpx` as `clap` has it.
+fn program<'a>(alloc: Global) -> Result<Command<'a>, AllocError>
+    ensures app { IfOk result (λ c. app_of c ≡ program) }
+{
+    let show = with_help(
+        alloc,
+        "show",
+        "Print the datagrams that standard input gives in hexadecimal, one a line",
+        help::SHOW,
+    );
+    let replay = with_help(
+        alloc,
+        "replay",
+        "Print what comes of the events that standard input gives, one a line",
+        help::REPLAY,
+    );
+    let check = with_help(
+        alloc,
+        "check",
+        "Print whether each report of the transcript that standard input gives is sound",
+        help::CHECK,
+    );
+    bare_program(alloc)?
+        .subcommand(show)?
+        .subcommand(replay)?
+        .subcommand(check)
+}
+
+/// Reads the arguments, of which the first is the program's own name. Memory fails by `AllocError`.
+pub fn parse(alloc: Global, words: &[String]) -> Result<Invocation, AllocError>
+    ensures asked { IfOk result (Asks (map string_bytes words.now)) }
+{
+    match program(alloc)?.try_get_matches_from(words) {
+        Ok(matches) => Ok(Invocation::Run(chosen(&matches))),
+        Err(error) => refusal(alloc, error),
+    }
+}
+
+/// The subcommand that was met.
+fn chosen(matches: &ArgMatches<'_>) -> Subcommand
+    requires met { (s : Subcommand) × (subcommand_name_of matches.now ≡ Some (name_of s)) }
+    ensures name { subcommand_name_of matches.now ≡ Some (name_of result) }
+{
+    match matches.subcommand_name() {
+        Some("show") => Subcommand::Show,
+        Some("replay") => Subcommand::Replay,
+        Some("check") => Subcommand::Check,
+        _ => unreachable!(),
+    }
+}
+
+/// The text of an error of `clap`.
+fn refusal(alloc: Global, error: Error) -> Result<Invocation, AllocError>
+    ensures kind { IfOk result (ShowsKind (kind_of error)) }
+{
+    match error.kind() {
+        ErrorKind::OutOfMemory => Err(AllocError),
+        ErrorKind::DisplayHelp => Ok(Invocation::Help(error.to_string(alloc)?)),
+        _ => Ok(Invocation::Mistake(error.to_string(alloc)?)),
+    }
+}

@@ -1,0 +1,7 @@
+//! Datagrams as text: the fields of the message that one begins with, or the rule that it breaks.
+#![tactic(auto)]
+
+pub mod laws;
+mod shown;
+
+pub use shown::push_datagram;
