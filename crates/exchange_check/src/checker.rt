@@ -35,10 +35,12 @@ pub fn check(alloc: Global, nodes: &Nodes, lines: &[TraceLine]) -> Result<Verdic
     Ok(kept.verdict)
 }
 
-/// A checker that is fed the lines of a transcript one by one.
+/// A checker that is fed the lines of a transcript one by one. It keeps what later lines can ask of
+/// a line, and not the line itself.
 #[derive(Drop)]
 pub struct Checker {
     nodes: Nodes,
+    /// The lines that it was fed, newest first, which contracts alone read.
     fed: History,
     kept: Kept,
 }

@@ -6,7 +6,7 @@ use std::marker::Model;
 use std::snapshot::Snapshot;
 use trace_model::TraceLine;
 
-/// Lines, newest first. It has no memory of them: only contracts read them.
+/// Lines, newest first. Contracts alone read them: a value of this type has none of their octets.
 #[cycle(history)]
 #[derive(Drop)]
 pub(crate) struct History {
