@@ -12,7 +12,6 @@ use Rattle.event_codec.specs.Layout.{type_of, fields_length}
 use Rattle.event_codec.specs.Packet.{Contents, Packet}
 use Rattle.master_port.specs.declared.refusal.MasterRefusal.TheVariants.{OtherDomain, CorrectionTooLow}
 use Rattle.master_port.specs.Written.{sync, one_step_sync, delay_resp, answer_to}
-use Rattle.slave_port.proofs.Options.{mapped}
 use Rattle.slave_port.specs.Written.{delay_req}
 use Rattle.transparent_clock.specs.Forwarding.{resided}
 use Rattle.network_model.specs.declared.event.Event.{Event}

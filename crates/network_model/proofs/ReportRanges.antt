@@ -10,7 +10,7 @@ use Rattle.ptp_units.specs.Interval.{with_residence, too_big}
 use Rattle.ptp_units.specs.Moment.{bound, moment_of}
 use Rattle.event_codec.specs.Packet.{Contents}
 use Rattle.slave_port.specs.declared.heard.Report.{Report}
-use Rattle.slave_port.proofs.Options.{mapped, some_image}
+use Rattle.slave_port.proofs.Options.{some_image}
 use Rattle.transparent_clock.specs.Forwarding.{resided}
 use Rattle.network_model.specs.declared.event.Event.{Event}
 use Rattle.network_model.specs.Network.{Network}
