@@ -14,7 +14,7 @@ use Rattle.slave_port.specs.Written.{delay_req}
 use Rattle.slave_port.proofs.Options.{some_step, some_image}
 use Rattle.transparent_clock.specs.Forwarding.{resided}
 use Rattle.network_model.specs.declared.event.Event.{Event}
-use Rattle.network_model.specs.declared.event.Event.TheVariants.{Sync, SyncOne, Follow, Enter, Leave, Arrive, Hear, Request, Stamped, Tick, SetMaster, StepClock}
+use Rattle.network_model.specs.declared.event.Event.TheVariants.{Sync, SyncOne, Request}
 use Rattle.network_model.specs.Network.{Network, PortSetup}
 use Rattle.network_model.specs.Run.{Run, Place, place, place_at, tag_of, until, IsIn, true_moment}
 use Rattle.network_model.specs.Kinds.{is_one_step_sync, heard_copy}
@@ -146,15 +146,7 @@ drawn_correction network (SyncOne node at) earlier d is =
 drawn_correction network (Request node at) earlier d is =
     let port = some_image (λ (port : PortSetup). delay_req port.config (of_count (number_of port (place (Request node at) earlier)))) (slave_at network node) is in
     ap (λ (m : Contents). m.header.correction.0) (sym port.2)
-drawn_correction network (Follow node) earlier d is = cc
-drawn_correction network (Enter node copy at) earlier d is = cc
-drawn_correction network (Leave node transit at) earlier d is = cc
-drawn_correction network (Arrive node copy at) earlier d is = cc
-drawn_correction network (Hear node copy) earlier d is = cc
-drawn_correction network (Stamped node) earlier d is = cc
-drawn_correction network (Tick node) earlier d is = cc
-drawn_correction network (SetMaster node master) earlier d is = cc
-drawn_correction network (StepClock node diff) earlier d is = cc
+drawn_correction network _ earlier d is = cc
 
 fits_so : (fraction residence : ℕ) → int_lt (with_residence (pos fraction) residence) too_big ≡ true → nat_lt (fraction + residence) (2 ^ 63 - 1) ≡ true
 fits_so fraction residence small = grind (arith, ints, nat_tests)

@@ -5,7 +5,7 @@ use Rattle.std.specs.List.{list_all}
 use Rattle.std.proofs.lemmas.Bool.{and_from, eq-eqb, le-ltb}
 use Rattle.std.proofs.lemmas.List.Sums.{sum_by-cons}
 use Rattle.network_model.specs.declared.event.Event.{Event}
-use Rattle.network_model.specs.declared.event.Event.TheVariants.{Sync, SyncOne, Follow, Enter, Leave, Arrive, Hear, Request, Stamped, Tick, SetMaster, StepClock}
+use Rattle.network_model.specs.declared.event.Event.TheVariants.{Sync, SyncOne, Leave, Request}
 use Rattle.network_model.specs.declared.stepped.Outcome.TheVariants as outcomes
 use Rattle.network_model.specs.Network.{Network}
 use Rattle.network_model.specs.Run.{Run, Place, place, place_at, tag_of, until, IsIn, true_moment}
@@ -66,14 +66,7 @@ spent_by network (Leave node transit at) earlier journey accepted is before =
     let head : IsSpent network (record { entered = from.0; left = place (Leave node transit at) earlier }) =
     record { spent = eq-eqb transit (tag_of from.0) (sym (tag_of-place_at earlier transit from.0 from.3)); is_made = outcome.1 ∙ ap Ok is_made } in
     subst (AreSpent network) (sym on.1) (head, before from.1 from.2 from.5)
-spent_by network (Follow node) earlier journey accepted is before = cc
-spent_by network (Enter node copy at) earlier journey accepted is before = cc
-spent_by network (Arrive node copy at) earlier journey accepted is before = cc
-spent_by network (Hear node copy) earlier journey accepted is before = cc
-spent_by network (Stamped node) earlier journey accepted is before = cc
-spent_by network (Tick node) earlier journey accepted is before = cc
-spent_by network (SetMaster node master) earlier journey accepted is before = cc
-spent_by network (StepClock node diff) earlier journey accepted is before = cc
+spent_by network _ earlier journey accepted is before = cc
 
 pub stays_spent : (network : Network) (run : Run) (tag : ℕ) (journey : made.Journey) → IsRun network run → made.journey_of run tag ≡ Some journey → AreSpent network journey.stays
 stays_spent network [] tag journey accepted is = cc

@@ -3,7 +3,7 @@ use Rattle.std.proofs.Common.{◌≡◌, ◌∙◌, ℕ, ◌<◌, Bool, true, fa
 use Rattle.std.specs.Prelude.{◌==◌, ◌&&◌, nat_lt}
 use Rattle.std.proofs.lemmas.Bool.{and_from, lt-ltb}
 use Rattle.network_model.specs.declared.event.Event.{Event}
-use Rattle.network_model.specs.declared.event.Event.TheVariants.{Sync, SyncOne, Follow, Enter, Leave, Arrive, Hear, Request, Stamped, Tick, SetMaster, StepClock}
+use Rattle.network_model.specs.declared.event.Event.TheVariants.{Sync, SyncOne, Enter, Leave, Request}
 use Rattle.network_model.specs.Network.{Network, NodeName, is_named}
 use Rattle.network_model.specs.Run.{Run, Place, place, site_of}
 use Rattle.network_model.specs.Kinds.{entered_copy}
@@ -38,17 +38,7 @@ certain_took network event earlier certain accepted =
 
 pub enter_certain : (event : Event) (copy : ℕ) → entered_copy event ≡ Some copy → is_certain event ≡ true
 enter_certain (Enter node c at) copy takes = refl
-enter_certain (Sync node at) copy takes = cc
-enter_certain (SyncOne node at) copy takes = cc
-enter_certain (Follow node) copy takes = cc
-enter_certain (Leave node transit at) copy takes = cc
-enter_certain (Arrive node c at) copy takes = cc
-enter_certain (Hear node c) copy takes = cc
-enter_certain (Request node at) copy takes = cc
-enter_certain (Stamped node) copy takes = cc
-enter_certain (Tick node) copy takes = cc
-enter_certain (SetMaster node master) copy takes = cc
-enter_certain (StepClock node diff) copy takes = cc
+enter_certain _ copy takes = cc
 
 -- the journey of the copy that a line made, which counts
 pub record HasMade (network : Network) (line : TraceLine) (lines : Lines) (journey : made.Journey) : Type 0 where
@@ -126,14 +116,7 @@ module _ (network : Network) (earlier : Run) (line : TraceLine) (lines : Lines) 
   made_told (SyncOne node at) journey tells is = begins (SyncOne node at) journey tells refl refl cc
   made_told (Request node at) journey tells is = begins (Request node at) journey tells refl refl cc
   made_told (Leave node transit at) journey tells is = goes node transit at journey tells is
-  made_told (Follow node) journey tells is = cc
-  made_told (Enter node copy at) journey tells is = cc
-  made_told (Arrive node copy at) journey tells is = cc
-  made_told (Hear node copy) journey tells is = cc
-  made_told (Stamped node) journey tells is = cc
-  made_told (Tick node) journey tells is = cc
-  made_told (SetMaster node master) journey tells is = cc
-  made_told (StepClock node diff) journey tells is = cc
+  made_told _ journey tells is = cc
 
 pub each_journey_is_told : EachJourneyIsTold
 each_journey_is_told network [] lines tag journey told is = cc

@@ -9,7 +9,7 @@ use Rattle.master_port.specs.Written.{sync, one_step_sync}
 use Rattle.slave_port.specs.Written.{delay_req}
 use Rattle.transparent_clock.specs.Forwarding.{resided}
 use Rattle.network_model.specs.declared.event.Event.{Event}
-use Rattle.network_model.specs.declared.event.Event.TheVariants.{Sync, SyncOne, Follow, Enter, Leave, Arrive, Hear, Request, Stamped, Tick, SetMaster, StepClock}
+use Rattle.network_model.specs.declared.event.Event.TheVariants.{Sync, SyncOne, Request}
 use Rattle.network_model.specs.declared.stepped.Outcome.{Outcome}
 use Rattle.network_model.specs.declared.stepped.Outcome.TheVariants as outcomes
 use Rattle.network_model.specs.Network.{Network, PortSetup, master_port, slave_port}
@@ -90,15 +90,7 @@ sent_told network event earlier e accepted tells =
     by (Request node at) same =
         of (λ (port : PortSetup) (n : ℕ). delay_req port.config n) (slave_at network node)
         ∙ ap (λ (v : Event). option_map (λ (port : PortSetup). delay_req port.config (of_count (number_of port (place v earlier)))) (slave_at network node)) same
-    by (Follow node) same = refl
-    by (Enter node copy at) same = refl
-    by (Leave node transit at) same = refl
-    by (Arrive node copy at) same = refl
-    by (Hear node copy) same = refl
-    by (Stamped node) same = refl
-    by (Tick node) same = refl
-    by (SetMaster node master) same = refl
-    by (StepClock node diff) same = refl
+    by _ same = refl
 
 -- the message at the end of a journey
 pub travelled_told : (network : Network) (run : Run) (tag : ℕ) (journey : made.Journey) (lines : lined.Journey) → IsRun network run → made.journey_of run tag ≡ Some journey
@@ -133,30 +125,14 @@ drawn_parts network (Request node at) earlier outcome draws is =
       _,
       ap (option_map (λ (port : PortSetup). delay_req port.config (of_count (number_of port (place (Request node at) earlier))))) (node_is slave_port network node {x = port.0} port.1),
     )
-drawn_parts network (Follow node) earlier outcome draws is = cc
-drawn_parts network (Enter node copy at) earlier outcome draws is = cc
-drawn_parts network (Leave node transit at) earlier outcome draws is = cc
-drawn_parts network (Arrive node copy at) earlier outcome draws is = cc
-drawn_parts network (Hear node copy) earlier outcome draws is = cc
-drawn_parts network (Stamped node) earlier outcome draws is = cc
-drawn_parts network (Tick node) earlier outcome draws is = cc
-drawn_parts network (SetMaster node master) earlier outcome draws is = cc
-drawn_parts network (StepClock node diff) earlier outcome draws is = cc
+drawn_parts network _ earlier outcome draws is = cc
 
 drawn_made : (network : Network) (event : Event) (earlier : Run) (copies : ℕ → Option Contents) (e : LinePlace) → (draws_sync event || is_request event) ≡ true
     → (copy_made network event earlier copies ≡ drawn network event earlier) × (message_made network event e ≡ sent network e)
 drawn_made network (Sync node at) earlier copies e draws = (refl, refl)
 drawn_made network (SyncOne node at) earlier copies e draws = (refl, refl)
 drawn_made network (Request node at) earlier copies e draws = (refl, refl)
-drawn_made network (Follow node) earlier copies e draws = cc
-drawn_made network (Enter node copy at) earlier copies e draws = cc
-drawn_made network (Leave node transit at) earlier copies e draws = cc
-drawn_made network (Arrive node copy at) earlier copies e draws = cc
-drawn_made network (Hear node copy) earlier copies e draws = cc
-drawn_made network (Stamped node) earlier copies e draws = cc
-drawn_made network (Tick node) earlier copies e draws = cc
-drawn_made network (SetMaster node master) earlier copies e draws = cc
-drawn_made network (StepClock node diff) earlier copies e draws = cc
+drawn_made network _ earlier copies e draws = cc
 
 -- a Sync, a one-step Sync or a Delay_Req that was sent
 pub drawn_written : (network : Network) (p : Place) (e : LinePlace) → IsRun network (until p) → TellsPlace network p e → (draws_sync p.event || is_request p.event) ≡ true
