@@ -1,5 +1,5 @@
 -- A report of a run can be written: readings are moments, and residences are below 2^63.
-use Rattle.std.proofs.Common.{◌≡◌, ◌∙◌, ℕ, ℤ, pos, negsuc, ◌^◌, ◌<◌, ◌-ℤ◌, Bool, true, false, nat_lt, int_lt, Option, Some, None, IfSome, refl, sym, ap, arith, option_map, option_and_then, if◌then◌else◌}
+use Rattle.std.proofs.Common.{◌≡◌, ◌∙◌, ℕ, ℤ, pos, negsuc, ◌^◌, ◌<◌, ◌-ℤ◌, Bool, true, false, nat_lt, int_lt, Option, Some, None, IfSome, refl, sym, ap, arith, option_and_then, if◌then◌else◌}
 use Rattle.std.specs.Prelude.{is_some, unwrap_or}
 use Rattle.std.proofs.lemmas.Bool.Decides.{nat_tests}
 use Rattle.std.proofs.lemmas.Int.{ints}
@@ -14,7 +14,7 @@ use Rattle.slave_port.specs.declared.heard.Report.{Report}
 use Rattle.slave_port.proofs.Options.{mapped, some_image}
 use Rattle.transparent_clock.specs.Forwarding.{resided}
 use Rattle.network_model.specs.declared.event.Event.{Event}
-use Rattle.network_model.specs.declared.event.Event.TheVariants.{Sync, SyncOne, Follow, Enter, Leave, Arrive, Hear, Request, Stamped, Tick, SetMaster, StepClock}
+use Rattle.network_model.specs.declared.event.Event.TheVariants.{Sync, SyncOne, Request}
 use Rattle.network_model.specs.Network.{Network, PortSetup}
 use Rattle.network_model.specs.Run.{Run, Place, place, until, site_of, IsIn, true_moment}
 use Rattle.network_model.specs.Kinds.{draws_sync, is_request}
@@ -70,15 +70,7 @@ zero_drawn network (SyncOne node at) earlier =
     (λ port. (fraction_of (reading (place (SyncOne node at) earlier)), refl))
 zero_drawn network (Request node at) earlier =
     mapped IsAtLeastZero (λ (port : PortSetup). delay_req port.config (of_count (number_of port (place (Request node at) earlier)))) (slave_at network node) (λ port. (0, refl))
-zero_drawn network (Follow node) earlier = tt
-zero_drawn network (Enter node copy at) earlier = tt
-zero_drawn network (Leave node transit at) earlier = tt
-zero_drawn network (Arrive node copy at) earlier = tt
-zero_drawn network (Hear node copy) earlier = tt
-zero_drawn network (Stamped node) earlier = tt
-zero_drawn network (Tick node) earlier = tt
-zero_drawn network (SetMaster node master) earlier = tt
-zero_drawn network (StepClock node diff) earlier = tt
+zero_drawn network _ earlier = tt
 
 of_some : (o : Option Contents) (m : Contents) → o ≡ Some m → IfSome o IsAtLeastZero → IsAtLeastZero m
 of_some None m is h = cc
