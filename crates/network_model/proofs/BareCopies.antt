@@ -15,8 +15,7 @@ use Rattle.master_port.specs.Written.{sync, one_step_sync, delay_resp, answer_to
 use Rattle.slave_port.specs.Written.{delay_req}
 use Rattle.transparent_clock.specs.Forwarding.{resided}
 use Rattle.network_model.specs.declared.event.Event.{Event}
-use Rattle.network_model.specs.declared.event.Event.TheVariants.{Sync, SyncOne, Follow, Enter, Leave, Arrive, Hear}
-use Rattle.network_model.specs.declared.event.Event.TheVariants.{Request, Stamped, Tick, SetMaster, StepClock}
+use Rattle.network_model.specs.declared.event.Event.TheVariants.{Sync, SyncOne, Follow, Leave, Arrive, Request}
 use Rattle.network_model.specs.Network.{Network, PortSetup}
 use Rattle.network_model.specs.Run.{Run, place}
 use Rattle.network_model.specs.Clock.{reading}
@@ -46,15 +45,7 @@ plain_drawn network (SyncOne node at) earlier =
     (λ port. (refl, (fraction_of (reading (place (SyncOne node at) earlier)), refl)))
 plain_drawn network (Request node at) earlier =
     each_mapped IsPlain (λ (port : PortSetup). delay_req port.config (of_count (number_of port (place (Request node at) earlier)))) (slave_at network node) (λ port. (refl, (0, refl)))
-plain_drawn network (Follow node) earlier = tt
-plain_drawn network (Enter node copy at) earlier = tt
-plain_drawn network (Leave node transit at) earlier = tt
-plain_drawn network (Arrive node copy at) earlier = tt
-plain_drawn network (Hear node copy) earlier = tt
-plain_drawn network (Stamped node) earlier = tt
-plain_drawn network (Tick node) earlier = tt
-plain_drawn network (SetMaster node master) earlier = tt
-plain_drawn network (StepClock node diff) earlier = tt
+plain_drawn network _ earlier = tt
 
 bare_drawn : (network : Network) (event : Event) (earlier : Run) → IfSome (drawn network event earlier) IsBare
 bare_drawn network event earlier = IfSome_then (drawn network event earlier) (plain_drawn network event earlier) (λ m plain. plain.0)
@@ -85,19 +76,14 @@ bare_made network (SyncOne node at) earlier copies = bare_drawn network (SyncOne
 bare_made network (Follow node) earlier copies =
     and_then IsBare (λ (port : PortSetup). option_map (followed port) (waiting_sync node earlier)) (master_at network node)
     (λ port. each_mapped IsBare (followed port) (waiting_sync node earlier) (λ waiting. refl))
-bare_made network (Enter node copy at) earlier copies = tt
 bare_made network (Leave node transit at) earlier copies =
     and_then IsBare (travelled network) (journey_made (Leave node transit at) earlier (journey_of earlier)) (bare_travelled network)
 bare_made network (Arrive node copy at) earlier copies =
     let now = reading (place (Arrive node copy at) earlier) in
     and_then IsBare (λ (port : PortSetup). option_and_then (responded port now) (copies copy)) (master_at network node)
     (λ port. and_then IsBare (responded port now) (copies copy) (λ m. bare_answer port.config m.body m.header now))
-bare_made network (Hear node copy) earlier copies = tt
 bare_made network (Request node at) earlier copies = bare_drawn network (Request node at) earlier
-bare_made network (Stamped node) earlier copies = tt
-bare_made network (Tick node) earlier copies = tt
-bare_made network (SetMaster node master) earlier copies = tt
-bare_made network (StepClock node diff) earlier copies = tt
+bare_made network _ earlier copies = tt
 
 -- each copy of a run is without suffix
 pub bare_copy : (network : Network) (run : Run) (tag : ℕ) → IfSome (copy_of network run tag) IsBare

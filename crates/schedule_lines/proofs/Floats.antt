@@ -12,7 +12,7 @@ use Rattle.network_model.specs.Kinds.{named_master, step_of, spent_transit, name
 use Rattle.trace_model.specs.declared.line.TraceLine.{TraceLine}
 use Rattle.schedule_lines.proofs.Keys.{Field, members_of, line_fields}
 use Rattle.schedule_lines.specs.Written.{whole, moment_data, difference_data, octets_data, follow_data, tags_data}
-use Rattle.schedule_lines.specs.Written.{with_some, named_copy, made_octets, out_code, out_report, event_data}
+use Rattle.schedule_lines.specs.Written.{with_some, made_octets, out_code, out_report, event_data}
 
 chosen : (o : Ordering) (a b c : Members) → members_have_float a ≡ false → members_have_float b ≡ false → members_have_float c ≡ false
     → members_have_float (match_ordering o a b c) ≡ false

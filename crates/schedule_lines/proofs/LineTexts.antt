@@ -18,8 +18,7 @@ use Rattle.network_model.specs.Name.{IsName, is_name_octet}
 use Rattle.network_model.specs.Run.{true_moment}
 use Rattle.network_model.specs.Kinds.{named_master, step_of, spent_transit, named_copy}
 use Rattle.network_model.specs.declared.event.Event.{Event}
-use Rattle.network_model.specs.declared.event.Event.TheVariants.{Sync, SyncOne, Follow, Enter, Leave, Arrive, Hear}
-use Rattle.network_model.specs.declared.event.Event.TheVariants.{Request, Stamped, Tick, SetMaster, StepClock}
+use Rattle.network_model.specs.declared.event.Event.TheVariants.{StepClock}
 use Rattle.network_model.specs.declared.node.NodeKind.{NodeKind}
 use Rattle.network_model.specs.declared.node.NodeSpec.{NodeSpec}
 use Rattle.trace_model.specs.declared.line.TraceLine.{TraceLine}
@@ -28,7 +27,7 @@ use Rattle.schedule_lines.proofs.Keys.{Field, members_of, line_fields}
 use Rattle.schedule_lines.specs.Line.{one_if}
 use Rattle.schedule_lines.proofs.Lookup.{count, members_len-members_of}
 use Rattle.schedule_lines.specs.Written.{whole, moment_data, difference_data, octets_data, port_data, kind_data}
-use Rattle.schedule_lines.specs.Written.{node_data, named_copy, event_text, out_text, made_octets, out_code}
+use Rattle.schedule_lines.specs.Written.{node_data, event_text, out_text, made_octets, out_code}
 use Rattle.schedule_lines.specs.Written.{out_report, follow_data, tags_data, event_data}
 use Rattle.schedule_lines.specs.Ranges.{IsShort, IsOut, IsConfig, IsKind, IsNode, IsTag, HasTags, IsTagged}
 use Rattle.schedule_lines.specs.Ranges.{IsRecorded}
@@ -95,18 +94,8 @@ fits_word : (text : List ℕ) → nat_lt (length text) 13 ≡ true → list_all 
 fits_word text few shown = record { short = grind (arith, nat_tests, few); shown = shown }
 
 fits_event : (event : Event) → Fits 12 (event_text event)
-fits_event (Sync node at) = fits_word _ refl refl
-fits_event (SyncOne node at) = fits_word _ refl refl
-fits_event (Follow node) = fits_word _ refl refl
-fits_event (Enter node copy at) = fits_word _ refl refl
-fits_event (Leave node transit at) = fits_word _ refl refl
-fits_event (Arrive node copy at) = fits_word _ refl refl
-fits_event (Hear node copy) = fits_word _ refl refl
-fits_event (Request node at) = fits_word _ refl refl
-fits_event (Stamped node) = fits_word _ refl refl
-fits_event (Tick node) = fits_word _ refl refl
-fits_event (SetMaster node master) = fits_word _ refl refl
 fits_event (StepClock node diff) = fits_word _ refl refl
+fits_event _ = fits_word _ refl refl
 
 fits_out : (out : TraceOut) → Fits 12 (out_text out)
 fits_out outs.Done = fits_word _ refl refl

@@ -17,7 +17,7 @@ use Rattle.schedule_lines.specs.Json.{has_keys, field, whole_in, whole_below, mo
 use Rattle.schedule_lines.specs.Json.{signed_octet_in, octets_in, difference_in}
 use Rattle.schedule_lines.specs.Line.{kind_of, event_at, event_in, event_keys, scheduled_in, at_in, config_in}
 use Rattle.schedule_lines.specs.Line.{first_in, port_in, node_kind, node_spec_in}
-use Rattle.schedule_lines.specs.Traced.{trace_line_in}
+use Rattle.schedule_lines.specs.TranscriptLine.{trace_line_in}
 use Rattle.schedule_lines.specs.Keys.{HaveSameKeys, line_data, transcript_line_data, LinesHaveOwnKeys}
 use Rattle.schedule_lines.specs.Keys.{TranscriptLinesHaveOwnKeys}
 use Rattle.schedule_lines.proofs.Keys.{Field, event_fields, answer_fields, line_fields}
@@ -28,8 +28,8 @@ use Rattle.schedule_lines.specs.declared.reading.kind.EventKind.TheVariants.{Syn
 use Rattle.schedule_lines.specs.declared.reading.kind.EventKind.TheVariants.{Arrive, Hear, Request, Stamped, Tick}
 use Rattle.schedule_lines.specs.declared.reading.kind.EventKind.TheVariants.{SetMaster, StepClock}
 use Rattle.schedule_lines.specs.declared.reading.transcript.TranscriptLine.{TranscriptLine}
-use Rattle.schedule_lines.specs.TranscriptLine.{report_of, report_in, out_of, reading_in, recorded_in, line_keys}
-use Rattle.schedule_lines.specs.Written.{node_data, kind_data, port_data, scheduled_data, named_copy, made_octets}
+use Rattle.schedule_lines.specs.TranscriptLine.{report_of, report_in, out_of, reading_in, trace_line_in, line_keys}
+use Rattle.schedule_lines.specs.Written.{node_data, kind_data, port_data, scheduled_data, made_octets}
 use Rattle.schedule_lines.specs.Written.{out_code, out_report}
 use Rattle.network_model.proofs.Options.{mapped, weaker, then_also, either}
 use Rattle.schedule_lines.proofs.ReadBack.{event_count, line_count}

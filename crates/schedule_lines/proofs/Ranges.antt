@@ -28,7 +28,7 @@ use Rattle.schedule_lines.specs.Json.{has_items, is_name, name_in, octets_in, cl
 use Rattle.schedule_lines.specs.Json.{difference_of, difference_in}
 use Rattle.schedule_lines.specs.Line.{event_at, event_in, event_keys, scheduled_in, node_in, at_in, copy_in, kind_of}
 use Rattle.schedule_lines.specs.Line.{config_in, first_in, port_in, node_kind, node_spec_in, line_of}
-use Rattle.schedule_lines.specs.Traced.{trace_line_in}
+use Rattle.schedule_lines.specs.TranscriptLine.{trace_line_in}
 use Rattle.schedule_lines.proofs.Digits.{own}
 use Rattle.schedule_lines.proofs.Names.{IsName-from_test}
 use Rattle.schedule_lines.specs.declared.reading.kind.EventKind.{EventKind}
@@ -36,7 +36,7 @@ use Rattle.schedule_lines.specs.declared.reading.kind.EventKind.TheVariants.{Syn
 use Rattle.schedule_lines.specs.declared.reading.kind.EventKind.TheVariants.{Arrive, Hear, Request, Stamped, Tick}
 use Rattle.schedule_lines.specs.declared.reading.kind.EventKind.TheVariants.{SetMaster, StepClock}
 use Rattle.schedule_lines.specs.TranscriptLine.{follow_in, report_of, report_in, code_in, out_of, reading_in}
-use Rattle.schedule_lines.specs.TranscriptLine.{recorded_in, line_keys, traced_in, transcript_line_of}
+use Rattle.schedule_lines.specs.TranscriptLine.{trace_line_in, line_keys, traced_in, transcript_line_of}
 use Rattle.schedule_lines.specs.Ranges.{IsShort, IsEvent, IsOut, IsRecorded, IsConfig, IsKind, IsNode, IsLine}
 use Rattle.schedule_lines.specs.Ranges.{IsTranscriptLine, ReadsInRange}
 use Rattle.network_model.proofs.Options.{and_then, mapped, weaker, then_also, either}

@@ -8,8 +8,7 @@ use Rattle.slave_port.proofs.Options.{some_step}
 use Rattle.slave_port.specs.declared.heard.Heard.{Heard}
 use Rattle.slave_port.specs.declared.heard.Report.{Report}
 use Rattle.network_model.specs.declared.event.Event.{Event}
-use Rattle.network_model.specs.declared.event.Event.TheVariants.{Sync, SyncOne, Follow, Enter, Leave, Arrive, Hear}
-use Rattle.network_model.specs.declared.event.Event.TheVariants.{Request, Stamped, Tick, SetMaster, StepClock}
+use Rattle.network_model.specs.declared.event.Event.TheVariants.{Enter, Leave, Arrive, Hear}
 use Rattle.network_model.specs.declared.stepped.Outcome.{Outcome}
 use Rattle.network_model.specs.declared.refusal.WorldRefusal.{WorldRefusal}
 use Rattle.network_model.specs.declared.refusal.WorldRefusal.TheVariants.{NoCopy, NoTransit}
@@ -29,7 +28,7 @@ use Rattle.network_model.proofs.Places.{place_at-bound}
 use Rattle.trace_model.specs.declared.line.TraceLine.{TraceLine}
 use Rattle.trace_model.specs.declared.line.TraceOut.{TraceOut}
 use Rattle.trace_model.specs.Told.{TellsMade, TellsOutcome, TellsEvent, heard_out}
-use Rattle.schedule_lines.specs.Written.{named_copy, out_report}
+use Rattle.schedule_lines.specs.Written.{out_report}
 use Rattle.schedule_lines.specs.Ranges.{IsTag, HasTags, IsTagged}
 use Rattle.slave_port.specs.declared.heard.Heard.TheVariants as answers
 use Rattle.network_model.specs.declared.stepped.Outcome.TheVariants as outcomes
@@ -51,14 +50,10 @@ copy_below network run copy m is = by (nat_lt copy (length run)) refl
         absurd cc
 
 copy_named : (network : Network) (event : Event) (earlier : Run) → IsOk (outcome_of network earlier event) → IfSome (named_copy event) (λ copy. copy < length earlier)
-copy_named network (Sync node at) earlier accepted = tt
-copy_named network (SyncOne node at) earlier accepted = tt
-copy_named network (Follow node) earlier accepted = tt
 copy_named network (Enter node copy at) earlier accepted =
     under (node_as clock_of network node) _ (copy < length earlier) accepted
     (λ clock _ rest. under (ok_or (copy_of network earlier copy) NoCopy) _ (copy < length earlier) rest
     (λ m is _. copy_below network earlier copy m (ok_some (copy_of network earlier copy) NoCopy is)))
-copy_named network (Leave node transit at) earlier accepted = tt
 copy_named network (Arrive node copy at) earlier accepted =
     under (node_as port_of network node) _ (copy < length earlier) accepted
     (λ kind _ rest. under (ok_or (copy_of network earlier copy) NoCopy) _ (copy < length earlier) rest
@@ -67,17 +62,9 @@ copy_named network (Hear node copy) earlier accepted =
     under (node_as slave_port network node) _ (copy < length earlier) accepted
     (λ port _ rest. under (ok_or (copy_of network earlier copy) NoCopy) _ (copy < length earlier) rest
     (λ m is _. copy_below network earlier copy m (ok_some (copy_of network earlier copy) NoCopy is)))
-copy_named network (Request node at) earlier accepted = tt
-copy_named network (Stamped node) earlier accepted = tt
-copy_named network (Tick node) earlier accepted = tt
-copy_named network (SetMaster node master) earlier accepted = tt
-copy_named network (StepClock node diff) earlier accepted = tt
+copy_named network _ earlier accepted = tt
 
 transit_named : (network : Network) (event : Event) (earlier : Run) → IsOk (outcome_of network earlier event) → IfSome (spent_transit event) (λ transit. transit < length earlier)
-transit_named network (Sync node at) earlier accepted = tt
-transit_named network (SyncOne node at) earlier accepted = tt
-transit_named network (Follow node) earlier accepted = tt
-transit_named network (Enter node copy at) earlier accepted = tt
 transit_named network (Leave node transit at) earlier accepted =
     let found = option_and_then (open_transit node earlier transit) (place_at earlier transit) in
     under (node_as clock_of network node) _ (transit < length earlier) accepted
@@ -85,13 +72,7 @@ transit_named network (Leave node transit at) earlier accepted =
     (λ entered is _.
     let there = some_step (open_transit node earlier transit) (place_at earlier transit) (ok_some found NoTransit is) in
     place_at-bound earlier transit there.0 there.1))
-transit_named network (Arrive node copy at) earlier accepted = tt
-transit_named network (Hear node copy) earlier accepted = tt
-transit_named network (Request node at) earlier accepted = tt
-transit_named network (Stamped node) earlier accepted = tt
-transit_named network (Tick node) earlier accepted = tt
-transit_named network (SetMaster node master) earlier accepted = tt
-transit_named network (StepClock node diff) earlier accepted = tt
+transit_named network _ earlier accepted = tt
 
 -- tags below a number of 64 bits are tags
 below_tag : (o : Option ℕ) (n : ℕ) → n < 2 ^ 64 → IfSome o (λ tag. tag < n) → IfSome o IsTag

@@ -22,7 +22,7 @@ use Rattle.trace_model.specs.Told.{TellsEvent}
 use Rattle.schedule_lines.specs.declared.reading.schedule.Line.{Line}
 use Rattle.schedule_lines.specs.declared.reading.transcript.TranscriptLine.{TranscriptLine}
 use Rattle.schedule_lines.specs.TranscriptLine.{transcript_line_of}
-use Rattle.schedule_lines.specs.Written.{named_copy, out_report, node_data, scheduled_data, event_data}
+use Rattle.schedule_lines.specs.Written.{out_report, node_data, scheduled_data, event_data}
 use Rattle.network_model.specs.declared.node.NodeKind.TheVariants as kinds
 use Rattle.trace_model.specs.declared.line.TraceOut.TheVariants as outs
 use Rattle.schedule_lines.specs.declared.reading.schedule.Line.TheVariants as schedules

@@ -2,7 +2,8 @@
 ghost use Rattle.std.specs.Prelude.{◌≡◌, false, IfOk, OnOk, Some, string_bytes};
 ghost use Rattle.serde_json.specs.Written.{has_float};
 ghost use Rattle.serde_json.specs.View.{view, members_view};
-ghost use Rattle.schedule_lines.specs.Written.{node_data, port_data, event_data, line_text, event_text, named_copy};
+ghost use Rattle.network_model.specs.Kinds.{named_copy};
+ghost use Rattle.schedule_lines.specs.Written.{node_data, port_data, event_data, line_text, event_text};
 ghost use Rattle.schedule_lines.specs.Written.{out_text, out_code, follow_data, tags_data, with_event, with_answer};
 ghost use Rattle.schedule_lines.specs.Written.{with_report};
 

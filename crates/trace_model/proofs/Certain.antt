@@ -96,10 +96,7 @@ certain_takes network earlier (StepClock node diff) outcome certain is =
     let kind = ok_step (ok_or (kind_of network node) NoNode)
     (λ kind. if nat_lt (unsigned_abs diff) bound then Ok outcomes.Done else Err ReadingOutOfRange) is in
     step_ends (nat_lt (unsigned_abs diff) bound) outcome kind.2
-certain_takes network earlier (Leave node transit at) outcome certain is = cc
-certain_takes network earlier (Arrive node copy at) outcome certain is = cc
-certain_takes network earlier (Hear node copy) outcome certain is = cc
-certain_takes network earlier (Stamped node) outcome certain is = cc
+certain_takes network earlier _ outcome certain is = cc
 
 -- each of these kinds is of them
 pub sync_certain : (event : Event) → is_sync event ≡ true → is_certain event ≡ true

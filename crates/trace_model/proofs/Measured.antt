@@ -1,7 +1,7 @@
 -- The journeys of a report's messages, by lines: each can be followed, its readings are right, its residence
 -- fits, and the bracket over it is the one of the run.
-use Rattle.std.proofs.Common.{◌≡◌, ◌∙◌, ℕ, ℤ, pos, ◌+◌, ◌-◌, ◌^◌, ◌<◌, ◌-ℤ◌, Bool, true, Option, Some}
-use Rattle.std.proofs.Common.{int_lt, sym, ap, subst, arith, option_and_then, if◌then◌else◌}
+use Rattle.std.proofs.Common.{◌≡◌, ◌∙◌, ℕ, ℤ, pos, ◌+◌, ◌-◌, ◌^◌, ◌<◌, ◌-ℤ◌, Bool, true, Option, Some, int_lt, sym}
+use Rattle.std.proofs.Common.{ap, subst, arith, option_and_then, if◌then◌else◌}
 use Rattle.std.specs.Prelude.{◌&&◌, is_some, nat_lt}
 use Rattle.std.specs.List.{list_all}
 use Rattle.std.proofs.lemmas.Bool.Decides.{nat_tests}
@@ -15,14 +15,11 @@ use Rattle.slave_port.specs.Written.{delay_req}
 use Rattle.slave_port.proofs.Options.{some_step, some_image}
 use Rattle.transparent_clock.specs.Forwarding.{resided}
 use Rattle.network_model.specs.declared.event.Event.{Event}
-use Rattle.network_model.specs.declared.event.Event.TheVariants.{Sync, SyncOne, Follow, Enter, Leave, Arrive, Hear}
-use Rattle.network_model.specs.declared.event.Event.TheVariants.{Request, Stamped, Tick, SetMaster, StepClock}
+use Rattle.network_model.specs.declared.event.Event.TheVariants.{Sync, SyncOne, Request}
 use Rattle.network_model.specs.Network.{Network, PortSetup}
 use Rattle.network_model.specs.Run.{Run, Place, place, place_at, tag_of, until, IsIn, true_moment}
 use Rattle.network_model.specs.Kinds.{is_one_step_sync, heard_copy}
-use Rattle.network_model.specs.Clock as clocks
 use Rattle.network_model.specs.Numbering.{number_of}
-use Rattle.network_model.specs.Journey as made
 use Rattle.network_model.specs.Truth.{drawn, master_at, slave_at}
 use Rattle.network_model.specs.Outcome.{IsRun}
 use Rattle.network_model.specs.Exact.{IsBracketOf}
@@ -33,15 +30,17 @@ use Rattle.network_model.proofs.Journeys.{IsIn-last, IsIn-origin}
 use Rattle.network_model.proofs.Readings.{shown_reading}
 use Rattle.network_model.proofs.Ways.{stays_are}
 use Rattle.trace_model.specs.Record.{LinePlace, event_of, line_number, events, reading, reads_right}
-use Rattle.trace_model.specs.Journey as lined
-use Rattle.trace_model.specs.Sound.{where_passes, below, lines_to, unbroken, stay_reads_right}
-use Rattle.trace_model.specs.Sound.{journey_reads_right, fraction_sent, fits, bracket}
+use Rattle.trace_model.specs.Sound.{where_passes, below, lines_to, unbroken, stay_reads_right, journey_reads_right}
+use Rattle.trace_model.specs.Sound.{fraction_sent, fits, bracket}
 use Rattle.trace_model.specs.Told.{TellsRun}
 use Rattle.trace_model.specs.Faithful.{TellsPlace, TellsJourney}
 use Rattle.trace_model.proofs.Found.{same_event, same_number}
 use Rattle.trace_model.proofs.Travelled.{accepted_told, each_journey_is_told}
 use Rattle.trace_model.proofs.Stays.{reading_told, stays_told, stays_spent, stays_once}
 use Rattle.trace_model.proofs.Exchanges.{passes, found_below}
+use Rattle.network_model.specs.Clock as clocks
+use Rattle.network_model.specs.Journey as made
+use Rattle.trace_model.specs.Journey as lined
 
 -- what came before an event that isn't later than another one came before that one
 pub before_it : (answered p : Place) → IsIn (until answered) p → tag_of p < tag_of answered → IsIn answered.earlier p
@@ -180,15 +179,7 @@ drawn_correction network (Request node at) earlier d is =
     let port = some_image (λ (port : PortSetup). delay_req port.config
     (of_count (number_of port (place (Request node at) earlier)))) (slave_at network node) is in
     ap (λ (m : Contents). m.header.correction.0) (sym port.2)
-drawn_correction network (Follow node) earlier d is = cc
-drawn_correction network (Enter node copy at) earlier d is = cc
-drawn_correction network (Leave node transit at) earlier d is = cc
-drawn_correction network (Arrive node copy at) earlier d is = cc
-drawn_correction network (Hear node copy) earlier d is = cc
-drawn_correction network (Stamped node) earlier d is = cc
-drawn_correction network (Tick node) earlier d is = cc
-drawn_correction network (SetMaster node master) earlier d is = cc
-drawn_correction network (StepClock node diff) earlier d is = cc
+drawn_correction network _ earlier d is = cc
 
 fits_so : (fraction residence : ℕ) → int_lt (with_residence (pos fraction) residence) too_big ≡ true
     → nat_lt (fraction + residence) (2 ^ 63 - 1) ≡ true

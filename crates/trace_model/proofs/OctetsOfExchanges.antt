@@ -10,8 +10,7 @@ use Rattle.event_codec.specs.Packet.{Contents}
 use Rattle.slave_port.specs.declared.heard.Report.{Report}
 use Rattle.slave_port.proofs.Options.{some_step, some_image}
 use Rattle.network_model.specs.declared.event.Event.{Event}
-use Rattle.network_model.specs.declared.event.Event.TheVariants.{Sync, SyncOne, Follow, Enter, Leave, Arrive, Hear}
-use Rattle.network_model.specs.declared.event.Event.TheVariants.{Request, Stamped, Tick, SetMaster, StepClock}
+use Rattle.network_model.specs.declared.event.Event.TheVariants.{Sync, SyncOne, Follow, Leave, Request}
 use Rattle.network_model.specs.declared.stepped.Outcome.{Outcome}
 use Rattle.network_model.specs.Network.{Network, NodeName}
 use Rattle.network_model.specs.Run.{Run, Place, place, until}
@@ -104,16 +103,8 @@ message_there network event line same counted journey e journeys made = by event
     by (Request node at) same is =
         (and_parts (is_slave network node) (is_made line.out) (good (Request node at) same)).1
     by (Leave node transit at) same is =
-        not_refused (is_clock network node) (is_made line.out) (is_refused line.out)
-        (good (Leave node transit at) same) (unrefused (is_refused line.out) (is_ignored line.out) parts.1)
-    by (Follow node) same is = cc
-    by (Enter node copy at) same is = cc
-    by (Arrive node copy at) same is = cc
-    by (Hear node copy) same is = cc
-    by (Stamped node) same is = cc
-    by (Tick node) same is = cc
-    by (SetMaster node master) same is = cc
-    by (StepClock node diff) same is = cc
+        not_refused (is_clock network node) (is_made line.out) (is_refused line.out) (good (Leave node transit at) same) (unrefused (is_refused line.out) (is_ignored line.out) parts.1)
+    by _ same is = cc
 
 -- a journey goes on with right octets
 goes_right : (network : Network) (event : Event) (e : LinePlace) (journeys : ℕ → Option Journey) (journey : Journey)
@@ -138,18 +129,9 @@ goes_right network (Leave node transit at) e journeys journey made right before 
     let parts = and_parts (writes_right network prior.0.origin)
     (list_all (λ (stay : Stay). writes_right network stay.left) prior.0.stays) (before copy.0 prior.0 prior.1) in
     subst (λ (j : Journey). journey_writes_right network j ≡ true) prior.2
-    (and_from (writes_right network prior.0.origin)
-    (writes_right network e && list_all (λ (stay : Stay). writes_right network stay.left) prior.0.stays) parts.0
-    (and_from (writes_right network e)
-    (list_all (λ (stay : Stay). writes_right network stay.left) prior.0.stays) right parts.1))
-goes_right network (Follow node) e journeys journey made right before = cc
-goes_right network (Enter node copy at) e journeys journey made right before = cc
-goes_right network (Arrive node copy at) e journeys journey made right before = cc
-goes_right network (Hear node copy) e journeys journey made right before = cc
-goes_right network (Stamped node) e journeys journey made right before = cc
-goes_right network (Tick node) e journeys journey made right before = cc
-goes_right network (SetMaster node master) e journeys journey made right before = cc
-goes_right network (StepClock node diff) e journeys journey made right before = cc
+    (and_from (writes_right network prior.0.origin) (writes_right network e && list_all (λ (stay : Stay). writes_right network stay.left) prior.0.stays) parts.0
+    (and_from (writes_right network e) (list_all (λ (stay : Stay). writes_right network stay.left) prior.0.stays) right parts.1))
+goes_right network _ e journeys journey made right before = cc
 
 journey_right : (network : Network) (run : Run) (lines : Lines) (number : ℕ) (journey : Journey)
     → TellsRun network run lines → journey_of network lines number ≡ Some journey
@@ -205,21 +187,9 @@ line_told network (event ∷ earlier) (line ∷ lines) number e told is =
 follow_there : (network : Network) (event : Event) (line : TraceLine) → line.event ≡ event
     → counts network line ≡ true → is_follow event ≡ true → is_made line.out ≡ true
 follow_there network (Follow node) line same counted is =
-    let good = (and_parts (is_good network line.event line.out)
-    (not (is_refused line.out || is_ignored line.out)) counted).0 in
-    (and_parts (is_master network node) (is_made line.out)
-    (subst (λ (v : Event). is_good network v line.out ≡ true) same good)).1
-follow_there network (Sync node at) line same counted is = cc
-follow_there network (SyncOne node at) line same counted is = cc
-follow_there network (Enter node copy at) line same counted is = cc
-follow_there network (Leave node transit at) line same counted is = cc
-follow_there network (Arrive node copy at) line same counted is = cc
-follow_there network (Hear node copy) line same counted is = cc
-follow_there network (Request node at) line same counted is = cc
-follow_there network (Stamped node) line same counted is = cc
-follow_there network (Tick node) line same counted is = cc
-follow_there network (SetMaster node master) line same counted is = cc
-follow_there network (StepClock node diff) line same counted is = cc
+    let good = (and_parts (is_good network line.event line.out) (not (is_refused line.out || is_ignored line.out)) counted).0 in
+    (and_parts (is_master network node) (is_made line.out) (subst (λ (v : Event). is_good network v line.out ≡ true) same good)).1
+follow_there network _ line same counted is = cc
 
 module _ (network : Network) (run : Run) (lines : Lines) (told : TellsRun network run lines) where
   -- the line that made what was heard

@@ -1,19 +1,15 @@
 -- The stays of journeys, by lines: their readings, how long they were together, and that each was ended once.
-use Rattle.std.proofs.Common.{◌≡◌, ◌∙◌, ℕ, ◌+◌, ◌-◌, ◌≤◌, Bool, true, false, not, List, [], ◌∷◌, length}
-use Rattle.std.proofs.Common.{Option, Some, Ok, IsOk, refl, sym, ap, subst, arith, if◌then◌else◌}
+use Rattle.std.proofs.Common.{◌≡◌, ◌∙◌, ℕ, ◌+◌, ◌-◌, ◌≤◌, Bool, true, false, not, List, [], ◌∷◌, length, Option, Some}
+use Rattle.std.proofs.Common.{Ok, IsOk, refl, sym, ap, subst, arith, if◌then◌else◌}
 use Rattle.std.specs.Prelude.{◌==◌, ◌&&◌, nat_lt, is_some, unwrap_or, count_by, sum_by}
 use Rattle.std.specs.List.{list_all}
 use Rattle.std.proofs.lemmas.Bool.{and_from, eq-eqb, le-ltb}
 use Rattle.std.proofs.lemmas.List.Sums.{sum_by-cons}
 use Rattle.network_model.specs.declared.event.Event.{Event}
-use Rattle.network_model.specs.declared.event.Event.TheVariants.{Sync, SyncOne, Follow, Enter, Leave, Arrive, Hear}
-use Rattle.network_model.specs.declared.event.Event.TheVariants.{Request, Stamped, Tick, SetMaster, StepClock}
-use Rattle.network_model.specs.declared.stepped.Outcome.TheVariants as outcomes
+use Rattle.network_model.specs.declared.event.Event.TheVariants.{Sync, SyncOne, Leave, Request}
 use Rattle.network_model.specs.Network.{Network}
 use Rattle.network_model.specs.Run.{Run, Place, place, place_at, tag_of, until, IsIn, true_moment}
 use Rattle.network_model.specs.Kinds.{spends}
-use Rattle.network_model.specs.Clock as clocks
-use Rattle.network_model.specs.Journey as made
 use Rattle.network_model.specs.Outcome.{outcome_of, IsRun}
 use Rattle.network_model.proofs.Options.{ok_value}
 use Rattle.network_model.proofs.Places.{tag_of-place_at, accepted-place_at, IsRun-place_at}
@@ -23,7 +19,6 @@ use Rattle.network_model.proofs.Spent.{spent_once}
 use Rattle.network_model.proofs.Ways.{IsStay, AreStays, gone_on}
 use Rattle.trace_model.specs.Line.{Lines, counts}
 use Rattle.trace_model.specs.Record.{LinePlace, line_number, events, reading, reads_right}
-use Rattle.trace_model.specs.Journey as lined
 use Rattle.trace_model.specs.Sound.{stay_reads_right}
 use Rattle.trace_model.specs.Told.{TellsRun}
 use Rattle.trace_model.specs.Faithful.{took_effect, TellsPlace, TellsStay, TellsStays}
@@ -31,6 +26,10 @@ use Rattle.trace_model.proofs.Found.{event_told, same_number, line_counts}
 use Rattle.trace_model.proofs.Lines.{events_more}
 use Rattle.trace_model.proofs.Recorded.{count_at_most, each_event_is_recorded}
 use Rattle.trace_model.proofs.Left.{left_made}
+use Rattle.network_model.specs.declared.stepped.Outcome.TheVariants as outcomes
+use Rattle.network_model.specs.Clock as clocks
+use Rattle.network_model.specs.Journey as made
+use Rattle.trace_model.specs.Journey as lined
 
 -- what came before an event of a run, and the event itself, are a run
 pub until_accepted : (network : Network) (run : Run) (p : Place) → IsRun network run → IsIn run p
@@ -82,14 +81,7 @@ spent_by network (Leave node transit at) earlier journey accepted is before =
           outcome.1 ∙ ap Ok is_made;
     } in
     subst (AreSpent network) (sym on.1) (head, before from.1 from.2 from.5)
-spent_by network (Follow node) earlier journey accepted is before = cc
-spent_by network (Enter node copy at) earlier journey accepted is before = cc
-spent_by network (Arrive node copy at) earlier journey accepted is before = cc
-spent_by network (Hear node copy) earlier journey accepted is before = cc
-spent_by network (Stamped node) earlier journey accepted is before = cc
-spent_by network (Tick node) earlier journey accepted is before = cc
-spent_by network (SetMaster node master) earlier journey accepted is before = cc
-spent_by network (StepClock node diff) earlier journey accepted is before = cc
+spent_by network _ earlier journey accepted is before = cc
 
 pub stays_spent : (network : Network) (run : Run) (tag : ℕ) (journey : made.Journey) → IsRun network run
     → made.journey_of run tag ≡ Some journey → AreSpent network journey.stays

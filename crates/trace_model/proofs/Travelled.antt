@@ -1,16 +1,14 @@
 -- The journey of each copy is the one that lines tell: a stay that an Enter and a Leave event made is the stay of
 -- their lines.
-use Rattle.std.proofs.Common.{◌≡◌, ◌∙◌, ℕ, ◌<◌, Bool, true, false, [], ◌∷◌, length, Option, Some, None}
-use Rattle.std.proofs.Common.{IsOk, refl, sym, ap, subst, option_map, option_and_then, if◌then◌else◌}
+use Rattle.std.proofs.Common.{◌≡◌, ◌∙◌, ℕ, ◌<◌, Bool, true, false, [], ◌∷◌, length, Option, Some, None, IsOk, refl}
+use Rattle.std.proofs.Common.{sym, ap, subst, option_map, option_and_then, if◌then◌else◌}
 use Rattle.std.specs.Prelude.{◌==◌, ◌&&◌, nat_lt}
 use Rattle.std.proofs.lemmas.Bool.{and_from, lt-ltb}
 use Rattle.network_model.specs.declared.event.Event.{Event}
-use Rattle.network_model.specs.declared.event.Event.TheVariants.{Sync, SyncOne, Follow, Enter, Leave, Arrive, Hear}
-use Rattle.network_model.specs.declared.event.Event.TheVariants.{Request, Stamped, Tick, SetMaster, StepClock}
+use Rattle.network_model.specs.declared.event.Event.TheVariants.{Sync, SyncOne, Enter, Leave, Request}
 use Rattle.network_model.specs.Network.{Network, NodeName, is_named}
 use Rattle.network_model.specs.Run.{Run, Place, place, site_of}
 use Rattle.network_model.specs.Kinds.{entered_copy}
-use Rattle.network_model.specs.Journey as made
 use Rattle.network_model.specs.Outcome.{outcome_of, IsRun}
 use Rattle.network_model.proofs.Options.{ok_value}
 use Rattle.network_model.proofs.Places.{accepted-place_at}
@@ -20,15 +18,16 @@ use Rattle.network_model.proofs.Ways.{gone_on}
 use Rattle.trace_model.specs.declared.line.TraceLine.{TraceLine}
 use Rattle.trace_model.specs.Line.{Lines, counts}
 use Rattle.trace_model.specs.Record.{LinePlace, line_place, event_of, site, line_number}
-use Rattle.trace_model.specs.Journey as lined
 use Rattle.trace_model.specs.Told.{TellsEvent, TellsRun}
-use Rattle.trace_model.specs.Faithful.{is_effective, took_effect, TellsPlace, TellsStays}
-use Rattle.trace_model.specs.Faithful.{TellsJourney, HasJourney, EachJourneyIsTold}
+use Rattle.trace_model.specs.Faithful.{is_effective, took_effect, TellsPlace, TellsStays, TellsJourney, HasJourney}
+use Rattle.trace_model.specs.Faithful.{EachJourneyIsTold}
 use Rattle.trace_model.proofs.Certain.{is_certain, certain_takes}
-use Rattle.trace_model.proofs.Found.{same_length, event_told, same_event, same_number}
-use Rattle.trace_model.proofs.Found.{line_counts, each_event_has_its_line}
+use Rattle.trace_model.proofs.Found.{same_length, event_told, same_event, same_number, line_counts}
+use Rattle.trace_model.proofs.Found.{each_event_has_its_line}
 use Rattle.trace_model.proofs.Recorded.{certain_counts}
 use Rattle.trace_model.proofs.Left.{left_parts, made_before, left_made}
+use Rattle.network_model.specs.Journey as made
+use Rattle.trace_model.specs.Journey as lined
 
 -- a run that lines tell is one
 pub accepted_told : (network : Network) (run : Run) (lines : Lines) → TellsRun network run lines → IsRun network run
@@ -45,17 +44,7 @@ certain_took network event earlier certain accepted =
 
 pub enter_certain : (event : Event) (copy : ℕ) → entered_copy event ≡ Some copy → is_certain event ≡ true
 enter_certain (Enter node c at) copy takes = refl
-enter_certain (Sync node at) copy takes = cc
-enter_certain (SyncOne node at) copy takes = cc
-enter_certain (Follow node) copy takes = cc
-enter_certain (Leave node transit at) copy takes = cc
-enter_certain (Arrive node c at) copy takes = cc
-enter_certain (Hear node c) copy takes = cc
-enter_certain (Request node at) copy takes = cc
-enter_certain (Stamped node) copy takes = cc
-enter_certain (Tick node) copy takes = cc
-enter_certain (SetMaster node master) copy takes = cc
-enter_certain (StepClock node diff) copy takes = cc
+enter_certain _ copy takes = cc
 
 -- the journey of the copy that a line made, which counts
 pub record HasMade (network : Network) (line : TraceLine) (lines : Lines) (journey : made.Journey) : Type 0 where
@@ -156,14 +145,7 @@ module _ (network : Network) (earlier : Run) (line : TraceLine) (lines : Lines) 
   made_told (SyncOne node at) journey tells is = begins (SyncOne node at) journey tells refl refl cc
   made_told (Request node at) journey tells is = begins (Request node at) journey tells refl refl cc
   made_told (Leave node transit at) journey tells is = goes node transit at journey tells is
-  made_told (Follow node) journey tells is = cc
-  made_told (Enter node copy at) journey tells is = cc
-  made_told (Arrive node copy at) journey tells is = cc
-  made_told (Hear node copy) journey tells is = cc
-  made_told (Stamped node) journey tells is = cc
-  made_told (Tick node) journey tells is = cc
-  made_told (SetMaster node master) journey tells is = cc
-  made_told (StepClock node diff) journey tells is = cc
+  made_told _ journey tells is = cc
 
 pub each_journey_is_told : EachJourneyIsTold
 each_journey_is_told network [] lines tag journey told is = cc

@@ -1,7 +1,7 @@
 -- The octets of each line that tells of a message are those that its port or its clock writes: the message that the
 -- lines before it ask for is the copy that the event made.
-use Rattle.std.proofs.Common.{◌≡◌, ◌∙◌, ℕ, Bool, true, ◌∷◌, length, Option, Some, None, Ok, refl}
-use Rattle.std.proofs.Common.{sym, ap, subst, option_map, option_and_then, if◌then◌else◌}
+use Rattle.std.proofs.Common.{◌≡◌, ◌∙◌, ℕ, Bool, true, ◌∷◌, length, Option, Some, None, Ok, refl, sym, ap, subst}
+use Rattle.std.proofs.Common.{option_map, option_and_then, if◌then◌else◌}
 use Rattle.std.specs.Prelude.{◌||◌, is_some}
 use Rattle.std.proofs.lemmas.Bool.{eq-eqb}
 use Rattle.ptp_units.specs.Sequence.{of_count}
@@ -10,28 +10,21 @@ use Rattle.master_port.specs.Written.{sync, one_step_sync}
 use Rattle.slave_port.specs.Written.{delay_req}
 use Rattle.transparent_clock.specs.Forwarding.{resided}
 use Rattle.network_model.specs.declared.event.Event.{Event}
-use Rattle.network_model.specs.declared.event.Event.TheVariants.{Sync, SyncOne, Follow, Enter, Leave, Arrive, Hear}
-use Rattle.network_model.specs.declared.event.Event.TheVariants.{Request, Stamped, Tick, SetMaster, StepClock}
+use Rattle.network_model.specs.declared.event.Event.TheVariants.{Sync, SyncOne, Request}
 use Rattle.network_model.specs.declared.stepped.Outcome.{Outcome}
-use Rattle.network_model.specs.declared.stepped.Outcome.TheVariants as outcomes
 use Rattle.network_model.specs.Network.{Network, PortSetup, master_port, slave_port}
 use Rattle.network_model.specs.Run.{Run, Place, place, until, true_moment}
 use Rattle.network_model.specs.Kinds.{draws_sync, is_request}
-use Rattle.network_model.specs.Clock as clocks
 use Rattle.network_model.specs.Numbering.{number_of}
-use Rattle.network_model.specs.Journey as made
-use Rattle.network_model.specs.Truth as truth
 use Rattle.network_model.specs.Truth.{drawn, copy_made, copy_of, master_at, slave_at}
 use Rattle.network_model.specs.Outcome.{◌>>=◌, node_as, reads, outcome_of, IsRun}
 use Rattle.network_model.proofs.Options.{ok_step}
 use Rattle.network_model.proofs.Journeys.{IsIn-last, IsIn-origin}
 use Rattle.network_model.proofs.Ways.{stays_are}
 use Rattle.trace_model.specs.declared.line.TraceOut.{TraceOut}
-use Rattle.trace_model.specs.declared.line.TraceOut.TheVariants as outs
 use Rattle.trace_model.specs.Record.{LinePlace, event_of, reading, sequence}
-use Rattle.trace_model.specs.Journey as lined
-use Rattle.trace_model.specs.Octets.{drawing_port, message_sent, sent, travelled}
-use Rattle.trace_model.specs.Octets.{message_made, is_written, writes_right}
+use Rattle.trace_model.specs.Octets.{drawing_port, message_sent, sent, travelled, message_made, is_written}
+use Rattle.trace_model.specs.Octets.{writes_right}
 use Rattle.trace_model.specs.Told.{TellsMade, TellsOutcome}
 use Rattle.trace_model.specs.Faithful.{TellsPlace, TellsJourney}
 use Rattle.trace_model.proofs.Good.{node_is, the_value}
@@ -39,6 +32,12 @@ use Rattle.trace_model.proofs.Found.{same_event}
 use Rattle.trace_model.proofs.Recorded.{sequence_told}
 use Rattle.trace_model.proofs.Stays.{until_accepted, reading_told, stays_told}
 use Rattle.trace_model.proofs.Packets.{is_packet-Decides}
+use Rattle.network_model.specs.declared.stepped.Outcome.TheVariants as outcomes
+use Rattle.network_model.specs.Clock as clocks
+use Rattle.network_model.specs.Journey as made
+use Rattle.network_model.specs.Truth as truth
+use Rattle.trace_model.specs.declared.line.TraceOut.TheVariants as outs
+use Rattle.trace_model.specs.Journey as lined
 
 -- the octets that tell a message are its octets
 told_written : (m : Contents) (out : TraceOut) → TellsMade (Some m) out → is_written (Some m) out ≡ true
@@ -110,18 +109,8 @@ sent_told network event earlier e accepted tells =
         (clocks.reading (place v earlier))) (master_at network node)) same
     by (Request node at) same =
         of (λ (port : PortSetup) (n : ℕ). delay_req port.config n) (slave_at network node)
-        ∙ ap (λ (v : Event). option_map
-        (λ (port : PortSetup). delay_req port.config (of_count (number_of port (place v earlier))))
-        (slave_at network node)) same
-    by (Follow node) same = refl
-    by (Enter node copy at) same = refl
-    by (Leave node transit at) same = refl
-    by (Arrive node copy at) same = refl
-    by (Hear node copy) same = refl
-    by (Stamped node) same = refl
-    by (Tick node) same = refl
-    by (SetMaster node master) same = refl
-    by (StepClock node diff) same = refl
+        ∙ ap (λ (v : Event). option_map (λ (port : PortSetup). delay_req port.config (of_count (number_of port (place v earlier)))) (slave_at network node)) same
+    by _ same = refl
 
 -- the message at the end of a journey
 pub travelled_told : (network : Network) (run : Run) (tag : ℕ) (journey : made.Journey) (lines : lined.Journey)
@@ -170,15 +159,7 @@ drawn_parts network (Request node at) earlier outcome draws is =
           (of_count (number_of port (place (Request node at) earlier)))))
           (node_is slave_port network node {x = port.0} port.1),
     )
-drawn_parts network (Follow node) earlier outcome draws is = cc
-drawn_parts network (Enter node copy at) earlier outcome draws is = cc
-drawn_parts network (Leave node transit at) earlier outcome draws is = cc
-drawn_parts network (Arrive node copy at) earlier outcome draws is = cc
-drawn_parts network (Hear node copy) earlier outcome draws is = cc
-drawn_parts network (Stamped node) earlier outcome draws is = cc
-drawn_parts network (Tick node) earlier outcome draws is = cc
-drawn_parts network (SetMaster node master) earlier outcome draws is = cc
-drawn_parts network (StepClock node diff) earlier outcome draws is = cc
+drawn_parts network _ earlier outcome draws is = cc
 
 drawn_made : (network : Network) (event : Event) (earlier : Run) (copies : ℕ → Option Contents) (e : LinePlace)
     → (draws_sync event || is_request event) ≡ true
@@ -187,15 +168,7 @@ drawn_made : (network : Network) (event : Event) (earlier : Run) (copies : ℕ �
 drawn_made network (Sync node at) earlier copies e draws = (refl, refl)
 drawn_made network (SyncOne node at) earlier copies e draws = (refl, refl)
 drawn_made network (Request node at) earlier copies e draws = (refl, refl)
-drawn_made network (Follow node) earlier copies e draws = cc
-drawn_made network (Enter node copy at) earlier copies e draws = cc
-drawn_made network (Leave node transit at) earlier copies e draws = cc
-drawn_made network (Arrive node copy at) earlier copies e draws = cc
-drawn_made network (Hear node copy) earlier copies e draws = cc
-drawn_made network (Stamped node) earlier copies e draws = cc
-drawn_made network (Tick node) earlier copies e draws = cc
-drawn_made network (SetMaster node master) earlier copies e draws = cc
-drawn_made network (StepClock node diff) earlier copies e draws = cc
+drawn_made network _ earlier copies e draws = cc
 
 -- a Sync, a one-step Sync or a Delay_Req that was sent
 pub drawn_written : (network : Network) (p : Place) (e : LinePlace) → IsRun network (until p) → TellsPlace network p e

@@ -1,8 +1,8 @@
 //! Lines of transcripts, read: nodes, and events with what was recorded of them.
 ghost use Rattle.std.specs.Prelude.{◌≡◌};
 ghost use Rattle.serde_json.specs.View.{view};
-ghost use Rattle.schedule_lines.specs.Traced.{trace_line_in};
-ghost use Rattle.schedule_lines.specs.TranscriptLine.{transcript_line_of, traced_in, recorded_in, line_keys};
+ghost use Rattle.schedule_lines.specs.TranscriptLine.{trace_line_in};
+ghost use Rattle.schedule_lines.specs.TranscriptLine.{transcript_line_of, traced_in, trace_line_in, line_keys};
 ghost use Rattle.schedule_lines.specs.TranscriptLine.{reading_in, out_of, out_keys, made_in, code_in, report_in};
 ghost use Rattle.schedule_lines.specs.TranscriptLine.{report_of, follow_in};
 
