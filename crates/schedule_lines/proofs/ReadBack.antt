@@ -22,7 +22,7 @@ use Rattle.schedule_lines.specs.TranscriptLine.{trace_line_in}
 use Rattle.schedule_lines.proofs.Keys.{Field, members_of, event_fields, answer_fields, line_fields}
 use Rattle.schedule_lines.proofs.Lookup.{find, get_member-members_of, option_or-none, count, members_len-members_of}
 use Rattle.schedule_lines.proofs.Texts.{name_back, below_back, octets_back, moment_back, difference_back, report_back}
-use Rattle.schedule_lines.specs.TranscriptLine.{transcript_line_of, trace_line_in, reading_in, reading_keys, out_of}
+use Rattle.schedule_lines.specs.TranscriptLine.{transcript_line_of, trace_line_in, reading_in, out_of}
 use Rattle.schedule_lines.specs.TranscriptLine.{out_keys, line_keys, code_in, report_in}
 use Rattle.schedule_lines.specs.Written.{whole, moment_data, difference_data, octets_data, tags_data}
 use Rattle.schedule_lines.specs.Written.{event_text, made_octets, out_text, out_code, out_report, scheduled_data}
