@@ -13,11 +13,14 @@ use Rattle.schedule_lines.specs.declared.traced.TranscriptLine.{TranscriptLine}
 use Rattle.schedule_lines.specs.declared.traced.TranscriptLine.TheVariants as recorded
 use Rattle.schedule_replay.specs.declared.checking.Progress.{Progress}
 use Rattle.schedule_replay.specs.declared.checking.Progress.TheVariants.{Nodes, Events}
-use Rattle.schedule_replay.specs.declared.counted.Counted.{Counted}
+use Rattle.text_lines.specs.declared.counted.Counted.{Counted}
 use Rattle.schedule_replay.specs.declared.fault.Fault.{Fault}
 use Rattle.schedule_replay.specs.declared.fault.FaultKind.{FaultKind}
 use Rattle.schedule_replay.specs.declared.fault.FaultKind.TheVariants.{Read, Write, LineTooLong, TooManyLines, Json, Field, World, Memory}
-use Rattle.schedule_replay.specs.Lines.{lines_of, lfs_in, after_lines, without_cr, reading_fault, StopsReading, ReadsLine, IsFromReading}
+use Rattle.text_lines.specs.declared.fault.ReadingFault.{ReadingFault}
+use Rattle.text_lines.specs.declared.fault.ReadingFault.TheVariants as reading
+use Rattle.schedule_replay.specs.Fault.{of_reading, LeavesUnread}
+use Rattle.text_lines.specs.Lines.{lines_of, lfs_in, after_lines, without_cr, reading_fault, StopsReading, ReadsLine}
 use Rattle.schedule_replay.specs.Show.{WentOutAs}
 use Rattle.schedule_replay.specs.CheckText.{recorded_in, AreRecorded, numbered, transcript_of, MistakesIn, MistakesAtEnd, StopsCheckAfter, verdict_text, ChecksAll, ChecksUntil}
 use Rattle.schedule_replay.specs.Progress.{nodes_of, lines_so_far, IsProgress, Follows, TakesRecord}
@@ -120,22 +123,17 @@ until octets count ended progress left left' before after what is so_far out sto
   fault = stops;
 }
 
-pub stopped_reading : (octets : List ℕ) (count : ℕ) (progress : Progress) (left left' at : Option (List ℕ)) (what : FaultKind) {R : Type 0} (input input' : Counted R)
-    → IsProgress progress → HasChecked octets count false progress left → StopsReading what (count + 1) (after_lines count octets) left' → IsFromReading what input input'
-    → ChecksUntil octets left' at at (record { line = count + 1; what = what })
-stopped_reading octets count progress left left' at Read input input' is so_far stops allowed =
+pub stopped_reading : (octets : List ℕ) (count : ℕ) (progress : Progress) (left left' at : Option (List ℕ)) (what : ReadingFault)
+    → IsProgress progress → HasChecked octets count false progress left → StopsReading what (count + 1) (after_lines count octets) left'
+    → ChecksUntil octets left' at at (record { line = count + 1; what = of_reading what })
+stopped_reading octets count progress left left' at reading.Read is so_far stops =
     until octets count false progress left left' at at Read is so_far (Keeps-refl at) (inl (omega (arith, so_far.lfs refl), tt, stops))
-stopped_reading octets count progress left left' at LineTooLong input input' is so_far (line, others, cut, fault, unread) allowed =
+stopped_reading octets count progress left left' at reading.LineTooLong is so_far (line, others, cut, fault, unread) =
     let place = is_at count (lines_of octets) line others (so_far.rest ∙ cut) in
     until octets count false progress left left' at at LineTooLong is so_far (Keeps-refl at) (inl (omega (arith, so_far.lfs refl), rw place.at fault, unread))
-stopped_reading octets count progress left left' at TooManyLines input input' is so_far (line, others, cut, fault, unread) allowed =
+stopped_reading octets count progress left left' at reading.TooManyLines is so_far (line, others, cut, fault, unread) =
     let place = is_at count (lines_of octets) line others (so_far.rest ∙ cut) in
     until octets count false progress left left' at at TooManyLines is so_far (Keeps-refl at) (inl (omega (arith, so_far.lfs refl), rw place.at fault, unread))
-stopped_reading octets count progress left left' at Write input input' is so_far stops allowed = absurd allowed
-stopped_reading octets count progress left left' at Json input input' is so_far stops allowed = absurd allowed
-stopped_reading octets count progress left left' at Field input input' is so_far stops allowed = absurd allowed
-stopped_reading octets count progress left left' at (World why) input input' is so_far stops allowed = absurd allowed
-stopped_reading octets count progress left left' at Memory input input' is so_far stops allowed = absurd allowed
 
 pub stopped_taking : (octets : List ℕ) (count : ℕ) (ended : Bool) (progress : Progress) (left left' at : Option (List ℕ)) (line : List ℕ) (what : FaultKind)
     → IsProgress progress → HasChecked octets count false progress left → ReadsLine true (count + 1) line ended (after_lines count octets) left'

@@ -1,8 +1,3 @@
-pub mod KnownOctets
-pub mod ReadAhead
-pub mod Cutting
-pub mod Reading
-pub mod Bounds
 pub mod Printing
 pub mod Joining
 pub mod ShownLines

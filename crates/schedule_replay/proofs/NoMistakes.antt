@@ -11,7 +11,7 @@ use Rattle.schedule_lines.specs.declared.traced.TranscriptLine.{TranscriptLine}
 use Rattle.schedule_lines.specs.declared.traced.TranscriptLine.TheVariants as recorded
 use Rattle.schedule_replay.specs.declared.fault.FaultKind.{FaultKind}
 use Rattle.schedule_replay.specs.declared.fault.FaultKind.TheVariants.{Read, Write, LineTooLong, TooManyLines, Json, Field, World, Memory}
-use Rattle.schedule_replay.specs.Lines.{lines_of, without_cr, reading_fault}
+use Rattle.text_lines.specs.Lines.{lines_of, without_cr, reading_fault}
 use Rattle.schedule_replay.specs.Replay.{nodes_text}
 use Rattle.schedule_replay.specs.CheckText.{recorded_in, AreRecorded, numbered, transcript_of, IsOutOfPlace, MistakesIn, MistakesAt, MistakesAtEnd, StopsCheckAfter}
 use Rattle.schedule_replay.specs.Accepted.{IsOfDevice, EachRunIsChecked}

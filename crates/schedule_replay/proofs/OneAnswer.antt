@@ -10,7 +10,8 @@ use Rattle.trace_model.specs.Verdict.{verdict}
 use Rattle.schedule_replay.specs.declared.fault.Fault.{Fault}
 use Rattle.schedule_replay.specs.declared.fault.FaultKind.{FaultKind}
 use Rattle.schedule_replay.specs.declared.fault.FaultKind.TheVariants.{Read, Write, LineTooLong, TooManyLines, Json, Field, World, Memory}
-use Rattle.schedule_replay.specs.Lines.{lines_of, after_lines, LeavesUnread, AreRead}
+use Rattle.text_lines.specs.Lines.{lines_of, after_lines, AreRead}
+use Rattle.schedule_replay.specs.Fault.{LeavesUnread}
 use Rattle.schedule_replay.specs.Schedule.{entry_in, FaultsAt}
 use Rattle.schedule_replay.specs.Show.{ShowsLines, Shows, IsFaultAt, WentOutAs, line_fault}
 use Rattle.schedule_replay.specs.Replay.{nodes_text, WritesRun, WentOutBefore, ReplaysAll, ReplaysUntil, Replays, StopsAfter}

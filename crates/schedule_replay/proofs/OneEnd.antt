@@ -3,7 +3,7 @@ use Rattle.std.proofs.Common.{◌≡◌, ◌∙◌, ◌⊎◌, inl, inr, ℕ, ze
 use Rattle.std.specs.Prelude.{slice_get}
 use Rattle.std.proofs.lemmas.List.{take-take}
 use Rattle.schedule_replay.specs.declared.fault.FaultKind.{FaultKind}
-use Rattle.schedule_replay.specs.Lines.{without_cr, reading_fault, AreRead}
+use Rattle.text_lines.specs.Lines.{without_cr, reading_fault, AreRead}
 use Rattle.schedule_replay.specs.Accepted.{IsOfDevice}
 use Rattle.schedule_replay.proofs.OneReading.{same_entries, next_is}
 

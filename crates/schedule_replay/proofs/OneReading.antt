@@ -2,7 +2,7 @@
 use Rattle.std.proofs.Common.{◌≡◌, ℕ, zero, suc, ◌+◌, List, [], ◌∷◌, ◌++◌, length, take, Some, None, Result, Ok, refl, ap, subst, arith}
 use Rattle.std.specs.Prelude.{slice_get}
 use Rattle.schedule_replay.specs.declared.fault.FaultKind.{FaultKind}
-use Rattle.schedule_replay.specs.Lines.{without_cr, reading_fault, AreRead}
+use Rattle.text_lines.specs.Lines.{without_cr, reading_fault, AreRead}
 
 -- these lines are the first entries, and the next line is the next entry
 pub record IsNext {E : Type 0} (read : List ℕ → Result E FaultKind) (number : ℕ) (lines : List (List ℕ)) (line : List ℕ) (earlier : ℕ) (es : List E) : Type 0 where

@@ -11,7 +11,10 @@ use Rattle.schedule_lines.specs.declared.traced.TranscriptLine.{TranscriptLine}
 use Rattle.schedule_lines.specs.declared.traced.TranscriptLine.TheVariants as recorded
 use Rattle.schedule_replay.specs.declared.fault.FaultKind.{FaultKind}
 use Rattle.schedule_replay.specs.declared.fault.FaultKind.TheVariants.{Read, Write, LineTooLong, TooManyLines, Json, Field, World, Memory}
-use Rattle.schedule_replay.specs.Lines.{without_cr, reading_fault}
+use Rattle.text_lines.specs.declared.fault.ReadingFault.{ReadingFault}
+use Rattle.text_lines.specs.declared.fault.ReadingFault.TheVariants as reading
+use Rattle.schedule_replay.specs.Fault.{of_reading}
+use Rattle.text_lines.specs.Lines.{without_cr, reading_fault}
 use Rattle.schedule_replay.specs.CheckText.{recorded_in, transcript_of, IsOutOfPlace, MistakesAt, MistakesAtEnd}
 use Rattle.schedule_replay.specs.Accepted.{IsOfDevice}
 use Rattle.schedule_replay.proofs.OneTranscript.{nodes_in, lines_after, nodes_of_transcript, lines_of_transcript}
@@ -71,7 +74,7 @@ fault_of_entry s (Ok (recorded.Node node)) = where_begun s.1
 fault_of_entry s (Ok (recorded.Event number line)) = at_place s number
 
 abbrev fault_of : ℕ → Checked → List ℕ → Option FaultKind
-fault_of number s line = option_or (reading_fault number line) (fault_of_entry s (recorded_in (without_cr line)))
+fault_of number s line = option_or (option_map of_reading (reading_fault number line)) (fault_of_entry s (recorded_in (without_cr line)))
 
 begun : (lines : Lines) → lines ≢ [] → where_begun lines ≡ Some Field
 begun [] some = absurd (some refl)
@@ -86,10 +89,10 @@ clashes s why none clash =
 
 read_so : (number : ℕ) (s : Checked) (line : List ℕ) (r : Result TranscriptLine FaultKind) → reading_fault number line ≡ None → recorded_in (without_cr line) ≡ r
     → fault_of number s line ≡ fault_of_entry s r
-read_so number s line r fine is = ap (λ (o : Option FaultKind). option_or o (fault_of_entry s (recorded_in (without_cr line)))) fine ∙ ap (fault_of_entry s) is
+read_so number s line r fine is = ap (λ (o : Option ReadingFault). option_or (option_map of_reading o) (fault_of_entry s (recorded_in (without_cr line)))) fine ∙ ap (fault_of_entry s) is
 
-unread_so : (number : ℕ) (s : Checked) (line : List ℕ) (kind : FaultKind) → reading_fault number line ≡ Some kind → fault_of number s line ≡ Some kind
-unread_so number s line kind e = ap (λ (o : Option FaultKind). option_or o (fault_of_entry s (recorded_in (without_cr line)))) e
+unread_so : (number : ℕ) (s : Checked) (line : List ℕ) (what : ReadingFault) → reading_fault number line ≡ Some what → fault_of number s line ≡ Some (of_reading what)
+unread_so number s line what e = ap (λ (o : Option ReadingFault). option_or (option_map of_reading o) (fault_of_entry s (recorded_in (without_cr line)))) e
 
 out_of_place : (number : ℕ) (s : Checked) (line : List ℕ) (entry : TranscriptLine) → reading_fault number line ≡ None → recorded_in (without_cr line) ≡ Ok entry
     → IsOutOfPlace s.1 entry → fault_of number s line ≡ Some Field
@@ -100,8 +103,8 @@ the_fault : (kind : FaultKind) (number : ℕ) (s : Checked) (line : List ℕ) �
 the_fault Read number s line sure fault = absurd (sure tt)
 the_fault Write number s line sure fault = absurd (sure tt)
 the_fault Memory number s line sure fault = absurd (sure tt)
-the_fault LineTooLong number s line sure fault = unread_so number s line LineTooLong fault
-the_fault TooManyLines number s line sure fault = unread_so number s line TooManyLines fault
+the_fault LineTooLong number s line sure fault = unread_so number s line reading.LineTooLong fault
+the_fault TooManyLines number s line sure fault = unread_so number s line reading.TooManyLines fault
 the_fault Json number s line sure fault = read_so number s line (Err Json) fault.0 fault.1
 the_fault Field number s line sure (read, inl error) = read_so number s line (Err Field) read error
 the_fault Field number s line sure (read, inr (entry, is, out)) = out_of_place number s line entry read is out

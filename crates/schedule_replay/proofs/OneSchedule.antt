@@ -13,7 +13,10 @@ use Rattle.schedule_lines.specs.declared.schedule.Line.{Line}
 use Rattle.schedule_lines.specs.declared.schedule.Line.TheVariants as entries
 use Rattle.schedule_replay.specs.declared.fault.FaultKind.{FaultKind}
 use Rattle.schedule_replay.specs.declared.fault.FaultKind.TheVariants.{Read, Write, LineTooLong, TooManyLines, Json, Field, World, Memory}
-use Rattle.schedule_replay.specs.Lines.{without_cr, reading_fault}
+use Rattle.text_lines.specs.declared.fault.ReadingFault.{ReadingFault}
+use Rattle.text_lines.specs.declared.fault.ReadingFault.TheVariants as reading
+use Rattle.schedule_replay.specs.Fault.{of_reading}
+use Rattle.text_lines.specs.Lines.{without_cr, reading_fault}
 use Rattle.schedule_replay.specs.Schedule.{entry_in, schedule_of, refusal_of, FaultsAt, FaultsAtEnd}
 use Rattle.schedule_replay.specs.Replay.{WritesRun}
 use Rattle.schedule_replay.specs.Accepted.{IsOfDevice}
@@ -184,7 +187,7 @@ fault_of_entry s (Ok (entries.Node node)) = where_begun s.1
 fault_of_entry s (Ok (entries.Event event)) = option_map World (refusal_of s.0 s.1 event)
 
 abbrev fault_of : ℕ → Played → List ℕ → Option FaultKind
-fault_of number s line = option_or (reading_fault number line) (fault_of_entry s (entry_in (without_cr line)))
+fault_of number s line = option_or (option_map of_reading (reading_fault number line)) (fault_of_entry s (entry_in (without_cr line)))
 
 begun : (run : Run) → run ≢ [] → where_begun run ≡ Some Field
 begun [] some = absurd (some refl)
@@ -192,17 +195,17 @@ begun (event ∷ earlier) some = refl
 
 read_so : (number : ℕ) (s : Played) (line : List ℕ) (r : Result Line FaultKind) → reading_fault number line ≡ None → entry_in (without_cr line) ≡ r
     → fault_of number s line ≡ fault_of_entry s r
-read_so number s line r fine is = ap (λ (o : Option FaultKind). option_or o (fault_of_entry s (entry_in (without_cr line)))) fine ∙ ap (fault_of_entry s) is
+read_so number s line r fine is = ap (λ (o : Option ReadingFault). option_or (option_map of_reading o) (fault_of_entry s (entry_in (without_cr line)))) fine ∙ ap (fault_of_entry s) is
 
-unread_so : (number : ℕ) (s : Played) (line : List ℕ) (kind : FaultKind) → reading_fault number line ≡ Some kind → fault_of number s line ≡ Some kind
-unread_so number s line kind e = ap (λ (o : Option FaultKind). option_or o (fault_of_entry s (entry_in (without_cr line)))) e
+unread_so : (number : ℕ) (s : Played) (line : List ℕ) (what : ReadingFault) → reading_fault number line ≡ Some what → fault_of number s line ≡ Some (of_reading what)
+unread_so number s line what e = ap (λ (o : Option ReadingFault). option_or (option_map of_reading o) (fault_of_entry s (entry_in (without_cr line)))) e
 
 the_fault : (kind : FaultKind) (number : ℕ) (s : Played) (line : List ℕ) → (IsOfDevice kind → ⊥) → InLine kind number s line → fault_of number s line ≡ Some kind
 the_fault Read number s line sure fault = absurd (sure tt)
 the_fault Write number s line sure fault = absurd (sure tt)
 the_fault Memory number s line sure fault = absurd (sure tt)
-the_fault LineTooLong number s line sure fault = unread_so number s line LineTooLong fault
-the_fault TooManyLines number s line sure fault = unread_so number s line TooManyLines fault
+the_fault LineTooLong number s line sure fault = unread_so number s line reading.LineTooLong fault
+the_fault TooManyLines number s line sure fault = unread_so number s line reading.TooManyLines fault
 the_fault Json number s line sure fault = read_so number s line (Err Json) fault.0 fault.1
 the_fault Field number s line sure (read, inl error) = read_so number s line (Err Field) read error
 the_fault Field number s line sure (read, inr (node, is, some)) = read_so number s line (Ok (entries.Node node)) read is ∙ begun s.1 some

@@ -3,7 +3,7 @@ use Rattle.std.proofs.Common.{◌≡◌, ℕ, zero, suc, ◌+◌, List, [], ◌�
 use Rattle.std.specs.Prelude.{slice_get}
 use Rattle.event_codec.proofs.Same.{contents_same, front_length, decode_refusal-message}
 use Rattle.schedule_replay.specs.Shown.{IsShownAs, ShowsMessage, ShowsRefusal}
-use Rattle.schedule_replay.specs.Lines.{without_cr}
+use Rattle.text_lines.specs.Lines.{without_cr}
 use Rattle.schedule_replay.specs.Show.{IsAnswer, ShowsLines, line_fault}
 
 one_message : (octets one other : List ℕ) → ShowsMessage octets one → ShowsMessage octets other → one ≡ other

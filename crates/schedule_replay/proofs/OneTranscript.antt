@@ -7,7 +7,7 @@ use Rattle.trace_model.specs.Verdict.{verdict}
 use Rattle.trace_model.specs.Complete.{MissesNothing}
 use Rattle.schedule_lines.specs.declared.traced.TranscriptLine.{TranscriptLine}
 use Rattle.schedule_lines.specs.declared.traced.TranscriptLine.TheVariants as recorded
-use Rattle.schedule_replay.specs.Lines.{lines_of}
+use Rattle.text_lines.specs.Lines.{lines_of}
 use Rattle.schedule_replay.specs.Replay.{nodes_text}
 use Rattle.schedule_replay.specs.CheckText.{recorded_in, numbered, transcript_of}
 use Rattle.schedule_replay.specs.Accepted.{EachRunIsAccepted}

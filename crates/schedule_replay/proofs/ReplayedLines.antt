@@ -12,13 +12,16 @@ use Rattle.network_model.specs.Clash.{first_clash}
 use Rattle.world_model.specs.State.{State}
 use Rattle.schedule_lines.specs.declared.schedule.Line.{Line}
 use Rattle.schedule_lines.specs.declared.schedule.Line.TheVariants as entries
-use Rattle.schedule_replay.specs.declared.counted.Counted.{Counted}
+use Rattle.text_lines.specs.declared.counted.Counted.{Counted}
 use Rattle.schedule_replay.specs.declared.fault.Fault.{Fault}
 use Rattle.schedule_replay.specs.declared.fault.FaultKind.{FaultKind}
 use Rattle.schedule_replay.specs.declared.fault.FaultKind.TheVariants.{Read, Write, LineTooLong, TooManyLines, Json, Field, World, Memory}
 use Rattle.schedule_replay.specs.declared.replaying.Stage.{Stage}
 use Rattle.schedule_replay.specs.declared.replaying.Stage.TheVariants.{Nodes, Events}
-use Rattle.schedule_replay.specs.Lines.{lines_of, lfs_in, after_lines, without_cr, reading_fault, LeavesUnread, StopsReading, ReadsLine, IsFromReading}
+use Rattle.text_lines.specs.declared.fault.ReadingFault.{ReadingFault}
+use Rattle.text_lines.specs.declared.fault.ReadingFault.TheVariants as reading
+use Rattle.schedule_replay.specs.Fault.{of_reading, LeavesUnread}
+use Rattle.text_lines.specs.Lines.{lines_of, lfs_in, after_lines, without_cr, reading_fault, StopsReading, ReadsLine}
 use Rattle.schedule_replay.specs.Schedule.{entry_in, AreEntries, schedule_of, FaultsIn, FaultsAt, FaultsAtEnd}
 use Rattle.schedule_replay.specs.Show.{WentOutAs}
 use Rattle.schedule_replay.specs.Replay.{nodes_text, WritesRun, WentOutBefore, StopsAfter, ReplaysAll, ReplaysUntil}
@@ -196,12 +199,12 @@ pub at_line : (octets : List ℕ) (before : Option (List ℕ)) (stop : Fault) (n
 at_line octets before stop number left now e h = subst (λ n. ReplaysUntil octets left before now (record { line = n; what = stop.what })) (sym e) h
 
 -- reading a line faults
-pub stopped_reading : (octets : List ℕ) (before : Option (List ℕ)) (count : ℕ) (stage : Stage) (left left' now : Option (List ℕ)) (what : FaultKind) {R : Type 0}
-    (input input' : Counted R) → IsStage stage → HasReplayed octets before count false stage left now
-    → StopsReading what (count + 1) (after_lines count octets) left' → IsFromReading what input input'
-    → ReplaysUntil octets left' before now (record { line = count + 1; what = what })
-stopped_reading octets before count stage left left' now what input input' is so_far stops allowed =
-    go what stops allowed
+pub stopped_reading : (octets : List ℕ) (before : Option (List ℕ)) (count : ℕ) (stage : Stage) (left left' now : Option (List ℕ)) (what : ReadingFault)
+    → IsStage stage → HasReplayed octets before count false stage left now
+    → StopsReading what (count + 1) (after_lines count octets) left'
+    → ReplaysUntil octets left' before now (record { line = count + 1; what = of_reading what })
+stopped_reading octets before count stage left left' now what is so_far stops =
+    go what stops
   where
     ended : count ≤ lfs_in octets
     ended = omega (arith, so_far.lfs refl)
@@ -218,21 +221,16 @@ stopped_reading octets before count stage left left' now what input input' is so
     too_many (Nodes nodes) = ([], refl, Appends-nil now)
     too_many (Events world) = ([], refl, Appends-nil now)
 
-    go : (what : FaultKind) → StopsReading what (count + 1) (after_lines count octets) left' → IsFromReading what input input'
-        → ReplaysUntil octets left' before now (record { line = count + 1; what = what })
-    go Read stops allowed =
+    go : (what : ReadingFault) → StopsReading what (count + 1) (after_lines count octets) left'
+        → ReplaysUntil octets left' before now (record { line = count + 1; what = of_reading what })
+    go reading.Read stops =
         until octets before count false stage left left' now now Read is so_far (reader_fails stage) (inl (ended, tt, stops))
-    go LineTooLong (line, others, cut, fault, unread) allowed =
+    go reading.LineTooLong (line, others, cut, fault, unread) =
         let place = is_at count (lines_of octets) line others (so_far.rest ∙ cut) in
         until octets before count false stage left left' now now LineTooLong is so_far (too_long stage) (inl (ended, rw place.at fault, unread))
-    go TooManyLines (line, others, cut, fault, unread) allowed =
+    go reading.TooManyLines (line, others, cut, fault, unread) =
         let place = is_at count (lines_of octets) line others (so_far.rest ∙ cut) in
         until octets before count false stage left left' now now TooManyLines is so_far (too_many stage) (inl (ended, rw place.at fault, unread))
-    go Write stops allowed = absurd allowed
-    go Json stops allowed = absurd allowed
-    go Field stops allowed = absurd allowed
-    go (World why) stops allowed = absurd allowed
-    go Memory stops allowed = absurd allowed
 
 -- a fault of a line that was read
 faults_at : (what : FaultKind) (number : ℕ) (nodes : Network) (run : Run) (line : List ℕ) (there : Option (List ℕ)) → there ≡ Some line

@@ -15,8 +15,9 @@ use Rattle.schedule_lines.specs.Line.{line_of}
 use Rattle.schedule_lines.specs.Recorded.{IsNode, IsEvent, IsLine}
 use Rattle.schedule_lines.proofs.Ranges.{reads_in_range}
 use Rattle.schedule_replay.specs.declared.fault.FaultKind.{FaultKind}
-use Rattle.schedule_replay.specs.declared.fault.FaultKind.TheVariants.{Field, TooManyLines, LineTooLong}
-use Rattle.schedule_replay.specs.Lines.{lines_of, lines_limit, line_limit, without_cr}
+use Rattle.schedule_replay.specs.declared.fault.FaultKind.TheVariants.{Field}
+use Rattle.text_lines.specs.declared.fault.ReadingFault.TheVariants.{TooManyLines, LineTooLong}
+use Rattle.text_lines.specs.Lines.{lines_of, lines_limit, line_limit, without_cr}
 use Rattle.schedule_replay.specs.Schedule.{value_in, entry_of_value, AreEntries, schedule_of}
 use Rattle.schedule_replay.specs.Accepted.{IsInRange, EachReplayIsAccepted}
 use Rattle.schedule_replay.proofs.ToldLines.{IsExact}

@@ -4,11 +4,14 @@ use Rattle.std.specs.Prelude.{slice_get}
 use Rattle.std.specs.Io.BufRead.{drop_through}
 use Rattle.std.specs.Io.KnownBytes.{Appends, Keeps}
 use Rattle.std.proofs.KnownBytes.{Appends-trans, Appends-kept}
-use Rattle.schedule_replay.specs.declared.counted.Counted.{Counted}
+use Rattle.text_lines.specs.declared.counted.Counted.{Counted}
 use Rattle.schedule_replay.specs.declared.fault.Fault.{Fault}
 use Rattle.schedule_replay.specs.declared.fault.FaultKind.{FaultKind}
 use Rattle.schedule_replay.specs.declared.fault.FaultKind.TheVariants.{Read, Write, LineTooLong, TooManyLines, Json, Field, World, Memory}
-use Rattle.schedule_replay.specs.Lines.{lines_of, lfs_in, after_lines, without_cr, reading_fault, LeavesUnread, StopsReading, ReadsLine, IsFromReading}
+use Rattle.text_lines.specs.declared.fault.ReadingFault.{ReadingFault}
+use Rattle.text_lines.specs.declared.fault.ReadingFault.TheVariants as reading
+use Rattle.schedule_replay.specs.Fault.{of_reading, LeavesUnread}
+use Rattle.text_lines.specs.Lines.{lines_of, lfs_in, after_lines, without_cr, reading_fault, StopsReading, ReadsLine}
 use Rattle.schedule_replay.specs.Show.{IsAnswer, line_fault, digits_fault, own_fault, ShowsLines, WentOutAs, IsFaultAt, IsFromAnswering, ShowsAll, ShowsUntil}
 
 -- the first lines, which are count, were shown; each has its LF, unless the end was seen
@@ -73,7 +76,7 @@ ShowsLines-push number (first ∷ lines) line text written shown fine answer =
 faultless : (number : ℕ) (line : List ℕ) (written : List ℕ) → reading_fault number line ≡ None → IsAnswer (without_cr line) written → line_fault number line ≡ None
 faultless number line written read answer = rw (read, answer.hexadecimal)
 
-at_reading : (number : ℕ) (line : List ℕ) (what : FaultKind) → reading_fault number line ≡ Some what → line_fault number line ≡ Some what
+at_reading : (number : ℕ) (line : List ℕ) (what : ReadingFault) → reading_fault number line ≡ Some what → line_fault number line ≡ Some (of_reading what)
 at_reading number line what e = rw e
 
 at_answering : (number : ℕ) (line : List ℕ) (what : FaultKind) → reading_fault number line ≡ None → digits_fault (without_cr line) ≡ own_fault what
@@ -125,22 +128,17 @@ until octets before count left left' now now' what so_far out fault unread = rec
   input = unread;
 }
 
-pub stopped_reading : (octets : List ℕ) (before : Option (List ℕ)) (count : ℕ) (left left' now : Option (List ℕ)) (what : FaultKind) {R : Type 0} (input input' : Counted R)
-    → HasShown octets before count false left now → StopsReading what (count + 1) (after_lines count octets) left' → IsFromReading what input input'
-    → ShowsUntil octets left' before now (record { line = count + 1; what = what })
-stopped_reading octets before count left left' now Read input input' so_far stops allowed =
+pub stopped_reading : (octets : List ℕ) (before : Option (List ℕ)) (count : ℕ) (left left' now : Option (List ℕ)) (what : ReadingFault)
+    → HasShown octets before count false left now → StopsReading what (count + 1) (after_lines count octets) left'
+    → ShowsUntil octets left' before now (record { line = count + 1; what = of_reading what })
+stopped_reading octets before count left left' now reading.Read so_far stops =
     until octets before count left left' now now Read so_far so_far.output tt stops
-stopped_reading octets before count left left' now LineTooLong input input' so_far (line, others, cut, fault, unread) allowed =
+stopped_reading octets before count left left' now reading.LineTooLong so_far (line, others, cut, fault, unread) =
     let place = is_at count (lines_of octets) line others (so_far.rest ∙ cut) in
-    until octets before count left left' now now LineTooLong so_far so_far.output (rw place.at (at_reading (count + 1) line LineTooLong fault)) unread
-stopped_reading octets before count left left' now TooManyLines input input' so_far (line, others, cut, fault, unread) allowed =
+    until octets before count left left' now now LineTooLong so_far so_far.output (rw place.at (at_reading (count + 1) line reading.LineTooLong fault)) unread
+stopped_reading octets before count left left' now reading.TooManyLines so_far (line, others, cut, fault, unread) =
     let place = is_at count (lines_of octets) line others (so_far.rest ∙ cut) in
-    until octets before count left left' now now TooManyLines so_far so_far.output (rw place.at (at_reading (count + 1) line TooManyLines fault)) unread
-stopped_reading octets before count left left' now Write input input' so_far stops allowed = absurd allowed
-stopped_reading octets before count left left' now Json input input' so_far stops allowed = absurd allowed
-stopped_reading octets before count left left' now Field input input' so_far stops allowed = absurd allowed
-stopped_reading octets before count left left' now (World why) input input' so_far stops allowed = absurd allowed
-stopped_reading octets before count left left' now Memory input input' so_far stops allowed = absurd allowed
+    until octets before count left left' now now TooManyLines so_far so_far.output (rw place.at (at_reading (count + 1) line reading.TooManyLines fault)) unread
 
 pub stopped_answering : (octets : List ℕ) (before : Option (List ℕ)) (count : ℕ) (ended : Bool) (left left' now now' : Option (List ℕ)) (line : List ℕ) (what : FaultKind) {W : Type 0} (output output' : Counted W)
     → HasShown octets before count false left now → ReadsLine true (count + 1) line ended (after_lines count octets) left'

@@ -14,12 +14,14 @@ use Rattle.trace_model.specs.Refusal.{code_of}
 use Rattle.schedule_lines.specs.declared.traced.TranscriptLine.{TranscriptLine}
 use Rattle.schedule_lines.specs.declared.traced.TranscriptLine.TheVariants as recorded
 use Rattle.schedule_lines.specs.Traced.{transcript_line_of}
-use Rattle.schedule_replay.specs.declared.counted.Counted.{Counted}
+use Rattle.text_lines.specs.declared.counted.Counted.{Counted}
 use Rattle.schedule_replay.specs.declared.fault.Fault.{Fault}
 use Rattle.schedule_replay.specs.declared.fault.FaultKind.{FaultKind}
 use Rattle.schedule_replay.specs.declared.fault.FaultKind.TheVariants.{Read, Write, LineTooLong, TooManyLines, Json, Field, World, Memory}
-use Rattle.schedule_replay.specs.Counted.{device_of}
-use Rattle.schedule_replay.specs.Lines.{lines_of, lfs_in, after_lines, without_cr, reading_fault, AreRead, LeavesUnread}
+use Rattle.text_lines.specs.Counted.{device_of}
+use Rattle.text_lines.specs.Lines.{lines_of, lfs_in, after_lines, without_cr, reading_fault, AreRead}
+use Rattle.text_lines.specs.declared.fault.ReadingFault.TheVariants as reading
+use Rattle.schedule_replay.specs.Fault.{LeavesUnread}
 use Rattle.schedule_replay.specs.Schedule.{value_in}
 use Rattle.schedule_replay.specs.Show.{WentOutAs}
 
@@ -69,8 +71,8 @@ MistakesIn Memory nodes lines line = ⊤
 abbrev pub MistakesAt : FaultKind → ℕ → Network → Lines → Option (List ℕ) → Type 0
 MistakesAt Read number nodes lines line = ⊤
 MistakesAt kind number nodes lines None = ⊥
-MistakesAt LineTooLong number nodes lines (Some line) = reading_fault number line ≡ Some LineTooLong
-MistakesAt TooManyLines number nodes lines (Some line) = reading_fault number line ≡ Some TooManyLines
+MistakesAt LineTooLong number nodes lines (Some line) = reading_fault number line ≡ Some reading.LineTooLong
+MistakesAt TooManyLines number nodes lines (Some line) = reading_fault number line ≡ Some reading.TooManyLines
 MistakesAt kind number nodes lines (Some line) = (reading_fault number line ≡ None) × MistakesIn kind nodes lines (without_cr line)
 
 -- the fault at the end of a transcript: there was no event and the nodes are no network, or the verdict can't be made or written

@@ -1,12 +1,16 @@
 -- The numbers of the faults, and which device failed.
-use Rattle.std.specs.Prelude.{ℕ, MatchResult, Result}
-use Rattle.schedule_replay.specs.declared.counted.Counted.{Counted}
+use Rattle.std.specs.Prelude.{◌≡◌, ℕ, List, Option, Some, MatchResult, Result}
+use Rattle.text_lines.specs.declared.counted.Counted.{Counted}
 use Rattle.schedule_replay.specs.declared.fault.Fault.{Fault}
 use Rattle.schedule_replay.specs.declared.fault.FaultKind.{FaultKind}
 use Rattle.schedule_replay.specs.declared.fault.FaultKind.TheVariants.{Read, Write, LineTooLong, TooManyLines, Json, Field, World, Memory}
 use Rattle.network_model.specs.declared.refusal.WorldRefusal.{WorldRefusal}
 use Rattle.network_model.specs.declared.refusal.WorldRefusal.TheVariants as refusals
-use Rattle.schedule_replay.specs.Counted.{HasFailed, HasNotFailed}
+use Rattle.text_lines.specs.declared.fault.ReadingFault.{ReadingFault}
+use Rattle.text_lines.specs.declared.fault.ReadingFault.TheVariants as reading
+use Rattle.text_lines.specs.Counted.{HasFailed, HasNotFailed}
+use Rattle.text_lines.specs.Lines.{after_lines}
+use Rattle.text_lines.specs.Lines as lines
 
 -- the number of a fault
 abbrev pub code_of : FaultKind → ℕ
@@ -18,6 +22,20 @@ code_of Json = 805
 code_of Field = 806
 code_of (World why) = 807
 code_of Memory = 808
+
+-- the fault by which a fault in reading is told
+abbrev pub of_reading : ReadingFault → FaultKind
+of_reading reading.Read = Read
+of_reading reading.LineTooLong = LineTooLong
+of_reading reading.TooManyLines = TooManyLines
+
+-- What a fault in the line of this number leaves unread of the octets from that line's first on: one that isn't in reading
+-- comes once the line is read.
+abbrev pub LeavesUnread : FaultKind → ℕ → List ℕ → Option (List ℕ) → Type 0
+LeavesUnread Read number octets left = lines.LeavesUnread reading.Read number octets left
+LeavesUnread LineTooLong number octets left = lines.LeavesUnread reading.LineTooLong number octets left
+LeavesUnread TooManyLines number octets left = lines.LeavesUnread reading.TooManyLines number octets left
+LeavesUnread kind number octets left = left ≡ Some (after_lines 1 octets)
 
 -- the fault by which the refusal of a network or of an event is told
 abbrev pub fault_of : WorldRefusal → FaultKind

@@ -1,7 +1,4 @@
 pub mod Fault
-pub mod Counted
-pub mod OctetReader
-pub mod Lines
 pub mod Shown
 pub mod Show
 pub mod Schedule

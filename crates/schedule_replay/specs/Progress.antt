@@ -10,8 +10,8 @@ use Rattle.schedule_replay.specs.declared.checking.Progress.{Progress}
 use Rattle.schedule_replay.specs.declared.checking.Progress.TheVariants.{Nodes, Events}
 use Rattle.schedule_replay.specs.declared.fault.FaultKind.{FaultKind}
 use Rattle.schedule_replay.specs.declared.fault.FaultKind.TheVariants.{Write, Json, Field, World, Memory}
-use Rattle.schedule_replay.specs.declared.counted.Counted.{Counted}
-use Rattle.schedule_replay.specs.Counted.{HasFailed, HasNotFailed}
+use Rattle.text_lines.specs.declared.counted.Counted.{Counted}
+use Rattle.text_lines.specs.Counted.{HasFailed, HasNotFailed}
 use Rattle.schedule_replay.specs.CheckText.{recorded_in}
 
 -- the nodes so far

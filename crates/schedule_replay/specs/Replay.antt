@@ -9,12 +9,13 @@ use Rattle.network_model.specs.Clash.{first_clash}
 use Rattle.trace_model.specs.declared.line.TraceLine.{TraceLine}
 use Rattle.trace_model.specs.Told.{TellsEvent}
 use Rattle.schedule_lines.specs.Transcript.{node_data, event_data, line_text}
-use Rattle.schedule_replay.specs.declared.counted.Counted.{Counted}
+use Rattle.text_lines.specs.declared.counted.Counted.{Counted}
 use Rattle.schedule_replay.specs.declared.fault.Fault.{Fault}
 use Rattle.schedule_replay.specs.declared.fault.FaultKind.{FaultKind}
 use Rattle.schedule_replay.specs.declared.fault.FaultKind.TheVariants.{Read, Write, LineTooLong, TooManyLines, Json, Field, World, Memory}
-use Rattle.schedule_replay.specs.Counted.{device_of}
-use Rattle.schedule_replay.specs.Lines.{lines_of, lfs_in, after_lines, LeavesUnread}
+use Rattle.text_lines.specs.Counted.{device_of}
+use Rattle.text_lines.specs.Lines.{lines_of, lfs_in, after_lines}
+use Rattle.schedule_replay.specs.Fault.{LeavesUnread}
 use Rattle.schedule_replay.specs.Schedule.{AreEntries, schedule_of, FaultsAt, FaultsAtEnd}
 use Rattle.schedule_replay.specs.Show.{WentOutAs}
 

@@ -17,7 +17,8 @@ use Rattle.schedule_lines.specs.declared.schedule.Line.TheVariants as entries
 use Rattle.schedule_lines.specs.Line.{line_of}
 use Rattle.schedule_replay.specs.declared.fault.FaultKind.{FaultKind}
 use Rattle.schedule_replay.specs.declared.fault.FaultKind.TheVariants.{Read, Write, LineTooLong, TooManyLines, Json, Field, World, Memory}
-use Rattle.schedule_replay.specs.Lines.{without_cr, reading_fault, AreRead}
+use Rattle.text_lines.specs.Lines.{without_cr, reading_fault, AreRead}
+use Rattle.text_lines.specs.declared.fault.ReadingFault.TheVariants as reading
 
 -- the JSON value that a line is; None where it isn't UTF-8 or isn't JSON
 abbrev pub value_in : List ℕ → Option Data
@@ -65,8 +66,8 @@ FaultsIn Memory nodes run line = ⊤
 abbrev pub FaultsAt : FaultKind → ℕ → Network → Run → Option (List ℕ) → Type 0
 FaultsAt Read number nodes run line = ⊤
 FaultsAt kind number nodes run None = ⊥
-FaultsAt LineTooLong number nodes run (Some line) = reading_fault number line ≡ Some LineTooLong
-FaultsAt TooManyLines number nodes run (Some line) = reading_fault number line ≡ Some TooManyLines
+FaultsAt LineTooLong number nodes run (Some line) = reading_fault number line ≡ Some reading.LineTooLong
+FaultsAt TooManyLines number nodes run (Some line) = reading_fault number line ≡ Some reading.TooManyLines
 FaultsAt kind number nodes run (Some line) = (reading_fault number line ≡ None) × FaultsIn kind nodes run (without_cr line)
 
 -- the fault at the end of an input of nodes alone: the nodes are no network, or their lines can't be made or written

@@ -1,14 +1,15 @@
 -- What `show` writes, by the lines that it reads.
-use Rattle.std.specs.Prelude.{◌≡◌, ℕ, ◌+◌, ◌≤◌, List, [], ◌∷◌, ◌++◌, length, take, slice_get, is_ok, Option, Some, None, Ok, MatchResult, Result, ⊤, if◌then◌else◌}
+use Rattle.std.specs.Prelude.{◌≡◌, ℕ, ◌+◌, ◌≤◌, List, [], ◌∷◌, ◌++◌, length, take, slice_get, is_ok, option_map, Option, Some, None, Ok, MatchResult, Result, ⊤, if◌then◌else◌}
 use Rattle.std.specs.Option.{ForSome, option_or}
 use Rattle.std.specs.Io.KnownBytes.{Appends}
 use Rattle.hex.specs.Hex.{decode_of}
-use Rattle.schedule_replay.specs.declared.counted.Counted.{Counted}
+use Rattle.text_lines.specs.declared.counted.Counted.{Counted}
 use Rattle.schedule_replay.specs.declared.fault.Fault.{Fault}
 use Rattle.schedule_replay.specs.declared.fault.FaultKind.{FaultKind}
 use Rattle.schedule_replay.specs.declared.fault.FaultKind.TheVariants.{Read, Write, Field, Memory}
-use Rattle.schedule_replay.specs.Counted.{device_of, HasFailed, HasNotFailed}
-use Rattle.schedule_replay.specs.Lines.{lines_of, lfs_in, after_lines, without_cr, reading_fault, LeavesUnread}
+use Rattle.text_lines.specs.Counted.{device_of, HasFailed, HasNotFailed}
+use Rattle.text_lines.specs.Lines.{lines_of, lfs_in, after_lines, without_cr, reading_fault}
+use Rattle.schedule_replay.specs.Fault.{of_reading, LeavesUnread}
 use Rattle.schedule_replay.specs.Shown.{IsShownAs}
 
 -- the digits are a datagram in hexadecimal, and this is its text with an LF
@@ -25,7 +26,7 @@ digits_fault digits = if is_ok (decode_of digits) then None else Some Field
 
 -- the fault of the line of this number, counted from 1
 abbrev pub line_fault : ℕ → List ℕ → Option FaultKind
-line_fault number line = option_or (reading_fault number line) (digits_fault (without_cr line))
+line_fault number line = option_or (option_map of_reading (reading_fault number line)) (digits_fault (without_cr line))
 
 -- lines without a fault, of which the first has this number, are answered one after the other
 abbrev pub ShowsLines : ℕ → List (List ℕ) → List ℕ → Type 0

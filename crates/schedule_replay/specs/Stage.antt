@@ -9,12 +9,12 @@ use Rattle.network_model.specs.Clash.{first_clash}
 use Rattle.world_model.specs.State.{State}
 use Rattle.schedule_lines.specs.declared.schedule.Line.{Line}
 use Rattle.schedule_lines.specs.declared.schedule.Line.TheVariants as entries
-use Rattle.schedule_replay.specs.declared.counted.Counted.{Counted}
+use Rattle.text_lines.specs.declared.counted.Counted.{Counted}
 use Rattle.schedule_replay.specs.declared.fault.FaultKind.{FaultKind}
 use Rattle.schedule_replay.specs.declared.fault.FaultKind.TheVariants.{Read, Write, LineTooLong, TooManyLines, Json, Field, World, Memory}
 use Rattle.schedule_replay.specs.declared.replaying.Stage.{Stage}
 use Rattle.schedule_replay.specs.declared.replaying.Stage.TheVariants.{Nodes, Events}
-use Rattle.schedule_replay.specs.Counted.{HasFailed, HasNotFailed}
+use Rattle.text_lines.specs.Counted.{HasFailed, HasNotFailed}
 use Rattle.schedule_replay.specs.Schedule.{entry_in}
 use Rattle.schedule_replay.specs.Replay.{nodes_text, IsEventLine, NodesWentOut}
 use Rattle.schedule_replay.specs.Show.{WentOutAs}

@@ -4,23 +4,22 @@ ghost use Rattle.std.specs.Option.{ForSome};
 ghost use Rattle.std.specs.Io.KnownBytes.{Appends, Keeps};
 ghost use Rattle.network_model.specs.Clash.{first_clash};
 ghost use Rattle.trace_model.specs.Verdict.{verdict};
-ghost use Rattle.schedule_replay.specs.Counted.{device_of, HasFailed, HasNotFailed};
+ghost use Rattle.text_lines.specs.Counted.{device_of, HasFailed, HasNotFailed};
 ghost use Rattle.schedule_replay.specs.Fault.{FailedWith};
-ghost use Rattle.schedule_replay.specs.Lines.{input_limit, GivesWithin};
+ghost use Rattle.text_lines.specs.Lines.{input_limit, GivesWithin};
 ghost use Rattle.schedule_replay.specs.CheckText.{ChecksAnswer, recorded_in, verdict_text, MistakesIn, MistakesAtEnd};
 ghost use Rattle.schedule_replay.specs.Show.{WentOutAs};
 ghost use Rattle.schedule_replay.specs.Progress.{nodes_of, lines_so_far, IsProgress, HasNodes, HasEvents, TakesRecord, IsCheckerOf, StopsChecker, StopsRecord, IsOwnMistake, IsFromTelling};
 ghost use Rattle.schedule_replay.specs.Stage.{LeavesUnwritten};
 
-use crate::counted::Counted;
 use crate::fault::{Fault, FaultKind};
-use crate::lines::Lines;
 use exchange_check::{Checker, Verdict};
 use network_model::{NodeSpec, Nodes};
 use schedule_lines::TranscriptLine;
 use serde_json::Value;
 use std::alloc::{AllocError, Global};
 use std::io::{Read, Write};
+use text_lines::{Counted, Lines};
 use trace_model::TraceLine;
 
 /// How far a transcript was read.
@@ -200,11 +199,19 @@ pub fn check_text<R: Read, W: Write>(
     while lines.read_next(input)? {
         progress = match progress.after(alloc, lines.line()) {
             Ok(next) => next,
-            Err(what) => return Err(lines.fault(what)),
+            Err(what) => {
+                return Err(Fault {
+                    line: lines.count(),
+                    what,
+                });
+            }
         };
     }
     match progress.finish(alloc, output) {
         Ok(verdict) => Ok(verdict),
-        Err(what) => Err(lines.fault_after(what)),
+        Err(what) => Err(Fault {
+            line: lines.count() + 1,
+            what,
+        }),
     }
 }

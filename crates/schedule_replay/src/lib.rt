@@ -2,12 +2,9 @@
 #![tactic(auto)]
 
 mod checking;
-mod counted;
 mod fault;
 mod help;
 pub mod laws;
-mod lines;
-mod octet_reader;
 mod program;
 mod replaying;
 mod showing;
@@ -15,9 +12,8 @@ mod shown;
 mod words;
 
 pub use checking::check_text;
-pub use counted::Counted;
 pub use fault::{Fault, FaultKind};
-pub use octet_reader::OctetReader;
 pub use program::command;
 pub use replaying::replay;
 pub use showing::show;
+pub use text_lines::{Counted, OctetReader};

@@ -1,15 +1,14 @@
 ghost use Rattle.std.specs.Prelude.{◌≡◌, ◌≢◌, ◌⊎◌, map, string_bytes};
 ghost use Rattle.std.specs.Option.{ForSome};
 ghost use Rattle.schedule_replay.specs.Program.{AsksShow, AsksReplay, AsksCheck, AsksNothing, EndsRun, EndsUnread, status_of, check_status};
-ghost use Rattle.schedule_replay.specs.Lines.{input_limit, GivesWithin};
-ghost use Rattle.schedule_replay.specs.Counted.{device_of};
+ghost use Rattle.text_lines.specs.Lines.{input_limit, GivesWithin};
+ghost use Rattle.text_lines.specs.Counted.{device_of};
 ghost use Rattle.schedule_replay.specs.Show.{ShowsAnswer};
 ghost use Rattle.schedule_replay.specs.Replay.{ReplaysAnswer};
 ghost use Rattle.schedule_replay.specs.CheckText.{ChecksAnswer};
 ghost use Rattle.schedule_replay.specs.Words.{HasHelpFlag, NamesNothing};
 
 use crate::checking::check_text;
-use crate::counted::Counted;
 use crate::fault::{Fault, FaultKind};
 use crate::replaying::replay;
 use crate::showing::show;
@@ -17,6 +16,7 @@ use crate::words::{Invocation, Subcommand, parse};
 use exchange_check::Verdict;
 use std::alloc::Global;
 use std::io::{Read, Write};
+use text_lines::Counted;
 
 /// The whole program over its arguments, of which the first is its own name: runs the subcommand that
 /// they name, and answers the exit status. Status 0: done or accepted, or help was asked for, which

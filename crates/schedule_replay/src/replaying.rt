@@ -7,22 +7,21 @@ ghost use Rattle.serde_json.specs.Written.{has_float};
 ghost use Rattle.network_model.specs.Clash.{first_clash};
 ghost use Rattle.world_model.specs.State.{new_state, after};
 ghost use Rattle.schedule_lines.specs.Transcript.{line_text};
-ghost use Rattle.schedule_replay.specs.Counted.{device_of, HasNotFailed};
+ghost use Rattle.text_lines.specs.Counted.{device_of, HasNotFailed};
 ghost use Rattle.schedule_replay.specs.Fault.{FailedWith};
-ghost use Rattle.schedule_replay.specs.Lines.{input_limit, GivesWithin};
+ghost use Rattle.text_lines.specs.Lines.{input_limit, GivesWithin};
 ghost use Rattle.schedule_replay.specs.Schedule.{entry_in, FaultsIn, FaultsAtEnd};
 ghost use Rattle.schedule_replay.specs.Replay.{nodes_text, NodesWentOut, IsEventLine, ReplaysAnswer};
 ghost use Rattle.schedule_replay.specs.Show.{WentOutAs};
 ghost use Rattle.schedule_replay.specs.Stage.{nodes_of, run_of, begun_of, owed_by, IsStage, IsBegun, IsWorldOf, HasNodes, TakesLine, ShowsFault, IsOwnFault, LeavesUnwritten, WritesNone, StopsEvent, IsFromReplaying};
 
-use crate::counted::Counted;
 use crate::fault::{Fault, FaultKind};
-use crate::lines::Lines;
 use network_model::{Event, NodeSpec, Nodes};
 use schedule_lines::{Line, event_value, line_text, node_value};
 use serde_json::Value;
 use std::alloc::Global;
 use std::io::{Read, Write};
+use text_lines::{Counted, Lines};
 use trace_model::TraceLine;
 use world_model::World;
 
@@ -214,11 +213,19 @@ pub fn replay<R: Read, W: Write>(
     while lines.read_next(input)? {
         stage = match stage.after(alloc, lines.line(), output) {
             Ok(next) => next,
-            Err(what) => return Err(lines.fault(what)),
+            Err(what) => {
+                return Err(Fault {
+                    line: lines.count(),
+                    what,
+                });
+            }
         };
     }
     match stage.into_world(alloc, output) {
         Ok(world) => Ok(world.len()),
-        Err(what) => Err(lines.fault_after(what)),
+        Err(what) => Err(Fault {
+            line: lines.count() + 1,
+            what,
+        }),
     }
 }

@@ -2,17 +2,16 @@ ghost use Rattle.std.specs.Prelude.{◌≡◌, ◌≤◌, length, MatchResult, �
 ghost use Rattle.std.specs.Option.{ForSome};
 ghost use Rattle.std.specs.String.{string_bytes};
 ghost use Rattle.std.specs.Io.KnownBytes.{Appends, Keeps};
-ghost use Rattle.schedule_replay.specs.Counted.{device_of, HasNotFailed};
+ghost use Rattle.text_lines.specs.Counted.{device_of, HasNotFailed};
 ghost use Rattle.schedule_replay.specs.Fault.{FailedWith};
-ghost use Rattle.schedule_replay.specs.Lines.{input_limit, line_limit, GivesWithin};
+ghost use Rattle.text_lines.specs.Lines.{input_limit, line_limit, GivesWithin};
 ghost use Rattle.schedule_replay.specs.Show.{IsAnswer, digits_fault, own_fault, WentOutAs, IsFromAnswering, ShowsAnswer};
 
-use crate::counted::Counted;
 use crate::fault::{Fault, FaultKind};
-use crate::lines::{LINE_LIMIT, Lines};
 use crate::shown::push_datagram;
 use std::alloc::Global;
 use std::io::{Read, Write};
+use text_lines::{Counted, LINE_LIMIT, Lines};
 
 /// The most octets of a datagram, which is written in two digits each.
 const DATAGRAM_LIMIT: usize = LINE_LIMIT / 2;
@@ -78,7 +77,10 @@ pub fn show<R: Read, W: Write>(
     let mut text = String::new(alloc);
     while lines.read_next(input)? {
         if let Err(what) = show_line(lines.line(), &mut text, output) {
-            return Err(lines.fault(what));
+            return Err(Fault {
+                line: lines.count(),
+                what,
+            });
         }
     }
     Ok(lines.count())

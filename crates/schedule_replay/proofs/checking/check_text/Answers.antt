@@ -1,7 +1,7 @@
 use Rattle.std.proofs.Common.{◌+◌, rules, ◌∙◌, ap}
 use Rattle.std.proofs.lemmas.Result.{err_from_is_err_and}
 use Rattle.schedule_replay.proofs.CheckedLines.{checked_all, checked_more, stopped_reading, stopped_taking, stopped_at_end, at_line}
-use Rattle.schedule_replay.proofs.Bounds.{line_more, input_within}
+use Rattle.text_lines.proofs.Bounds.{line_more, input_within}
 use Rattle.schedule_replay.proofs.checking.check_text.Goals as goal
 
 pub returns-in_err-read_next-clause-checked : goal.returns-in_err-read_next-clause-checked
@@ -10,8 +10,9 @@ returns-in_err-read_next-clause-checked g c =
     λ octets known.
     let so_far = c.loop-progress.invariant.checked octets known in
     let read = c.in_err-read_next.ensures in
-    rw (p.1, p.2) (at_line octets _ _ _ _ _ read.count
-    (stopped_reading octets _ _ _ _ _ _ _ _ c.loop-progress.invariant.progress (rw read.before_end at so_far) (read.next _ so_far.input) read.failures))
+    let from = p.2 in
+    rw p.1 (at_line octets _ _ _ _ _ (from.0 ∙ read.count) (rw from.1
+    (stopped_reading octets _ _ _ _ _ _ c.loop-progress.invariant.progress (rw read.before_end at so_far) (read.next _ so_far.input))))
 
 pub loop-progress-preserved : goal.loop-progress-preserved
 loop-progress-preserved g c = record {
@@ -35,7 +36,7 @@ returns-in-Err-clause-checked g c =
     let read = c.in_ok-read_next.ensures in
     let count = rw c.if-branch.true at read.count in
     let line = rw c.if-branch.true at (read.next _ so_far.input) in
-    at_line octets _ _ _ _ _ (c.fault.ensures.line ∙ count) (rw c.fault.ensures.what
+    at_line octets _ _ _ _ _ (c.count.ensures ∙ count) (
     (stopped_taking octets _ _ _ _ _ _ _ _ c.loop-progress.invariant.progress (rw (read.before_end c.if-branch.true) at so_far) line
     (rw c.line.ensures.line at c.in-Err.ensures.taken)))
 
@@ -53,7 +54,7 @@ returns-in-Err-finish-clause-checked g c =
     let read = c.in_ok-read_next.ensures in
     let count = rw c.if-branch.false at read.count in
     let end = rw c.if-branch.false at (read.next _ so_far.input) in
-    at_line octets _ _ _ _ _ (c.fault_after.ensures.line ∙ ap (λ n. n + 1) count) (rw c.fault_after.ensures.what
+    at_line octets _ _ _ _ _ (ap (λ n. n + 1) (c.count-in-Err-finish.ensures ∙ count)) (
     (stopped_at_end octets _ _ _ _ _ _ _ _ c.loop-progress.invariant.progress so_far end.0 end.1
     c.in-Err-finish.ensures.told.0 c.in-Err-finish.ensures.told.1))
 

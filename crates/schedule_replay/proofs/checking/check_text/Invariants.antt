@@ -2,8 +2,8 @@
 use Rattle.std.proofs.Common.{◌≡◌, ℕ, List, ◌+◌, ◌-◌, ◌*◌, Some}
 use Rattle.std.specs.Prelude.{IsTrue}
 use Rattle.std.specs.Io.KnownBytes.{IsAtEnd}
-use Rattle.schedule_replay.specs.Counted.{device_of, HasNotFailed}
-use Rattle.schedule_replay.specs.Lines.{line_limit, lines_limit, GivesWithin}
+use Rattle.text_lines.specs.Counted.{device_of, HasNotFailed}
+use Rattle.text_lines.specs.Lines.{line_limit, lines_limit, GivesWithin}
 use Rattle.schedule_replay.specs.Progress.{IsProgress}
 use Rattle.schedule_replay.proofs.CheckedLines.{HasChecked}
 use Rattle.schedule_replay.proofs.checking.check_text.Given as goal

@@ -1,7 +1,7 @@
 use Rattle.std.proofs.Common.{◌+◌, ◌∙◌, ap, ℕ, rules}
 use Rattle.std.proofs.lemmas.Result.{err_from_is_err_and}
 use Rattle.schedule_replay.proofs.ReplayedLines.{replayed_all, replayed_more, stopped_reading, stopped_taking, stopped_at_end, at_line}
-use Rattle.schedule_replay.proofs.Bounds.{line_more, input_within}
+use Rattle.text_lines.proofs.Bounds.{line_more, input_within}
 use Rattle.schedule_replay.proofs.replaying.replay.Goals as goal
 
 pub returns-in_err-read_next-clause-replayed : goal.returns-in_err-read_next-clause-replayed
@@ -10,8 +10,9 @@ returns-in_err-read_next-clause-replayed g c =
     λ octets known.
     let so_far = c.loop-stage.invariant.replayed octets known in
     let read = c.in_err-read_next.ensures in
-    rw (e.1, e.2) (at_line octets _ _ _ _ _ read.count
-    (stopped_reading octets _ _ c.loop-stage.stage _ _ _ _ _ _ c.loop-stage.invariant.stage (rw read.before_end at so_far) (read.next _ so_far.input) read.failures))
+    let from = e.2 in
+    rw e.1 (at_line octets _ _ _ _ _ (from.0 ∙ read.count) (rw from.1
+    (stopped_reading octets _ _ c.loop-stage.stage _ _ _ _ c.loop-stage.invariant.stage (rw read.before_end at so_far) (read.next _ so_far.input))))
 
 pub returns-in_err-read_next-clause-bounded : goal.returns-in_err-read_next-clause-bounded
 returns-in_err-read_next-clause-bounded g c = input_within _ c.loop-stage.lines.count _ _ _ (search rules) c.loop-stage.invariant.bounded c.in_err-read_next.ensures.given
@@ -41,7 +42,7 @@ returns-in-Err-clause-replayed g c =
     let count = rw c.if-branch.true at read.count in
     let line = rw c.if-branch.true at (read.next _ so_far.input) in
     let stops = c.in-Err.ensures.taken in
-    at_line octets _ _ _ _ _ (c.fault.ensures.line ∙ count) (rw c.fault.ensures.what
+    at_line octets _ _ _ _ _ (c.count.ensures ∙ count) (
     (stopped_taking octets _ _ _ c.loop-stage.stage _ _ _ _ _ _ c.loop-stage.invariant.stage (rw (read.before_end c.if-branch.true) at so_far) line
     (rw c.line.ensures.line at stops.0) stops.1))
 
@@ -68,7 +69,7 @@ returns-in-Err-into_world-clause-replayed g c =
     let count = rw c.if-branch.false at read.count in
     let end = rw c.if-branch.false at (read.next _ so_far.input) in
     let stops = c.in-Err-into_world.ensures.world in
-    at_line octets _ _ _ _ _ (c.fault_after.ensures.line ∙ ap (λ (n : ℕ). n + 1) count) (rw c.fault_after.ensures.what
+    at_line octets _ _ _ _ _ (ap (λ (n : ℕ). n + 1) (c.count-in-Err-into_world.ensures ∙ count)) (
     (stopped_at_end octets _ _ _ c.loop-stage.stage _ _ _ _ _ c.loop-stage.invariant.stage so_far end.0 end.1 stops.0 stops.1 stops.2))
 
 pub returns-in-Err-into_world-clause-bounded : goal.returns-in-Err-into_world-clause-bounded

@@ -1,0 +1,5 @@
+pub mod KnownOctets
+pub mod ReadAhead
+pub mod Cutting
+pub mod Reading
+pub mod Bounds

@@ -1,0 +1,20 @@
+/// Why a line can't be read.
+#[derive(Clone, Copy, Debug, PartialEq, Eq)]
+pub enum ReadingFault {
+    /// The reader failed.
+    Read,
+    /// A line has more than 4,096 octets before its LF.
+    LineTooLong,
+    /// There is an octet after the last line that is allowed, the 1,048,576th.
+    TooManyLines,
+}
+
+/// What ended the reading and answering of lines, and where.
+#[derive(Clone, Copy, Debug, PartialEq, Eq)]
+pub struct Stopped<F> {
+    /// The line that was being read or answered, counted from 1. After the last line this is the
+    /// number that the next one would have.
+    pub line: u64,
+    /// What went wrong.
+    pub what: F,
+}
