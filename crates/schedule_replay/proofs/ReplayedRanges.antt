@@ -21,8 +21,9 @@ use Rattle.text_lines.specs.Lines.{lines_of, lines_limit, line_limit, without_cr
 use Rattle.schedule_replay.specs.Schedule.{value_in, entry_of_value, AreEntries, schedule_of}
 use Rattle.schedule_replay.specs.Accepted.{IsInRange, EachReplayIsAccepted}
 use Rattle.schedule_replay.proofs.ToldLines.{IsExact}
-use Rattle.schedule_replay.proofs.OneTranscript.{accepted_by}
-use Rattle.schedule_replay.proofs.NoMistakes.{checked_by}
+use Rattle.schedule_replay.specs.CheckText.{ChecksAll, ChecksUntil}
+use Rattle.schedule_replay.proofs.OneTranscript.{accepted_by, checked_by}
+use Rattle.schedule_replay.proofs.Replayed.{replayed}
 
 -- ---- what was read
 
@@ -98,6 +99,10 @@ ranged octets nodes run h =
 -- what was replayed is accepted
 pub replay_accepted : (premise : Premise) → IsExact premise → MissesNothing premise → EachReplayIsAccepted premise
 replay_accepted premise exact misses octets left before after events r holds left' before' after' (Ok answer) checks =
-    accepted_by premise exact misses r.nodes r.run r.text left' before' after' answer holds (ranged octets r.nodes r.run r.schedule) r.transcript checks
+    let is = replayed octets left before after events r in
+    accepted_by premise exact misses r.state.network r.state.run is.text left' before' after' answer holds (ranged octets r.state.network r.state.run is.schedule) is.transcript
+    (subst (λ (t : List ℕ). ChecksAll t left' before' after' answer) is.whole checks)
 replay_accepted premise exact misses octets left before after events r holds left' before' after' (Err stop) checks =
-    checked_by premise exact r.nodes r.run r.text left' before' after' stop r.network holds (ranged octets r.nodes r.run r.schedule) r.transcript checks
+    let is = replayed octets left before after events r in
+    checked_by premise exact r.state.network r.state.run is.text left' before' after' stop r.ends.0 holds (ranged octets r.state.network r.state.run is.schedule) is.transcript
+    (subst (λ (t : List ℕ). ChecksUntil t left' before' after' stop) is.whole checks)

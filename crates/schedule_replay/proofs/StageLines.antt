@@ -14,8 +14,10 @@ use Rattle.schedule_replay.specs.declared.fault.FaultKind.TheVariants.{Read, Wri
 use Rattle.schedule_replay.specs.declared.replaying.Stage.{Stage}
 use Rattle.schedule_replay.specs.declared.replaying.Stage.TheVariants.{Nodes, Events}
 use Rattle.schedule_replay.specs.Schedule.{entry_in, FaultsIn, FaultsAtEnd}
-use Rattle.schedule_replay.specs.Replay.{nodes_text, IsEventLine}
-use Rattle.schedule_replay.specs.Stage.{nodes_of, run_of, begun_of, owed_by, IsStage, IsBegun, HasNodes, IsWorldOf, TakesLine, IsOwnFault, WritesAtFault, ShowsFault, WritesNone, StopsEvent}
+use Rattle.schedule_lines.specs.declared.schedule.Line.{Line}
+use Rattle.schedule_replay.specs.Replay.{nodes_text, IsEventLine, owed}
+use Rattle.schedule_replay.specs.Replay as replays
+use Rattle.schedule_replay.specs.Stage.{nodes_of, run_of, begun_of, owed_by, IsStage, IsBegun, HasNodes, IsWorldOf, TakesLine, IsOwnFault, WritesAtFault, ShowsFault, WritesNone, StopsEvent, Follows, state_of}
 
 -- what is said of a line with a fault
 abbrev pub Stops : FaultKind → Stage → List ℕ → Option (List ℕ) → Option (List ℕ) → Type 0
@@ -126,3 +128,26 @@ event_taken stage world later line event before now written_out is (world_is, ne
   ),
   Appends-trans before now written_out (owed_by stage) text owed appended,
 )
+
+-- ---- what is known of nodes and run alone
+
+owed_none : (world : State) → world.run ≢ [] → [] ≡ owed world.network world.run
+owed_none world begun = go world.run begun
+  where
+    go : (run : List Event) → run ≢ [] → [] ≡ owed world.network run
+    go [] begun = absurd (begun refl)
+    go (event ∷ earlier) begun = refl
+
+owed_is : (stage : Stage) → IsStage stage → owed_by stage ≡ owed (nodes_of stage) (run_of stage)
+owed_is (Nodes nodes) is = refl
+owed_is (Events world) is = owed_none world is.0
+
+-- what a line does
+pub follows_so : (entry : Line) (stage next : Stage) (written : List ℕ) → IsStage stage → Follows entry stage next written
+    → replays.Follows entry (state_of stage) (state_of next) written
+follows_so (entries.Node node) stage (Nodes nodes) written is (first, unbegun, nodes_are, none) =
+    (first, ap (λ (n : List NodeSpec). record { network = n; run = [] }) nodes_are, none)
+follows_so (entries.Node node) stage (Events world) written is (first, unbegun, nodes_are, none) = absurd nodes_are
+follows_so (entries.Event event) stage (Nodes nodes) written is (world_is, network, line, is_line, all) = absurd world_is
+follows_so (entries.Event event) stage (Events world) written is (world_is, network, line, is_line, all) =
+    (network, world_is, line, is_line, all ∙ ap (λ (t : List ℕ). t ++ line) (owed_is stage is))

@@ -81,6 +81,6 @@ AnswersAcceptance reports answer = MatchResult answer (λ verdict. verdict ≡ A
 abbrev pub EachReplayIsAccepted : Premise → Type 0
 EachReplayIsAccepted premise =
     (octets : List ℕ) (left before after : Option (List ℕ)) (events : ℕ) (replayed : ReplaysAll octets left before after events)
-    → premise replayed.nodes replayed.run → (left' before' after' : Option (List ℕ)) (answer : Result Verdict Fault)
-    → Checks (nodes_text replayed.nodes ++ replayed.text) left' before' after' answer
-    → AnswersAcceptance (reports_in replayed.nodes replayed.run) answer
+    → premise replayed.state.network replayed.state.run → (left' before' after' : Option (List ℕ)) (answer : Result Verdict Fault)
+    → Checks (replayed.text ++ replayed.last) left' before' after' answer
+    → AnswersAcceptance (reports_in replayed.state.network replayed.state.run) answer

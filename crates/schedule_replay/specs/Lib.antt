@@ -1,4 +1,5 @@
 pub mod Fault
+pub mod Answer
 pub mod Shown
 pub mod Show
 pub mod Schedule

@@ -9,10 +9,8 @@ use Rattle.schedule_lines.specs.declared.traced.TranscriptLine.TheVariants as re
 use Rattle.schedule_replay.specs.declared.checking.Progress.{Progress}
 use Rattle.schedule_replay.specs.declared.checking.Progress.TheVariants.{Nodes, Events}
 use Rattle.schedule_replay.specs.declared.fault.FaultKind.{FaultKind}
-use Rattle.schedule_replay.specs.declared.fault.FaultKind.TheVariants.{Write, Json, Field, World, Memory}
-use Rattle.text_lines.specs.declared.counted.Counted.{Counted}
-use Rattle.text_lines.specs.Counted.{HasFailed, HasNotFailed}
-use Rattle.schedule_replay.specs.CheckText.{recorded_in}
+use Rattle.schedule_replay.specs.declared.fault.FaultKind.TheVariants.{Json, Field, World, Memory}
+use Rattle.schedule_replay.specs.CheckText.{Recorded, recorded_in}
 
 -- the nodes so far
 abbrev pub nodes_of : Progress → Network
@@ -23,6 +21,10 @@ nodes_of (Events checker) = checker.network
 abbrev pub lines_so_far : Progress → Lines
 lines_so_far (Nodes nodes) = []
 lines_so_far (Events checker) = reverse checker.lines
+
+-- what is known of both
+abbrev pub recorded_of : Progress → Recorded
+recorded_of progress = record { nodes = nodes_of progress; lines = lines_so_far progress }
 
 -- a checker began at an event, and with nodes that are a network
 abbrev pub IsProgress : Progress → Type 0
@@ -71,10 +73,3 @@ StopsRecord kind nodes lines number = ⊥
 -- a fault of the line alone
 abbrev pub IsOwnMistake : FaultKind → List ℕ → Type 0
 IsOwnMistake kind line = ((kind ≡ Json) ⊎ (kind ≡ Field)) × (recorded_in line ≡ Err kind)
-
--- the kinds of fault in telling a verdict, of which one says that the writer failed
-abbrev pub IsFromTelling : {W : Type 0} → FaultKind → Counted W → Counted W → Type 0
-IsFromTelling Write old new = HasFailed old new
-IsFromTelling (World why) old new = HasNotFailed old new
-IsFromTelling Memory old new = HasNotFailed old new
-IsFromTelling kind old new = ⊥

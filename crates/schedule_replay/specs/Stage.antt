@@ -9,15 +9,14 @@ use Rattle.network_model.specs.Clash.{first_clash}
 use Rattle.world_model.specs.State.{State}
 use Rattle.schedule_lines.specs.declared.schedule.Line.{Line}
 use Rattle.schedule_lines.specs.declared.schedule.Line.TheVariants as entries
-use Rattle.text_lines.specs.declared.counted.Counted.{Counted}
 use Rattle.schedule_replay.specs.declared.fault.FaultKind.{FaultKind}
-use Rattle.schedule_replay.specs.declared.fault.FaultKind.TheVariants.{Read, Write, LineTooLong, TooManyLines, Json, Field, World, Memory}
+use Rattle.schedule_replay.specs.declared.fault.FaultKind.TheVariants.{Write, Json, Field, World, Memory}
 use Rattle.schedule_replay.specs.declared.replaying.Stage.{Stage}
 use Rattle.schedule_replay.specs.declared.replaying.Stage.TheVariants.{Nodes, Events}
-use Rattle.text_lines.specs.Counted.{HasFailed, HasNotFailed}
 use Rattle.schedule_replay.specs.Schedule.{entry_in}
-use Rattle.schedule_replay.specs.Replay.{nodes_text, IsEventLine, NodesWentOut}
-use Rattle.schedule_replay.specs.Show.{WentOutAs}
+use Rattle.schedule_replay.specs.Replay.{nodes_text, IsEventLine, NodesGoOut}
+use Rattle.text_lines.specs.Task.{WentOut}
+use Rattle.schedule_replay.specs.Fault.{is_of_writer}
 
 -- the nodes so far
 abbrev pub nodes_of : Stage → Network
@@ -28,6 +27,10 @@ nodes_of (Events world) = world.network
 abbrev pub run_of : Stage → Run
 run_of (Nodes nodes) = []
 run_of (Events world) = world.run
+
+-- what is known of both
+abbrev pub state_of : Stage → State
+state_of stage = record { network = nodes_of stage; run = run_of stage }
 
 -- what went out of the nodes' lines
 abbrev pub begun_of : Stage → List ℕ
@@ -77,12 +80,12 @@ TakesLine line stage next written = (entry : Line) × (entry_in line ≡ Ok entr
 
 -- what goes out of the nodes' lines at a fault
 abbrev pub WritesAtFault : FaultKind → Stage → List ℕ → Type 0
-WritesAtFault kind (Nodes nodes) written = NodesWentOut kind nodes.items written
+WritesAtFault kind (Nodes nodes) written = NodesGoOut kind nodes.items written
 WritesAtFault kind (Events world) written = written ≡ []
 
 -- what the output shows of it, where the writer didn't fail
 abbrev pub ShowsFault : FaultKind → Stage → Option (List ℕ) → Option (List ℕ) → Type 0
-ShowsFault kind stage before after = (written : List ℕ) × WritesAtFault kind stage written × WentOutAs kind (Appends before after written)
+ShowsFault kind stage before after = (written : List ℕ) × WritesAtFault kind stage written × WentOut (is_of_writer kind) (Appends before after written)
 
 -- a fault of the line alone
 abbrev pub IsOwnFault : FaultKind → List ℕ → Type 0
@@ -107,14 +110,3 @@ StopsEvent Memory world event = ⊤
 StopsEvent (World why) world event = outcome_of world.network world.run event ≡ Err why
 StopsEvent Write world event = IsOk (outcome_of world.network world.run event)
 StopsEvent kind world event = ⊥
-
--- the kinds of fault after a line was read, of which one says that the writer failed
-abbrev pub IsFromReplaying : {W : Type 0} → FaultKind → Counted W → Counted W → Type 0
-IsFromReplaying Write old new = HasFailed old new
-IsFromReplaying Json old new = HasNotFailed old new
-IsFromReplaying Field old new = HasNotFailed old new
-IsFromReplaying (World why) old new = HasNotFailed old new
-IsFromReplaying Memory old new = HasNotFailed old new
-IsFromReplaying Read old new = ⊥
-IsFromReplaying LineTooLong old new = ⊥
-IsFromReplaying TooManyLines old new = ⊥

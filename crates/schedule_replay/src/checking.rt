@@ -4,12 +4,12 @@ ghost use Rattle.std.specs.Option.{ForSome};
 ghost use Rattle.std.specs.Io.KnownBytes.{Appends, Keeps};
 ghost use Rattle.network_model.specs.Clash.{first_clash};
 ghost use Rattle.trace_model.specs.Verdict.{verdict};
-ghost use Rattle.text_lines.specs.Counted.{device_of, HasFailed, HasNotFailed};
-ghost use Rattle.schedule_replay.specs.Fault.{FailedWith};
+ghost use Rattle.text_lines.specs.Counted.{device_of, failures_of, HasNotFailed};
+ghost use Rattle.schedule_replay.specs.Fault.{is_of_writer, FailedWith, WriterFails};
 ghost use Rattle.text_lines.specs.Lines.{input_limit, GivesWithin};
-ghost use Rattle.schedule_replay.specs.CheckText.{ChecksAnswer, recorded_in, verdict_text, MistakesIn, MistakesAtEnd};
-ghost use Rattle.schedule_replay.specs.Show.{WentOutAs};
-ghost use Rattle.schedule_replay.specs.Progress.{nodes_of, lines_so_far, IsProgress, HasNodes, HasEvents, TakesRecord, IsCheckerOf, StopsChecker, StopsRecord, IsOwnMistake, IsFromTelling};
+ghost use Rattle.schedule_replay.specs.CheckText.{Recorded, check_rules, ChecksAnswer, recorded_in, verdict_text, MistakesIn, MistakesAtEnd};
+ghost use Rattle.text_lines.specs.Task.{WentOut};
+ghost use Rattle.schedule_replay.specs.Progress.{nodes_of, lines_so_far, IsProgress, HasNodes, HasEvents, TakesRecord, IsCheckerOf, StopsChecker, StopsRecord, IsOwnMistake, recorded_of};
 ghost use Rattle.schedule_replay.specs.Stage.{LeavesUnwritten};
 
 use crate::fault::{Fault, FaultKind};
@@ -19,7 +19,7 @@ use schedule_lines::TranscriptLine;
 use serde_json::Value;
 use std::alloc::{AllocError, Global};
 use std::io::{Read, Write};
-use text_lines::{Counted, Lines};
+use text_lines::{Counted, LineTask, answer_lines};
 use trace_model::TraceLine;
 
 /// How far a transcript was read.
@@ -29,6 +29,39 @@ enum Progress {
     Nodes(Vec<NodeSpec>),
     /// A checker of its nodes was fed what was recorded of events.
     Events(Checker),
+}
+
+/// Checks each line of a transcript.
+#[derive(Drop)]
+struct Checking {
+    alloc: Global,
+    progress: Progress,
+}
+
+impl LineTask for Checking {
+    type Answer = Verdict;
+
+    type Fault = FaultKind;
+
+    ghost State = { Recorded };
+
+    ghost rules = { check_rules };
+
+    ghost is_at = { λ task state. (recorded_of task.progress ≡ state) × IsProgress task.progress };
+
+    ghost fails = { WriterFails };
+
+    fn take<W: Write>(self, line: &[u8], _output: &mut Counted<W>) -> Result<Checking, FaultKind> {
+        let Checking { alloc, progress } = self;
+        let progress = progress.after(alloc, line)?;
+        Ok(Checking { alloc, progress })
+    }
+
+    /// The verdict on all events, which is written.
+    fn finish<W: Write>(self, _lines: u64, output: &mut Counted<W>) -> Result<Verdict, FaultKind> {
+        let Checking { alloc, progress } = self;
+        progress.finish(alloc, output)
+    }
 }
 
 impl Progress {
@@ -112,10 +145,10 @@ impl Progress {
             MatchResult result
             (λ answer. (answer ≡ verdict (nodes_of self) (lines_so_far self)) × (first_clash (nodes_of self) ≡ None)
             × Appends before after (verdict_text answer))
-            (λ kind. MistakesAtEnd kind (nodes_of self) (lines_so_far self) × WentOutAs kind (Keeps before after)) }
+            (λ kind. MistakesAtEnd kind (nodes_of self) (lines_so_far self) × WentOut (is_of_writer kind) (Keeps before after)) }
         ensures failures { MatchResult result
             (λ _. HasNotFailed output.old output.new)
-            (λ kind. IsFromTelling kind output.old output.new) }
+            (λ kind. WriterFails kind (failures_of output.old) (failures_of output.new)) }
     {
         let verdict = self.into_checker(alloc)?.verdict();
         write_verdict(alloc, verdict, output)?;
@@ -165,7 +198,7 @@ fn write_verdict<W: Write>(
         (λ kind. LeavesUnwritten kind before after) }
     ensures failures { MatchResult result
         (λ _. HasNotFailed output.old output.new)
-        (λ kind. IsFromTelling kind output.old output.new) }
+        (λ kind. WriterFails kind (failures_of output.old) (failures_of output.new)) }
 {
     let text = verdict_text(alloc, verdict)?;
     match output.write_all(text.as_bytes()) {
@@ -194,24 +227,9 @@ pub fn check_text<R: Read, W: Write>(
     ensures bounded { GivesWithin R.remaining input_limit input.old input.new }
     ensures failures { FailedWith result input.old input.new output.old output.new }
 {
-    let mut lines = Lines::new();
-    let mut progress = Progress::Nodes(Vec::new(alloc));
-    while lines.read_next(input)? {
-        progress = match progress.after(alloc, lines.line()) {
-            Ok(next) => next,
-            Err(what) => {
-                return Err(Fault {
-                    line: lines.count(),
-                    what,
-                });
-            }
-        };
-    }
-    match progress.finish(alloc, output) {
-        Ok(verdict) => Ok(verdict),
-        Err(what) => Err(Fault {
-            line: lines.count() + 1,
-            what,
-        }),
-    }
+    let task = Checking {
+        alloc,
+        progress: Progress::Nodes(Vec::new(alloc)),
+    };
+    Ok(answer_lines(task, input, output)?)
 }

@@ -6,7 +6,7 @@ use network_model::WorldRefusal;
 use std::alloc::{AllocError, AllocFailed};
 use std::fmt;
 use std::fmt::{Display, Formatter};
-use text_lines::{ReadingFault, Stopped};
+use text_lines::{Cause, ReadingFault, Stopped};
 use thiserror::Error;
 
 /// A fault that ended the reading of lines, and where. The display text says both in words.
@@ -104,15 +104,19 @@ impl From<ReadingFault> for FaultKind {
     }
 }
 
-impl From<Stopped<ReadingFault>> for Fault {
-    ghost use Rattle.schedule_replay.specs.Fault.{of_reading};
+impl From<Stopped<Cause<FaultKind>>> for Fault {
+    ghost use Rattle.schedule_replay.specs.Fault.{kind_of};
 
-    ghost from_gives = { λ stop fault. (fault.line ≡ stop.line) × (fault.what ≡ of_reading stop.what) };
+    ghost from_gives = { λ stop fault. (fault.line ≡ stop.line) × (fault.what ≡ kind_of stop.what) };
 
-    fn from(stop: Stopped<ReadingFault>) -> Fault {
+    fn from(stop: Stopped<Cause<FaultKind>>) -> Fault {
+        let what = match stop.what {
+            Cause::Reading(fault) => fault.into(),
+            Cause::Task(kind) => kind,
+        };
         Fault {
             line: stop.line,
-            what: stop.what.into(),
+            what,
         }
     }
 }

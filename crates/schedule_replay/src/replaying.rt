@@ -5,15 +5,15 @@ ghost use Rattle.std.specs.Io.KnownBytes.{Appends};
 ghost use Rattle.serde_json.specs.View.{view};
 ghost use Rattle.serde_json.specs.Written.{has_float};
 ghost use Rattle.network_model.specs.Clash.{first_clash};
-ghost use Rattle.world_model.specs.State.{new_state, after};
+ghost use Rattle.world_model.specs.State.{State, new_state, after};
 ghost use Rattle.schedule_lines.specs.Transcript.{line_text};
-ghost use Rattle.text_lines.specs.Counted.{device_of, HasNotFailed};
-ghost use Rattle.schedule_replay.specs.Fault.{FailedWith};
+ghost use Rattle.text_lines.specs.Counted.{device_of, failures_of, HasNotFailed};
+ghost use Rattle.schedule_replay.specs.Fault.{is_of_writer, FailedWith, WriterFails};
 ghost use Rattle.text_lines.specs.Lines.{input_limit, GivesWithin};
 ghost use Rattle.schedule_replay.specs.Schedule.{entry_in, FaultsIn, FaultsAtEnd};
-ghost use Rattle.schedule_replay.specs.Replay.{nodes_text, NodesWentOut, IsEventLine, ReplaysAnswer};
-ghost use Rattle.schedule_replay.specs.Show.{WentOutAs};
-ghost use Rattle.schedule_replay.specs.Stage.{nodes_of, run_of, begun_of, owed_by, IsStage, IsBegun, IsWorldOf, HasNodes, TakesLine, ShowsFault, IsOwnFault, LeavesUnwritten, WritesNone, StopsEvent, IsFromReplaying};
+ghost use Rattle.schedule_replay.specs.Replay.{nodes_text, NodesGoOut, IsEventLine, ReplaysAnswer, replay_rules};
+ghost use Rattle.text_lines.specs.Task.{WentOut};
+ghost use Rattle.schedule_replay.specs.Stage.{nodes_of, run_of, begun_of, owed_by, IsStage, IsBegun, IsWorldOf, HasNodes, TakesLine, ShowsFault, IsOwnFault, LeavesUnwritten, WritesNone, StopsEvent, state_of};
 
 use crate::fault::{Fault, FaultKind};
 use network_model::{Event, NodeSpec, Nodes};
@@ -21,7 +21,7 @@ use schedule_lines::{Line, event_value, line_text, node_value};
 use serde_json::Value;
 use std::alloc::Global;
 use std::io::{Read, Write};
-use text_lines::{Counted, Lines};
+use text_lines::{Counted, LineTask, answer_lines};
 use trace_model::TraceLine;
 use world_model::World;
 
@@ -32,6 +32,40 @@ enum Stage {
     Nodes(Vec<NodeSpec>),
     /// Events happened in a world of its nodes.
     Events(World),
+}
+
+/// Replays each line of a schedule.
+#[derive(Drop)]
+struct Replaying {
+    alloc: Global,
+    stage: Stage,
+}
+
+impl LineTask for Replaying {
+    type Answer = u64;
+
+    type Fault = FaultKind;
+
+    ghost State = { State };
+
+    ghost rules = { replay_rules };
+
+    ghost is_at = { λ task state. (state_of task.stage ≡ state) × IsStage task.stage };
+
+    ghost fails = { WriterFails };
+
+    fn take<W: Write>(self, line: &[u8], output: &mut Counted<W>) -> Result<Replaying, FaultKind> {
+        let Replaying { alloc, stage } = self;
+        let stage = stage.after(alloc, line, output)?;
+        Ok(Replaying { alloc, stage })
+    }
+
+    /// How many events there were.
+    fn finish<W: Write>(self, _lines: u64, output: &mut Counted<W>) -> Result<u64, FaultKind> {
+        let Replaying { alloc, stage } = self;
+        let world = stage.into_world(alloc, output)?;
+        Ok(world.len())
+    }
 }
 
 impl Stage {
@@ -51,7 +85,7 @@ impl Stage {
         ensures stage { IfOk result IsStage }
         ensures failures { MatchResult result
             (λ _. HasNotFailed output.old output.new)
-            (λ kind. IsFromReplaying kind output.old output.new) }
+            (λ kind. WriterFails kind (failures_of output.old) (failures_of output.new)) }
     {
         match read_entry(alloc, line)? {
             Line::Node(node) => self.with_node(node),
@@ -92,7 +126,7 @@ impl Stage {
             (λ kind. FaultsAtEnd kind (nodes_of self) × (run_of self ≡ []) × ShowsFault kind self before after) }
         ensures failures { MatchResult result
             (λ _. HasNotFailed output.old output.new)
-            (λ kind. IsFromReplaying kind output.old output.new) }
+            (λ kind. WriterFails kind (failures_of output.old) (failures_of output.new)) }
     {
         match self {
             Stage::Nodes(nodes) => begin(alloc, nodes.as_slice(), output),
@@ -132,7 +166,7 @@ fn write_line<W: Write>(
         (λ kind. LeavesUnwritten kind before after) }
     ensures failures { MatchResult result
         (λ _. HasNotFailed output.old output.new)
-        (λ kind. IsFromReplaying kind output.old output.new) }
+        (λ kind. WriterFails kind (failures_of output.old) (failures_of output.new)) }
 {
     let text = line_text(alloc, value)?;
     match output.write_all(text.as_bytes()) {
@@ -152,10 +186,10 @@ fn begin<W: Write>(
         MatchResult result
         (λ world. (world ≡ new_state nodes.now) × (first_clash nodes.now ≡ None) × Appends before after (nodes_text nodes.now))
         (λ kind. FaultsAtEnd kind nodes.now
-        × ((written : List ℕ) × NodesWentOut kind nodes.now written × WentOutAs kind (Appends before after written))) }
+        × ((written : List ℕ) × NodesGoOut kind nodes.now written × WentOut (is_of_writer kind) (Appends before after written))) }
     ensures failures { MatchResult result
         (λ _. HasNotFailed output.old output.new)
-        (λ kind. IsFromReplaying kind output.old output.new) }
+        (λ kind. WriterFails kind (failures_of output.old) (failures_of output.new)) }
 {
     let network = Nodes::new(alloc, nodes)?;
     let world = World::new(alloc, network)?;
@@ -181,7 +215,7 @@ fn happen<W: Write>(
         (λ kind. StopsEvent kind world.old event.now × WritesNone kind before after_it) }
     ensures failures { MatchResult result
         (λ _. HasNotFailed output.old output.new)
-        (λ kind. IsFromReplaying kind output.old output.new) }
+        (λ kind. WriterFails kind (failures_of output.old) (failures_of output.new)) }
 {
     let stepped = world.step(event)?;
     let line = TraceLine::of(event, &stepped, world);
@@ -208,24 +242,9 @@ pub fn replay<R: Read, W: Write>(
     ensures bounded { GivesWithin R.remaining input_limit input.old input.new }
     ensures failures { FailedWith result input.old input.new output.old output.new }
 {
-    let mut lines = Lines::new();
-    let mut stage = Stage::Nodes(Vec::new(alloc));
-    while lines.read_next(input)? {
-        stage = match stage.after(alloc, lines.line(), output) {
-            Ok(next) => next,
-            Err(what) => {
-                return Err(Fault {
-                    line: lines.count(),
-                    what,
-                });
-            }
-        };
-    }
-    match stage.into_world(alloc, output) {
-        Ok(world) => Ok(world.len()),
-        Err(what) => Err(Fault {
-            line: lines.count() + 1,
-            what,
-        }),
-    }
+    let task = Replaying {
+        alloc,
+        stage: Stage::Nodes(Vec::new(alloc)),
+    };
+    Ok(answer_lines(task, input, output)?)
 }

@@ -3,3 +3,5 @@ pub mod ReadAhead
 pub mod Cutting
 pub mod Reading
 pub mod Bounds
+pub mod TakenLines
+pub mod OneAnswer

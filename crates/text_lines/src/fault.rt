@@ -1,3 +1,6 @@
+ghost use Rattle.std.specs.Prelude.{◌≡◌};
+ghost use Rattle.text_lines.specs.declared.fault.Cause.TheVariants.{Reading};
+
 /// Why a line can't be read.
 #[derive(Clone, Copy, Debug, PartialEq, Eq)]
 pub enum ReadingFault {
@@ -17,4 +20,24 @@ pub struct Stopped<F> {
     pub line: u64,
     /// What went wrong.
     pub what: F,
+}
+
+/// Why the answering of lines stopped.
+#[derive(Clone, Copy, Debug, PartialEq, Eq)]
+pub enum Cause<F> {
+    /// A line can't be read.
+    Reading(ReadingFault),
+    /// A fault of the line, of the end, or of what answers them.
+    Task(F),
+}
+
+impl<F> From<Stopped<ReadingFault>> for Stopped<Cause<F>> {
+    ghost from_gives = { λ stop told. (told.line ≡ stop.line) × (told.what ≡ Reading stop.what) };
+
+    fn from(stop: Stopped<ReadingFault>) -> Stopped<Cause<F>> {
+        Stopped {
+            line: stop.line,
+            what: Cause::Reading(stop.what),
+        }
+    }
 }

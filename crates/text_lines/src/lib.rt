@@ -5,8 +5,10 @@ mod counted;
 mod fault;
 mod lines;
 mod octet_reader;
+mod task;
 
 pub use counted::Counted;
-pub use fault::{ReadingFault, Stopped};
-pub use lines::{LINE_LIMIT, Lines};
+pub use fault::{Cause, ReadingFault, Stopped};
+pub use lines::LINE_LIMIT;
 pub use octet_reader::OctetReader;
+pub use task::{LineTask, answer_lines};

@@ -17,7 +17,7 @@ const LINES_LIMIT: u64 = 1_048_576;
 
 /// The line that was read last, in the one buffer that all lines share, and how many were read.
 #[derive(Drop)]
-pub struct Lines {
+pub(crate) struct Lines {
     line: ArrayVec<u8, LINE_LIMIT>,
     count: u64,
     ended: bool,
@@ -48,7 +48,7 @@ fn read_octet<R: Read>(input: &mut Counted<R>) -> Result<Option<u8>, ReadingFaul
 
 impl Lines {
     /// No line was read yet.
-    pub fn new() -> Lines
+    pub(crate) fn new() -> Lines
         ensures count { result.count ≡ 0 }
         ensures ended { result.ended ≡ false }
     {
@@ -60,14 +60,14 @@ impl Lines {
     }
 
     /// How many lines were read.
-    pub fn count(&self) -> u64
+    pub(crate) fn count(&self) -> u64
         ensures { result ≡ self.now.count }
     {
         self.count
     }
 
     /// The line that was read last, without a CR at its end.
-    pub fn line(&self) -> &[u8]
+    pub(crate) fn line(&self) -> &[u8]
         ensures line { result.now ≡ without_cr self.now.line.items }
         ensures within { length result.now ≤ line_limit }
     {
@@ -81,7 +81,7 @@ impl Lines {
     /// is partly read then; no more than one octet after the limits is read. Once the input ended in
     /// place of an LF, the reader isn't asked again; after the LF of the last line that is allowed,
     /// each call asks it for the end.
-    pub fn read_next<R: Read>(
+    pub(crate) fn read_next<R: Read>(
         &mut self,
         input: &mut Counted<R>,
     ) -> Result<bool, Stopped<ReadingFault>>
