@@ -7,9 +7,11 @@ ghost use Rattle.trace_model.specs.Verdict.{verdict};
 ghost use Rattle.text_lines.specs.Counted.{device_of, failures_of, HasNotFailed};
 ghost use Rattle.schedule_replay.specs.Fault.{is_of_writer, FailedWith, WriterFails};
 ghost use Rattle.text_lines.specs.Lines.{input_limit, GivesWithin};
-ghost use Rattle.schedule_replay.specs.CheckText.{Recorded, check_rules, ChecksAnswer, recorded_in, verdict_text, MistakesIn, MistakesAtEnd};
+ghost use Rattle.schedule_replay.specs.CheckText.{Recorded, check_rules, ChecksAnswer, recorded_in, verdict_text};
+ghost use Rattle.schedule_replay.specs.CheckText.{MistakesIn, MistakesAtEnd};
 ghost use Rattle.text_lines.specs.Task.{WentOut};
-ghost use Rattle.schedule_replay.specs.Progress.{nodes_of, lines_so_far, IsProgress, HasNodes, HasEvents, TakesRecord, IsCheckerOf, StopsChecker, StopsRecord, IsOwnMistake, recorded_of};
+ghost use Rattle.schedule_replay.specs.Progress.{nodes_of, lines_so_far, IsProgress, HasNodes, HasEvents, TakesRecord};
+ghost use Rattle.schedule_replay.specs.Progress.{IsCheckerOf, StopsChecker, StopsRecord, IsOwnMistake, recorded_of};
 ghost use Rattle.schedule_replay.specs.Stage.{LeavesUnwritten};
 
 use crate::fault::{Fault, FaultKind};
@@ -145,7 +147,8 @@ impl Progress {
             MatchResult result
             (λ answer. (answer ≡ verdict (nodes_of self) (lines_so_far self)) × (first_clash (nodes_of self) ≡ None)
             × Appends before after (verdict_text answer))
-            (λ kind. MistakesAtEnd kind (nodes_of self) (lines_so_far self) × WentOut (is_of_writer kind) (Keeps before after)) }
+            (λ kind. MistakesAtEnd kind (nodes_of self) (lines_so_far self)
+            × WentOut (is_of_writer kind) (Keeps before after)) }
         ensures failures { MatchResult result
             (λ _. HasNotFailed output.old output.new)
             (λ kind. WriterFails kind (failures_of output.old) (failures_of output.new)) }

@@ -1,7 +1,8 @@
 //! What follows from the definitions alone, for any octets and for what is written of any run.
 ghost use Rattle.std.specs.Prelude.{◌≡◌, ℕ, List};
 ghost use Rattle.network_model.specs.Premises.{exact_limits, IsFreshAndTicked, IsWithinTurn};
-ghost use Rattle.schedule_replay.specs.Accepted.{EachToldLineIsRecorded, EachToldLineIsTagged, EachRunIsTranscribed, EachRunIsAccepted, EachRunIsChecked, EachReplayIsAccepted};
+ghost use Rattle.schedule_replay.specs.Accepted.{EachToldLineIsRecorded, EachToldLineIsTagged, EachRunIsTranscribed};
+ghost use Rattle.schedule_replay.specs.Accepted.{EachRunIsAccepted, EachRunIsChecked, EachReplayIsAccepted};
 ghost use Rattle.schedule_replay.specs.Shown.{IsShownAs};
 ghost use Rattle.schedule_replay.specs.Show.{Shows};
 ghost use Rattle.schedule_replay.specs.Replay.{Replays};

@@ -1,6 +1,7 @@
 ghost use Rattle.std.specs.Prelude.{◌≡◌, ◌≢◌, ◌⊎◌, map, string_bytes};
 ghost use Rattle.std.specs.Option.{ForSome};
-ghost use Rattle.schedule_replay.specs.Program.{AsksShow, AsksReplay, AsksCheck, AsksNothing, EndsRun, EndsUnread, status_of, check_status};
+ghost use Rattle.schedule_replay.specs.Program.{AsksShow, AsksReplay, AsksCheck, AsksNothing, EndsRun, EndsUnread};
+ghost use Rattle.schedule_replay.specs.Program.{status_of, check_status};
 ghost use Rattle.text_lines.specs.Lines.{input_limit, GivesWithin};
 ghost use Rattle.text_lines.specs.Counted.{device_of};
 ghost use Rattle.schedule_replay.specs.Show.{ShowsAnswer};

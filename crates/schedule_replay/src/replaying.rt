@@ -1,5 +1,5 @@
 //! A schedule that is replayed line by line.
-ghost use Rattle.std.specs.Prelude.{◌≡◌, ◌⊎◌, ◌++◌, ◌∷◌, ℕ, List, [], false, IfOk, MatchResult, Ok, None};
+ghost use Rattle.std.specs.Prelude.{◌≡◌, ◌≢◌, ◌⊎◌, ◌++◌, ◌∷◌, ℕ, List, [], false, MatchResult, Ok, None};
 ghost use Rattle.std.specs.Option.{ForSome};
 ghost use Rattle.std.specs.Io.KnownBytes.{Appends};
 ghost use Rattle.serde_json.specs.View.{view};
@@ -10,10 +10,10 @@ ghost use Rattle.schedule_lines.specs.Transcript.{line_text};
 ghost use Rattle.text_lines.specs.Counted.{device_of, failures_of, HasNotFailed};
 ghost use Rattle.schedule_replay.specs.Fault.{is_of_writer, FailedWith, WriterFails};
 ghost use Rattle.text_lines.specs.Lines.{input_limit, GivesWithin};
-ghost use Rattle.schedule_replay.specs.Schedule.{entry_in, FaultsIn, FaultsAtEnd};
-ghost use Rattle.schedule_replay.specs.Replay.{nodes_text, NodesGoOut, IsEventLine, ReplaysAnswer, replay_rules};
+ghost use Rattle.schedule_replay.specs.Schedule.{entry_in, FaultsAtEnd};
+ghost use Rattle.schedule_replay.specs.Replay.{nodes_text, owed, NodesGoOut, IsEventLine, ReplaysAnswer, replay_rules};
 ghost use Rattle.text_lines.specs.Task.{WentOut};
-ghost use Rattle.schedule_replay.specs.Stage.{nodes_of, run_of, begun_of, owed_by, IsStage, IsBegun, IsWorldOf, HasNodes, TakesLine, ShowsFault, IsOwnFault, LeavesUnwritten, WritesNone, StopsEvent, state_of};
+ghost use Rattle.schedule_replay.specs.Stage.{state_of, IsStage, IsOwnFault, LeavesUnwritten, WritesNone, StopsEvent};
 
 use crate::fault::{Fault, FaultKind};
 use network_model::{Event, NodeSpec, Nodes};
@@ -56,8 +56,18 @@ impl LineTask for Replaying {
 
     fn take<W: Write>(self, line: &[u8], output: &mut Counted<W>) -> Result<Replaying, FaultKind> {
         let Replaying { alloc, stage } = self;
-        let stage = stage.after(alloc, line, output)?;
-        Ok(Replaying { alloc, stage })
+        match read_entry(alloc, line)? {
+            Line::Node(node) => {
+                let stage = stage.with_node(node)?;
+                Ok(Replaying { alloc, stage })
+            }
+            Line::Event(event) => {
+                let mut world = stage.into_world(alloc, output)?;
+                happen(alloc, &mut world, &event, output)?;
+                let stage = Stage::Events(world);
+                Ok(Replaying { alloc, stage })
+            }
+        }
     }
 
     /// How many events there were.
@@ -69,39 +79,14 @@ impl LineTask for Replaying {
 }
 
 impl Stage {
-    /// Takes one more line.
-    fn after<W: Write>(
-        self,
-        alloc: Global,
-        line: &[u8],
-        output: &mut Counted<W>,
-    ) -> Result<Stage, FaultKind>
-        requires { IsStage self }
-        ensures taken { let before = W.contents (device_of output.old) in
-            let after = W.contents (device_of output.new) in
-            MatchResult result
-            (λ next. (written : List ℕ) × TakesLine line.now self next written × Appends before after written)
-            (λ kind. FaultsIn kind (nodes_of self) (run_of self) line.now × ShowsFault kind self before after) }
-        ensures stage { IfOk result IsStage }
-        ensures failures { MatchResult result
-            (λ _. HasNotFailed output.old output.new)
-            (λ kind. WriterFails kind (failures_of output.old) (failures_of output.new)) }
-    {
-        match read_entry(alloc, line)? {
-            Line::Node(node) => self.with_node(node),
-            Line::Event(event) => {
-                let mut world = self.into_world(alloc, output)?;
-                happen(alloc, &mut world, &event, output)?;
-                Ok(Stage::Events(world))
-            }
-        }
-    }
-
     /// Takes one more node, which stands before all events.
     fn with_node(self, node: NodeSpec) -> Result<Stage, FaultKind>
-        ensures { MatchResult result
-            (λ next. (run_of self ≡ []) × (begun_of self ≡ []) × HasNodes (nodes_of self ++ node ∷ []) next)
-            (λ kind. (kind ≡ FaultKind.Memory) ⊎ ((kind ≡ FaultKind.Field) × IsBegun self)) }
+        requires { IsStage self }
+        ensures { let before = state_of self in
+            MatchResult result
+            (λ next. (before.run ≡ []) × IsStage next
+            × (state_of next ≡ record { network = before.network ++ node ∷ []; run = [] }))
+            (λ kind. (kind ≡ FaultKind.Memory) ⊎ ((kind ≡ FaultKind.Field) × (before.run ≢ []))) }
     {
         match self {
             Stage::Nodes(mut nodes) => {
@@ -122,8 +107,10 @@ impl Stage {
         ensures world { let before = W.contents (device_of output.old) in
             let after = W.contents (device_of output.new) in
             MatchResult result
-            (λ world. IsWorldOf self world × Appends before after (owed_by self))
-            (λ kind. FaultsAtEnd kind (nodes_of self) × (run_of self ≡ []) × ShowsFault kind self before after) }
+            (λ world. (world ≡ state_of self) × (first_clash world.network ≡ None)
+            × Appends before after (owed world.network world.run))
+            (λ kind. (written : List ℕ) × replay_rules.StopsAtEnd (state_of self) kind written
+            × WentOut (is_of_writer kind) (Appends before after written)) }
         ensures failures { MatchResult result
             (λ _. HasNotFailed output.old output.new)
             (λ kind. WriterFails kind (failures_of output.old) (failures_of output.new)) }
@@ -184,9 +171,11 @@ fn begin<W: Write>(
     ensures begun { let before = W.contents (device_of output.old) in
         let after = W.contents (device_of output.new) in
         MatchResult result
-        (λ world. (world ≡ new_state nodes.now) × (first_clash nodes.now ≡ None) × Appends before after (nodes_text nodes.now))
+        (λ world. (world ≡ new_state nodes.now) × (first_clash nodes.now ≡ None)
+        × Appends before after (nodes_text nodes.now))
         (λ kind. FaultsAtEnd kind nodes.now
-        × ((written : List ℕ) × NodesGoOut kind nodes.now written × WentOut (is_of_writer kind) (Appends before after written))) }
+        × ((written : List ℕ) × NodesGoOut kind nodes.now written
+        × WentOut (is_of_writer kind) (Appends before after written))) }
     ensures failures { MatchResult result
         (λ _. HasNotFailed output.old output.new)
         (λ kind. WriterFails kind (failures_of output.old) (failures_of output.new)) }

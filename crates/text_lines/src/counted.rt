@@ -68,9 +68,12 @@ impl<R: Read> Read for Counted<R> {
 
     fn read(&mut self, buf: &mut [u8]) -> io::Result<usize>
         ensures bound { ReadsAtMost result buf.new }
-        ensures bytes { ReadConsumes (R.remaining (device_of self.old)) (R.remaining (device_of self.new)) result buf.new }
+        ensures bytes { ReadConsumes (R.remaining (device_of self.old)) (R.remaining (device_of self.new))
+            result buf.new }
         ensures count { MatchResult result (λ _. HasNotFailed self.old self.new) (λ _. HasFailed self.old self.new) }
-        ensures given { MatchResult result (λ n. HasGiven n self.old self.new) (λ _. given_of self.new ≡ given_of self.old) }
+        ensures given { MatchResult result
+            (λ n. HasGiven n self.old self.new)
+            (λ _. given_of self.new ≡ given_of self.old) }
     {
         let answer = self.device.read(buf);
         match answer {
@@ -88,9 +91,11 @@ impl<W: Write> Write for Counted<W> {
 
     fn write(&mut self, buf: &[u8]) -> io::Result<usize>
         ensures bound { WritesAtMost result buf.now }
-        ensures bytes { WriteAppends (W.contents (device_of self.old)) (W.contents (device_of self.new)) result buf.now }
+        ensures bytes { WriteAppends (W.contents (device_of self.old)) (W.contents (device_of self.new))
+            result buf.now }
         ensures count { MatchResult result
-            (λ taken. failures_of self.new ≡ (if taken == 0 then one_more (failures_of self.old) else failures_of self.old))
+            (λ taken. failures_of self.new
+            ≡ (if taken == 0 then one_more (failures_of self.old) else failures_of self.old))
             (λ _. HasFailed self.old self.new) }
         ensures given { given_of self.new ≡ given_of self.old }
     {
@@ -111,7 +116,8 @@ impl<W: Write> Write for Counted<W> {
 
     /// Writes all octets, and stops at the first write that fails.
     fn write_all(&mut self, buf: &[u8]) -> io::Result<()>
-        ensures bytes { OnOk result (Appends (W.contents (device_of self.old)) (W.contents (device_of self.new)) buf.now) }
+        ensures bytes { OnOk result
+            (Appends (W.contents (device_of self.old)) (W.contents (device_of self.new)) buf.now) }
         ensures count { MatchResult result (λ _. HasNotFailed self.old self.new) (λ _. HasFailed self.old self.new) }
         ensures given { given_of self.new ≡ given_of self.old }
     {

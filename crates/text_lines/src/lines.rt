@@ -1,8 +1,10 @@
-ghost use Rattle.std.specs.Prelude.{◌≡◌, ℕ, List, false, IsTrue, ◌+◌, ◌≤◌, ◌<◌, if◌then◌else◌, [], ◌∷◌, IfOk, MatchResult, MatchOption, length};
+ghost use Rattle.std.specs.Prelude.{◌≡◌, ℕ, List, false, IsTrue, ◌+◌, ◌≤◌, ◌<◌, if◌then◌else◌, [], ◌∷◌, IfOk};
+ghost use Rattle.std.specs.Prelude.{MatchResult, MatchOption, length};
 ghost use Rattle.std.specs.Option.{ForSome};
 ghost use Rattle.std.specs.Io.KnownBytes.{Consumes, IsAtEnd, Keeps};
 ghost use Rattle.text_lines.specs.Counted.{device_of, HasFailed, HasNotFailed};
-ghost use Rattle.text_lines.specs.Lines.{line_limit, lines_limit, room_of, without_cr, GivesWithin, ReadsLine, IsFromReading, StopsReading};
+ghost use Rattle.text_lines.specs.Lines.{line_limit, lines_limit, room_of, without_cr, GivesWithin, ReadsLine};
+ghost use Rattle.text_lines.specs.Lines.{IsFromReading, StopsReading};
 
 use crate::counted::Counted;
 use crate::fault::{ReadingFault, Stopped};

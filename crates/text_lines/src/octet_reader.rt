@@ -55,7 +55,8 @@ impl<R: Read> OctetReader<R> {
     /// The next octet of those that were read ahead.
     fn next_octet(&mut self) -> u8
         requires { self.old.next < self.old.end }
-        ensures bytes { Consumes (remaining_of R.remaining self.old) (remaining_of R.remaining self.new) (result ∷ []) }
+        ensures bytes { Consumes (remaining_of R.remaining self.old) (remaining_of R.remaining self.new)
+            (result ∷ []) }
         ensures source { source_of self.new ≡ source_of self.old }
     {
         let octet = self.octets[self.next];
@@ -72,7 +73,8 @@ impl<R: Read> Read for OctetReader<R> {
     /// Gives the next octet. The source is asked only where none is left, and so an error comes only then.
     fn read(&mut self, buf: &mut [u8]) -> io::Result<usize>
         ensures bound { ReadsAtMost result buf.new }
-        ensures bytes { ReadConsumes (remaining_of R.remaining self.old) (remaining_of R.remaining self.new) result buf.new }
+        ensures bytes { ReadConsumes (remaining_of R.remaining self.old) (remaining_of R.remaining self.new)
+            result buf.new }
         ensures ahead { ahead_of self.old ≢ [] → source_of self.new ≡ source_of self.old }
         ensures given { ahead_of self.old ≢ [] → IsOk result }
     {
