@@ -1,11 +1,9 @@
--- How far a transcript was read, and what one more line does.
-use Rattle.std.specs.Prelude.{◌≡◌, ◌≢◌, ◌⊎◌, ℕ, List, [], ◌∷◌, ◌++◌, length, reverse, Some, None, Ok, Err, ⊤}
+-- How far a transcript was read, and what stops it.
+use Rattle.std.specs.Prelude.{◌≡◌, ◌≢◌, ◌⊎◌, ℕ, List, [], length, reverse, Some, None, Err, ⊤}
 use Rattle.network_model.specs.Network.{Network}
 use Rattle.network_model.specs.Clash.{first_clash}
 use Rattle.exchange_check.specs.Transcript.{Transcript}
 use Rattle.trace_model.specs.Line.{Lines}
-use Rattle.schedule_lines.specs.declared.traced.TranscriptLine.{TranscriptLine}
-use Rattle.schedule_lines.specs.declared.traced.TranscriptLine.TheVariants as recorded
 use Rattle.schedule_replay.specs.declared.checking.Progress.{Progress}
 use Rattle.schedule_replay.specs.declared.checking.Progress.TheVariants.{Nodes, Events}
 use Rattle.schedule_replay.specs.declared.fault.FaultKind.{FaultKind}
@@ -30,27 +28,6 @@ recorded_of progress = record { nodes = nodes_of progress; lines = lines_so_far 
 abbrev pub IsProgress : Progress → Type 0
 IsProgress (Nodes nodes) = ⊤
 IsProgress (Events checker) = (reverse checker.lines ≢ []) × (first_clash checker.network ≡ None)
-
--- there are these nodes, and no event
-abbrev pub HasNodes : Network → Progress → Type 0
-HasNodes network (Nodes nodes) = nodes.items ≡ network
-HasNodes network (Events checker) = ⊥
-
--- there are these nodes, and this was recorded of events
-abbrev pub HasEvents : Network → Lines → Progress → Type 0
-HasEvents network lines (Nodes nodes) = ⊥
-HasEvents network lines (Events checker) = (checker.network ≡ network) × (reverse checker.lines ≡ lines)
-
--- what a node or a recorded event does
-abbrev pub Follows : TranscriptLine → Progress → Progress → Type 0
-Follows (recorded.Node node) progress next = (lines_so_far progress ≡ []) × HasNodes (nodes_of progress ++ node ∷ []) next
-Follows (recorded.Event number line) progress next =
-    (number ≡ length (lines_so_far progress)) × HasEvents (nodes_of progress) (line ∷ lines_so_far progress) next
-    × (first_clash (nodes_of progress) ≡ None)
-
--- a line was taken
-abbrev pub TakesRecord : List ℕ → Progress → Progress → Type 0
-TakesRecord line progress next = (entry : TranscriptLine) × (recorded_in line ≡ Ok entry) × Follows entry progress next
 
 -- a checker that was fed all this
 abbrev pub IsCheckerOf : Progress → Transcript → Type 0

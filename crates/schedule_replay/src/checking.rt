@@ -10,8 +10,8 @@ ghost use Rattle.text_lines.specs.Lines.{input_limit, GivesWithin};
 ghost use Rattle.schedule_replay.specs.CheckText.{Recorded, check_rules, ChecksAnswer, recorded_in, verdict_text};
 ghost use Rattle.schedule_replay.specs.CheckText.{MistakesIn, MistakesAtEnd};
 ghost use Rattle.text_lines.specs.Task.{WentOut};
-ghost use Rattle.schedule_replay.specs.Progress.{nodes_of, lines_so_far, IsProgress, HasNodes, HasEvents, TakesRecord};
-ghost use Rattle.schedule_replay.specs.Progress.{IsCheckerOf, StopsChecker, StopsRecord, IsOwnMistake, recorded_of};
+ghost use Rattle.schedule_replay.specs.Progress.{nodes_of, lines_so_far, recorded_of, IsProgress};
+ghost use Rattle.schedule_replay.specs.Progress.{IsCheckerOf, StopsChecker, StopsRecord, IsOwnMistake};
 ghost use Rattle.schedule_replay.specs.Stage.{LeavesUnwritten};
 
 use crate::fault::{Fault, FaultKind};
@@ -55,8 +55,16 @@ impl LineTask for Checking {
 
     fn take<W: Write>(self, line: &[u8], _output: &mut Counted<W>) -> Result<Checking, FaultKind> {
         let Checking { alloc, progress } = self;
-        let progress = progress.after(alloc, line)?;
-        Ok(Checking { alloc, progress })
+        match read_recorded(alloc, line)? {
+            TranscriptLine::Node(node) => {
+                let progress = progress.with_node(node)?;
+                Ok(Checking { alloc, progress })
+            }
+            TranscriptLine::Event { number, line } => {
+                let progress = progress.with_event(alloc, number, line)?;
+                Ok(Checking { alloc, progress })
+            }
+        }
     }
 
     /// The verdict on all events, which is written.
@@ -67,25 +75,12 @@ impl LineTask for Checking {
 }
 
 impl Progress {
-    /// Takes one more line.
-    fn after(self, alloc: Global, line: &[u8]) -> Result<Progress, FaultKind>
-        requires { IsProgress self }
-        ensures taken { MatchResult result
-            (λ next. TakesRecord line.now self next)
-            (λ kind. MistakesIn kind (nodes_of self) (lines_so_far self) line.now) }
-        ensures progress { IfOk result IsProgress }
-    {
-        match read_recorded(alloc, line)? {
-            TranscriptLine::Node(node) => self.with_node(node),
-            TranscriptLine::Event { number, line } => self.with_event(alloc, number, line),
-        }
-    }
-
     /// Takes one more node, which stands before all events.
     fn with_node(self, node: NodeSpec) -> Result<Progress, FaultKind>
         requires { IsProgress self }
         ensures { MatchResult result
-            (λ next. (lines_so_far self ≡ []) × HasNodes (nodes_of self ++ node ∷ []) next)
+            (λ next. (lines_so_far self ≡ []) × IsProgress next
+            × (recorded_of next ≡ record { nodes = nodes_of self ++ node ∷ []; lines = [] }))
             (λ kind. (kind ≡ FaultKind.Memory) ⊎ ((kind ≡ FaultKind.Field) × (lines_so_far self ≢ []))) }
     {
         match self {
@@ -101,8 +96,8 @@ impl Progress {
     fn with_event(self, alloc: Global, number: u64, line: TraceLine) -> Result<Progress, FaultKind>
         requires { IsProgress self }
         ensures { MatchResult result
-            (λ next. (number ≡ length (lines_so_far self)) × HasEvents (nodes_of self) (line ∷ lines_so_far self) next
-            × (first_clash (nodes_of self) ≡ None))
+            (λ next. (number ≡ length (lines_so_far self)) × (first_clash (nodes_of self) ≡ None) × IsProgress next
+            × (recorded_of next ≡ record { nodes = nodes_of self; lines = line ∷ lines_so_far self }))
             (λ kind. StopsRecord kind (nodes_of self) (lines_so_far self) number) }
     {
         if number != self.events() {
