@@ -12,8 +12,9 @@ use Rattle.schedule_replay.specs.declared.fault.FaultKind.{FaultKind}
 use Rattle.schedule_replay.specs.declared.fault.FaultKind.TheVariants as kinds
 use Rattle.schedule_replay.specs.Fault.{fault_of}
 use Rattle.schedule_replay.specs.Schedule.{FaultsAtEnd}
-use Rattle.schedule_replay.specs.Replay.{nodes_text, NodesWentOut}
-use Rattle.schedule_replay.specs.Show.{WentOutAs}
+use Rattle.schedule_replay.specs.Replay.{nodes_text, NodesGoOut}
+use Rattle.text_lines.specs.Task.{WentOut}
+use Rattle.schedule_replay.specs.Fault.{is_of_writer}
 use Rattle.schedule_replay.specs.Stage.{LeavesUnwritten}
 
 -- one node more
@@ -30,7 +31,7 @@ nodes_text-more (suc count) (first ∷ others) node within is =
 -- what is said of nodes whose lines didn't all go out
 abbrev pub Unbegun : FaultKind → Network → Option (List ℕ) → Option (List ℕ) → Type 0
 Unbegun kind nodes before after =
-    FaultsAtEnd kind nodes × ((written : List ℕ) × NodesWentOut kind nodes written × WentOutAs kind (Appends before after written))
+    FaultsAtEnd kind nodes × ((written : List ℕ) × NodesGoOut kind nodes written × WentOut (is_of_writer kind) (Appends before after written))
 
 clashes : (why : WorldRefusal) (nodes : Network) (at : Option (List ℕ)) → first_clash nodes ≡ Some why → Unbegun (kinds.World why) nodes at at
 clashes why nodes at clash = (clash, ([], rw clash refl, Appends-nil at))

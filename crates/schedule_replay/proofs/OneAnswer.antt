@@ -1,336 +1,277 @@
 -- Octets have one answer of `show`, `replay` and `check_text`, where no device failed and no memory was refused.
-use Rattle.std.proofs.Common.{◌≡◌, ◌≢◌, ◌∙◌, ◌⊎◌, inl, inr, ℕ, ◌+◌, ◌<◌, List, [], ◌∷◌, ◌++◌, length, take, Option, Some, None, Ok, Err, append-nil, refl, sym, ap, subst, arith}
-use Rattle.std.specs.Prelude.{slice_get}
-use Rattle.std.specs.Io.KnownBytes.{Appends, Keeps}
+use Rattle.std.proofs.Common.{◌≡◌, ◌≢◌, ◌∙◌, inl, inr, ℕ, ◌+◌, ◌==◌, if◌then◌else◌, List, [], ◌∷◌, ◌++◌, length, true, false, Option, Some, None, Result, Ok, Err, refl, sym, ap, subst}
+use Rattle.std.specs.Prelude.{is_ok, option_map}
+use Rattle.std.proofs.lemmas.Bool.{ne_eqb, eq-eqb}
+use Rattle.hex.specs.Hex.{decode_of}
+use Rattle.network_model.specs.declared.refusal.WorldRefusal.{WorldRefusal}
 use Rattle.network_model.specs.Network.{Network}
 use Rattle.network_model.specs.Run.{Run}
 use Rattle.network_model.specs.Clash.{first_clash}
-use Rattle.trace_model.specs.declared.verdict.Verdict.{Verdict}
-use Rattle.trace_model.specs.Verdict.{verdict}
-use Rattle.schedule_replay.specs.declared.fault.Fault.{Fault}
+use Rattle.world_model.specs.State.{State}
+use Rattle.trace_model.specs.Line.{Lines}
+use Rattle.schedule_lines.specs.declared.reading.schedule.Line.{Line}
+use Rattle.schedule_lines.specs.declared.reading.schedule.Line.TheVariants as entries
+use Rattle.schedule_lines.specs.declared.reading.transcript.TranscriptLine.{TranscriptLine}
+use Rattle.schedule_lines.specs.declared.reading.transcript.TranscriptLine.TheVariants as recorded
+use Rattle.text_lines.specs.declared.fault.Cause.{Cause}
+use Rattle.text_lines.specs.declared.fault.Cause.TheVariants.{Reading, Task}
+use Rattle.text_lines.specs.declared.fault.ReadingFault.TheVariants as reading
+use Rattle.text_lines.specs.Task.{Rules}
+use Rattle.text_lines.proofs.OneAnswer.{HasOneCourse, AreOneAnswer, one_answer, course_of_all, course_until}
+use Rattle.text_lines.proofs.OneAnswer as courses
 use Rattle.schedule_replay.specs.declared.fault.FaultKind.{FaultKind}
 use Rattle.schedule_replay.specs.declared.fault.FaultKind.TheVariants.{Read, Write, LineTooLong, TooManyLines, Json, Field, World, Memory}
-use Rattle.schedule_replay.specs.Lines.{lines_of, after_lines, LeavesUnread, AreRead}
-use Rattle.schedule_replay.specs.Schedule.{entry_in, FaultsAt}
-use Rattle.schedule_replay.specs.Show.{ShowsLines, Shows, IsFaultAt, WentOutAs, line_fault}
-use Rattle.schedule_replay.specs.Replay.{nodes_text, WritesRun, WentOutBefore, ReplaysAll, ReplaysUntil, Replays, StopsAfter}
-use Rattle.schedule_replay.specs.CheckText.{recorded_in, verdict_text, MistakesAt, ChecksAll, ChecksUntil, Checks, StopsCheckAfter}
+use Rattle.schedule_replay.specs.Fault.{kind_of, is_of_writer}
+use Rattle.schedule_replay.specs.Answer.{Says}
+use Rattle.schedule_replay.specs.Schedule.{entry_in, refusal_of, FaultsIn, FaultsAtEnd}
+use Rattle.schedule_replay.specs.Show.{StopsShowing, show_rules, Shows}
+use Rattle.schedule_replay.specs.Replay as replays
+use Rattle.schedule_replay.specs.Replay.{IsEventLine, NodesGoOut, GoesOut, replay_rules, Replays}
+use Rattle.schedule_replay.specs.CheckText as checks
+use Rattle.schedule_replay.specs.CheckText.{Recorded, recorded_in, IsOutOfPlace, MistakesIn, MistakesAtEnd, verdict_text, check_rules, Checks}
 use Rattle.schedule_replay.specs.Accepted.{IsOfDevice}
-use Rattle.schedule_replay.specs.OneAnswer.{WroteOneText, HasOneAnswer}
-use Rattle.schedule_replay.proofs.OneReading.{all_taken}
-use Rattle.schedule_replay.proofs.OneText.{one_shown, faultless}
-use Rattle.schedule_replay.proofs.OneLine.{one_written}
-use Rattle.schedule_replay.proofs.OneEnd.{is_within, get_taken, neither_less}
-use Rattle.schedule_replay.proofs.OneSchedule as schedules
-use Rattle.schedule_replay.proofs.OneRecord as transcripts
+use Rattle.schedule_replay.specs.OneAnswer.{HasOneAnswer}
+use Rattle.schedule_replay.proofs.OneText as texts
+use Rattle.schedule_replay.proofs.OneLine.{one_line}
 
--- ---- what was written, and what is left
+-- ---- from the rules of a task
 
-same_output : (before after before' after' : Option (List ℕ)) (text text' : List ℕ) → Appends before after text → Appends before' after' text' → text' ≡ text
-    → WroteOneText before after before' after'
-same_output before after before' after' text text' h k same = (text, h, subst (Appends before' after') same k)
+sure_cause : (what : Cause FaultKind) → (IsOfDevice (kind_of what) → ⊥) → courses.IsOfDevice IsOfDevice what → ⊥
+sure_cause (Reading reading.Read) sure device = sure tt
+sure_cause (Reading reading.LineTooLong) sure device = device
+sure_cause (Reading reading.TooManyLines) sure device = device
+sure_cause (Task kind) sure device = sure device
 
-nothing_appended : (before after : Option (List ℕ)) → Keeps before after → Appends before after []
-nothing_appended None after kept = kept
-nothing_appended (Some xs) None kept = kept
-nothing_appended (Some xs) (Some ys) kept = kept ∙ sym (append-nil xs)
+of_writer : (kind : FaultKind) → is_of_writer kind ≡ true → IsOfDevice kind
+of_writer Write is = tt
+of_writer Memory is = tt
+of_writer Read is = tt
+of_writer LineTooLong is = absurd cc
+of_writer TooManyLines is = absurd cc
+of_writer Json is = absurd cc
+of_writer Field is = absurd cc
+of_writer (World why) is = absurd cc
 
-same_kept : (before after before' after' : Option (List ℕ)) → Keeps before after → Keeps before' after' → WroteOneText before after before' after'
-same_kept before after before' after' h k = ([], nothing_appended before after h, nothing_appended before' after' k)
-
-went_out : (kind : FaultKind) {A : Type 0} → (IsOfDevice kind → ⊥) → WentOutAs kind A → A
-went_out Write sure out = absurd (sure tt)
-went_out Read sure out = out
-went_out LineTooLong sure out = out
-went_out TooManyLines sure out = out
-went_out Json sure out = out
-went_out Field sure out = out
-went_out (World why) sure out = out
-went_out Memory sure out = out
-
-one_left : (kind : FaultKind) (number : ℕ) (octets : List ℕ) (left left' : Option (List ℕ)) → (IsOfDevice kind → ⊥) → LeavesUnread kind number octets left
-    → LeavesUnread kind number octets left' → left' ≡ left
-one_left Read number octets left left' sure h k = absurd (sure tt)
-one_left Write number octets left left' sure h k = absurd (sure tt)
-one_left Memory number octets left left' sure h k = absurd (sure tt)
-one_left LineTooLong number octets left left' sure h k = k ∙ sym h
-one_left TooManyLines number octets left left' sure h k = k ∙ sym h
-one_left Json number octets left left' sure h k = k ∙ sym h
-one_left Field number octets left left' sure h k = k ∙ sym h
-one_left (World why) number octets left left' sure h k = k ∙ sym h
-
--- the place and the kind of a fault, in one
-same_stop : (stop stop' : Fault) (earlier earlier' : ℕ) → stop.line ≡ earlier + 1 → stop'.line ≡ earlier' + 1 → earlier' ≡ earlier → stop'.what ≡ stop.what → stop' ≡ stop
-same_stop stop stop' earlier earlier' line line' place what =
-    let number : stop'.line ≡ stop.line = line' ∙ ap (λ (n : ℕ). n + 1) place ∙ sym line in
-    λ i. record { line = number i; what = what i }
-
-same_left : (stop stop' : Fault) (earlier earlier' : ℕ) (octets : List ℕ) (left left' : Option (List ℕ)) → (IsOfDevice stop.what → ⊥) → stop' ≡ stop → earlier' ≡ earlier
-    → LeavesUnread stop.what stop.line (after_lines earlier octets) left → LeavesUnread stop'.what stop'.line (after_lines earlier' octets) left' → left' ≡ left
-same_left stop stop' earlier earlier' octets left left' sure same place h k =
-    one_left stop.what stop.line (after_lines earlier octets) left left' sure h
-    (subst (λ (x : Fault × ℕ). LeavesUnread x.0.what x.0.line (after_lines x.1 octets) left') (λ i. (same i, place i)) k)
-
-kind_of : (a b : FaultKind) → Some b ≡ Some a → b ≡ a
-kind_of a b e = cc
-
--- ---- `replay`
-
-there_is : (kind : FaultKind) (number : ℕ) (s : schedules.Played) (line : Option (List ℕ)) → (IsOfDevice kind → ⊥) → FaultsAt kind number s.0 s.1 line
-    → (l : List ℕ) × (line ≡ Some l) × schedules.InLine kind number s l
-there_is kind number s (Some l) sure fault = (l, refl, fault)
-there_is Read number s None sure fault = absurd (sure tt)
-there_is Write number s None sure fault = absurd fault
-there_is LineTooLong number s None sure fault = absurd fault
-there_is TooManyLines number s None sure fault = absurd fault
-there_is Json number s None sure fault = absurd fault
-there_is Field number s None sure fault = absurd fault
-there_is (World why) number s None sure fault = absurd fault
-there_is Memory number s None sure fault = absurd fault
-
-network_before : (kind : FaultKind) (nodes : Network) (run : Run) (text : List ℕ) → WentOutBefore kind nodes run text → run ≢ [] → first_clash nodes ≡ None
-network_before kind nodes [] text went some = absurd (some refl)
-network_before kind nodes (event ∷ earlier) text went some = went.1
-
-one_begun : (kind : FaultKind) (nodes : Network) (run : Run) (a b : List ℕ) → (IsOfDevice kind → ⊥) → WentOutBefore kind nodes run a → WentOutBefore kind nodes run b → b ≡ a
-one_begun kind nodes (event ∷ earlier) a b sure h k = k.0 ∙ sym h.0
-one_begun Read nodes [] a b sure h k = absurd (sure tt)
-one_begun Write nodes [] a b sure h k = absurd (sure tt)
-one_begun Memory nodes [] a b sure h k = absurd (sure tt)
-one_begun LineTooLong nodes [] a b sure h k = k ∙ sym h
-one_begun TooManyLines nodes [] a b sure h k = k ∙ sym h
-one_begun Json nodes [] a b sure h k = k ∙ sym h
-one_begun Field nodes [] a b sure h k = k ∙ sym h
-one_begun (World why) nodes [] a b sure h k = k ∙ sym h
-
-abbrev all_replayed : (octets : List ℕ) (left before after : Option (List ℕ)) (events : ℕ) → ReplaysAll octets left before after events → schedules.ScheduleEnd (lines_of octets) None
-all_replayed octets left before after events r = record {
-  place = length (lines_of octets);
-  state = (r.nodes, r.run);
-  taken = subst (λ (ls : List (List ℕ)). AreRead entry_in 1 ls (schedules.lines_of_played (r.nodes, r.run))) (sym (all_taken (lines_of octets))) r.schedule;
-  sound = (λ some. r.network, (r.text, r.transcript));
-  ends = (refl, r.network);
-}
-
--- a line that has a fault, or the end
-abbrev LineOrEnd : (octets : List ℕ) (earlier : ℕ) (s : schedules.Played) → FaultKind → Type 0
-LineOrEnd octets earlier s kind =
-    ((line : List ℕ) × (slice_get (lines_of octets) earlier ≡ Some line) × schedules.InLine kind (earlier + 1) s line)
-    ⊎ ((earlier ≡ length (lines_of octets)) × schedules.AtEnd kind s)
-
-replay_stop : (octets : List ℕ) (earlier : ℕ) (s : schedules.Played) (left : Option (List ℕ)) (stop : Fault) → (IsOfDevice stop.what → ⊥) → stop.line ≡ earlier + 1
-    → StopsAfter earlier s.0 s.1 octets left stop → LineOrEnd octets earlier s stop.what
-replay_stop octets earlier s left stop sure line (inl (whole, fault, unread)) =
-    inl (there_is stop.what (earlier + 1) s (slice_get (lines_of octets) earlier) sure
-    (subst (λ (n : ℕ). FaultsAt stop.what n s.0 s.1 (slice_get (lines_of octets) earlier)) line fault))
-replay_stop octets earlier s left stop sure line (inr (all, first, fault, unread)) = inr (all, (first, fault))
-
-abbrev replayed_until : (octets : List ℕ) (left before after : Option (List ℕ)) (stop : Fault) → ReplaysUntil octets left before after stop → (IsOfDevice stop.what → ⊥)
-    → schedules.ScheduleEnd (lines_of octets) (Some stop.what)
-replayed_until octets left before after stop r sure = record {
-  place = r.earlier;
-  state = (r.nodes, r.run);
-  taken = r.schedule;
-  sound = (network_before stop.what r.nodes r.run r.begun r.went_out, (r.text, r.transcript));
-  ends = (sure, replay_stop octets r.earlier (r.nodes, r.run) left stop sure r.line r.fault);
-}
-
-replay_left : (octets : List ℕ) (s t : schedules.Played) (left left' : Option (List ℕ)) (stop stop' : Fault) (earlier earlier' : ℕ) → (IsOfDevice stop.what → ⊥)
-    → (IsOfDevice stop'.what → ⊥) → stop' ≡ stop → earlier' ≡ earlier → StopsAfter earlier s.0 s.1 octets left stop → StopsAfter earlier' t.0 t.1 octets left' stop' → left' ≡ left
-replay_left octets s t left left' stop stop' earlier earlier' sure sure' same place (inl (whole, fault, unread)) (inl (whole', fault', unread')) =
-    same_left stop stop' earlier earlier' octets left left' sure same place unread unread'
-replay_left octets s t left left' stop stop' earlier earlier' sure sure' same place (inr (all, first, fault, unread)) (inr (all', first', fault', unread')) = unread' ∙ sym unread
-replay_left octets s t left left' stop stop' earlier earlier' sure sure' same place (inl (whole, fault, unread)) (inr (all', first', fault', unread')) =
-    let (line, there, its) = there_is stop.what stop.line s (slice_get (lines_of octets) earlier) sure fault in
-    let inner = is_within (lines_of octets) earlier line there in
-    absurd (omega (arith, inner, all', place))
-replay_left octets s t left left' stop stop' earlier earlier' sure sure' same place (inr (all, first, fault, unread)) (inl (whole', fault', unread')) =
-    let (line, there, its) = there_is stop'.what stop'.line t (slice_get (lines_of octets) earlier') sure' fault' in
-    let inner = is_within (lines_of octets) earlier' line there in
-    absurd (omega (arith, inner, all, place))
-
-pub replays_one : HasOneAnswer Replays
-replays_one octets left before after left' before' after' (Ok events) (Ok events') one other sure sure' =
-    let same = schedules.one_schedule_end (lines_of octets) None None (all_replayed octets left before after events one) (all_replayed octets left' before' after' events' other) in
-    let nodes : other.nodes ≡ one.nodes = ap (λ (s : schedules.Played). s.0) same.1 in
-    let run : other.run ≡ one.run = ap (λ (s : schedules.Played). s.1) same.1 in
-    let written = subst (λ (s : schedules.Played). WritesRun s.0 s.1 other.text) same.1 other.transcript in
-    let text : other.text ≡ one.text = one_written one.nodes one.run other.text one.text written one.transcript in (
-      ap Ok (other.count ∙ ap (λ (r : Run). length r) run ∙ sym one.count),
-      other.input ∙ sym one.input,
-      same_output before after before' after' (nodes_text one.nodes ++ one.text) (nodes_text other.nodes ++ other.text) one.output other.output
-          (λ i. nodes_text (nodes i) ++ text i),
-    )
-replays_one octets left before after left' before' after' (Ok events) (Err stop) one other sure sure' =
-    let same = schedules.one_schedule_end (lines_of octets) None (Some stop.what) (all_replayed octets left before after events one) (replayed_until octets left' before' after' stop other sure') in
-    let end = same.2 in absurd cc
-replays_one octets left before after left' before' after' (Err stop) (Ok events) one other sure sure' =
-    let same = schedules.one_schedule_end (lines_of octets) (Some stop.what) None (replayed_until octets left before after stop one sure) (all_replayed octets left' before' after' events other) in
-    let end = same.2 in absurd cc
-replays_one octets left before after left' before' after' (Err stop) (Err stop') one other sure sure' =
-    let same = schedules.one_schedule_end (lines_of octets) (Some stop.what) (Some stop'.what) (replayed_until octets left before after stop one sure)
-    (replayed_until octets left' before' after' stop' other sure') in
-    let what : stop'.what ≡ stop.what = kind_of stop.what stop'.what same.2 in
-    let stopped : stop' ≡ stop = same_stop stop stop' one.earlier other.earlier one.line other.line same.0 what in
-    let written = subst (λ (s : schedules.Played). WritesRun s.0 s.1 other.text) same.1 other.transcript in
-    let text : other.text ≡ one.text = one_written one.nodes one.run other.text one.text written one.transcript in
-    let went = subst (λ (x : FaultKind × schedules.Played). WentOutBefore x.0 x.1.0 x.1.1 other.begun) (λ i. (what i, same.1 i)) other.went_out in
-    let begun : other.begun ≡ one.begun = one_begun stop.what one.nodes one.run one.begun other.begun sure one.went_out went in (
-      ap Err stopped,
-      replay_left octets (one.nodes, one.run) (other.nodes, other.run) left left' stop stop' one.earlier other.earlier sure sure' stopped same.0 one.fault other.fault,
-      same_output before after before' after' (one.begun ++ one.text) (other.begun ++ other.text) (went_out stop.what sure one.output) (went_out stop'.what sure' other.output)
-          (λ i. begun i ++ text i),
-    )
-
--- ---- `check_text`
-
-mistake_is : (kind : FaultKind) (number : ℕ) (s : transcripts.Checked) (line : Option (List ℕ)) → (IsOfDevice kind → ⊥) → MistakesAt kind number s.0 s.1 line
-    → (l : List ℕ) × (line ≡ Some l) × transcripts.InLine kind number s l
-mistake_is kind number s (Some l) sure fault = (l, refl, fault)
-mistake_is Read number s None sure fault = absurd (sure tt)
-mistake_is Write number s None sure fault = absurd fault
-mistake_is LineTooLong number s None sure fault = absurd fault
-mistake_is TooManyLines number s None sure fault = absurd fault
-mistake_is Json number s None sure fault = absurd fault
-mistake_is Field number s None sure fault = absurd fault
-mistake_is (World why) number s None sure fault = absurd fault
-mistake_is Memory number s None sure fault = absurd fault
-
-abbrev all_checked : (octets : List ℕ) (left before after : Option (List ℕ)) (answer : Verdict) → ChecksAll octets left before after answer → transcripts.TranscriptEnd (lines_of octets) None
-all_checked octets left before after answer r = record {
-  place = length (lines_of octets);
-  state = (r.nodes, r.lines);
-  taken = subst (λ (ls : List (List ℕ)). AreRead recorded_in 1 ls (transcripts.lines_of_checked (r.nodes, r.lines))) (sym (all_taken (lines_of octets))) r.transcript;
-  sound = λ some. r.network;
-  ends = (refl, r.network);
-}
-
-check_stop : (octets : List ℕ) (earlier : ℕ) (s : transcripts.Checked) (left : Option (List ℕ)) (stop : Fault) → (IsOfDevice stop.what → ⊥) → stop.line ≡ earlier + 1
-    → StopsCheckAfter earlier s.0 s.1 octets left stop
-    → ((line : List ℕ) × (slice_get (lines_of octets) earlier ≡ Some line) × transcripts.InLine stop.what (earlier + 1) s line)
-    ⊎ ((earlier ≡ length (lines_of octets)) × transcripts.AtEnd stop.what s)
-check_stop octets earlier s left stop sure line (inl (whole, fault, unread)) =
-    inl (mistake_is stop.what (earlier + 1) s (slice_get (lines_of octets) earlier) sure
-    (subst (λ (n : ℕ). MistakesAt stop.what n s.0 s.1 (slice_get (lines_of octets) earlier)) line fault))
-check_stop octets earlier s left stop sure line (inr (all, fault, unread)) = inr (all, fault)
-
-abbrev checked_until : (octets : List ℕ) (left before after : Option (List ℕ)) (stop : Fault) → ChecksUntil octets left before after stop → (IsOfDevice stop.what → ⊥)
-    → transcripts.TranscriptEnd (lines_of octets) (Some stop.what)
-checked_until octets left before after stop r sure = record {
-  place = r.earlier;
-  state = (r.nodes, r.lines);
-  taken = r.transcript;
-  sound = r.network;
-  ends = (sure, check_stop octets r.earlier (r.nodes, r.lines) left stop sure r.line r.fault);
-}
-
-check_left : (octets : List ℕ) (s t : transcripts.Checked) (left left' : Option (List ℕ)) (stop stop' : Fault) (earlier earlier' : ℕ) → (IsOfDevice stop.what → ⊥)
-    → (IsOfDevice stop'.what → ⊥) → stop' ≡ stop → earlier' ≡ earlier → StopsCheckAfter earlier s.0 s.1 octets left stop → StopsCheckAfter earlier' t.0 t.1 octets left' stop'
-    → left' ≡ left
-check_left octets s t left left' stop stop' earlier earlier' sure sure' same place (inl (whole, fault, unread)) (inl (whole', fault', unread')) =
-    same_left stop stop' earlier earlier' octets left left' sure same place unread unread'
-check_left octets s t left left' stop stop' earlier earlier' sure sure' same place (inr (all, fault, unread)) (inr (all', fault', unread')) = unread' ∙ sym unread
-check_left octets s t left left' stop stop' earlier earlier' sure sure' same place (inl (whole, fault, unread)) (inr (all', fault', unread')) =
-    let (line, there, its) = mistake_is stop.what stop.line s (slice_get (lines_of octets) earlier) sure fault in
-    let inner = is_within (lines_of octets) earlier line there in
-    absurd (omega (arith, inner, all', place))
-check_left octets s t left left' stop stop' earlier earlier' sure sure' same place (inr (all, fault, unread)) (inl (whole', fault', unread')) =
-    let (line, there, its) = mistake_is stop'.what stop'.line t (slice_get (lines_of octets) earlier') sure' fault' in
-    let inner = is_within (lines_of octets) earlier' line there in
-    absurd (omega (arith, inner, all, place))
-
-pub checks_one : HasOneAnswer Checks
-checks_one octets left before after left' before' after' (Ok answer) (Ok answer') one other sure sure' =
-    let same = transcripts.one_transcript_end (lines_of octets) None None (all_checked octets left before after answer one) (all_checked octets left' before' after' answer' other) in
-    let verdicts : answer' ≡ answer = other.verdict_is ∙ ap (λ (s : transcripts.Checked). verdict s.0 s.1) same.1 ∙ sym one.verdict_is in (
-      ap Ok verdicts,
-      other.input ∙ sym one.input,
-      same_output before after before' after' (verdict_text answer) (verdict_text answer') one.output other.output (ap verdict_text verdicts),
-    )
-checks_one octets left before after left' before' after' (Ok answer) (Err stop) one other sure sure' =
-    let same = transcripts.one_transcript_end (lines_of octets) None (Some stop.what) (all_checked octets left before after answer one)
-    (checked_until octets left' before' after' stop other sure') in
-    let end = same.2 in absurd cc
-checks_one octets left before after left' before' after' (Err stop) (Ok answer) one other sure sure' =
-    let same = transcripts.one_transcript_end (lines_of octets) (Some stop.what) None (checked_until octets left before after stop one sure)
-    (all_checked octets left' before' after' answer other) in
-    let end = same.2 in absurd cc
-checks_one octets left before after left' before' after' (Err stop) (Err stop') one other sure sure' =
-    let same = transcripts.one_transcript_end (lines_of octets) (Some stop.what) (Some stop'.what) (checked_until octets left before after stop one sure)
-    (checked_until octets left' before' after' stop' other sure') in
-    let what : stop'.what ≡ stop.what = kind_of stop.what stop'.what same.2 in
-    let stopped : stop' ≡ stop = same_stop stop stop' one.earlier other.earlier one.line other.line same.0 what in (
-      ap Err stopped,
-      check_left octets (one.nodes, one.lines) (other.nodes, other.lines) left left' stop stop' one.earlier other.earlier sure sure' stopped same.0 one.fault other.fault,
-      same_kept before after before' after' (went_out stop.what sure one.output) (went_out stop'.what sure' other.output),
-    )
+pub says_one : {S A : Type 0} (rules : Rules S A FaultKind) → HasOneCourse rules IsOfDevice → HasOneAnswer (Says rules)
+says_one {S} {A} rules sole octets left before after left' before' after' (Ok answer) (Ok answer') one other sure sure' =
+    let same = one_answer rules IsOfDevice sole octets left before after left' before' after' (Ok answer) (Ok answer')
+    (course_of_all rules IsOfDevice octets left before after answer one) (course_of_all rules IsOfDevice octets left' before' after' answer' other) in
+    let ends = same.end_is in
+    let answers : answer' ≡ answer = cc in
+    (ap Ok answers, same.left_is, (same.text, same.output, same.output'))
+says_one rules sole octets left before after left' before' after' (Ok answer) (Err stop) one (what, is, until) sure sure' =
+    let known = sure_cause what (subst (λ (kind : FaultKind). IsOfDevice kind → ⊥) is sure') in
+    let same = one_answer rules IsOfDevice sole octets left before after left' before' after' (Ok answer) (Err what)
+    (course_of_all rules IsOfDevice octets left before after answer one) (course_until rules IsOfDevice sole octets left' before' after' stop.line what known until) in
+    let ends = same.end_is in
+    absurd cc
+says_one rules sole octets left before after left' before' after' (Err stop) (Ok answer) (what, is, until) other sure sure' =
+    let known = sure_cause what (subst (λ (kind : FaultKind). IsOfDevice kind → ⊥) is sure) in
+    let same = one_answer rules IsOfDevice sole octets left before after left' before' after' (Err what) (Ok answer)
+    (course_until rules IsOfDevice sole octets left before after stop.line what known until) (course_of_all rules IsOfDevice octets left' before' after' answer other) in
+    let ends = same.end_is in
+    absurd cc
+says_one rules sole octets left before after left' before' after' (Err stop) (Err stop') (what, is, until) (what', is', until') sure sure' =
+    let known = sure_cause what (subst (λ (kind : FaultKind). IsOfDevice kind → ⊥) is sure) in
+    let known' = sure_cause what' (subst (λ (kind : FaultKind). IsOfDevice kind → ⊥) is' sure') in
+    let same = one_answer rules IsOfDevice sole octets left before after left' before' after' (Err what) (Err what')
+    (course_until rules IsOfDevice sole octets left before after stop.line what known until)
+    (course_until rules IsOfDevice sole octets left' before' after' stop'.line what' known' until') in
+    let ends = same.end_is in
+    let causes : what' ≡ what = cc in
+    let kinds : stop'.what ≡ stop.what = is' ∙ ap kind_of causes ∙ sym is in
+    let lines : stop'.line ≡ stop.line = until'.number ∙ ap (λ (n : ℕ). n + 1) same.place_is ∙ sym until.number in
+    (ap Err (λ i. record { line = lines i; what = kinds i }), same.left_is, (same.text, same.output, same.output'))
 
 -- ---- `show`
 
--- the line of a fault
-fault_is : (kind : FaultKind) (number : ℕ) (line : Option (List ℕ)) → (IsOfDevice kind → ⊥) → IsFaultAt kind number line
-    → (l : List ℕ) × (line ≡ Some l) × (line_fault number l ≡ Some kind)
-fault_is Read number line sure fault = absurd (sure tt)
-fault_is Write number line sure fault = absurd (sure tt)
-fault_is Memory number line sure fault = absurd (sure tt)
-fault_is LineTooLong number (Some l) sure fault = (l, refl, fault)
-fault_is TooManyLines number (Some l) sure fault = (l, refl, fault)
-fault_is Json number (Some l) sure fault = (l, refl, fault)
-fault_is Field number (Some l) sure fault = (l, refl, fault)
-fault_is (World why) number (Some l) sure fault = (l, refl, fault)
-fault_is LineTooLong number None sure fault = absurd fault
-fault_is TooManyLines number None sure fault = absurd fault
-fault_is Json number None sure fault = absurd fault
-fault_is Field number None sure fault = absurd fault
-fault_is (World why) number None sure fault = absurd fault
+not_hexadecimal : (digits : List ℕ) (kind : FaultKind) → (IsOfDevice kind → ⊥) → StopsShowing digits kind → (kind ≡ Field) × (is_ok (decode_of digits) ≡ false)
+not_hexadecimal digits Field sure stops = (refl, stops)
+not_hexadecimal digits Write sure stops = absurd (sure tt)
+not_hexadecimal digits Memory sure stops = absurd (sure tt)
+not_hexadecimal digits Read sure stops = absurd stops
+not_hexadecimal digits LineTooLong sure stops = absurd stops
+not_hexadecimal digits TooManyLines sure stops = absurd stops
+not_hexadecimal digits Json sure stops = absurd stops
+not_hexadecimal digits (World why) sure stops = absurd stops
 
--- a line with a fault isn't shown
-not_shown : (octets text : List ℕ) (earlier count : ℕ) (stop : Fault) → (IsOfDevice stop.what → ⊥) → stop.line ≡ earlier + 1
-    → IsFaultAt stop.what stop.line (slice_get (lines_of octets) earlier) → ShowsLines 1 (take count (lines_of octets)) text → earlier < count → ⊥
-not_shown octets text earlier count stop sure line fault shown before =
-    let (l, there, its) = fault_is stop.what stop.line (slice_get (lines_of octets) earlier) sure fault in
-    let fine = faultless 1 earlier (take count (lines_of octets)) l text shown (get_taken (lines_of octets) earlier count before ∙ there) in
-    let here : line_fault (1 + earlier) l ≡ Some stop.what = subst (λ (n : ℕ). line_fault n l ≡ Some stop.what) (line ∙ omega arith) its in
-    absurd (cc (fine, here))
+show_course : HasOneCourse show_rules IsOfDevice
+show_course = record {
+  one_step = λ line state one other text text' h k. (refl, texts.one_answer line text' text k h);
+  no_fault = λ line state later text text' kind sure takes stops.
+      let bad = not_hexadecimal line kind sure stops.0 in
+      let good = takes.hexadecimal in
+      absurd (cc (ap is_ok good, bad.1));
+  one_fault = λ line state text text' one other sure sure' h k.
+      ((not_hexadecimal line other sure' k.0).0 ∙ sym (not_hexadecimal line one sure h.0).0, k.1 ∙ sym h.1);
+  one_end = λ lines state text text' one other h k. (k.0 ∙ sym h.0, k.1 ∙ sym h.1);
+  no_fault_at_end = λ lines state text text' answer kind sure ends stops. stops;
+  one_fault_at_end = λ state text text' one other sure sure' h k. absurd h;
+  writer = of_writer;
+}
 
--- not even the last
-not_all_shown : (octets text : List ℕ) (earlier : ℕ) (stop : Fault) → (IsOfDevice stop.what → ⊥) → stop.line ≡ earlier + 1
-    → IsFaultAt stop.what stop.line (slice_get (lines_of octets) earlier) → ShowsLines 1 (lines_of octets) text → ⊥
-not_all_shown octets text earlier stop sure line fault shown =
-    let (l, there, its) = fault_is stop.what stop.line (slice_get (lines_of octets) earlier) sure fault in
-    not_shown octets text earlier (length (lines_of octets)) stop sure line fault
-    (subst (λ (ls : List (List ℕ)). ShowsLines 1 ls text) (sym (all_taken (lines_of octets))) shown) (is_within (lines_of octets) earlier l there)
+-- ---- `replay`
 
-same_kind : (octets : List ℕ) (stop stop' : Fault) (earlier earlier' : ℕ) → (IsOfDevice stop.what → ⊥) → (IsOfDevice stop'.what → ⊥) → earlier' ≡ earlier
-    → stop.line ≡ earlier + 1 → stop'.line ≡ earlier' + 1 → IsFaultAt stop.what stop.line (slice_get (lines_of octets) earlier)
-    → IsFaultAt stop'.what stop'.line (slice_get (lines_of octets) earlier') → stop'.what ≡ stop.what
-same_kind octets stop stop' earlier earlier' sure sure' place line line' fault fault' =
-    let (l, there, its) = fault_is stop.what stop.line (slice_get (lines_of octets) earlier) sure fault in
-    let (m, there', its') = fault_is stop'.what stop'.line (slice_get (lines_of octets) earlier') sure' fault' in
-    let same : m ≡ l = cc (ap (slice_get (lines_of octets)) place) in
-    let number : stop'.line ≡ stop.line = line' ∙ ap (λ (n : ℕ). n + 1) place ∙ sym line in
-    let both : line_fault stop.line l ≡ Some stop'.what = subst (λ (x : ℕ × List ℕ). line_fault x.0 x.1 ≡ Some stop'.what) (λ i. (number i, same i)) its' in
-    cc (its, both)
+abbrev where_begun : {A : Type 0} → List A → Option FaultKind
+where_begun [] = None
+where_begun (first ∷ others) = Some Field
+
+begun : {A : Type 0} (xs : List A) → xs ≢ [] → where_begun xs ≡ Some Field
+begun [] some = absurd (some refl)
+begun (x ∷ xs) some = refl
+
+abbrev entry_fault : State → Result Line FaultKind → Option FaultKind
+entry_fault s (Err kind) = Some kind
+entry_fault s (Ok (entries.Node node)) = where_begun s.run
+entry_fault s (Ok (entries.Event event)) = option_map World (refusal_of s.network s.run event)
+
+the_fault : (s : State) (line : List ℕ) (kind : FaultKind) → (IsOfDevice kind → ⊥) → FaultsIn kind s.network s.run line → entry_fault s (entry_in line) ≡ Some kind
+the_fault s line Read sure fault = absurd fault
+the_fault s line LineTooLong sure fault = absurd fault
+the_fault s line TooManyLines sure fault = absurd fault
+the_fault s line Write sure fault = absurd (sure tt)
+the_fault s line Memory sure fault = absurd (sure tt)
+the_fault s line Json sure fault = ap (entry_fault s) fault
+the_fault s line Field sure (inl error) = ap (entry_fault s) error
+the_fault s line Field sure (inr (node, is, some)) = ap (entry_fault s) is ∙ begun s.run some
+the_fault s line (World why) sure (event, is, refused) = ap (entry_fault s) is ∙ ap (option_map World) refused
+
+no_entry_fault : (s later : State) (entry : Line) (written : List ℕ) → replays.Follows entry s later written → entry_fault s (Ok entry) ≡ None
+no_entry_fault s later (entries.Node node) written (first, is, none) = ap where_begun first
+no_entry_fault s later (entries.Event event) written (network, is, line, is_line, all) =
+    let happened = is_line.told.answered.outcome in rw (network, happened) refl
+
+one_follows : (s one other : State) (entry : Line) (text text' : List ℕ) → replays.Follows entry s one text → replays.Follows entry s other text'
+    → (other ≡ one) × (text' ≡ text)
+one_follows s one other (entries.Node node) text text' (first, is, none) (first', is', none') = (is' ∙ sym is, none' ∙ sym none)
+one_follows s one other (entries.Event event) text text' (network, is, line, is_line, all) (network', is', line', is_line', all') =
+    (is' ∙ sym is, all' ∙ ap (λ (t : List ℕ). replays.owed s.network s.run ++ t) (one_line s.network s.run event line' line is_line' is_line) ∙ sym all)
+
+one_of_nodes : (kind : FaultKind) (nodes : Network) (a b : List ℕ) → (IsOfDevice kind → ⊥) → NodesGoOut kind nodes a → NodesGoOut kind nodes b → b ≡ a
+one_of_nodes Read nodes a b sure h k = absurd (sure tt)
+one_of_nodes Write nodes a b sure h k = absurd (sure tt)
+one_of_nodes Memory nodes a b sure h k = absurd (sure tt)
+one_of_nodes LineTooLong nodes a b sure h k = k ∙ sym h
+one_of_nodes TooManyLines nodes a b sure h k = k ∙ sym h
+one_of_nodes Json nodes a b sure h k = k ∙ sym h
+one_of_nodes Field nodes a b sure h k = k ∙ sym h
+one_of_nodes (World why) nodes a b sure h k = k ∙ sym h
+
+one_out : (kind : FaultKind) (nodes : Network) (run : Run) (a b : List ℕ) → (IsOfDevice kind → ⊥) → GoesOut kind nodes run a → GoesOut kind nodes run b → b ≡ a
+one_out kind nodes [] a b sure h k = one_of_nodes kind nodes a b sure h k
+one_out kind nodes (event ∷ earlier) a b sure h k = k ∙ sym h
+
+clash_at_end : (kind : FaultKind) (nodes : Network) → (IsOfDevice kind → ⊥) → FaultsAtEnd kind nodes → Some kind ≡ option_map World (first_clash nodes)
+clash_at_end (World why) nodes sure clash = sym (ap (option_map World) clash)
+clash_at_end Write nodes sure fault = absurd (sure tt)
+clash_at_end Memory nodes sure fault = absurd (sure tt)
+clash_at_end Read nodes sure fault = absurd fault
+clash_at_end LineTooLong nodes sure fault = absurd fault
+clash_at_end TooManyLines nodes sure fault = absurd fault
+clash_at_end Json nodes sure fault = absurd fault
+clash_at_end Field nodes sure fault = absurd fault
+
+no_clash : (kind : FaultKind) (nodes : Network) → Some kind ≡ option_map World (first_clash nodes) → first_clash nodes ≡ None → ⊥
+no_clash kind nodes clash none = let fine : option_map World (first_clash nodes) ≡ None = ap (option_map World) none in absurd (cc (clash, fine))
+
+same_fault : (fault : Option FaultKind) (one other : FaultKind) → fault ≡ Some one → fault ≡ Some other → other ≡ one
+same_fault fault one other h k = cc (h, k)
+
+replay_course : HasOneCourse replay_rules IsOfDevice
+replay_course = record {
+  one_step = λ line s one other text text' (entry, is, follows) (entry', is', follows').
+      let same : entry' ≡ entry = cc (is, is') in
+      one_follows s one other entry text text' follows (subst (λ (e : Line). replays.Follows e s other text') same follows');
+  no_fault = λ line s later text text' kind sure (entry, is, follows) stops.
+      let none = ap (entry_fault s) is ∙ no_entry_fault s later entry text follows in
+      let some = the_fault s line kind sure stops.0 in
+      absurd (cc (none, some));
+  one_fault = λ line s text text' one other sure sure' h k.
+      let same = same_fault (entry_fault s (entry_in line)) one other (the_fault s line one sure h.0) (the_fault s line other sure' k.0) in
+      (same, one_out one s.network s.run text text' sure h.1 (subst (λ (kind : FaultKind). GoesOut kind s.network s.run text') same k.1));
+  one_end = λ lines s text text' one other h k. (k.1 ∙ sym h.1, k.2 ∙ sym h.2);
+  no_fault_at_end = λ lines s text text' answer kind sure ends stops. no_clash kind s.network (clash_at_end kind s.network sure stops.1) ends.0;
+  one_fault_at_end = λ s text text' one other sure sure' h k.
+      let same = same_fault (option_map World (first_clash s.network)) one other (sym (clash_at_end one s.network sure h.1)) (sym (clash_at_end other s.network sure' k.1)) in
+      (same, one_of_nodes one s.network text text' sure h.2 (subst (λ (kind : FaultKind). NodesGoOut kind s.network text') same k.2));
+  writer = of_writer;
+}
+
+-- ---- `check_text`
+
+abbrev at_place : Recorded → ℕ → Option FaultKind
+at_place s number = if number == length s.lines then option_map World (first_clash s.nodes) else Some Field
+
+abbrev record_fault : Recorded → Result TranscriptLine FaultKind → Option FaultKind
+record_fault s (Err kind) = Some kind
+record_fault s (Ok (recorded.Node node)) = where_begun s.lines
+record_fault s (Ok (recorded.Event number line)) = at_place s number
+
+misplaced : (s : Recorded) (number : ℕ) → number ≢ length s.lines → at_place s number ≡ Some Field
+misplaced s number out = rw (ne_eqb number (length s.lines) out) refl
+
+clashes : (s : Recorded) (why : WorldRefusal) → s.lines ≡ [] → first_clash s.nodes ≡ Some why → at_place s 0 ≡ Some (World why)
+clashes s why none clash =
+    ap (λ (lines : Lines). if 0 == length lines then option_map World (first_clash s.nodes) else Some Field) none ∙ ap (option_map World) clash
+
+out_of_place : (s : Recorded) (entry : TranscriptLine) → IsOutOfPlace s.lines entry → record_fault s (Ok entry) ≡ Some Field
+out_of_place s (recorded.Node node) out = begun s.lines out
+out_of_place s (recorded.Event number line) out = misplaced s number out
+
+the_mistake : (s : Recorded) (line : List ℕ) (kind : FaultKind) → (IsOfDevice kind → ⊥) → MistakesIn kind s.nodes s.lines line → record_fault s (recorded_in line) ≡ Some kind
+the_mistake s line Read sure mistake = absurd mistake
+the_mistake s line LineTooLong sure mistake = absurd mistake
+the_mistake s line TooManyLines sure mistake = absurd mistake
+the_mistake s line Write sure mistake = absurd mistake
+the_mistake s line Memory sure mistake = absurd (sure tt)
+the_mistake s line Json sure mistake = ap (record_fault s) mistake
+the_mistake s line Field sure (inl error) = ap (record_fault s) error
+the_mistake s line Field sure (inr (entry, is, out)) = ap (record_fault s) is ∙ out_of_place s entry out
+the_mistake s line (World why) sure (first, is, none, clash) = ap (record_fault s) is ∙ clashes s why none clash
+
+no_mistake : (s later : Recorded) (entry : TranscriptLine) → checks.Follows entry s later → record_fault s (Ok entry) ≡ None
+no_mistake s later (recorded.Node node) (first, is) = ap where_begun first
+no_mistake s later (recorded.Event number line) (place, network, is) =
+    ap (at_place s) place ∙ rw (eq-eqb (length s.lines) (length s.lines) refl) (ap (option_map World) network)
+
+one_recorded : (s one other : Recorded) (entry : TranscriptLine) → checks.Follows entry s one → checks.Follows entry s other → other ≡ one
+one_recorded s one other (recorded.Node node) h k = k.1 ∙ sym h.1
+one_recorded s one other (recorded.Event number line) h k = k.2 ∙ sym h.2
+
+mistaken_nodes : (kind : FaultKind) (s : Recorded) → (IsOfDevice kind → ⊥) → MistakesAtEnd kind s.nodes s.lines → Some kind ≡ option_map World (first_clash s.nodes)
+mistaken_nodes (World why) s sure mistake = sym (ap (option_map World) mistake.1)
+mistaken_nodes Write s sure mistake = absurd (sure tt)
+mistaken_nodes Memory s sure mistake = absurd (sure tt)
+mistaken_nodes Read s sure mistake = absurd mistake
+mistaken_nodes LineTooLong s sure mistake = absurd mistake
+mistaken_nodes TooManyLines s sure mistake = absurd mistake
+mistaken_nodes Json s sure mistake = absurd mistake
+mistaken_nodes Field s sure mistake = absurd mistake
+
+pub check_course : HasOneCourse check_rules IsOfDevice
+check_course = record {
+  one_step = λ line s one other text text' (entry, is, follows, none) (entry', is', follows', none').
+      let same : entry' ≡ entry = cc (is, is') in
+      (one_recorded s one other entry follows (subst (λ (e : TranscriptLine). checks.Follows e s other) same follows'), none' ∙ sym none);
+  no_fault = λ line s later text text' kind sure (entry, is, follows, nothing) stops.
+      let none = ap (record_fault s) is ∙ no_mistake s later entry follows in
+      let some = the_mistake s line kind sure stops.0 in
+      absurd (cc (none, some));
+  one_fault = λ line s text text' one other sure sure' h k.
+      (same_fault (record_fault s (recorded_in line)) one other (the_mistake s line one sure h.0) (the_mistake s line other sure' k.0), k.1 ∙ sym h.1);
+  one_end = λ lines s text text' one other h k.
+      let same = k.1 ∙ sym h.1 in (same, k.2 ∙ ap verdict_text same ∙ sym h.2);
+  no_fault_at_end = λ lines s text text' answer kind sure ends stops. no_clash kind s.nodes (mistaken_nodes kind s sure stops.0) ends.0;
+  one_fault_at_end = λ s text text' one other sure sure' h k.
+      (same_fault (option_map World (first_clash s.nodes)) one other (sym (mistaken_nodes one s sure h.0)) (sym (mistaken_nodes other s sure' k.0)), k.1 ∙ sym h.1);
+  writer = of_writer;
+}
 
 pub shows_one : HasOneAnswer Shows
-shows_one octets left before after left' before' after' (Ok lines) (Ok lines') one other sure sure' = (
-  ap Ok (other.count ∙ sym one.count),
-  other.input ∙ sym one.input,
-  same_output before after before' after' one.text other.text one.output other.output (one_shown 1 (lines_of octets) other.text one.text other.shown one.shown),
-)
-shows_one octets left before after left' before' after' (Ok lines) (Err stop) one other sure sure' =
-    absurd (not_all_shown octets one.text other.earlier stop sure' other.line other.fault one.shown)
-shows_one octets left before after left' before' after' (Err stop) (Ok lines) one other sure sure' =
-    absurd (not_all_shown octets other.text one.earlier stop sure one.line one.fault other.shown)
-shows_one octets left before after left' before' after' (Err stop) (Err stop') one other sure sure' =
-    let place : other.earlier ≡ one.earlier = neither_less other.earlier one.earlier
-    (not_shown octets one.text other.earlier one.earlier stop' sure' other.line other.fault one.shown)
-    (not_shown octets other.text one.earlier other.earlier stop sure one.line one.fault other.shown) in
-    let what = same_kind octets stop stop' one.earlier other.earlier sure sure' place one.line other.line one.fault other.fault in
-    let stopped : stop' ≡ stop = same_stop stop stop' one.earlier other.earlier one.line other.line place what in
-    let shown = subst (λ (n : ℕ). ShowsLines 1 (take n (lines_of octets)) other.text) place other.shown in (
-      ap Err stopped,
-      same_left stop stop' one.earlier other.earlier octets left left' sure stopped place one.input other.input,
-      same_output before after before' after' one.text other.text (went_out stop.what sure one.output) (went_out stop'.what sure' other.output)
-          (one_shown 1 (take one.earlier (lines_of octets)) other.text one.text shown one.shown),
-    )
+shows_one = says_one show_rules show_course
+
+pub replays_one : HasOneAnswer Replays
+replays_one = says_one replay_rules replay_course
+
+pub checks_one : HasOneAnswer Checks
+checks_one = says_one check_rules check_course

@@ -1,5 +1,5 @@
--- An event after a run is told by one line, and so a run is written in one text.
-use Rattle.std.proofs.Common.{◌≡◌, ◌∙◌, ℕ, List, [], ◌∷◌, ◌++◌, length, Option, Some, None, Ok, refl, sym, ap, subst}
+-- An event after a run is told by one line.
+use Rattle.std.proofs.Common.{◌≡◌, ◌∙◌, ℕ, List, ◌∷◌, length, Option, Some, None, refl, sym, ap, subst}
 use Rattle.std.specs.Prelude.{codes, option_map}
 use Rattle.serde_json.specs.Data.{Data, string, object, no_members}
 use Rattle.event_codec.specs.Packet.{Contents}
@@ -7,17 +7,17 @@ use Rattle.event_codec.proofs.Again.{octets_same}
 use Rattle.slave_port.specs.declared.heard.Report.{Report}
 use Rattle.network_model.specs.declared.event.Event.{Event}
 use Rattle.network_model.specs.declared.stepped.Outcome.{Outcome}
-use Rattle.network_model.specs.declared.stepped.Outcome.TheVariants as outcomes
 use Rattle.network_model.specs.Network.{Network}
 use Rattle.network_model.specs.Run.{Run}
 use Rattle.network_model.specs.Truth.{copy_of}
-use Rattle.network_model.specs.Outcome.{outcome_of}
 use Rattle.trace_model.specs.declared.line.TraceLine.{TraceLine}
 use Rattle.trace_model.specs.declared.line.TraceOut.{TraceOut}
-use Rattle.trace_model.specs.declared.line.TraceOut.TheVariants as outs
 use Rattle.trace_model.specs.Told.{TellsEvent, TellsOctets, TellsMade, TellsOutcome}
-use Rattle.schedule_lines.specs.Written.{whole, octets_data, moment_data, with_some, with_event, with_report, out_code, made_octets, out_report, out_text, event_data, line_text}
-use Rattle.schedule_replay.specs.Replay.{IsEventLine, WritesRun}
+use Rattle.schedule_lines.specs.Written.{whole, octets_data, moment_data, with_some, with_event, with_report}
+use Rattle.schedule_lines.specs.Written.{out_code, made_octets, out_report, out_text, event_data, line_text}
+use Rattle.schedule_replay.specs.Replay.{IsEventLine}
+use Rattle.network_model.specs.declared.stepped.Outcome.TheVariants as outcomes
+use Rattle.trace_model.specs.declared.line.TraceOut.TheVariants as outs
 
 one_copy : (copy : Option Contents) (a b : List ℕ) → TellsOctets copy a → TellsOctets copy b → a ≡ b
 one_copy (Some m) a b h k = octets_same m a b h k
@@ -95,20 +95,6 @@ one_event network event earlier a b h k =
     let out = one_out (copy_of network (event ∷ earlier) h.stepped.tag) h.stepped.outcome a.out b.out h.told.outcome told in
     by_parts n a ∙ (λ i. value_of n (happened i) (reading i) (out.code i) (out.made i) (out.report i) (out.text i)) ∙ sym (by_parts n b)
 
-one_line : (network : Network) (earlier : Run) (event : Event) (a b : List ℕ) → IsEventLine network earlier event a → IsEventLine network earlier event b → a ≡ b
+pub one_line : (network : Network) (earlier : Run) (event : Event) (a b : List ℕ) → IsEventLine network earlier event a → IsEventLine network earlier event b → a ≡ b
 one_line network earlier event a b h k =
     h.text ∙ ap line_text (one_event network event earlier h.recorded k.recorded h.told k.told) ∙ sym k.text
-
--- a run is written in one text
-pub one_written : (network : Network) (run : Run) (a b : List ℕ) → WritesRun network run a → WritesRun network run b → a ≡ b
-one_written network [] a b h k = h ∙ sym k
-one_written network (event ∷ earlier) a b h k =
-    let others = one_written network earlier h.0 k.0 h.2 k.2 in
-    let line = one_line network earlier event h.1 k.1 h.3 k.3 in
-    h.4 ∙ (λ i. others i ++ line i) ∙ sym k.4
-
--- each event of a run that was written was accepted
-pub accepted_event : (network : Network) (later earlier : Run) (event : Event) (text : List ℕ) → WritesRun network (later ++ event ∷ earlier) text
-    → (outcome : Outcome) × (outcome_of network earlier event ≡ Ok outcome)
-accepted_event network [] earlier event text h = (h.3.told.stepped.outcome, h.3.told.answered.outcome)
-accepted_event network (one ∷ later) earlier event text h = accepted_event network later earlier event h.0 h.2

@@ -1,5 +1,7 @@
 -- All that `replay` reads is within its ranges, so what it writes is accepted.
-use Rattle.std.proofs.Common.{◌≡◌, ◌∙◌, ℕ, ◌+◌, ◌≤◌, Bool, true, false, nat_lt, List, [], ◌∷◌, ◌++◌, length, Option, Some, None, IfSome, Ok, Err, refl, ap, subst, arith, map, All, length-append, if◌then◌else◌}
+use Rattle.std.proofs.Common.{◌≡◌, ◌∙◌, ℕ, ◌+◌, ◌≤◌, Bool, true, false, nat_lt, List, [], ◌∷◌, ◌++◌, length, Option}
+use Rattle.std.proofs.Common.{Some, None, IfSome, Ok, Err, refl, ap, subst, arith, map, All, length-append}
+use Rattle.std.proofs.Common.{if◌then◌else◌}
 use Rattle.std.specs.Prelude.{ok_or, reverse}
 use Rattle.std.proofs.lemmas.Bool.Decides.{nat_tests}
 use Rattle.std.proofs.lemmas.List.{length-map, length-reverse, map-append, reverse-append}
@@ -10,18 +12,20 @@ use Rattle.network_model.specs.Run.{Run}
 use Rattle.network_model.specs.Premises.{Premise}
 use Rattle.trace_model.specs.Complete.{MissesNothing}
 use Rattle.schedule_lines.specs.declared.reading.schedule.Line.{Line}
-use Rattle.schedule_lines.specs.declared.reading.schedule.Line.TheVariants as entries
 use Rattle.schedule_lines.specs.Line.{line_of}
 use Rattle.schedule_lines.specs.Ranges.{IsNode, IsEvent, IsLine}
 use Rattle.schedule_lines.proofs.Ranges.{reads_in_range}
 use Rattle.schedule_replay.specs.declared.fault.FaultKind.{FaultKind}
-use Rattle.schedule_replay.specs.declared.fault.FaultKind.TheVariants.{Field, TooManyLines, LineTooLong}
-use Rattle.schedule_replay.specs.Lines.{lines_of, lines_limit, line_limit, without_cr}
+use Rattle.schedule_replay.specs.declared.fault.FaultKind.TheVariants.{Field}
 use Rattle.schedule_replay.specs.Schedule.{value_in, entry_of_value, AreEntries, schedule_of}
 use Rattle.schedule_replay.specs.Accepted.{IsInRange, EachReplayIsAccepted}
 use Rattle.network_model.proofs.ExactPremises.{IsExact}
-use Rattle.schedule_replay.proofs.OneTranscript.{accepted_by}
-use Rattle.schedule_replay.proofs.NoMistakes.{checked_by}
+use Rattle.schedule_replay.proofs.OneTranscript.{accepted_by, checked_by}
+use Rattle.text_lines.specs.declared.fault.ReadingFault.TheVariants.{TooManyLines, LineTooLong}
+use Rattle.text_lines.specs.Lines.{lines_of, lines_limit, line_limit, without_cr}
+use Rattle.schedule_replay.specs.CheckText.{ChecksAll, ChecksUntil}
+use Rattle.schedule_replay.proofs.Replayed.{replayed}
+use Rattle.schedule_lines.specs.declared.reading.schedule.Line.TheVariants as entries
 
 -- ---- what was read
 
@@ -97,6 +101,10 @@ ranged octets nodes run h =
 -- what was replayed is accepted
 pub replay_accepted : (premise : Premise) → IsExact premise → MissesNothing premise → EachReplayIsAccepted premise
 replay_accepted premise exact misses octets left before after events r holds left' before' after' (Ok answer) checks =
-    accepted_by premise exact misses r.nodes r.run r.text left' before' after' answer holds (ranged octets r.nodes r.run r.schedule) r.transcript checks
+    let is = replayed octets left before after events r in
+    accepted_by premise exact misses r.state.network r.state.run is.text left' before' after' answer holds (ranged octets r.state.network r.state.run is.schedule) is.transcript
+    (subst (λ (t : List ℕ). ChecksAll t left' before' after' answer) is.whole checks)
 replay_accepted premise exact misses octets left before after events r holds left' before' after' (Err stop) checks =
-    checked_by premise exact r.nodes r.run r.text left' before' after' stop r.network holds (ranged octets r.nodes r.run r.schedule) r.transcript checks
+    let is = replayed octets left before after events r in
+    checked_by premise exact r.state.network r.state.run is.text left' before' after' stop r.ends.0 holds (ranged octets r.state.network r.state.run is.schedule) is.transcript
+    (subst (λ (t : List ℕ). ChecksUntil t left' before' after' stop) is.whole checks)

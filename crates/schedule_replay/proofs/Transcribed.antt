@@ -27,11 +27,11 @@ use Rattle.schedule_lines.proofs.Printed.{event_texts_back, node_texts_back}
 use Rattle.schedule_lines.proofs.ReadBack.{reads_back}
 use Rattle.schedule_replay.specs.declared.fault.FaultKind.{FaultKind}
 use Rattle.schedule_replay.specs.declared.fault.FaultKind.TheVariants.{Field}
-use Rattle.schedule_replay.specs.Lines.{lines_of, without_cr, lines_limit, line_limit, reading_fault}
+use Rattle.text_lines.specs.Lines.{lines_of, without_cr, lines_limit, line_limit, reading_fault}
 use Rattle.schedule_replay.specs.Replay.{nodes_text, WritesRun}
 use Rattle.schedule_replay.specs.CheckText.{recorded_of_value, recorded_in, AreRecorded, numbered}
 use Rattle.schedule_replay.specs.Accepted.{EachRunIsTranscribed}
-use Rattle.schedule_replay.proofs.Cutting.{IsUnended, lines_of-ended}
+use Rattle.text_lines.proofs.Cutting.{IsUnended, lines_of-ended}
 use Rattle.schedule_replay.proofs.Entries.{value_read}
 use Rattle.schedule_lines.proofs.ShownTexts.{is_shown, Fits}
 use Rattle.schedule_lines.proofs.LineTexts.{event_fits, node_fits}

@@ -13,11 +13,11 @@ use Rattle.trace_model.specs.Complete.{reports_in}
 use Rattle.schedule_lines.specs.Ranges.{IsEvent, IsNode}
 use Rattle.schedule_replay.specs.declared.fault.Fault.{Fault}
 use Rattle.schedule_replay.specs.declared.fault.FaultKind.{FaultKind}
-use Rattle.schedule_replay.specs.declared.fault.FaultKind.TheVariants.{Read, Write, LineTooLong, TooManyLines}
-use Rattle.schedule_replay.specs.declared.fault.FaultKind.TheVariants.{Json, Field, World, Memory}
-use Rattle.schedule_replay.specs.Lines.{lines_of, lines_limit}
+use Rattle.schedule_replay.specs.declared.fault.FaultKind.TheVariants.{Read, Write, LineTooLong, TooManyLines, Json}
+use Rattle.schedule_replay.specs.declared.fault.FaultKind.TheVariants.{Field, World, Memory}
 use Rattle.schedule_replay.specs.Replay.{nodes_text, WritesRun, ReplaysAll}
 use Rattle.schedule_replay.specs.CheckText.{AreRecorded, transcript_of, ChecksAll, ChecksUntil, Checks}
+use Rattle.text_lines.specs.Lines.{lines_of, lines_limit}
 
 -- nodes and events whose values are within their ranges, and no more than lines are allowed
 pub record IsInRange (nodes : Network) (run : Run) : Type 0 where
@@ -70,7 +70,7 @@ AnswersAcceptance reports answer =
 -- So of what was replayed on Ok, whatever octets the schedule was.
 abbrev pub EachReplayIsAccepted : Premise → Type 0
 EachReplayIsAccepted premise =
-    (octets : List ℕ) (left before after : Option (List ℕ)) (events : ℕ)
-    (replayed : ReplaysAll octets left before after events) → premise replayed.nodes replayed.run → (left' before' after' : Option (List ℕ)) (answer : Result Verdict Fault)
-    → Checks (nodes_text replayed.nodes ++ replayed.text) left' before' after' answer
-    → AnswersAcceptance (reports_in replayed.nodes replayed.run) answer
+    (octets : List ℕ) (left before after : Option (List ℕ)) (events : ℕ) (replayed : ReplaysAll octets left before after events)
+    → premise replayed.state.network replayed.state.run → (left' before' after' : Option (List ℕ)) (answer : Result Verdict Fault)
+    → Checks (replayed.text ++ replayed.last) left' before' after' answer
+    → AnswersAcceptance (reports_in replayed.state.network replayed.state.run) answer

@@ -1,27 +1,27 @@
 -- What `check_text` answers and writes, by the transcript that it reads.
-use Rattle.std.specs.Prelude.{◌≡◌, ◌≢◌, ◌⊎◌, ℕ, ◌+◌, ◌≤◌, List, [], ◌∷◌, ◌++◌, length, map, take, slice_get, codes, decimal, Option, Some, None, ok_or, MatchResult, Result, Ok, Err, ⊤}
-use Rattle.std.specs.Option.{ForSome}
-use Rattle.std.specs.Io.KnownBytes.{Appends, Keeps}
+use Rattle.std.specs.Prelude.{◌≡◌, ◌≢◌, ◌⊎◌, ℕ, List, [], ◌∷◌, ◌++◌, length, map, codes, decimal, Option, Some, None}
+use Rattle.std.specs.Prelude.{ok_or, Result, Ok, Err, ⊤}
 use Rattle.serde_json.specs.Data.{Data}
 use Rattle.network_model.specs.Network.{Network}
 use Rattle.network_model.specs.Clash.{first_clash}
 use Rattle.trace_model.specs.declared.line.TraceLine.{TraceLine}
 use Rattle.trace_model.specs.declared.verdict.Verdict.{Verdict}
-use Rattle.trace_model.specs.declared.verdict.Verdict.TheVariants as verdicts
 use Rattle.trace_model.specs.Line.{Lines}
 use Rattle.trace_model.specs.Verdict.{verdict}
 use Rattle.trace_model.specs.Refusal.{code_of}
 use Rattle.schedule_lines.specs.declared.reading.transcript.TranscriptLine.{TranscriptLine}
-use Rattle.schedule_lines.specs.declared.reading.transcript.TranscriptLine.TheVariants as recorded
 use Rattle.schedule_lines.specs.TranscriptLine.{transcript_line_of}
-use Rattle.schedule_replay.specs.declared.counted.Counted.{Counted}
 use Rattle.schedule_replay.specs.declared.fault.Fault.{Fault}
 use Rattle.schedule_replay.specs.declared.fault.FaultKind.{FaultKind}
-use Rattle.schedule_replay.specs.declared.fault.FaultKind.TheVariants.{Read, Write, LineTooLong, TooManyLines, Json, Field, World, Memory}
-use Rattle.schedule_replay.specs.Counted.{device_of}
-use Rattle.schedule_replay.specs.Lines.{lines_of, lfs_in, after_lines, without_cr, reading_fault, AreRead, LeavesUnread}
+use Rattle.schedule_replay.specs.declared.fault.FaultKind.TheVariants.{Write, Json, Field, World, Memory}
 use Rattle.schedule_replay.specs.Schedule.{value_in}
-use Rattle.schedule_replay.specs.Show.{WentOutAs}
+use Rattle.text_lines.specs.declared.counted.Counted.{Counted}
+use Rattle.text_lines.specs.Lines.{AreRead}
+use Rattle.text_lines.specs.Task.{Rules, AnswersAll}
+use Rattle.schedule_replay.specs.Answer.{SaysUntil, Says, SaysAnswer}
+use Rattle.schedule_replay.specs.Fault.{is_of_writer}
+use Rattle.trace_model.specs.declared.verdict.Verdict.TheVariants as verdicts
+use Rattle.schedule_lines.specs.declared.reading.transcript.TranscriptLine.TheVariants as recorded
 
 -- the node, or the event with what was recorded of it, that a line's value is
 abbrev pub recorded_of_value : Option Data → Result TranscriptLine FaultKind
@@ -53,36 +53,20 @@ IsOutOfPlace lines (recorded.Event number line) = number ≢ length lines
 -- The fault of a line after these nodes and events, where the line itself was read. Where memory is refused, nothing is
 -- known of the line; nothing is written at a line.
 abbrev pub MistakesIn : FaultKind → Network → Lines → List ℕ → Type 0
-MistakesIn Read nodes lines line = ⊥
-MistakesIn Write nodes lines line = ⊥
-MistakesIn LineTooLong nodes lines line = ⊥
-MistakesIn TooManyLines nodes lines line = ⊥
 MistakesIn Json nodes lines line = recorded_in line ≡ Err Json
 MistakesIn Field nodes lines line =
     (recorded_in line ≡ Err Field) ⊎ ((entry : TranscriptLine) × (recorded_in line ≡ Ok entry) × IsOutOfPlace lines entry)
 MistakesIn (World why) nodes lines line =
     (first : TraceLine) × (recorded_in line ≡ Ok (recorded.Event 0 first)) × (lines ≡ []) × (first_clash nodes ≡ Some why)
 MistakesIn Memory nodes lines line = ⊤
-
--- the line of this number, at which this is answered after these nodes and events, is there and has this fault; a
--- reader fails before the line is there
-abbrev pub MistakesAt : FaultKind → ℕ → Network → Lines → Option (List ℕ) → Type 0
-MistakesAt Read number nodes lines line = ⊤
-MistakesAt kind number nodes lines None = ⊥
-MistakesAt LineTooLong number nodes lines (Some line) = reading_fault number line ≡ Some LineTooLong
-MistakesAt TooManyLines number nodes lines (Some line) = reading_fault number line ≡ Some TooManyLines
-MistakesAt kind number nodes lines (Some line) = (reading_fault number line ≡ None) × MistakesIn kind nodes lines (without_cr line)
+MistakesIn kind nodes lines line = ⊥
 
 -- the fault at the end of a transcript: there was no event and the nodes are no network, or the verdict can't be made or written
 abbrev pub MistakesAtEnd : FaultKind → Network → Lines → Type 0
-MistakesAtEnd Read nodes lines = ⊥
-MistakesAtEnd LineTooLong nodes lines = ⊥
-MistakesAtEnd TooManyLines nodes lines = ⊥
-MistakesAtEnd Json nodes lines = ⊥
-MistakesAtEnd Field nodes lines = ⊥
 MistakesAtEnd (World why) nodes lines = (lines ≡ []) × (first_clash nodes ≡ Some why)
 MistakesAtEnd Write nodes lines = first_clash nodes ≡ None
 MistakesAtEnd Memory nodes lines = ⊤
+MistakesAtEnd kind nodes lines = ⊥
 
 -- the line that tells a verdict
 abbrev pub verdict_text : Verdict → List ℕ
@@ -90,45 +74,42 @@ verdict_text (verdicts.Accepted count) = codes "accepted " ++ (decimal count ++ 
 verdict_text (verdicts.Refused number why) =
     codes "refused event " ++ (decimal number ++ (codes ": " ++ (decimal (code_of why) ++ 10 ∷ [])))
 
--- all lines of an input of these octets are a transcript, the answer is the verdict on its events, which went out, and the
--- input is at its end
-pub record ChecksAll (octets : List ℕ) (left before after : Option (List ℕ)) (answer : Verdict) : Type 0 where
+-- the nodes of a transcript so far, and what was recorded of events, newest first
+pub record Recorded : Type 0 where
   pub nodes : Network
   pub lines : Lines
-  pub transcript : AreRecorded 1 (lines_of octets) (transcript_of nodes lines)
-  pub network : first_clash nodes ≡ None
-  pub verdict_is : answer ≡ verdict nodes lines
-  pub output : Appends before after (verdict_text answer)
-  pub input : left ≡ Some []
 
--- The fault is that of the line after these, which have their LFs, and of it and after it this is unread. Or it comes at the
--- end.
-abbrev pub StopsCheckAfter : ℕ → Network → Lines → List ℕ → Option (List ℕ) → Fault → Type 0
-StopsCheckAfter earlier nodes lines octets left stop =
-    ((earlier ≤ lfs_in octets) × MistakesAt stop.what stop.line nodes lines (slice_get (lines_of octets) earlier)
-    × LeavesUnread stop.what stop.line (after_lines earlier octets) left)
-    ⊎ ((earlier ≡ length (lines_of octets)) × MistakesAtEnd stop.what nodes lines × (left ≡ Some []))
+-- what a node or a recorded event does
+abbrev pub Follows : TranscriptLine → (state later : Recorded) → Type 0
+Follows (recorded.Node node) state later = (state.lines ≡ []) × (later ≡ record { nodes = state.nodes ++ node ∷ []; lines = [] })
+Follows (recorded.Event number line) state later =
+    (number ≡ length state.lines) × (first_clash state.nodes ≡ None) × (later ≡ record { nodes = state.nodes; lines = line ∷ state.lines })
 
--- The lines before a fault are the beginning of a transcript, of a network where there is an event among them. Nothing went
--- out, but where the writer failed.
-pub record ChecksUntil (octets : List ℕ) (left before after : Option (List ℕ)) (stop : Fault) : Type 0 where
-  pub earlier : ℕ
-  pub line : stop.line ≡ earlier + 1
-  pub nodes : Network
-  pub lines : Lines
-  pub transcript : AreRecorded 1 (take earlier (lines_of octets)) (transcript_of nodes lines)
-  pub network : lines ≢ [] → first_clash nodes ≡ None
-  pub output : WentOutAs stop.what (Keeps before after)
-  pub fault : StopsCheckAfter earlier nodes lines octets left stop
+-- Each line is a node, or an event with its place among the events for a number. Only the verdict is written.
+abbrev pub check_rules : Rules Recorded Verdict FaultKind
+check_rules = record {
+  start = record { nodes = []; lines = [] };
+  Takes = λ line state later written. (entry : TranscriptLine) × (recorded_in line ≡ Ok entry) × Follows entry state later × (written ≡ []);
+  Stops = λ line state kind written. MistakesIn kind state.nodes state.lines line × (written ≡ []);
+  Ends = λ lines state answer written.
+      (first_clash state.nodes ≡ None) × (answer ≡ verdict state.nodes state.lines) × (written ≡ verdict_text answer);
+  StopsAtEnd = λ state kind written. MistakesAtEnd kind state.nodes state.lines × (written ≡ []);
+  is_of_writer = is_of_writer;
+}
+
+-- all lines of an input of these octets are a transcript, and the input is at its end
+abbrev pub ChecksAll : List ℕ → (left before after : Option (List ℕ)) → Verdict → Type 0
+ChecksAll = AnswersAll check_rules
+
+-- the lines before a fault are the beginning of a transcript; nothing went out, but where the writer failed
+abbrev pub ChecksUntil : List ℕ → (left before after : Option (List ℕ)) → Fault → Type 0
+ChecksUntil = SaysUntil check_rules
 
 -- what an answer of `check_text` over these octets says, of what is left of them and of what was written
 abbrev pub Checks : List ℕ → (left before after : Option (List ℕ)) → Result Verdict Fault → Type 0
-Checks octets left before after answer = MatchResult answer (ChecksAll octets left before after) (ChecksUntil octets left before after)
+Checks = Says check_rules
 
--- what an answer of `check_text` says where the reader tells its octets: of lines and verdict whatever the writer is, and
--- of what was written where the writer tells its octets, too
+-- what an answer of `check_text` says where the reader tells its octets, and where the writer does
 abbrev pub ChecksAnswer : {R W : Type 0} → (R → Option (List ℕ)) → (W → Option (List ℕ)) → Result Verdict Fault
     → (input input' : Counted R) (output output' : Counted W) → Type 0
-ChecksAnswer remaining contents answer input input' output output' =
-    ForSome (remaining (device_of input)) (λ octets.
-    Checks octets (remaining (device_of input')) (contents (device_of output)) (contents (device_of output')) answer)
+ChecksAnswer = SaysAnswer check_rules

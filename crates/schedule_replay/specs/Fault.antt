@@ -1,12 +1,16 @@
 -- The numbers of the faults, and which device failed.
-use Rattle.std.specs.Prelude.{ℕ, MatchResult, Result}
-use Rattle.schedule_replay.specs.declared.counted.Counted.{Counted}
+use Rattle.std.specs.Prelude.{◌≡◌, ℕ, Bool, true, false, MatchResult, Result}
+use Rattle.text_lines.specs.declared.counted.Counted.{Counted}
 use Rattle.schedule_replay.specs.declared.fault.Fault.{Fault}
 use Rattle.schedule_replay.specs.declared.fault.FaultKind.{FaultKind}
 use Rattle.schedule_replay.specs.declared.fault.FaultKind.TheVariants.{Read, Write, LineTooLong, TooManyLines, Json, Field, World, Memory}
 use Rattle.network_model.specs.declared.refusal.WorldRefusal.{WorldRefusal}
 use Rattle.network_model.specs.declared.refusal.WorldRefusal.TheVariants as refusals
-use Rattle.schedule_replay.specs.Counted.{HasFailed, HasNotFailed}
+use Rattle.text_lines.specs.declared.fault.Cause.{Cause}
+use Rattle.text_lines.specs.declared.fault.Cause.TheVariants.{Reading, Task}
+use Rattle.text_lines.specs.declared.fault.ReadingFault.{ReadingFault}
+use Rattle.text_lines.specs.declared.fault.ReadingFault.TheVariants as reading
+use Rattle.text_lines.specs.Counted.{one_more, HasFailed, HasNotFailed}
 
 -- the number of a fault
 abbrev pub code_of : FaultKind → ℕ
@@ -18,6 +22,31 @@ code_of Json = 805
 code_of Field = 806
 code_of (World why) = 807
 code_of Memory = 808
+
+-- the fault by which a fault in reading is told
+abbrev pub of_reading : ReadingFault → FaultKind
+of_reading reading.Read = Read
+of_reading reading.LineTooLong = LineTooLong
+of_reading reading.TooManyLines = TooManyLines
+
+-- the fault by which it is told why lines were answered no further
+abbrev pub kind_of : Cause FaultKind → FaultKind
+kind_of (Reading fault) = of_reading fault
+kind_of (Task kind) = kind
+
+-- whether this fault says that the writer failed
+abbrev pub is_of_writer : FaultKind → Bool
+is_of_writer Write = true
+is_of_writer kind = false
+
+-- how many failures of the writer there are after a fault that isn't in reading, and before it
+abbrev pub WriterFails : FaultKind → (failures failures' : ℕ) → Type 0
+WriterFails Write failures failures' = failures' ≡ one_more failures
+WriterFails Json failures failures' = failures' ≡ failures
+WriterFails Field failures failures' = failures' ≡ failures
+WriterFails (World why) failures failures' = failures' ≡ failures
+WriterFails Memory failures failures' = failures' ≡ failures
+WriterFails kind failures failures' = ⊥
 
 -- the fault by which the refusal of a network or of an event is told
 abbrev pub fault_of : WorldRefusal → FaultKind

@@ -1,7 +1,5 @@
 pub mod Fault
-pub mod Counted
-pub mod OctetReader
-pub mod Lines
+pub mod Answer
 pub mod Show
 pub mod Schedule
 pub mod Replay

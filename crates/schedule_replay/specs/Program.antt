@@ -1,8 +1,8 @@
 -- What the program answers: its exit status, by what the arguments ask for.
 use Rattle.std.specs.Prelude.{◌≡◌, ◌⊎◌, ℕ, List, Option, Result, Ok, Err}
 use Rattle.std.specs.Io.KnownBytes.{Appends}
-use Rattle.schedule_replay.specs.declared.counted.Counted.{Counted}
-use Rattle.schedule_replay.specs.Counted.{device_of, HasFailed, HasNotFailed}
+use Rattle.text_lines.specs.declared.counted.Counted.{Counted}
+use Rattle.text_lines.specs.Counted.{device_of, HasFailed, HasNotFailed}
 use Rattle.schedule_replay.specs.Fault.{FailedWith}
 use Rattle.schedule_replay.specs.declared.fault.Fault.{Fault}
 use Rattle.trace_model.specs.declared.verdict.Verdict.{Verdict}

@@ -1,18 +1,15 @@
--- How far a transcript was read, and what one more line does.
-use Rattle.std.specs.Prelude.{◌≡◌, ◌≢◌, ◌⊎◌, ℕ, List, [], ◌∷◌, ◌++◌, length, reverse, Some, None, Ok, Err, ⊤}
+-- How far a transcript was read, and what stops it.
+use Rattle.std.specs.Prelude.{◌≡◌, ◌≢◌, ◌⊎◌, ℕ, List, [], length, reverse, Some, None, Err, ⊤}
 use Rattle.network_model.specs.Network.{Network}
 use Rattle.network_model.specs.Clash.{first_clash}
 use Rattle.exchange_check.specs.Transcript.{Transcript}
 use Rattle.trace_model.specs.Line.{Lines}
 use Rattle.schedule_lines.specs.declared.reading.transcript.TranscriptLine.{TranscriptLine}
-use Rattle.schedule_lines.specs.declared.reading.transcript.TranscriptLine.TheVariants as recorded
 use Rattle.schedule_replay.specs.declared.checking.Progress.{Progress}
 use Rattle.schedule_replay.specs.declared.checking.Progress.TheVariants.{Nodes, Events}
 use Rattle.schedule_replay.specs.declared.fault.FaultKind.{FaultKind}
-use Rattle.schedule_replay.specs.declared.fault.FaultKind.TheVariants.{Write, Json, Field, World, Memory}
-use Rattle.schedule_replay.specs.declared.counted.Counted.{Counted}
-use Rattle.schedule_replay.specs.Counted.{HasFailed, HasNotFailed}
-use Rattle.schedule_replay.specs.CheckText.{recorded_in}
+use Rattle.schedule_replay.specs.declared.fault.FaultKind.TheVariants.{Json, Field, World, Memory}
+use Rattle.schedule_replay.specs.CheckText.{recorded_in, Recorded}
 
 -- the nodes so far
 abbrev pub nodes_of : Progress → Network
@@ -24,31 +21,14 @@ abbrev pub lines_so_far : Progress → Lines
 lines_so_far (Nodes nodes) = []
 lines_so_far (Events checker) = reverse checker.lines
 
+-- what is known of both
+abbrev pub recorded_of : Progress → Recorded
+recorded_of progress = record { nodes = nodes_of progress; lines = lines_so_far progress }
+
 -- a checker began at an event, and with nodes that are a network
 abbrev pub IsProgress : Progress → Type 0
 IsProgress (Nodes nodes) = ⊤
 IsProgress (Events checker) = (reverse checker.lines ≢ []) × (first_clash checker.network ≡ None)
-
--- there are these nodes, and no event
-abbrev pub HasNodes : Network → Progress → Type 0
-HasNodes network (Nodes nodes) = nodes.items ≡ network
-HasNodes network (Events checker) = ⊥
-
--- there are these nodes, and this was recorded of events
-abbrev pub HasEvents : Network → Lines → Progress → Type 0
-HasEvents network lines (Nodes nodes) = ⊥
-HasEvents network lines (Events checker) = (checker.network ≡ network) × (reverse checker.lines ≡ lines)
-
--- what a node or a recorded event does
-abbrev pub Follows : TranscriptLine → Progress → Progress → Type 0
-Follows (recorded.Node node) progress next = (lines_so_far progress ≡ []) × HasNodes (nodes_of progress ++ node ∷ []) next
-Follows (recorded.Event number line) progress next =
-    (number ≡ length (lines_so_far progress)) × HasEvents (nodes_of progress) (line ∷ lines_so_far progress) next
-    × (first_clash (nodes_of progress) ≡ None)
-
--- a line was taken
-abbrev pub TakesRecord : List ℕ → Progress → Progress → Type 0
-TakesRecord line progress next = (entry : TranscriptLine) × (recorded_in line ≡ Ok entry) × Follows entry progress next
 
 -- a checker that was fed all this
 abbrev pub IsCheckerOf : Progress → Transcript → Type 0
@@ -71,10 +51,3 @@ StopsRecord kind nodes lines number = ⊥
 -- a fault of the line alone
 abbrev pub IsOwnMistake : FaultKind → List ℕ → Type 0
 IsOwnMistake kind line = ((kind ≡ Json) ⊎ (kind ≡ Field)) × (recorded_in line ≡ Err kind)
-
--- the kinds of fault in telling a verdict, of which one says that the writer failed
-abbrev pub IsFromTelling : {W : Type 0} → FaultKind → Counted W → Counted W → Type 0
-IsFromTelling Write old new = HasFailed old new
-IsFromTelling (World why) old new = HasNotFailed old new
-IsFromTelling Memory old new = HasNotFailed old new
-IsFromTelling kind old new = ⊥

@@ -1,7 +1,6 @@
 -- What `replay` writes, as a function of the schedule that it reads.
-use Rattle.std.specs.Prelude.{◌≡◌, ◌⊎◌, ℕ, ◌+◌, ◌≤◌, List, [], ◌∷◌, ◌++◌, length, take, slice_get, if◌then◌else◌, is_none, Option, Some, None, MatchResult, Result, ⊤}
-use Rattle.std.specs.Option.{ForSome}
-use Rattle.std.specs.Io.KnownBytes.{Appends}
+use Rattle.std.specs.Prelude.{◌≡◌, ℕ, List, [], ◌∷◌, ◌++◌, length, take, if◌then◌else◌, is_none, Option, None, Result}
+use Rattle.std.specs.Prelude.{⊤, Ok}
 use Rattle.network_model.specs.declared.event.Event.{Event}
 use Rattle.network_model.specs.Network.{Network}
 use Rattle.network_model.specs.Run.{Run}
@@ -9,14 +8,17 @@ use Rattle.network_model.specs.Clash.{first_clash}
 use Rattle.trace_model.specs.declared.line.TraceLine.{TraceLine}
 use Rattle.trace_model.specs.Told.{TellsEvent}
 use Rattle.schedule_lines.specs.Written.{node_data, event_data, line_text}
-use Rattle.schedule_replay.specs.declared.counted.Counted.{Counted}
 use Rattle.schedule_replay.specs.declared.fault.Fault.{Fault}
 use Rattle.schedule_replay.specs.declared.fault.FaultKind.{FaultKind}
-use Rattle.schedule_replay.specs.declared.fault.FaultKind.TheVariants.{Read, Write, LineTooLong, TooManyLines, Json, Field, World, Memory}
-use Rattle.schedule_replay.specs.Counted.{device_of}
-use Rattle.schedule_replay.specs.Lines.{lines_of, lfs_in, after_lines, LeavesUnread}
-use Rattle.schedule_replay.specs.Schedule.{AreEntries, schedule_of, FaultsAt, FaultsAtEnd}
-use Rattle.schedule_replay.specs.Show.{WentOutAs}
+use Rattle.schedule_replay.specs.declared.fault.FaultKind.TheVariants.{Write, World, Memory}
+use Rattle.schedule_replay.specs.Schedule.{FaultsAtEnd, entry_in, FaultsIn}
+use Rattle.text_lines.specs.declared.counted.Counted.{Counted}
+use Rattle.text_lines.specs.Task.{Rules, AnswersAll}
+use Rattle.world_model.specs.State.{State}
+use Rattle.schedule_lines.specs.declared.reading.schedule.Line.{Line}
+use Rattle.schedule_replay.specs.Answer.{Says, SaysAnswer}
+use Rattle.schedule_replay.specs.Fault.{is_of_writer}
+use Rattle.schedule_lines.specs.declared.reading.schedule.Line.TheVariants as entries
 
 -- the lines of the nodes
 abbrev pub nodes_text : Network → List ℕ
@@ -36,65 +38,54 @@ WritesRun network (event ∷ earlier) written =
     (others : List ℕ) × (line : List ℕ) × WritesRun network earlier others × IsEventLine network earlier event line
     × (written ≡ others ++ line)
 
--- What went out of the nodes' lines before this fault, where no event had happened: all of them where a network was there
--- and didn't accept the first event, and whole lines from the first on where memory was refused.
-abbrev pub NodesWentOut : FaultKind → Network → List ℕ → Type 0
-NodesWentOut Read nodes written = written ≡ []
-NodesWentOut LineTooLong nodes written = written ≡ []
-NodesWentOut TooManyLines nodes written = written ≡ []
-NodesWentOut Json nodes written = written ≡ []
-NodesWentOut Field nodes written = written ≡ []
-NodesWentOut (World why) nodes written = written ≡ (if is_none (first_clash nodes) then nodes_text nodes else [])
-NodesWentOut Write nodes written = ⊤
-NodesWentOut Memory nodes written = (count : ℕ) × (written ≡ nodes_text (take count nodes))
+-- what is to go out of the nodes' lines with the next event, or at the end: all, where there was no event yet
+abbrev pub owed : Network → Run → List ℕ
+owed nodes [] = nodes_text nodes
+owed nodes (event ∷ earlier) = []
 
--- what went out of the nodes' lines before this fault: all of them where an event had happened
-abbrev pub WentOutBefore : FaultKind → Network → Run → List ℕ → Type 0
-WentOutBefore kind nodes [] written = NodesWentOut kind nodes written
-WentOutBefore kind nodes (event ∷ earlier) written = (written ≡ nodes_text nodes) × (first_clash nodes ≡ None)
+-- What goes out of the nodes' lines at this fault, where no event had happened: all of them where a network is there and
+-- doesn't accept the first event, and whole lines from the first on where memory is refused.
+abbrev pub NodesGoOut : FaultKind → Network → List ℕ → Type 0
+NodesGoOut (World why) nodes written = written ≡ (if is_none (first_clash nodes) then nodes_text nodes else [])
+NodesGoOut Write nodes written = ⊤
+NodesGoOut Memory nodes written = (count : ℕ) × (written ≡ nodes_text (take count nodes))
+NodesGoOut kind nodes written = written ≡ []
 
--- all lines of an input of these octets were replayed, the answer is the number of events, and the input is at its end
-pub record ReplaysAll (octets : List ℕ) (left before after : Option (List ℕ)) (events : ℕ) : Type 0 where
-  pub nodes : Network
-  pub run : Run
-  pub schedule : AreEntries 1 (lines_of octets) (schedule_of nodes run)
-  pub network : first_clash nodes ≡ None
-  pub count : events ≡ length run
-  pub text : List ℕ
-  pub transcript : WritesRun nodes run text
-  pub output : Appends before after (nodes_text nodes ++ text)
-  pub input : left ≡ Some []
+-- what goes out of them at this fault: nothing more where an event had happened
+abbrev pub GoesOut : FaultKind → Network → Run → List ℕ → Type 0
+GoesOut kind nodes [] written = NodesGoOut kind nodes written
+GoesOut kind nodes (event ∷ earlier) written = written ≡ []
 
--- The fault is that of the line after these, which have their LFs, and of it and after it this is unread. Or it comes at the
--- end, after an input of nodes alone.
-abbrev pub StopsAfter : ℕ → Network → Run → List ℕ → Option (List ℕ) → Fault → Type 0
-StopsAfter earlier nodes run octets left stop =
-    ((earlier ≤ lfs_in octets) × FaultsAt stop.what stop.line nodes run (slice_get (lines_of octets) earlier)
-    × LeavesUnread stop.what stop.line (after_lines earlier octets) left)
-    ⊎ ((earlier ≡ length (lines_of octets)) × (run ≡ []) × FaultsAtEnd stop.what nodes × (left ≡ Some []))
+-- what a node or an event does, and what is written
+abbrev pub Follows : Line → (state later : State) → List ℕ → Type 0
+Follows (entries.Node node) state later written =
+    (state.run ≡ []) × (later ≡ record { network = state.network ++ node ∷ []; run = [] }) × (written ≡ [])
+Follows (entries.Event event) state later written =
+    (first_clash state.network ≡ None) × (later ≡ record { network = state.network; run = event ∷ state.run })
+    × (line : List ℕ) × IsEventLine state.network state.run event line × (written ≡ owed state.network state.run ++ line)
 
--- the lines before a fault were replayed, and nothing else was written but what is said of the nodes' lines
-pub record ReplaysUntil (octets : List ℕ) (left before after : Option (List ℕ)) (stop : Fault) : Type 0 where
-  pub earlier : ℕ
-  pub line : stop.line ≡ earlier + 1
-  pub nodes : Network
-  pub run : Run
-  pub schedule : AreEntries 1 (take earlier (lines_of octets)) (schedule_of nodes run)
-  pub begun : List ℕ
-  pub went_out : WentOutBefore stop.what nodes run begun
-  pub text : List ℕ
-  pub transcript : WritesRun nodes run text
-  pub output : WentOutAs stop.what (Appends before after (begun ++ text))
-  pub fault : StopsAfter earlier nodes run octets left stop
+-- Each line is a node or an event. The nodes' lines go out with the first event, or at the end where there is none; the
+-- answer is the number of events.
+abbrev pub replay_rules : Rules State ℕ FaultKind
+replay_rules = record {
+  start = record { network = []; run = [] };
+  Takes = λ line state later written. (entry : Line) × (entry_in line ≡ Ok entry) × Follows entry state later written;
+  Stops = λ line state kind written. FaultsIn kind state.network state.run line × GoesOut kind state.network state.run written;
+  Ends = λ lines state events written.
+      (first_clash state.network ≡ None) × (events ≡ length state.run) × (written ≡ owed state.network state.run);
+  StopsAtEnd = λ state kind written. (state.run ≡ []) × FaultsAtEnd kind state.network × NodesGoOut kind state.network written;
+  is_of_writer = is_of_writer;
+}
+
+-- all lines of an input of these octets were replayed, and the input is at its end
+abbrev pub ReplaysAll : List ℕ → (left before after : Option (List ℕ)) → ℕ → Type 0
+ReplaysAll = AnswersAll replay_rules
 
 -- what an answer of `replay` over these octets says, of what is left of them and of what was written
 abbrev pub Replays : List ℕ → (left before after : Option (List ℕ)) → Result ℕ Fault → Type 0
-Replays octets left before after answer = MatchResult answer (ReplaysAll octets left before after) (ReplaysUntil octets left before after)
+Replays = Says replay_rules
 
--- what an answer of `replay` says where the reader tells its octets: of lines, nodes and events whatever the writer is, and
--- of what was written where the writer tells its octets, too
+-- what an answer of `replay` says where the reader tells its octets, and where the writer does
 abbrev pub ReplaysAnswer : {R W : Type 0} → (R → Option (List ℕ)) → (W → Option (List ℕ)) → Result ℕ Fault
     → (input input' : Counted R) (output output' : Counted W) → Type 0
-ReplaysAnswer remaining contents answer input input' output output' =
-    ForSome (remaining (device_of input)) (λ octets.
-    Replays octets (remaining (device_of input')) (contents (device_of output)) (contents (device_of output')) answer)
+ReplaysAnswer = SaysAnswer replay_rules

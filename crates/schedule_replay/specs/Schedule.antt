@@ -16,8 +16,8 @@ use Rattle.schedule_lines.specs.declared.reading.schedule.Line.{Line}
 use Rattle.schedule_lines.specs.declared.reading.schedule.Line.TheVariants as entries
 use Rattle.schedule_lines.specs.Line.{line_of}
 use Rattle.schedule_replay.specs.declared.fault.FaultKind.{FaultKind}
-use Rattle.schedule_replay.specs.declared.fault.FaultKind.TheVariants.{Read, Write, LineTooLong, TooManyLines, Json, Field, World, Memory}
-use Rattle.schedule_replay.specs.Lines.{without_cr, reading_fault, AreRead}
+use Rattle.schedule_replay.specs.declared.fault.FaultKind.TheVariants.{Write, Json, Field, World, Memory}
+use Rattle.text_lines.specs.Lines.{AreRead}
 
 -- the JSON value that a line is; None where it isn't UTF-8 or isn't JSON
 abbrev pub value_in : List ℕ → Option Data
@@ -47,9 +47,6 @@ refusal_of nodes run event = option_or (first_clash nodes) (result_err (outcome_
 -- The fault of a line after these nodes and events, where the line itself was read. Where memory is refused, nothing is
 -- known of the line; where the writer fails, it is an event, of which at least the nodes' lines were to be written.
 abbrev pub FaultsIn : FaultKind → Network → Run → List ℕ → Type 0
-FaultsIn Read nodes run line = ⊥
-FaultsIn LineTooLong nodes run line = ⊥
-FaultsIn TooManyLines nodes run line = ⊥
 FaultsIn Json nodes run line = entry_in line ≡ Err Json
 FaultsIn Field nodes run line =
     (entry_in line ≡ Err Field) ⊎ ((node : NodeSpec) × (entry_in line ≡ Ok (entries.Node node)) × (run ≢ []))
@@ -59,23 +56,11 @@ FaultsIn Write nodes run line =
     (event : Event) × (entry_in line ≡ Ok (entries.Event event)) × (first_clash nodes ≡ None)
     × (run ≢ [] → IsOk (outcome_of nodes run event))
 FaultsIn Memory nodes run line = ⊤
-
--- the line of this number, at which this is answered after these nodes and events, is there and has this fault; a
--- reader fails before the line is there
-abbrev pub FaultsAt : FaultKind → ℕ → Network → Run → Option (List ℕ) → Type 0
-FaultsAt Read number nodes run line = ⊤
-FaultsAt kind number nodes run None = ⊥
-FaultsAt LineTooLong number nodes run (Some line) = reading_fault number line ≡ Some LineTooLong
-FaultsAt TooManyLines number nodes run (Some line) = reading_fault number line ≡ Some TooManyLines
-FaultsAt kind number nodes run (Some line) = (reading_fault number line ≡ None) × FaultsIn kind nodes run (without_cr line)
+FaultsIn kind nodes run line = ⊥
 
 -- the fault at the end of an input of nodes alone: the nodes are no network, or their lines can't be made or written
 abbrev pub FaultsAtEnd : FaultKind → Network → Type 0
-FaultsAtEnd Read nodes = ⊥
-FaultsAtEnd LineTooLong nodes = ⊥
-FaultsAtEnd TooManyLines nodes = ⊥
-FaultsAtEnd Json nodes = ⊥
-FaultsAtEnd Field nodes = ⊥
 FaultsAtEnd (World why) nodes = first_clash nodes ≡ Some why
 FaultsAtEnd Write nodes = first_clash nodes ≡ None
 FaultsAtEnd Memory nodes = ⊤
+FaultsAtEnd kind nodes = ⊥

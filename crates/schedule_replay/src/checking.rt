@@ -4,23 +4,24 @@ ghost use Rattle.std.specs.Option.{ForSome};
 ghost use Rattle.std.specs.Io.KnownBytes.{Appends, Keeps};
 ghost use Rattle.network_model.specs.Clash.{first_clash};
 ghost use Rattle.trace_model.specs.Verdict.{verdict};
-ghost use Rattle.schedule_replay.specs.Counted.{device_of, HasFailed, HasNotFailed};
-ghost use Rattle.schedule_replay.specs.Fault.{FailedWith};
-ghost use Rattle.schedule_replay.specs.Lines.{input_limit, GivesWithin};
-ghost use Rattle.schedule_replay.specs.CheckText.{ChecksAnswer, recorded_in, verdict_text, MistakesIn, MistakesAtEnd};
-ghost use Rattle.schedule_replay.specs.Show.{WentOutAs};
-ghost use Rattle.schedule_replay.specs.Progress.{nodes_of, lines_so_far, IsProgress, HasNodes, HasEvents, TakesRecord, IsCheckerOf, StopsChecker, StopsRecord, IsOwnMistake, IsFromTelling};
+ghost use Rattle.text_lines.specs.Counted.{device_of, failures_of, HasNotFailed};
+ghost use Rattle.schedule_replay.specs.Fault.{is_of_writer, FailedWith, WriterFails};
+ghost use Rattle.text_lines.specs.Lines.{input_limit, GivesWithin};
+ghost use Rattle.schedule_replay.specs.CheckText.{Recorded, check_rules, ChecksAnswer, recorded_in, verdict_text};
+ghost use Rattle.schedule_replay.specs.CheckText.{MistakesIn, MistakesAtEnd};
+ghost use Rattle.text_lines.specs.Task.{WentOut};
+ghost use Rattle.schedule_replay.specs.Progress.{nodes_of, lines_so_far, recorded_of, IsProgress};
+ghost use Rattle.schedule_replay.specs.Progress.{IsCheckerOf, StopsChecker, StopsRecord, IsOwnMistake};
 ghost use Rattle.schedule_replay.specs.Stage.{LeavesUnwritten};
 
-use crate::counted::Counted;
 use crate::fault::{Fault, FaultKind};
-use crate::lines::Lines;
 use exchange_check::{Checker, Verdict};
 use network_model::{NodeSpec, Nodes};
 use schedule_lines::TranscriptLine;
 use serde_json::Value;
 use std::alloc::{AllocError, Global};
 use std::io::{Read, Write};
+use text_lines::{Counted, LineTask, answer_lines};
 use trace_model::TraceLine;
 
 /// How far a transcript was read.
@@ -32,26 +33,54 @@ enum Progress {
     Events(Checker),
 }
 
-impl Progress {
-    /// Takes one more line.
-    fn after(self, alloc: Global, line: &[u8]) -> Result<Progress, FaultKind>
-        requires { IsProgress self }
-        ensures taken { MatchResult result
-            (λ next. TakesRecord line.now self next)
-            (λ kind. MistakesIn kind (nodes_of self) (lines_so_far self) line.now) }
-        ensures progress { IfOk result IsProgress }
-    {
+/// Checks each line of a transcript.
+#[derive(Drop)]
+struct Checking {
+    alloc: Global,
+    progress: Progress,
+}
+
+impl LineTask for Checking {
+    type Answer = Verdict;
+
+    type Fault = FaultKind;
+
+    ghost State = { Recorded };
+
+    ghost rules = { check_rules };
+
+    ghost is_at = { λ task state. (recorded_of task.progress ≡ state) × IsProgress task.progress };
+
+    ghost fails = { WriterFails };
+
+    fn take<W: Write>(self, line: &[u8], _output: &mut Counted<W>) -> Result<Checking, FaultKind> {
+        let Checking { alloc, progress } = self;
         match read_recorded(alloc, line)? {
-            TranscriptLine::Node(node) => self.with_node(node),
-            TranscriptLine::Event { number, line } => self.with_event(alloc, number, line),
+            TranscriptLine::Node(node) => {
+                let progress = progress.with_node(node)?;
+                Ok(Checking { alloc, progress })
+            }
+            TranscriptLine::Event { number, line } => {
+                let progress = progress.with_event(alloc, number, line)?;
+                Ok(Checking { alloc, progress })
+            }
         }
     }
 
+    /// The verdict on all events, which is written.
+    fn finish<W: Write>(self, _lines: u64, output: &mut Counted<W>) -> Result<Verdict, FaultKind> {
+        let Checking { alloc, progress } = self;
+        progress.finish(alloc, output)
+    }
+}
+
+impl Progress {
     /// Takes one more node, which stands before all events.
     fn with_node(self, node: NodeSpec) -> Result<Progress, FaultKind>
         requires { IsProgress self }
         ensures { MatchResult result
-            (λ next. (lines_so_far self ≡ []) × HasNodes (nodes_of self ++ node ∷ []) next)
+            (λ next. (lines_so_far self ≡ []) × IsProgress next
+            × (recorded_of next ≡ record { nodes = nodes_of self ++ node ∷ []; lines = [] }))
             (λ kind. (kind ≡ FaultKind.Memory) ⊎ ((kind ≡ FaultKind.Field) × (lines_so_far self ≢ []))) }
     {
         match self {
@@ -67,8 +96,8 @@ impl Progress {
     fn with_event(self, alloc: Global, number: u64, line: TraceLine) -> Result<Progress, FaultKind>
         requires { IsProgress self }
         ensures { MatchResult result
-            (λ next. (number ≡ length (lines_so_far self)) × HasEvents (nodes_of self) (line ∷ lines_so_far self) next
-            × (first_clash (nodes_of self) ≡ None))
+            (λ next. (number ≡ length (lines_so_far self)) × (first_clash (nodes_of self) ≡ None) × IsProgress next
+            × (recorded_of next ≡ record { nodes = nodes_of self; lines = line ∷ lines_so_far self }))
             (λ kind. StopsRecord kind (nodes_of self) (lines_so_far self) number) }
     {
         if number != self.events() {
@@ -113,10 +142,11 @@ impl Progress {
             MatchResult result
             (λ answer. (answer ≡ verdict (nodes_of self) (lines_so_far self)) × (first_clash (nodes_of self) ≡ None)
             × Appends before after (verdict_text answer))
-            (λ kind. MistakesAtEnd kind (nodes_of self) (lines_so_far self) × WentOutAs kind (Keeps before after)) }
+            (λ kind. MistakesAtEnd kind (nodes_of self) (lines_so_far self)
+            × WentOut (is_of_writer kind) (Keeps before after)) }
         ensures failures { MatchResult result
             (λ _. HasNotFailed output.old output.new)
-            (λ kind. IsFromTelling kind output.old output.new) }
+            (λ kind. WriterFails kind (failures_of output.old) (failures_of output.new)) }
     {
         let verdict = self.into_checker(alloc)?.verdict();
         write_verdict(alloc, verdict, output)?;
@@ -166,7 +196,7 @@ fn write_verdict<W: Write>(
         (λ kind. LeavesUnwritten kind before after) }
     ensures failures { MatchResult result
         (λ _. HasNotFailed output.old output.new)
-        (λ kind. IsFromTelling kind output.old output.new) }
+        (λ kind. WriterFails kind (failures_of output.old) (failures_of output.new)) }
 {
     let text = verdict_text(alloc, verdict)?;
     match output.write_all(text.as_bytes()) {
@@ -195,16 +225,9 @@ pub fn check_text<R: Read, W: Write>(
     ensures bounded { GivesWithin R.remaining input_limit input.old input.new }
     ensures failures { FailedWith result input.old input.new output.old output.new }
 {
-    let mut lines = Lines::new();
-    let mut progress = Progress::Nodes(Vec::new(alloc));
-    while lines.read_next(input)? {
-        progress = match progress.after(alloc, lines.line()) {
-            Ok(next) => next,
-            Err(what) => return Err(lines.fault(what)),
-        };
-    }
-    match progress.finish(alloc, output) {
-        Ok(verdict) => Ok(verdict),
-        Err(what) => Err(lines.fault_after(what)),
-    }
+    let task = Checking {
+        alloc,
+        progress: Progress::Nodes(Vec::new(alloc)),
+    };
+    Ok(answer_lines(task, input, output)?)
 }

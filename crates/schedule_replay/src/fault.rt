@@ -6,6 +6,7 @@ use network_model::WorldRefusal;
 use std::alloc::{AllocError, AllocFailed};
 use std::fmt;
 use std::fmt::{Display, Formatter};
+use text_lines::{Cause, ReadingFault, Stopped};
 use thiserror::Error;
 
 /// A fault that ended the reading of lines, and where. The display text says both in words.
@@ -85,6 +86,37 @@ impl Display for InWords {
             FaultKind::Field => f.write_str("the line isn't what is asked for"),
             FaultKind::World(why) => write!(f, "{why} ({})", why.code()),
             FaultKind::Memory => f.write_str("memory was refused"),
+        }
+    }
+}
+
+impl From<ReadingFault> for FaultKind {
+    ghost use Rattle.schedule_replay.specs.Fault.{of_reading};
+
+    ghost from_gives = { λ what kind. kind ≡ of_reading what };
+
+    fn from(what: ReadingFault) -> FaultKind {
+        match what {
+            ReadingFault::Read => FaultKind::Read,
+            ReadingFault::LineTooLong => FaultKind::LineTooLong,
+            ReadingFault::TooManyLines => FaultKind::TooManyLines,
+        }
+    }
+}
+
+impl From<Stopped<Cause<FaultKind>>> for Fault {
+    ghost use Rattle.schedule_replay.specs.Fault.{kind_of};
+
+    ghost from_gives = { λ stop fault. (fault.line ≡ stop.line) × (fault.what ≡ kind_of stop.what) };
+
+    fn from(stop: Stopped<Cause<FaultKind>>) -> Fault {
+        let what = match stop.what {
+            Cause::Reading(fault) => fault.into(),
+            Cause::Task(kind) => kind,
+        };
+        Fault {
+            line: stop.line,
+            what,
         }
     }
 }

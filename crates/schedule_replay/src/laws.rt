@@ -1,7 +1,7 @@
 //! What follows from the definitions alone, for any octets and for what is written of any run.
 ghost use Rattle.network_model.specs.Premises.{exact_limits, IsFreshAndTicked, IsWithinTurn};
-ghost use Rattle.schedule_replay.specs.Accepted.{EachRunIsTranscribed, EachRunIsAccepted};
-ghost use Rattle.schedule_replay.specs.Accepted.{EachRunIsChecked, EachReplayIsAccepted};
+ghost use Rattle.schedule_replay.specs.Accepted.{EachRunIsTranscribed, EachRunIsAccepted, EachRunIsChecked};
+ghost use Rattle.schedule_replay.specs.Accepted.{EachReplayIsAccepted};
 ghost use Rattle.schedule_replay.specs.Show.{Shows};
 ghost use Rattle.schedule_replay.specs.Replay.{Replays};
 ghost use Rattle.schedule_replay.specs.CheckText.{Checks};

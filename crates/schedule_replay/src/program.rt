@@ -1,10 +1,10 @@
 ghost use Rattle.std.specs.Prelude.{◌≡◌, ◌≢◌, ◌⊎◌, map, string_bytes};
 ghost use Rattle.schedule_replay.specs.Program.{EndsBefore, EndsUnread, Runs, check_status, status_of};
-ghost use Rattle.schedule_replay.specs.Lines.{input_limit, GivesWithin};
 ghost use Rattle.command_line.specs.Arguments.{AsksNothing, HasHelpFlag, Names, NamesNothing};
+ghost use Rattle.text_lines.specs.Lines.{input_limit, GivesWithin};
+ghost use Rattle.text_lines.specs.Counted.{device_of};
 
 use crate::checking::check_text;
-use crate::counted::Counted;
 use crate::fault::{Fault, FaultKind};
 use crate::replaying::replay;
 use crate::showing::show;
@@ -12,6 +12,7 @@ use command_line::{Invocation, Subcommand, parse};
 use exchange_check::Verdict;
 use std::alloc::Global;
 use std::io::{Read, Write};
+use text_lines::Counted;
 
 /// The whole program over its arguments, of which the first is its own name: runs the subcommand that
 /// they name, and answers the exit status. Status 0: done or accepted, or help was asked for, which

@@ -1,28 +1,28 @@
 //! A schedule that is replayed line by line.
-ghost use Rattle.std.specs.Prelude.{◌≡◌, ◌⊎◌, ◌++◌, ◌∷◌, ℕ, List, [], false, IfOk, MatchResult, Ok, None};
+ghost use Rattle.std.specs.Prelude.{◌≡◌, ◌⊎◌, ◌++◌, ◌∷◌, ℕ, List, [], false, MatchResult, Ok, None, ◌≢◌};
 ghost use Rattle.std.specs.Option.{ForSome};
 ghost use Rattle.std.specs.Io.KnownBytes.{Appends};
 ghost use Rattle.serde_json.specs.View.{view};
 ghost use Rattle.serde_json.specs.Written.{has_float};
 ghost use Rattle.network_model.specs.Clash.{first_clash};
-ghost use Rattle.world_model.specs.State.{new_state, after};
+ghost use Rattle.world_model.specs.State.{new_state, after, State};
 ghost use Rattle.schedule_lines.specs.Written.{line_text};
-ghost use Rattle.schedule_replay.specs.Counted.{device_of, HasNotFailed};
-ghost use Rattle.schedule_replay.specs.Fault.{FailedWith};
-ghost use Rattle.schedule_replay.specs.Lines.{input_limit, GivesWithin};
-ghost use Rattle.schedule_replay.specs.Schedule.{entry_in, FaultsIn, FaultsAtEnd};
-ghost use Rattle.schedule_replay.specs.Replay.{nodes_text, NodesWentOut, IsEventLine, ReplaysAnswer};
-ghost use Rattle.schedule_replay.specs.Show.{WentOutAs};
-ghost use Rattle.schedule_replay.specs.Stage.{nodes_of, run_of, begun_of, owed_by, IsStage, IsBegun, IsWorldOf, HasNodes, TakesLine, ShowsFault, IsOwnFault, LeavesUnwritten, WritesNone, StopsEvent, IsFromReplaying};
+ghost use Rattle.schedule_replay.specs.Fault.{FailedWith, is_of_writer, WriterFails};
+ghost use Rattle.schedule_replay.specs.Schedule.{entry_in, FaultsAtEnd};
+ghost use Rattle.schedule_replay.specs.Replay.{nodes_text, IsEventLine, ReplaysAnswer, owed, NodesGoOut};
+ghost use Rattle.schedule_replay.specs.Replay.{replay_rules};
+ghost use Rattle.schedule_replay.specs.Stage.{IsStage, IsOwnFault, LeavesUnwritten, WritesNone, StopsEvent, state_of};
+ghost use Rattle.text_lines.specs.Counted.{device_of, failures_of, HasNotFailed};
+ghost use Rattle.text_lines.specs.Lines.{input_limit, GivesWithin};
+ghost use Rattle.text_lines.specs.Task.{WentOut};
 
-use crate::counted::Counted;
 use crate::fault::{Fault, FaultKind};
-use crate::lines::Lines;
 use network_model::{Event, NodeSpec, Nodes};
 use schedule_lines::{Line, event_value, line_text, node_value};
 use serde_json::Value;
 use std::alloc::Global;
 use std::io::{Read, Write};
+use text_lines::{Counted, LineTask, answer_lines};
 use trace_model::TraceLine;
 use world_model::World;
 
@@ -35,40 +35,59 @@ enum Stage {
     Events(World),
 }
 
-impl Stage {
-    /// Takes one more line.
-    fn after<W: Write>(
-        self,
-        alloc: Global,
-        line: &[u8],
-        output: &mut Counted<W>,
-    ) -> Result<Stage, FaultKind>
-        requires { IsStage self }
-        ensures taken { let before = W.contents (device_of output.old) in
-            let after = W.contents (device_of output.new) in
-            MatchResult result
-            (λ next. (written : List ℕ) × TakesLine line.now self next written × Appends before after written)
-            (λ kind. FaultsIn kind (nodes_of self) (run_of self) line.now × ShowsFault kind self before after) }
-        ensures stage { IfOk result IsStage }
-        ensures failures { MatchResult result
-            (λ _. HasNotFailed output.old output.new)
-            (λ kind. IsFromReplaying kind output.old output.new) }
-    {
+/// Replays each line of a schedule.
+#[derive(Drop)]
+struct Replaying {
+    alloc: Global,
+    stage: Stage,
+}
+
+impl LineTask for Replaying {
+    type Answer = u64;
+
+    type Fault = FaultKind;
+
+    ghost State = { State };
+
+    ghost rules = { replay_rules };
+
+    ghost is_at = { λ task state. (state_of task.stage ≡ state) × IsStage task.stage };
+
+    ghost fails = { WriterFails };
+
+    fn take<W: Write>(self, line: &[u8], output: &mut Counted<W>) -> Result<Replaying, FaultKind> {
+        let Replaying { alloc, stage } = self;
         match read_entry(alloc, line)? {
-            Line::Node(node) => self.with_node(node),
+            Line::Node(node) => {
+                let stage = stage.with_node(node)?;
+                Ok(Replaying { alloc, stage })
+            }
             Line::Event(event) => {
-                let mut world = self.into_world(alloc, output)?;
+                let mut world = stage.into_world(alloc, output)?;
                 happen(alloc, &mut world, &event, output)?;
-                Ok(Stage::Events(world))
+                let stage = Stage::Events(world);
+                Ok(Replaying { alloc, stage })
             }
         }
     }
 
+    /// How many events there were.
+    fn finish<W: Write>(self, _lines: u64, output: &mut Counted<W>) -> Result<u64, FaultKind> {
+        let Replaying { alloc, stage } = self;
+        let world = stage.into_world(alloc, output)?;
+        Ok(world.len())
+    }
+}
+
+impl Stage {
     /// Takes one more node, which stands before all events.
     fn with_node(self, node: NodeSpec) -> Result<Stage, FaultKind>
-        ensures { MatchResult result
-            (λ next. (run_of self ≡ []) × (begun_of self ≡ []) × HasNodes (nodes_of self ++ node ∷ []) next)
-            (λ kind. (kind ≡ FaultKind.Memory) ⊎ ((kind ≡ FaultKind.Field) × IsBegun self)) }
+        requires { IsStage self }
+        ensures { let before = state_of self in
+            MatchResult result
+            (λ next. (before.run ≡ []) × IsStage next
+            × (state_of next ≡ record { network = before.network ++ node ∷ []; run = [] }))
+            (λ kind. (kind ≡ FaultKind.Memory) ⊎ ((kind ≡ FaultKind.Field) × (before.run ≢ []))) }
     {
         match self {
             Stage::Nodes(mut nodes) => {
@@ -89,11 +108,13 @@ impl Stage {
         ensures world { let before = W.contents (device_of output.old) in
             let after = W.contents (device_of output.new) in
             MatchResult result
-            (λ world. IsWorldOf self world × Appends before after (owed_by self))
-            (λ kind. FaultsAtEnd kind (nodes_of self) × (run_of self ≡ []) × ShowsFault kind self before after) }
+            (λ world. (world ≡ state_of self) × (first_clash world.network ≡ None)
+            × Appends before after (owed world.network world.run))
+            (λ kind. (written : List ℕ) × replay_rules.StopsAtEnd (state_of self) kind written
+            × WentOut (is_of_writer kind) (Appends before after written)) }
         ensures failures { MatchResult result
             (λ _. HasNotFailed output.old output.new)
-            (λ kind. IsFromReplaying kind output.old output.new) }
+            (λ kind. WriterFails kind (failures_of output.old) (failures_of output.new)) }
     {
         match self {
             Stage::Nodes(nodes) => begin(alloc, nodes.as_slice(), output),
@@ -133,7 +154,7 @@ fn write_line<W: Write>(
         (λ kind. LeavesUnwritten kind before after) }
     ensures failures { MatchResult result
         (λ _. HasNotFailed output.old output.new)
-        (λ kind. IsFromReplaying kind output.old output.new) }
+        (λ kind. WriterFails kind (failures_of output.old) (failures_of output.new)) }
 {
     let text = line_text(alloc, value)?;
     match output.write_all(text.as_bytes()) {
@@ -151,12 +172,14 @@ fn begin<W: Write>(
     ensures begun { let before = W.contents (device_of output.old) in
         let after = W.contents (device_of output.new) in
         MatchResult result
-        (λ world. (world ≡ new_state nodes.now) × (first_clash nodes.now ≡ None) × Appends before after (nodes_text nodes.now))
+        (λ world. (world ≡ new_state nodes.now) × (first_clash nodes.now ≡ None)
+        × Appends before after (nodes_text nodes.now))
         (λ kind. FaultsAtEnd kind nodes.now
-        × ((written : List ℕ) × NodesWentOut kind nodes.now written × WentOutAs kind (Appends before after written))) }
+        × ((written : List ℕ) × NodesGoOut kind nodes.now written
+        × WentOut (is_of_writer kind) (Appends before after written))) }
     ensures failures { MatchResult result
         (λ _. HasNotFailed output.old output.new)
-        (λ kind. IsFromReplaying kind output.old output.new) }
+        (λ kind. WriterFails kind (failures_of output.old) (failures_of output.new)) }
 {
     let network = Nodes::new(alloc, nodes)?;
     let world = World::new(alloc, network)?;
@@ -182,7 +205,7 @@ fn happen<W: Write>(
         (λ kind. StopsEvent kind world.old event.now × WritesNone kind before after_it) }
     ensures failures { MatchResult result
         (λ _. HasNotFailed output.old output.new)
-        (λ kind. IsFromReplaying kind output.old output.new) }
+        (λ kind. WriterFails kind (failures_of output.old) (failures_of output.new)) }
 {
     let stepped = world.step(event)?;
     let line = TraceLine::of(event, &stepped, world);
@@ -209,16 +232,9 @@ pub fn replay<R: Read, W: Write>(
     ensures bounded { GivesWithin R.remaining input_limit input.old input.new }
     ensures failures { FailedWith result input.old input.new output.old output.new }
 {
-    let mut lines = Lines::new();
-    let mut stage = Stage::Nodes(Vec::new(alloc));
-    while lines.read_next(input)? {
-        stage = match stage.after(alloc, lines.line(), output) {
-            Ok(next) => next,
-            Err(what) => return Err(lines.fault(what)),
-        };
-    }
-    match stage.into_world(alloc, output) {
-        Ok(world) => Ok(world.len()),
-        Err(what) => Err(lines.fault_after(what)),
-    }
+    let task = Replaying {
+        alloc,
+        stage: Stage::Nodes(Vec::new(alloc)),
+    };
+    Ok(answer_lines(task, input, output)?)
 }

@@ -1,28 +1,63 @@
-ghost use Rattle.std.specs.Prelude.{◌≡◌, ◌≤◌, length, MatchResult, ◌⊎◌};
+ghost use Rattle.std.specs.Prelude.{◌≡◌, ◌≤◌, length, MatchResult, ◌⊎◌, ⊤};
 ghost use Rattle.std.specs.Option.{ForSome};
 ghost use Rattle.std.specs.String.{string_bytes};
-ghost use Rattle.std.specs.Io.KnownBytes.{Appends, Keeps};
-ghost use Rattle.schedule_replay.specs.Counted.{device_of, HasNotFailed};
-ghost use Rattle.schedule_replay.specs.Fault.{FailedWith};
-ghost use Rattle.schedule_replay.specs.Lines.{input_limit, line_limit, GivesWithin};
-ghost use Rattle.schedule_replay.specs.Show.{IsAnswer, digits_fault, own_fault, WentOutAs, IsFromAnswering, ShowsAnswer};
+ghost use Rattle.schedule_replay.specs.Fault.{FailedWith, WriterFails};
+ghost use Rattle.schedule_replay.specs.Show.{IsAnswer, ShowsAnswer, StopsShowing, show_rules};
+ghost use Rattle.text_lines.specs.Lines.{input_limit, line_limit, GivesWithin};
 
-use crate::counted::Counted;
 use crate::fault::{Fault, FaultKind};
-use crate::lines::{LINE_LIMIT, Lines};
 use datagram_text::push_datagram;
 use std::alloc::Global;
 use std::io::{Read, Write};
+use text_lines::{Counted, LINE_LIMIT, LineTask, answer_lines};
 
 /// The most octets of a datagram, which is written in two digits each.
 const DATAGRAM_LIMIT: usize = LINE_LIMIT / 2;
+
+/// Shows each line as a datagram, by a text that all lines share.
+#[derive(Drop)]
+struct Showing {
+    text: String,
+}
+
+impl LineTask for Showing {
+    type Answer = u64;
+
+    type Fault = FaultKind;
+
+    ghost State = { ⊤ };
+
+    ghost rules = { show_rules };
+
+    ghost is_at = { λ _ _. ⊤ };
+
+    ghost fails = { WriterFails };
+
+    /// Answers one line, in one write.
+    fn take<W: Write>(
+        mut self,
+        digits: &[u8],
+        output: &mut Counted<W>,
+    ) -> Result<Showing, FaultKind> {
+        make_answer(&mut self.text, digits)?;
+        match output.write_all(self.text.as_bytes()) {
+            Ok(()) => Ok(self),
+            Err(_) => Err(FaultKind::Write),
+        }
+    }
+
+    /// How many lines there were.
+    fn finish<W: Write>(self, lines: u64, _output: &mut Counted<W>) -> Result<u64, FaultKind> {
+        Ok(lines)
+    }
+}
 
 /// Puts the answer to a line in place of what `text` holds.
 fn make_answer(text: &mut String, digits: &[u8]) -> Result<(), FaultKind>
     requires { length digits.now ≤ line_limit }
     ensures { MatchResult result
         (λ _. IsAnswer digits.now (string_bytes text.new))
-        (λ kind. ((kind ≡ FaultKind.Field) ⊎ (kind ≡ FaultKind.Memory)) × (digits_fault digits.now ≡ own_fault kind)) }
+        (λ kind. ((kind ≡ FaultKind.Field) ⊎ (kind ≡ FaultKind.Memory)) × StopsShowing digits.now kind) }
 {
     let mut room = [0; DATAGRAM_LIMIT];
     let datagram = &mut room[..digits.len() / 2];
@@ -33,29 +68,6 @@ fn make_answer(text: &mut String, digits: &[u8]) -> Result<(), FaultKind>
     push_datagram(text, datagram)?;
     text.push('\n')?;
     Ok(())
-}
-
-/// Answers one line, in one write.
-fn show_line<W: Write>(
-    digits: &[u8],
-    text: &mut String,
-    output: &mut Counted<W>,
-) -> Result<(), FaultKind>
-    requires { length digits.now ≤ line_limit }
-    ensures answer { let before = W.contents (device_of output.old) in
-        let after = W.contents (device_of output.new) in
-        MatchResult result
-        (λ _. IsAnswer digits.now (string_bytes text.new) × Appends before after (string_bytes text.new))
-        (λ kind. (digits_fault digits.now ≡ own_fault kind) × WentOutAs kind (Keeps before after)) }
-    ensures failures { MatchResult result
-        (λ _. HasNotFailed output.old output.new)
-        (λ kind. IsFromAnswering kind output.old output.new) }
-{
-    make_answer(text, digits)?;
-    match output.write_all(text.as_bytes()) {
-        Ok(()) => Ok(()),
-        Err(_) => Err(FaultKind::Write),
-    }
 }
 
 /// Shows one datagram for each line of the input, in hexadecimal digits of either case: for each a
@@ -74,12 +86,8 @@ pub fn show<R: Read, W: Write>(
     ensures bounded { GivesWithin R.remaining input_limit input.old input.new }
     ensures failures { FailedWith result input.old input.new output.old output.new }
 {
-    let mut lines = Lines::new();
-    let mut text = String::new(alloc);
-    while lines.read_next(input)? {
-        if let Err(what) = show_line(lines.line(), &mut text, output) {
-            return Err(lines.fault(what));
-        }
-    }
-    Ok(lines.count())
+    let task = Showing {
+        text: String::new(alloc),
+    };
+    Ok(answer_lines(task, input, output)?)
 }

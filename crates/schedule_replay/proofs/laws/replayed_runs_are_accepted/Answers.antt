@@ -1,8 +1,7 @@
 use Rattle.network_model.specs.Premises.{exact_limits, IsFreshAndTicked, IsWithinTurn}
 use Rattle.trace_model.proofs.Complete.{complete, complete_within_one_turn}
 use Rattle.network_model.proofs.ExactPremises.{fresh, in_turn}
-use Rattle.schedule_replay.proofs.OneTranscript.{accepted_by}
-use Rattle.schedule_replay.proofs.NoMistakes.{checked_by}
+use Rattle.schedule_replay.proofs.OneTranscript.{accepted_by, checked_by}
 use Rattle.schedule_replay.proofs.laws.replayed_runs_are_accepted.Goals as goal
 
 pub returns-clause-accepted : goal.returns-clause-accepted

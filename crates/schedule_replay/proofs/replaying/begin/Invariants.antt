@@ -1,7 +1,7 @@
 -- The lines of the nodes so far went out.
 use Rattle.std.proofs.Common.{take}
 use Rattle.std.specs.Io.KnownBytes.{Appends}
-use Rattle.schedule_replay.specs.Counted.{device_of, HasNotFailed}
+use Rattle.text_lines.specs.Counted.{device_of, HasNotFailed}
 use Rattle.schedule_replay.specs.Replay.{nodes_text}
 use Rattle.schedule_replay.proofs.replaying.begin.Given as goal
 

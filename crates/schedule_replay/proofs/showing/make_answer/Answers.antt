@@ -1,11 +1,10 @@
-use Rattle.std.proofs.Common.{◌≡◌, ◌∙◌, ℕ, ◌/◌, ◌%◌, ◌==◌, ◌++◌, Bool, true, false, cond, List, length, Result, Ok, Err, None, Some, inr, lit<, refl, sym, ap}
+use Rattle.std.proofs.Common.{◌≡◌, ◌∙◌, ℕ, ◌/◌, ◌%◌, ◌==◌, ◌++◌, Bool, true, false, cond, List, length, Result, Ok, Err, inr, lit<, refl, sym, ap}
 use Rattle.std.specs.Prelude.{MatchResult}
 use Rattle.std.specs.Result.{is_ok, is_err}
 use Rattle.std.proofs.lemmas.Result.{err_from_is_err_and}
 use Rattle.hex.specs.Hex.{decode_of, decode_sized, decode_pairs}
 use Rattle.hex.specs.declared.FromHexError.{FromHexError}
 use Rattle.hex.specs.declared.FromHexError.TheVariants.{OddLength, InvalidStringLength}
-use Rattle.schedule_replay.specs.declared.fault.FaultKind.TheVariants.{Field}
 use Rattle.schedule_replay.proofs.showing.make_answer.Goals as goal
 
 decoded_by_cases : {A : Type 0} (odd fits : Bool) (pairs : Result (List ℕ) FromHexError) (bad short : FromHexError) (r : Result A FromHexError) (done : Result A FromHexError) (out : List ℕ) → is_err done ≡ false
@@ -25,7 +24,7 @@ returns-in_err-push c =
     let e = err_from_is_err_and c.from_residual-in_err-push.result c.from_residual-in_err-push.ensures.1 in
     let datagram : decode_of c.args.digits.now ≡ Ok c.decode_to_slice.new.out =
     decoded c.args.digits.now c.decode_to_slice.new.out _ c.decode_to_slice.result c.decode_to_slice.ensures.value (sym c.is_err.ensures.value ∙ c.if-is_err.false) in
-    rw (e.1, e.2) (inr refl, ap (λ (r : Result (List ℕ) FromHexError). cond (is_ok r) None (Some Field)) datagram)
+    rw (e.1, e.2) (inr refl, ap is_ok datagram)
 
 pub returns : goal.returns
 returns c =

@@ -1,6 +1,0 @@
-use Rattle.schedule_replay.proofs.Reading.{beyond_last}
-use Rattle.schedule_replay.proofs.lines.expect_end.Goals as goal
-
-pub returns-in-Some-clause-next : goal.returns-in-Some-clause-next
-returns-in-Some-clause-next g c = λ octets known line.
-    beyond_last _ _ _ octets (rw c.in-Some.is at c.in_ok-read_octet.ensures.octet) known

@@ -1,0 +1,82 @@
+-- How many octets are given, whatever becomes of the lines.
+use Rattle.std.proofs.Common.{if◌then◌else◌, ◌≡◌, ℕ, ◌+◌, ◌*◌, ◌^◌, ◌<◌, ◌≤◌, List, Bool, true, false, length, drop, Option, Some, refl, sym, ap, ◌∙◌, arith}
+use Rattle.std.proofs.lemmas.List.{drop-drop, drop_at}
+use Rattle.std.proofs.lemmas.Bool.{ltb-false}
+use Rattle.std.specs.Prelude.{nat_lt}
+use Rattle.std.specs.Io.KnownBytes.{Consumes, Keeps}
+use Rattle.text_lines.specs.declared.counted.Counted.{Counted}
+use Rattle.text_lines.specs.Counted.{device_of, given_of, with_more, HasGiven}
+use Rattle.text_lines.specs.Lines.{line_limit, lines_limit, input_limit, room_of, GivesWithin}
+use Rattle.text_lines.proofs.KnownOctets.{Consumes-known, Keeps-known}
+
+more_more : (x a b : ℕ) → with_more (with_more x a) b ≡ with_more x (a + b)
+more_more x a b = omega arith
+
+no_more : (x : ℕ) → x < 2 ^ 64 → x ≡ with_more x 0
+no_more x within = omega arith
+
+-- a read that gave these
+pub gives_read : {R : Type 0} (remaining : R → Option (List ℕ)) (x y : Counted R) (bs : List ℕ) → Consumes (remaining (device_of x)) (remaining (device_of y)) bs
+    → HasGiven (length bs) x y → GivesWithin remaining (length bs) x y
+gives_read remaining x y bs consumed counted = record {
+  given = length bs;
+  within = omega arith;
+  counted = counted;
+  gone = λ octets known.
+      let (rest, left, split) = Consumes-known (remaining (device_of x)) (remaining (device_of y)) bs octets consumed known in
+      left ∙ ap Some (sym (ap (drop (length bs)) split ∙ drop_at bs rest (length bs) refl));
+}
+
+-- none were given
+pub gives_none : {R : Type 0} (remaining : R → Option (List ℕ)) (x y : Counted R) → given_of x < 2 ^ 64 → given_of y ≡ given_of x
+    → Keeps (remaining (device_of x)) (remaining (device_of y)) → GivesWithin remaining 0 x y
+gives_none remaining x y range counted kept = record {
+  given = 0;
+  within = omega arith;
+  counted = counted ∙ no_more (given_of x) range;
+  gone = λ octets known. Keeps-known (remaining (device_of x)) (remaining (device_of y)) octets kept known;
+}
+
+pub gives_less : {R : Type 0} (remaining : R → Option (List ℕ)) (a b : ℕ) (x y : Counted R) → GivesWithin remaining a x y → a ≤ b → GivesWithin remaining b x y
+gives_less remaining a b x y gives less = record {
+  given = gives.given;
+  within = omega (arith, gives.within, less);
+  counted = gives.counted;
+  gone = gives.gone;
+}
+
+-- one read after another
+pub gives_more : {R : Type 0} (remaining : R → Option (List ℕ)) (a b : ℕ) (x y z : Counted R) → GivesWithin remaining a x y → GivesWithin remaining b y z
+    → GivesWithin remaining (a + b) x z
+gives_more remaining a b x y z first next = record {
+  given = first.given + next.given;
+  within = omega (arith, first.within, next.within);
+  counted = next.counted ∙ ap (λ n. with_more n next.given) first.counted ∙ more_more (given_of x) first.given next.given;
+  gone = λ octets known. next.gone (drop first.given octets) (first.gone octets known) ∙ ap Some (drop-drop next.given first.given octets);
+}
+
+-- the octets of a line, and one more
+pub line_within : {R : Type 0} (remaining : R → Option (List ℕ)) (count : ℕ) (x y z : Counted R) → count ≤ line_limit → GivesWithin remaining count x y
+    → GivesWithin remaining 1 y z → GivesWithin remaining (line_limit + 1) x z
+line_within remaining count x y z fits so_far octet =
+    gives_less remaining _ _ x z (gives_more remaining _ _ x y z so_far octet) (omega arith)
+
+-- whole lines, and one more
+pub line_more : {R : Type 0} (remaining : R → Option (List ℕ)) (count : ℕ) (x y z : Counted R) → GivesWithin remaining (count * (line_limit + 1)) x y
+    → GivesWithin remaining (room_of (count + 1) + 1) y z → GivesWithin remaining ((count + 1) * (line_limit + 1)) x z
+line_more remaining count x y z so_far line =
+    gives_less remaining _ _ x z (gives_more remaining _ _ x y z so_far line) (go (nat_lt lines_limit (count + 1)))
+  where
+    go : (beyond : Bool) → count * (line_limit + 1) + ((if beyond then 0 else line_limit) + 1) ≤ (count + 1) * (line_limit + 1)
+    go true = omega arith
+    go false = omega arith
+
+-- whole lines, and the octets of a last one, are within the limit
+pub input_within : {R : Type 0} (remaining : R → Option (List ℕ)) (count : ℕ) (x y z : Counted R) → count ≤ lines_limit → GivesWithin remaining (count * (line_limit + 1)) x y
+    → GivesWithin remaining (room_of (count + 1) + 1) y z → GivesWithin remaining input_limit x z
+input_within remaining count x y z allowed so_far line =
+    gives_less remaining _ _ x z (gives_more remaining _ _ x y z so_far line) (go (nat_lt lines_limit (count + 1)) refl)
+  where
+    go : (beyond : Bool) → nat_lt lines_limit (count + 1) ≡ beyond → count * (line_limit + 1) + ((if beyond then 0 else line_limit) + 1) ≤ input_limit
+    go true is = omega arith
+    go false is = let below = ltb-false lines_limit (count + 1) is in omega arith

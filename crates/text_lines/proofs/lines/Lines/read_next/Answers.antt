@@ -1,0 +1,25 @@
+use Rattle.std.proofs.Common.{rules}
+use Rattle.std.proofs.lemmas.Result.{err_from_is_err_and}
+use Rattle.text_lines.proofs.lines.Lines.read_next.Goals as goal
+
+pub returns-then-self-eq-LINES_LIMIT-clause-next : goal.returns-then-self-eq-LINES_LIMIT-clause-next
+returns-then-self-eq-LINES_LIMIT-clause-next g c = λ octets known.
+    let next = c.expect_end.ensures.next octets known c.args.self.now.line.items in
+    search rules
+
+pub returns-in_err-found-clause-next : goal.returns-in_err-found-clause-next
+returns-in_err-found-clause-next g c =
+    let p = err_from_is_err_and c.from_residual.result c.from_residual.ensures.1 in
+    λ octets known.
+    let next = c.read_line.ensures.next octets known in
+    rw (p.1, p.2) (search rules)
+
+pub returns-then-found-clause-next : goal.returns-then-found-clause-next
+returns-then-found-clause-next g c = λ octets known.
+    let next = c.read_line.ensures.next octets known in
+    search rules
+
+pub returns-else-found-clause-next : goal.returns-else-found-clause-next
+returns-else-found-clause-next g c = λ octets known.
+    let next = c.read_line.ensures.next octets known in
+    search rules

@@ -1,0 +1,23 @@
+-- The lines so far were taken, and no device failed.
+use Rattle.std.proofs.Common.{◌≡◌, ℕ, List, ◌+◌, ◌-◌, ◌*◌, Some}
+use Rattle.std.specs.Prelude.{IsTrue}
+use Rattle.std.specs.Io.KnownBytes.{IsAtEnd}
+use Rattle.text_lines.specs.Counted.{device_of, HasNotFailed}
+use Rattle.text_lines.specs.Lines.{line_limit, lines_limit, GivesWithin}
+use Rattle.text_lines.proofs.TakenLines.{HasTaken}
+use Rattle.text_lines.proofs.task.answer_lines.Given as goal
+
+abbrev pub invariant-loop-task : goal.invariant-loop-task
+invariant-loop-task g l = record {
+  taken : (octets : List ℕ) → g.R.Read.remaining (device_of l.fn.input) ≡ Some octets
+      → (state : g.T.LineTask.State) × g.T.LineTask.is_at l.task state × HasTaken g.T.LineTask.rules octets (g.W.Write.contents (device_of l.fn.output)) l.lines.count l.lines.ended
+      state (g.R.Read.remaining (device_of l.input)) (g.W.Write.contents (device_of l.output));
+  at : (state : g.T.LineTask.State) × g.T.LineTask.is_at l.task state;
+  bounded : GivesWithin g.R.Read.remaining (l.lines.count * (line_limit + 1)) l.fn.input l.input;
+  reader : HasNotFailed l.fn.input l.input;
+  writer : HasNotFailed l.fn.output l.output;
+  ended : IsTrue l.lines.ended → IsAtEnd (g.R.Read.remaining (device_of l.input));
+}
+
+abbrev pub decreases-loop-task : goal.decreases-loop-task
+decreases-loop-task g l = lines_limit - l.lines.count

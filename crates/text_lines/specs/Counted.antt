@@ -1,0 +1,39 @@
+-- What a counted reader or writer shows.
+use Rattle.std.specs.Prelude.{◌≡◌, ℕ, ◌+◌, ◌-◌, ◌^◌, min}
+use Rattle.text_lines.specs.declared.counted.Counted.{Counted}
+
+-- the reader or writer itself
+abbrev pub device_of : {T : Type 0} → Counted T → T
+device_of c = c.device
+
+-- how many of its calls failed
+abbrev pub failures_of : {T : Type 0} → Counted T → ℕ
+failures_of c = c.failures
+
+-- how many octets it gave
+abbrev pub given_of : {T : Type 0} → Counted T → ℕ
+given_of c = c.given
+
+-- the greatest count
+abbrev pub greatest_count : ℕ
+greatest_count = 2 ^ 64 - 1
+
+-- so many more; the count stays at its greatest
+abbrev pub with_more : ℕ → ℕ → ℕ
+with_more count more = min (count + more) greatest_count
+
+-- one failure more
+abbrev pub one_more : ℕ → ℕ
+one_more count = with_more count 1
+
+-- one call failed
+abbrev pub HasFailed : {T : Type 0} → Counted T → Counted T → Type 0
+HasFailed old new = failures_of new ≡ one_more (failures_of old)
+
+-- no call failed
+abbrev pub HasNotFailed : {T : Type 0} → Counted T → Counted T → Type 0
+HasNotFailed old new = failures_of new ≡ failures_of old
+
+-- so many octets more were given
+abbrev pub HasGiven : {T : Type 0} → ℕ → Counted T → Counted T → Type 0
+HasGiven count old new = given_of new ≡ with_more (given_of old) count

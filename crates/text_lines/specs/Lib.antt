@@ -1,0 +1,4 @@
+pub mod Counted
+pub mod OctetReader
+pub mod Lines
+pub mod Task

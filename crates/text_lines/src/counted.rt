@@ -1,0 +1,134 @@
+ghost use Rattle.std.specs.Prelude.{◌≡◌, ◌<◌, ◌^◌, MatchResult, OnOk, ◌==◌, if◌then◌else◌};
+ghost use Rattle.std.specs.Io.{ReadsAtMost, WritesAtMost};
+ghost use Rattle.std.specs.Io.KnownBytes.{ReadConsumes, WriteAppends, Keeps, Appends};
+
+use std::io;
+use std::io::{ErrorKind, Read, Write};
+
+/// A reader or a writer, and how many of its calls failed: reads that answered an error, and
+/// writes that answered one or took no octet. Of a reader, how many octets it gave, too.
+#[derive(Drop)]
+pub struct Counted<T> {
+    device: T,
+    failures: u64,
+    given: u64,
+    ghost within: { given < 2 ^ 64 },
+}
+
+impl<T> Counted<T> {
+    ghost use Rattle.text_lines.specs.Counted.{device_of, failures_of, given_of, HasFailed};
+
+    /// The device, of which no call has failed yet, and which has given no octet.
+    pub fn new(device: T) -> Counted<T>
+        ensures device { device_of result ≡ device }
+        ensures failures { failures_of result ≡ 0 }
+        ensures given { given_of result ≡ 0 }
+    {
+        Counted {
+            device,
+            failures: 0,
+            given: 0,
+        }
+    }
+
+    /// The device, as the calls left it.
+    pub fn into_inner(self) -> T
+        ensures { result ≡ device_of self }
+    {
+        self.device
+    }
+
+    /// How many calls failed; the count stays at 2^64 - 1.
+    pub fn failures(&self) -> u64
+        ensures { result ≡ failures_of self.now }
+    {
+        self.failures
+    }
+
+    /// How many octets the reader gave; the count stays at 2^64 - 1.
+    pub fn octets_given(&self) -> u64
+        ensures { result ≡ given_of self.now }
+    {
+        self.given
+    }
+
+    fn count_failure(&mut self)
+        ensures device { device_of self.new ≡ device_of self.old }
+        ensures failed { HasFailed self.old self.new }
+        ensures given { given_of self.new ≡ given_of self.old }
+    {
+        self.failures = self.failures.saturating_add(1);
+    }
+}
+
+impl<R: Read> Read for Counted<R> {
+    ghost use Rattle.text_lines.specs.Counted.{device_of, given_of, HasFailed, HasNotFailed, HasGiven};
+
+    ghost remaining = { λ c. R.remaining (device_of c) };
+
+    fn read(&mut self, buf: &mut [u8]) -> io::Result<usize>
+        ensures bound { ReadsAtMost result buf.new }
+        ensures bytes { ReadConsumes (R.remaining (device_of self.old)) (R.remaining (device_of self.new))
+            result buf.new }
+        ensures count { MatchResult result (λ _. HasNotFailed self.old self.new) (λ _. HasFailed self.old self.new) }
+        ensures given { MatchResult result
+            (λ n. HasGiven n self.old self.new)
+            (λ _. given_of self.new ≡ given_of self.old) }
+    {
+        let answer = self.device.read(buf);
+        match answer {
+            Ok(count) => self.given = self.given.saturating_add(count as u64),
+            Err(_) => self.count_failure(),
+        }
+        answer
+    }
+}
+
+impl<W: Write> Write for Counted<W> {
+    ghost use Rattle.text_lines.specs.Counted.{device_of, failures_of, given_of, one_more, HasFailed, HasNotFailed};
+
+    ghost contents = { λ c. W.contents (device_of c) };
+
+    fn write(&mut self, buf: &[u8]) -> io::Result<usize>
+        ensures bound { WritesAtMost result buf.now }
+        ensures bytes { WriteAppends (W.contents (device_of self.old)) (W.contents (device_of self.new))
+            result buf.now }
+        ensures count { MatchResult result
+            (λ taken. failures_of self.new
+            ≡ (if taken == 0 then one_more (failures_of self.old) else failures_of self.old))
+            (λ _. HasFailed self.old self.new) }
+        ensures given { given_of self.new ≡ given_of self.old }
+    {
+        let answer = self.device.write(buf);
+        if !matches!(answer, Ok(1..)) {
+            self.count_failure();
+        }
+        answer
+    }
+
+    fn flush(&mut self) -> io::Result<()>
+        ensures bytes { Keeps (W.contents (device_of self.old)) (W.contents (device_of self.new)) }
+        ensures count { HasNotFailed self.old self.new }
+        ensures given { given_of self.new ≡ given_of self.old }
+    {
+        self.device.flush()
+    }
+
+    /// Writes all octets, and stops at the first write that fails.
+    fn write_all(&mut self, buf: &[u8]) -> io::Result<()>
+        ensures bytes { OnOk result
+            (Appends (W.contents (device_of self.old)) (W.contents (device_of self.new)) buf.now) }
+        ensures count { MatchResult result (λ _. HasNotFailed self.old self.new) (λ _. HasFailed self.old self.new) }
+        ensures given { given_of self.new ≡ given_of self.old }
+    {
+        let mut rest = buf;
+        while !rest.is_empty() {
+            let taken = self.write(rest)?;
+            if taken == 0 {
+                return Err(io::Error::from(ErrorKind::WriteZero));
+            }
+            rest = &rest[taken..];
+        }
+        Ok(())
+    }
+}

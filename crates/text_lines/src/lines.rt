@@ -1,0 +1,171 @@
+ghost use Rattle.std.specs.Prelude.{◌≡◌, ℕ, List, false, IsTrue, ◌+◌, ◌≤◌, ◌<◌, if◌then◌else◌, [], ◌∷◌, IfOk};
+ghost use Rattle.std.specs.Prelude.{MatchResult, MatchOption, length};
+ghost use Rattle.std.specs.Option.{ForSome};
+ghost use Rattle.std.specs.Io.KnownBytes.{Consumes, IsAtEnd, Keeps};
+ghost use Rattle.text_lines.specs.Counted.{device_of, HasFailed, HasNotFailed};
+ghost use Rattle.text_lines.specs.Lines.{line_limit, lines_limit, room_of, without_cr, GivesWithin, ReadsLine};
+ghost use Rattle.text_lines.specs.Lines.{IsFromReading, StopsReading};
+
+use crate::counted::Counted;
+use crate::fault::{ReadingFault, Stopped};
+use arrayvec::ArrayVec;
+use std::io::Read;
+
+/// The most octets of a line, without its LF.
+pub const LINE_LIMIT: usize = 4096;
+
+/// The most lines of an input.
+const LINES_LIMIT: u64 = 1_048_576;
+
+/// The line that was read last, in the one buffer that all lines share, and how many were read.
+#[derive(Drop)]
+pub(crate) struct Lines {
+    line: ArrayVec<u8, LINE_LIMIT>,
+    count: u64,
+    ended: bool,
+    ghost within: { count ≤ 1048576 },
+}
+
+/// The next octet, or None at the end of the input.
+fn read_octet<R: Read>(input: &mut Counted<R>) -> Result<Option<u8>, ReadingFault>
+    ensures octet { let before = R.remaining (device_of input.old) in
+        let after = R.remaining (device_of input.new) in
+        MatchResult result
+        (λ next. MatchOption next
+        (Consumes before after [] × IsAtEnd after)
+        (λ octet. Consumes before after (octet ∷ [])))
+        (λ _. Keeps before after) }
+    ensures given { GivesWithin R.remaining 1 input.old input.new }
+    ensures failures { MatchResult result
+        (λ _. HasNotFailed input.old input.new)
+        (λ kind. (kind ≡ ReadingFault.Read) × HasFailed input.old input.new) }
+{
+    let mut octet = [0];
+    match input.read(&mut octet) {
+        Ok(0) => Ok(None),
+        Ok(_) => Ok(Some(octet[0])),
+        Err(_) => Err(ReadingFault::Read),
+    }
+}
+
+impl Lines {
+    /// No line was read yet.
+    pub(crate) fn new() -> Lines
+        ensures count { result.count ≡ 0 }
+        ensures ended { result.ended ≡ false }
+    {
+        Lines {
+            line: ArrayVec::new(),
+            count: 0,
+            ended: false,
+        }
+    }
+
+    /// How many lines were read.
+    pub(crate) fn count(&self) -> u64
+        ensures { result ≡ self.now.count }
+    {
+        self.count
+    }
+
+    /// The line that was read last, without a CR at its end.
+    pub(crate) fn line(&self) -> &[u8]
+        ensures line { result.now ≡ without_cr self.now.line.items }
+        ensures within { length result.now ≤ line_limit }
+    {
+        match self.line.as_slice() {
+            [line @ .., b'\r'] => line,
+            line => line,
+        }
+    }
+
+    /// Reads the next line, and answers whether there was one. A fault stands at that line, which
+    /// is partly read then; no more than one octet after the limits is read. Once the input ended in
+    /// place of an LF, the reader isn't asked again; after the LF of the last line that is allowed,
+    /// each call asks it for the end.
+    pub(crate) fn read_next<R: Read>(
+        &mut self,
+        input: &mut Counted<R>,
+    ) -> Result<bool, Stopped<ReadingFault>>
+        requires { IsTrue self.old.ended → IsAtEnd (R.remaining (device_of input.old)) }
+        ensures next { ForSome (R.remaining (device_of input.old)) (λ octets.
+            let left = R.remaining (device_of input.new) in
+            MatchResult result
+            (λ found. ReadsLine found (self.old.count + 1) self.new.line.items self.new.ended octets left)
+            (λ stop. StopsReading stop.what (self.old.count + 1) octets left)) }
+        ensures count { MatchResult result
+            (λ found. self.new.count ≡ (if found then self.old.count + 1 else self.old.count))
+            (λ stop. stop.line ≡ self.old.count + 1) }
+        ensures ended { IsTrue self.new.ended → IsAtEnd (R.remaining (device_of input.new)) }
+        ensures before_end { MatchResult result
+            (λ found. IsTrue found → self.old.ended ≡ false)
+            (λ _. self.old.ended ≡ false) }
+        ensures given { GivesWithin R.remaining (room_of (self.old.count + 1) + 1) input.old input.new }
+        ensures failures { MatchResult result
+            (λ _. HasNotFailed input.old input.new)
+            (λ stop. IsFromReading stop.what input.old input.new) }
+    {
+        if self.ended {
+            return Ok(false);
+        }
+        let line = self.count + 1;
+        if self.count == LINES_LIMIT {
+            return expect_end(input).map_err(|what| Stopped { line, what });
+        }
+        let found = self
+            .read_line(input)
+            .map_err(|what| Stopped { line, what })?;
+        if found {
+            self.count = line;
+        }
+        Ok(found)
+    }
+
+    /// Reads octets up to an LF or the end of the input, and answers whether there was one.
+    fn read_line<R: Read>(&mut self, input: &mut Counted<R>) -> Result<bool, ReadingFault>
+        requires within { self.old.count < lines_limit }
+        requires before_end { self.old.ended ≡ false }
+        ensures next { ForSome (R.remaining (device_of input.old)) (λ octets.
+            let left = R.remaining (device_of input.new) in
+            MatchResult result
+            (λ found. ReadsLine found (self.old.count + 1) self.new.line.items self.new.ended octets left)
+            (λ kind. StopsReading kind (self.old.count + 1) octets left)) }
+        ensures count { self.new.count ≡ self.old.count }
+        ensures ended { IsTrue self.new.ended → IsAtEnd (R.remaining (device_of input.new)) }
+        ensures given { GivesWithin R.remaining (line_limit + 1) input.old input.new }
+        ensures failures { MatchResult result
+            (λ _. HasNotFailed input.old input.new)
+            (λ kind. IsFromReading kind input.old input.new) }
+    {
+        self.line.clear();
+        while let Some(octet) = read_octet(input)? {
+            if octet == b'\n' {
+                return Ok(true);
+            }
+            if self.line.try_push(octet).is_err() {
+                return Err(ReadingFault::LineTooLong);
+            }
+        }
+        self.ended = true;
+        Ok(!self.line.is_empty())
+    }
+}
+
+/// Reads after the last line that is allowed.
+fn expect_end<R: Read>(input: &mut Counted<R>) -> Result<bool, ReadingFault>
+    ensures next { ForSome (R.remaining (device_of input.old)) (λ octets. (line : List ℕ) →
+        let left = R.remaining (device_of input.new) in
+        MatchResult result
+        (λ found. ReadsLine found (lines_limit + 1) line false octets left)
+        (λ kind. StopsReading kind (lines_limit + 1) octets left)) }
+    ensures none { IfOk result (λ found. found ≡ false) }
+    ensures given { GivesWithin R.remaining 1 input.old input.new }
+    ensures failures { MatchResult result
+        (λ _. HasNotFailed input.old input.new)
+        (λ kind. IsFromReading kind input.old input.new) }
+{
+    match read_octet(input)? {
+        Some(_) => Err(ReadingFault::TooManyLines),
+        None => Ok(false),
+    }
+}

@@ -1,0 +1,102 @@
+ghost use Rattle.std.specs.Prelude.{◌≡◌, ◌≤◌, ℕ, List, length, MatchResult};
+ghost use Rattle.std.specs.Option.{ForSome};
+ghost use Rattle.std.specs.Io.KnownBytes.{Appends};
+ghost use Rattle.text_lines.specs.Counted.{device_of, failures_of, HasNotFailed};
+ghost use Rattle.text_lines.specs.Lines.{line_limit, input_limit, GivesWithin};
+ghost use Rattle.text_lines.specs.Task.{Rules, WentOut, Answers, FailedAt};
+
+use crate::counted::Counted;
+use crate::fault::{Cause, Stopped};
+use crate::lines::Lines;
+use std::io::{Read, Write};
+
+/// What is done with the lines of an input, one after the other, and after the last.
+pub trait LineTask: Sized {
+    /// What the end answers.
+    type Answer;
+    /// Why a line isn't taken, or the end has no answer.
+    type Fault;
+
+    /// What a task is seen as.
+    ghost State: { Type 0 };
+
+    ghost rules: { Rules State Self.Answer Self.Fault };
+
+    /// The states that a task may be seen in.
+    ghost is_at: { Self → State → Type 0 };
+
+    /// How often the writer fails at a fault, by the counts before and after it.
+    ghost fails: { Self.Fault → ℕ → ℕ → Type 0 };
+
+    /// Takes one more line.
+    fn take<W: Write>(self, line: &[u8], output: &mut Counted<W>) -> Result<Self, Self::Fault>
+        requires stands { (state : State) × is_at self state }
+        requires within { length line.now ≤ line_limit }
+        ensures taken { (state : State) → is_at self state →
+            let before = W.contents (device_of output.old) in
+            let after = W.contents (device_of output.new) in
+            MatchResult result
+            (λ next. (later : State) × (written : List ℕ) × is_at next later
+            × rules.Takes line.now state later written × Appends before after written)
+            (λ what. (written : List ℕ) × rules.Stops line.now state what written
+            × WentOut (rules.is_of_writer what) (Appends before after written)) }
+        ensures failures { MatchResult result
+            (λ _. HasNotFailed output.old output.new)
+            (λ what. fails what (failures_of output.old) (failures_of output.new)) };
+
+    /// Ends after the last of so many lines.
+    fn finish<W: Write>(
+        self,
+        lines: u64,
+        output: &mut Counted<W>,
+    ) -> Result<Self::Answer, Self::Fault>
+        requires { (state : State) × is_at self state }
+        ensures ended { (state : State) → is_at self state →
+            let before = W.contents (device_of output.old) in
+            let after = W.contents (device_of output.new) in
+            MatchResult result
+            (λ answer. (written : List ℕ) × rules.Ends lines state answer written × Appends before after written)
+            (λ what. (written : List ℕ) × rules.StopsAtEnd state what written
+            × WentOut (rules.is_of_writer what) (Appends before after written)) }
+        ensures failures { MatchResult result
+            (λ _. HasNotFailed output.old output.new)
+            (λ what. fails what (failures_of output.old) (failures_of output.new)) };
+}
+
+/// Takes all lines of the input in turn, and ends after the last. A line is taken before the next one is read.
+pub fn answer_lines<T: LineTask + Drop, R: Read, W: Write>(
+    task: T,
+    input: &mut Counted<R>,
+    output: &mut Counted<W>,
+) -> Result<T::Answer, Stopped<Cause<T::Fault>>>
+    requires { T.is_at task T.rules.start }
+    ensures answered { ForSome (R.remaining (device_of input.old)) (λ octets.
+        Answers T.rules octets (R.remaining (device_of input.new))
+        (W.contents (device_of output.old)) (W.contents (device_of output.new)) result) }
+    // Of any reader only so much is read, whatever the writer is.
+    ensures bounded { GivesWithin R.remaining input_limit input.old input.new }
+    ensures failures { MatchResult result
+        (λ _. HasNotFailed input.old input.new × HasNotFailed output.old output.new)
+        (λ stop. FailedAt T.fails stop.what input.old input.new output.old output.new) }
+{
+    let mut lines = Lines::new();
+    let mut task = task;
+    while lines.read_next(input)? {
+        task = match task.take(lines.line(), output) {
+            Ok(next) => next,
+            Err(what) => {
+                return Err(Stopped {
+                    line: lines.count(),
+                    what: Cause::Task(what),
+                });
+            }
+        };
+    }
+    match task.finish(lines.count(), output) {
+        Ok(answer) => Ok(answer),
+        Err(what) => Err(Stopped {
+            line: lines.count() + 1,
+            what: Cause::Task(what),
+        }),
+    }
+}
