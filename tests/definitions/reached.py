@@ -4,7 +4,7 @@
 A definition is reached where a clause of a public function or of a public trait, the value of a public type's model or
 what a public conversion gives names it, or where a definition that is reached names it. Views and invariants don't count:
 no caller sees them. docs/DEFINITIONS.md has a section for each crate, and has to name there, in backquotes, each definition
-of that crate that is reached, and no other.
+of that crate that is reached, and no other. What isn't reached has to stand in specs/Inner, and nothing else may.
 """
 
 import re
@@ -155,12 +155,18 @@ def main():
     for crate, _, name in found:
         known.setdefault(crate, set()).add(name)
     absent = sorted((crate, name) for crate, words in named.items() for name in words if name not in known.get(crate, ()))
+    inner = sorted(key for key in found if key[1].startswith("Inner/"))
+    outer = sorted(key for key in definitions.keys() - found if not key[1].startswith("Inner/") and "◌" not in key[2])
+    for crate, file, name in inner:
+        print(f"`{name}` of {crate}/specs/{file}.antt is reached by a public clause, and stands in specs/Inner")
+    for crate, file, name in outer:
+        print(f"`{name}` of {crate}/specs/{file}.antt isn't reached by a public clause, and doesn't stand in specs/Inner")
     for crate, file, name in missing:
         print(f"docs/DEFINITIONS.md: `{name}` of {crate}/specs/{file}.antt is reached by a public clause, and isn't named")
     for crate, name in absent:
         print(f"docs/DEFINITIONS.md: no public clause reaches a definition `{name}` of {crate}")
     print(f"{len(found)} definitions of {len(definitions)} are reached by public clauses")
-    return 1 if missing or absent else 0
+    return 1 if missing or absent or inner or outer else 0
 
 
 if __name__ == "__main__":

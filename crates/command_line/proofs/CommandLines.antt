@@ -8,7 +8,8 @@ use Rattle.clap.specs.Simple.{is_simple}
 use Rattle.clap.specs.Faults.{fault_of, is_simple_and_free, walk_fault}
 use Rattle.clap.specs.declared.error.kind.ErrorKind.TheVariants as kind
 use Rattle.clap.proofs.OnLiterals.{clap_on_literals}
-use Rattle.command_line.specs.Arguments.{AsksHelp, BeginsWithHelp, HasHelpFlag, Names, name_of, program}
+use Rattle.command_line.specs.Arguments.{AsksHelp, BeginsWithHelp, HasHelpFlag, Names, name_of}
+use Rattle.command_line.specs.Inner.Clap.{program}
 use Rattle.command_line.specs.declared.arguments.Subcommand.{Subcommand}
 use Rattle.command_line.proofs.ErrorKinds.{IsFlagOrMistake, IsHelp, IsMistake, flag_or_mistake_lasts, help_lasts, missing_subcommand, unknown_name}
 use Rattle.command_line.proofs.FlagWords.{flag_is_help, flag_or_mistake, same_in}

@@ -12,7 +12,8 @@ use Rattle.clap.specs.Simple.{Shape, built}
 use Rattle.clap.specs.Kinds.{Kinds, or_else}
 use Rattle.clap.specs.Faults.{bundle_fault, bundle_step_fault, flag_word_fault, flags_fault, long_fault, other_fault, step_fault, turn_fault}
 use Rattle.clap.proofs.CutLemmas.{Lacks, before_first-Lacks}
-use Rattle.command_line.specs.Arguments.{AsksHelp, program}
+use Rattle.command_line.specs.Arguments.{AsksHelp}
+use Rattle.command_line.specs.Inner.Clap.{program}
 use Rattle.command_line.proofs.ErrorKinds.{IsFlagOrMistake, IsHelp, stray_word, unknown_argument, unneeded_value}
 
 -- the flag for help

@@ -16,7 +16,8 @@ use Rattle.clap.specs.declared.error.kind.ErrorKind.TheVariants as kind
 use Rattle.clap.specs.declared.parser.matches.ArgMatches.{ArgMatches}
 use Rattle.clap.specs.declared.parser.matches.ArgMatches.TheViews.{out-ArgMatches, out-SubCommand}
 use Rattle.clap.specs.declared.parser.matches.SubCommand.{SubCommand}
-use Rattle.command_line.specs.Arguments.{Asks, BeginsWithHelp, HasHelpFlag, Names, ShowsKind, name_of, program, subcommands}
+use Rattle.command_line.specs.Arguments.{Asks, BeginsWithHelp, HasHelpFlag, Names, name_of}
+use Rattle.command_line.specs.Inner.Clap.{ShowsKind, program, subcommands}
 use Rattle.command_line.specs.declared.arguments.Invocation.{Invocation}
 use Rattle.command_line.specs.declared.arguments.Invocation.TheVariants.{Run, Help, Mistake}
 use Rattle.command_line.specs.declared.arguments.Subcommand.{Subcommand}

@@ -13,7 +13,8 @@ use Rattle.clap.specs.Faults.{check_fault, defaults_fault, entered_fault, fault_
 use Rattle.clap.specs.declared.error.kind.ErrorKind.TheVariants as kind
 use Rattle.clap.proofs.FaultLemmas.{stopped_fault}
 use Rattle.clap.proofs.OnLiterals.{clap_on_literals}
-use Rattle.command_line.specs.Arguments.{AsksHelp, name_of, program, subcommands}
+use Rattle.command_line.specs.Arguments.{AsksHelp, name_of}
+use Rattle.command_line.specs.Inner.Clap.{program, subcommands}
 use Rattle.command_line.specs.declared.arguments.Subcommand.{Subcommand}
 use Rattle.command_line.specs.declared.arguments.Subcommand.TheVariants.{Show, Replay, Check}
 use Rattle.command_line.proofs.ErrorKinds.{IsFlagOrMistake, IsHelp, IsMistake, LastsFirst, help_lasts, flag_or_mistake_lasts, mistake_lasts, unknown_argument}

@@ -1,9 +1,6 @@
 -- What the arguments of `ptpx` ask for.
-use Rattle.std.specs.Prelude.{◌≡◌, ◌≢◌, ◌⊎◌, ◌++◌, ℕ, true, List, [], ◌∷◌, Some, codes, drop, fold, slice_get}
+use Rattle.std.specs.Prelude.{◌≡◌, ◌⊎◌, ◌++◌, ℕ, List, [], ◌∷◌, Some, codes, drop, slice_get}
 use Rattle.std.specs.Str.{chars}
-use Rattle.clap.specs.Simple.{App, new_app, new_shape, on_top, with_subcommand}
-use Rattle.clap.specs.declared.error.kind.ErrorKind.{ErrorKind}
-use Rattle.clap.specs.declared.error.kind.ErrorKind.TheVariants.{DisplayHelp, OutOfMemory}
 use Rattle.command_line.specs.declared.arguments.Invocation.{Invocation}
 use Rattle.command_line.specs.declared.arguments.Invocation.TheVariants.{Run, Help, Mistake}
 use Rattle.command_line.specs.declared.arguments.Subcommand.{Subcommand}
@@ -14,19 +11,6 @@ abbrev pub name_of : Subcommand → List ℕ
 name_of Show = codes "show"
 name_of Replay = codes "replay"
 name_of Check = codes "check"
-
--- the subcommands, in the order of the text of help
-abbrev pub subcommands : List Subcommand
-subcommands = Show ∷ Replay ∷ Check ∷ []
-
--- the program without its subcommands, as clap's specifications have it: a subcommand is required, and there is no
--- other argument
-abbrev pub bare_program : App
-bare_program = on_top (λ top. record top { subcommand_required = true }) (new_app (codes "ptpx"))
-
--- the program as clap's specifications have one
-abbrev pub program : App
-program = fold (λ app s. with_subcommand app (new_shape (name_of s))) bare_program subcommands
 
 -- after the program's own name stands the subcommand's name, alone or with `--` after it
 abbrev pub Names : List (List ℕ) → Subcommand → Type 0
@@ -60,9 +44,3 @@ abbrev pub Asks : List (List ℕ) → Invocation → Type 0
 Asks words (Run s) = Names words s
 Asks words (Help text) = HasHelpFlag words ⊎ BeginsWithHelp words
 Asks words (Mistake text) = NamesNothing words × (HasHelpFlag words → ⊥)
-
--- the text of an error of this kind goes to the stream that it asks for; want of memory has none
-abbrev pub ShowsKind : ErrorKind → Invocation → Type 0
-ShowsKind kind (Run s) = ⊥
-ShowsKind kind (Help text) = kind ≡ DisplayHelp
-ShowsKind kind (Mistake text) = (kind ≢ DisplayHelp) × (kind ≢ OutOfMemory)

@@ -4,7 +4,8 @@ ghost use Rattle.clap.specs.Matches.{subcommand_name_of};
 ghost use Rattle.clap.specs.declared.builder.command.Command.TheViews.{out-Command as fields_of};
 ghost use Rattle.clap.specs.Simple.{app_of, new_shape, shape_of};
 ghost use Rattle.clap.specs.Values.{kind_of};
-ghost use Rattle.command_line.specs.Arguments.{Asks, ShowsKind, bare_program, name_of, program};
+ghost use Rattle.command_line.specs.Arguments.{Asks, name_of};
+ghost use Rattle.command_line.specs.Inner.Clap.{ShowsKind, bare_program, program};
 
 use crate::help;
 use clap::error::ErrorKind;

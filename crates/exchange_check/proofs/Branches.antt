@@ -6,9 +6,9 @@ use Rattle.std.proofs.lemmas.Bool.{true≢false, eqb-true, eq-eqb}
 use Rattle.std.proofs.lemmas.Bool.Decides.{nat_tests}
 use Rattle.std.proofs.lemmas.Option.{same_Some, none-some}
 use Rattle.exchange_check.specs.declared.stays.Branch.{Branch}
-use Rattle.exchange_check.specs.Kept.{Leaves, left_again}
-use Rattle.exchange_check.specs.Stays.{LastStays, with_stay, is_once, Branches, root, with_branch, IsStretch, Stretch}
-use Rattle.exchange_check.specs.Stays.{depths, nexts, Firsts, with_first, IsOrdered, is_whole, AreBranches}
+use Rattle.exchange_check.specs.Inner.Kept.{Leaves, left_again}
+use Rattle.exchange_check.specs.Inner.Stays.{LastStays, with_stay, is_once, Branches, root, with_branch, IsStretch, Stretch}
+use Rattle.exchange_check.specs.Inner.Stays.{depths, nexts, Firsts, with_first, IsOrdered, is_whole, AreBranches}
 use Rattle.exchange_check.proofs.Stretches.{run_past, grown_run}
 
 pub less-apart : (x n : ℕ) → x < n → eqb n x ≡ false

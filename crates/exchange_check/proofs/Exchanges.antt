@@ -14,9 +14,9 @@ use Rattle.trace_model.specs.Record.{LinePlace, line_number, event_of, line_at}
 use Rattle.trace_model.specs.Journey.{Journey, journey_of}
 use Rattle.trace_model.specs.Sound.{where_passes, below, Exchange, line_of, sender, sync_line}
 use Rattle.trace_model.specs.Sound.{follow_line, follow_lines, arrival_line}
-use Rattle.exchange_check.specs.Kept.{Facts}
-use Rattle.exchange_check.specs.Judged.{line_of_by, sender_by, sync_by, follow_by, follows_by}
-use Rattle.exchange_check.specs.Judged.{completion_by, arrival_by, way_at}
+use Rattle.exchange_check.specs.Inner.Kept.{Facts}
+use Rattle.exchange_check.specs.Inner.Judged.{line_of_by, sender_by, sync_by, follow_by, follows_by}
+use Rattle.exchange_check.specs.Inner.Judged.{completion_by, arrival_by, way_at}
 use Rattle.exchange_check.proofs.Told.{travel_of, fact_of, facts_at, travel_at-is}
 use Rattle.exchange_check.proofs.Messages.{origin_in}
 

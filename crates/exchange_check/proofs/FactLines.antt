@@ -21,15 +21,15 @@ use Rattle.trace_model.specs.Record.{line_at, last_line, reading, sequence}
 use Rattle.trace_model.specs.Journey.{Journey, residence, with_stay, copy_entered, left_from, journey_made, journey_of}
 use Rattle.trace_model.specs.Octets.{drawing_port, sent, travelled, followed, answered}
 use Rattle.trace_model.specs.Octets.{message_made, writes_right, is_written}
-use Rattle.exchange_check.specs.Kept.{Facts, travel_at, travel_by, sent_by, travelled_by, followed_by, answered_by}
-use Rattle.exchange_check.specs.Kept.{message_by, fact_known, fact_made, written_travel, fact_by}
+use Rattle.exchange_check.specs.Inner.Kept.{Facts, travel_at, travel_by, sent_by, travelled_by, followed_by, answered_by}
+use Rattle.exchange_check.specs.Inner.Kept.{message_by, fact_known, fact_made, written_travel, fact_by}
 use Rattle.exchange_check.proofs.Noted.{site_at}
 use Rattle.exchange_check.proofs.Told.{travel_of, fact_of, facts_at, known_of, number_drawn}
 use Rattle.exchange_check.proofs.Told.{travel_at-is, travel_is, known_is}
 use Rattle.std.proofs.lemmas.Slice.Eq.{bytes_eq-Decides}
 use Rattle.network_model.specs.Kinds.{is_at}
 use Rattle.network_model.specs.Run.{site_of}
-use Rattle.exchange_check.specs.Machine.{with_fact}
+use Rattle.exchange_check.specs.Inner.Machine.{with_fact}
 use Rattle.trace_model.proofs.Lines.{last_is}
 use Rattle.exchange_check.proofs.Messages.{origin_in, sent_is, travelled_is, min_min}
 

@@ -13,17 +13,17 @@ use Rattle.trace_model.specs.declared.line.TraceOut.{TraceOut}
 use Rattle.trace_model.specs.declared.verdict.Verdict.{Verdict}
 use Rattle.trace_model.specs.declared.verdict.Verdict.TheVariants.{Accepted, Refused}
 use Rattle.trace_model.specs.declared.verdict.Why.{Why}
-use Rattle.trace_model.specs.Verdict.{accepted_count, one_more, report_in}
-use Rattle.exchange_check.specs.Kept.{Facts, Sites, Leaves, Stamps, fact_in, fact_by}
+use Rattle.trace_model.specs.Verdict.{one_more, report_in}
+use Rattle.exchange_check.specs.Inner.Kept.{Facts, Sites, Leaves, Stamps, fact_in, fact_by}
 use Rattle.exchange_check.specs.declared.stays.Stays.{Stays}
-use Rattle.exchange_check.specs.Stays.{LastStays, stay_below, stay_of, last_stays, with_stay, is_once}
-use Rattle.exchange_check.specs.Stays.{once_by, Once, once_of, branch_in, is_whole, AreStays, once_in}
-use Rattle.exchange_check.specs.Judged.{reason_by}
+use Rattle.exchange_check.specs.Inner.Stays.{LastStays, stay_below, stay_of, last_stays, with_stay, is_once}
+use Rattle.exchange_check.specs.Inner.Stays.{once_by, Once, once_of, branch_in, is_whole, AreStays, once_in}
+use Rattle.exchange_check.specs.Inner.Judged.{reason_by}
 use Rattle.network_model.specs.Kinds.{entered_copy, spent_transit}
 use Rattle.trace_model.specs.Sound.{where_passes}
 use Rattle.std.proofs.lemmas.Bool.{eqb-true, eq-eqb, ltb-true}
-use Rattle.exchange_check.specs.Machine.{Machine, IsKept, facts_of, sites_of, stamps_of, with_fact}
-use Rattle.exchange_check.specs.Machine.{sites_told, leaves_told, stamps_told, judged, after_line}
+use Rattle.exchange_check.specs.Inner.Machine.{accepted_count, Machine, IsKept, facts_of, sites_of, stamps_of, with_fact}
+use Rattle.exchange_check.specs.Inner.Machine.{sites_told, leaves_told, stamps_told, judged, after_line}
 
 same_test : (facts later : Facts) (fact : Option Fact) (k l : ℕ) → facts (suc k) ≡ later k
     → with_fact later l fact k ≡ with_fact facts (suc l) fact (suc k)

@@ -5,7 +5,7 @@ use Rattle.std.specs.Prelude.{is_some}
 use Rattle.std.proofs.lemmas.Bool.{eqb-true}
 use Rattle.std.proofs.lemmas.Bool.Decides.{nat_tests}
 use Rattle.exchange_check.specs.declared.stays.Branch.{Branch}
-use Rattle.exchange_check.specs.Stays.{Branches, root, branch_in, with_branch}
+use Rattle.exchange_check.specs.Inner.Stays.{Branches, root, branch_in, with_branch}
 
 abbrev pub link : Branch → ℕ
 link branch = cond (is_some branch.next) 1 0

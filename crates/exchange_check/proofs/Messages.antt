@@ -28,7 +28,7 @@ use Rattle.trace_model.specs.Journey.{left_from, journey_made, journey_of}
 use Rattle.transparent_clock.specs.Forwarding.{resided}
 use Rattle.trace_model.specs.Octets.{drawing_port, message_sent, sent, travelled}
 use Rattle.trace_model.proofs.Lines.{line_at-later, line_at-here}
-use Rattle.exchange_check.specs.Kept.{longest, sent_by, travelled_by}
+use Rattle.exchange_check.specs.Inner.Kept.{longest, sent_by, travelled_by}
 use Rattle.exchange_check.proofs.Told.{fact_of, facts_at, number_drawn}
 
 abbrev IsIn : Network → Lines → Journey → Type 0

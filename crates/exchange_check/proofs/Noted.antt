@@ -19,8 +19,8 @@ use Rattle.trace_model.specs.declared.line.TraceLine.{TraceLine}
 use Rattle.trace_model.specs.Line.{Lines, counts}
 use Rattle.trace_model.specs.Record.{LinePlace, line_place, line_number, event_of, last_line, events, first_stamp}
 use Rattle.trace_model.proofs.Lines.{events_if, events_more, last_more}
-use Rattle.exchange_check.specs.Kept.{Sites, Leaves, Stamps, moved, stamped, sites_after, leaves_after, stamps_after}
-use Rattle.exchange_check.specs.Machine.{sites_told, leaves_told, stamps_told}
+use Rattle.exchange_check.specs.Inner.Kept.{Sites, Leaves, Stamps, moved, stamped, sites_after, leaves_after, stamps_after}
+use Rattle.exchange_check.specs.Inner.Machine.{sites_told, leaves_told, stamps_told}
 
 pub cond_same : {X : Type 0} (b : Bool) (x : X) → cond b x x ≡ x
 cond_same true x = refl

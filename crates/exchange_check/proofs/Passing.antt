@@ -11,8 +11,8 @@ use Rattle.network_model.specs.declared.event.Event.TheVariants.{Request, Stampe
 use Rattle.network_model.specs.Kinds.{spent_transit}
 use Rattle.exchange_check.specs.declared.facts.Fact.{Fact}
 use Rattle.exchange_check.specs.declared.stays.Stays.{Stays}
-use Rattle.exchange_check.specs.Kept.{Facts, Leaves, leaves_after, left_again}
-use Rattle.exchange_check.specs.Stays.{LastStays, stay_below, stay_of, with_stay, branch_in, AreStays}
+use Rattle.exchange_check.specs.Inner.Kept.{Facts, Leaves, leaves_after, left_again}
+use Rattle.exchange_check.specs.Inner.Stays.{LastStays, stay_below, stay_of, with_stay, branch_in, AreStays}
 use Rattle.exchange_check.proofs.Branches.{one_more}
 
 -- an event that is no Leave event ends no stay

@@ -16,7 +16,7 @@ use Rattle.trace_model.proofs.Soundness.{tells_soundness}
 use Rattle.trace_model.specs.Complete.{AcceptsTruth}
 use Rattle.trace_model.proofs.Complete.{complete, complete_within_one_turn}
 use Rattle.network_model.specs.Premises.{IsFreshAndTicked, IsWithinTurn, exact_limits}
-use Rattle.exchange_check.specs.Machine.{Machine, IsKept, machine, after_line}
+use Rattle.exchange_check.specs.Inner.Machine.{Machine, IsKept, machine, after_line}
 
 reverse_push : (lines : List TraceLine) (line : TraceLine) → reverse (lines ++ line ∷ []) ≡ line ∷ reverse lines
 reverse_push lines line = grind (arith, common_steps)

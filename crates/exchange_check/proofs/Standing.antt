@@ -25,18 +25,18 @@ use Rattle.trace_model.specs.Sound.{journey_writes_right, where_passes, below, E
 use Rattle.trace_model.specs.Sound.{follow_lines, arrival_line, is_of_line, is_stamped_between, unbroken, is_followed}
 use Rattle.trace_model.specs.Sound.{are_paired, are_later, is_domain, is_of_master, are_readings, fraction_sent, fits}
 use Rattle.trace_model.specs.Sound.{bracket, are_results, are_octets, journeys_reason, exchange_reason, reason}
-use Rattle.exchange_check.specs.Kept.{Facts, longest}
-use Rattle.exchange_check.specs.Judged.{found_by, way_at, way_from, way_to, paired_by, is_told, of_master_by, fits_by}
-use Rattle.exchange_check.specs.Judged.{bracket_by, results_by, octets_by, both_ways, found_reason, reason_by}
+use Rattle.exchange_check.specs.Inner.Kept.{Facts, longest}
+use Rattle.exchange_check.specs.Inner.Judged.{found_by, way_at, way_from, way_to, paired_by, is_told, of_master_by, fits_by}
+use Rattle.exchange_check.specs.Inner.Judged.{bracket_by, results_by, octets_by, both_ways, found_reason, reason_by}
 use Rattle.exchange_check.proofs.Noted.{site_at, leaves_at, stamps_at, told_master}
 use Rattle.exchange_check.proofs.Told.{fact_of, facts_at}
 use Rattle.exchange_check.proofs.Following.{once_is, followed_is}
 use Rattle.trace_model.specs.declared.verdict.Verdict.{Verdict}
 use Rattle.trace_model.specs.declared.verdict.Verdict.TheVariants.{Accepted, Refused}
-use Rattle.exchange_check.specs.Judged.{is_followed_by}
-use Rattle.exchange_check.specs.Stays.{Once, last_stays, once_of}
-use Rattle.exchange_check.specs.Kept.{fact_by}
-use Rattle.exchange_check.specs.Machine.{Machine, machine, with_fact, sites_told, leaves_told, stamps_told, judged}
+use Rattle.exchange_check.specs.Inner.Judged.{is_followed_by}
+use Rattle.exchange_check.specs.Inner.Stays.{Once, last_stays, once_of}
+use Rattle.exchange_check.specs.Inner.Kept.{fact_by}
+use Rattle.exchange_check.specs.Inner.Machine.{Machine, machine, with_fact, sites_told, leaves_told, stamps_told, judged}
 use Rattle.trace_model.specs.Verdict.{verdict, with_line, one_more, report_in}
 use Rattle.exchange_check.proofs.Noted.{sites-line, leaves-line, stamps-line}
 use Rattle.exchange_check.proofs.FactLines.{fact_by-is, facts-line}

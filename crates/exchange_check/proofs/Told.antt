@@ -25,8 +25,8 @@ use Rattle.trace_model.specs.Journey.{Journey, stay_length, residence, begun, wi
 use Rattle.trace_model.specs.Journey.{copy_entered, left_from, journey_made, journey_of}
 use Rattle.trace_model.specs.Octets.{drawing_port, writes_right}
 use Rattle.trace_model.specs.Sound.{stay_reads_right, journey_reads_right, journey_writes_right}
-use Rattle.exchange_check.specs.Kept.{Facts, longest, number_by, known_by, travel_at, stayed}
-use Rattle.exchange_check.specs.Kept.{left_by, begun_by, travel_by, written_travel}
+use Rattle.exchange_check.specs.Inner.Kept.{Facts, longest, number_by, known_by, travel_at, stayed}
+use Rattle.exchange_check.specs.Inner.Kept.{left_by, begun_by, travel_by, written_travel}
 use Rattle.exchange_check.proofs.Noted.{site_at}
 
 -- what is kept of a journey

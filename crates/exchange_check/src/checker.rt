@@ -48,7 +48,7 @@ pub struct Checker {
 impl Model for Checker {
     ghost use Rattle.std.specs.Prelude.{length, reverse};
     ghost use Rattle.exchange_check.specs.Transcript.{Transcript};
-    ghost use Rattle.exchange_check.specs.Machine.{IsKept, machine};
+    ghost use Rattle.exchange_check.specs.Inner.Machine.{IsKept, machine};
 
     ghost Value = { Transcript };
 

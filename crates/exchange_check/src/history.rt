@@ -28,7 +28,7 @@ impl Model for History {
 
     ghost Value = { Lines };
 
-    ghost use Rattle.exchange_check.specs.History.{lines_of};
+    ghost use Rattle.exchange_check.specs.Inner.History.{lines_of};
 
     ghost view = { λ h. lines_of h.newest };
 

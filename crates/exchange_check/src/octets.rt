@@ -7,7 +7,7 @@ ghost use Rattle.master_port.specs.Written.{delay_resp};
 ghost use Rattle.transparent_clock.specs.Forwarding.{resided};
 ghost use Rattle.network_model.specs.Network.{PortSetup};
 ghost use Rattle.network_model.specs.Truth.{master_at, slave_at};
-ghost use Rattle.exchange_check.specs.Kept.{sent_by, port_setup};
+ghost use Rattle.exchange_check.specs.Inner.Kept.{sent_by, port_setup};
 ghost use Rattle.trace_model.specs.Octets.{is_packet, is_written, drawing_port, message_sent};
 
 use event_codec::{Header, Message, PortConfig, Written, encode};

@@ -10,9 +10,9 @@ ghost use Rattle.std.specs.Prelude.{◌≡◌, ℕ, ◌<◌, ◌+◌, true, fals
 ghost use Rattle.std.specs.Prelude.{None, option_map, length, OnOk, OnErr};
 ghost use Rattle.std.specs.BTreeMap.{get};
 ghost use Rattle.std.specs.Ordering.{nat_cmp};
-ghost use Rattle.exchange_check.specs.Kept.{Leaves, left_again};
-ghost use Rattle.exchange_check.specs.Stays.{LastStays, with_stay, is_once, root, branch_in, with_branch};
-ghost use Rattle.exchange_check.specs.Stays.{with_first, AreStays, StaysAfter, once_in};
+ghost use Rattle.exchange_check.specs.Inner.Kept.{Leaves, left_again};
+ghost use Rattle.exchange_check.specs.Inner.Stays.{LastStays, with_stay, is_once, root, branch_in, with_branch};
+ghost use Rattle.exchange_check.specs.Inner.Stays.{with_first, AreStays, StaysAfter, once_in};
 
 use crate::refusal::CheckFault;
 use std::alloc::Global;

@@ -4,7 +4,7 @@ use Rattle.std.proofs.Common.{◌∷◌}
 use Rattle.network_model.specs.Network.{Network}
 use Rattle.network_model.specs.Run.{Run, until}
 use Rattle.network_model.specs.Premises.{Premise, exact_limits, IsAcceptedRun, IsFreshAndTicked, IsWithinTurn}
-use Rattle.network_model.specs.Headline.{EachReportIsExact}
+use Rattle.network_model.specs.Inner.Exactness.{EachReportIsExact}
 use Rattle.network_model.proofs.Pairing.{fresh_ticked_shorter, within_turn_shorter}
 use Rattle.network_model.proofs.Reports.{each_of_one_sync, each_of_one_request, each_of_one_sync-one_turn, each_of_one_request-one_turn}
 use Rattle.network_model.proofs.Twice.{each_twice}

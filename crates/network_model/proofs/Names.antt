@@ -5,7 +5,8 @@ use Rattle.std.proofs.lemmas.Bool.Decides.{nat_tests}
 use Rattle.std.proofs.lemmas.List.{drop-replicate, length-append}
 use Rattle.std.proofs.lemmas.Str.{IsUtf8-from_ascii}
 use Rattle.std.proofs.lemmas.Str.Ascii.{IsAscii-from_all}
-use Rattle.network_model.specs.Name.{IsName, IsKept, is_name_octet, padded}
+use Rattle.network_model.specs.Name.{IsName, is_name_octet}
+use Rattle.network_model.specs.Inner.Padding.{IsKept, padded}
 
 is_ascii : (octet : ℕ) → is_name_octet octet ≡ true → octet < 128
 is_ascii octet h = grind (arith, nat_tests)

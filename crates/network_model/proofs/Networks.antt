@@ -15,7 +15,7 @@ use Rattle.indexmap.proofs.CallerLemmas.{insert_entry-new}
 use Rattle.network_model.specs.declared.node.NodeSpec.{NodeSpec}
 use Rattle.network_model.specs.Network.{Network, NodeName, AllDiffer, node_of, names, identities, identity_of}
 use Rattle.network_model.specs.Clash.{has_name}
-use Rattle.network_model.specs.Index.{Entries, IsIndex, entries_of}
+use Rattle.network_model.specs.Inner.Index.{Entries, IsIndex, entries_of}
 
 lookup-entries_of : (nodes : Network) (name : NodeName) → lookup (bytes_eq name) (entries_of nodes) ≡ node_of nodes name
 lookup-entries_of [] name = refl

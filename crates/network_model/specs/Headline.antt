@@ -6,7 +6,7 @@ use Rattle.network_model.specs.Run.{Place, until, site_of}
 use Rattle.network_model.specs.Premises.{Premise, SlavePremise, whichever, exact_limits, IsAcceptedRun}
 use Rattle.network_model.specs.Premises.{IsFreshAndTickedFor, IsWithinTurn}
 use Rattle.network_model.specs.Reported.{Reports}
-use Rattle.network_model.specs.Exact.{IsOfOneSync, IsOfOneRequest, IsTwice, IsMeasurement}
+use Rattle.network_model.specs.Exact.{IsOfOneSync, IsOfOneRequest, IsTwice}
 
 -- Each report is of one Sync of the slave's present master: the one that its tags name.
 abbrev pub EachReportIsOfOneSync : SlavePremise → Type 0
@@ -30,14 +30,6 @@ EachReportIsTwice premise =
     → (sync : IsOfOneSync (until answered) (site_of answered.event) report)
     → (request : IsOfOneRequest (until answered) (site_of answered.event) report)
     → IsTwice sync.arrival sync.journey request.arrival request.journey report
-
--- Each report is exact: of one Sync and one Delay_Req, those that its tags name, and twice the standard's two results
--- by what the clocks showed when these messages left and arrived, and by how long they stayed in clocks.
-abbrev pub EachReportIsExact : Premise → Type 0
-EachReportIsExact premise =
-    (network : Network) (answered : Place) (report : Report)
-    → premise network (until answered) → Reports network answered report
-    → IsMeasurement (until answered) (site_of answered.event) report
 
 -- The headline: over runs of any length that are fresh and ticked for the slave that reports, each report is exact.
 -- That it is twice the two results follows for all accepted runs, once it is of one Sync and of one Delay_Req.

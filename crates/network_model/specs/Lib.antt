@@ -1,7 +1,6 @@
 pub mod Name
 pub mod Network
 pub mod Clash
-pub mod Index
 pub mod Refusal
 pub mod Parts
 pub mod Run
@@ -22,3 +21,4 @@ pub mod Evidence
 pub mod Level
 pub mod TrueTime
 pub mod Order
+pub mod Inner

@@ -21,7 +21,7 @@ pub struct Name {
 impl Model for Name {
     ghost use Rattle.std.specs.Prelude.{ℕ, List, length, take};
     ghost use Rattle.std.proofs.Common.{length-take-le, sym};
-    ghost use Rattle.network_model.specs.Name.{IsKept, padded};
+    ghost use Rattle.network_model.specs.Inner.Padding.{IsKept, padded};
 
     ghost Value = { List ℕ };
 

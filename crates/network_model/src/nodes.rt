@@ -23,7 +23,7 @@ pub struct Nodes {
 impl Model for Nodes {
     ghost use Rattle.indexmap.specs.IndexMap.{values};
     ghost use Rattle.network_model.specs.Network.{Network};
-    ghost use Rattle.network_model.specs.Index.{IsIndex};
+    ghost use Rattle.network_model.specs.Inner.Index.{IsIndex};
 
     ghost Value = { Network };
 

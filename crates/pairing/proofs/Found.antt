@@ -4,8 +4,8 @@ use Rattle.std.proofs.lemmas.List.{get_or-map}
 use Rattle.std.proofs.lemmas.Bool.{false≢true}
 use Rattle.ptp_units.specs.declared.sequence.Seq.{Seq}
 use Rattle.pairing.specs.Marked.{find, set as set_newest}
-use Rattle.pairing.specs.Listed.{marked_of}
-use Rattle.pairing.specs.Ringed.{place_of, members, numbers_of}
+use Rattle.pairing.specs.Inner.Listed.{marked_of}
+use Rattle.pairing.specs.Inner.Ringed.{place_of, members, numbers_of}
 use Rattle.pairing.proofs.Pairs.{last_at, last_held, last_replaced}
 use Rattle.pairing.proofs.Rings.{length-members, get_or-members, slot_at-place_of, members-set}
 

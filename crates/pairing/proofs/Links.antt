@@ -3,7 +3,7 @@ use Rattle.std.proofs.Common.{◌≡◌, ◌∙◌, ◌<◌, ◌≤◌, ◌-◌,
 use Rattle.std.proofs.lemmas.Bool.{cases_lt, cases_eq}
 use Rattle.std.proofs.lemmas.List.{map-set, set-get_or, length-map, get_or-set_same, get_or-set_other}
 use Rattle.ptp_units.specs.declared.sequence.Seq.{Seq}
-use Rattle.pairing.specs.Ringed.{numbers_of, slot_at, place_of, slot_of, place_at, LeadsBack, IsLinked}
+use Rattle.pairing.specs.Inner.Ringed.{numbers_of, slot_at, place_of, slot_of, place_at, LeadsBack, IsLinked}
 use Rattle.pairing.proofs.Rings.{slot_at-within, place_of-slot_at, slot_at-place_of, place_of-later, place_of-gone}
 
 module _ (capacity oldest : ℕ) (begins : oldest < capacity) where

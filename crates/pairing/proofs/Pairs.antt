@@ -6,7 +6,7 @@ use Rattle.std.proofs.lemmas.List.Quantifiers.{position-Some}
 use Rattle.std.proofs.lemmas.Bool.Decides.{nat_tests}
 use Rattle.ptp_units.specs.declared.sequence.Seq.{Seq}
 use Rattle.pairing.specs.Marked.{Entry, entry, first_value, replace_first, tick, push, without_oldest}
-use Rattle.pairing.specs.Listed.{entries_of, marked_of}
+use Rattle.pairing.specs.Inner.Listed.{entries_of, marked_of}
 use Rattle.pairing.proofs.Lists.{map-reverse, reverse-set}
 
 module _ {V : Type 0} where

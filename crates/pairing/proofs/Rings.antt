@@ -3,7 +3,7 @@ use Rattle.std.proofs.Common.{◌≡◌, ◌∙◌, ◌<◌, ◌≤◌, ◌-◌,
 use Rattle.std.proofs.lemmas.Bool.{cases_lt, cases_eq, cond_below, cond_above}
 use Rattle.std.proofs.lemmas.Bool.Decides.{nat_tests}
 use Rattle.std.proofs.lemmas.List.{length-take-le, length-append, length-drop, length-set, length_push, get_or-take, get_or-drop, get_or_append_left, get_or-append_right, get_or_push, get_or-set_same, get_or-set_other, same_lists}
-use Rattle.pairing.specs.Ringed.{slot_at, place_of, members}
+use Rattle.pairing.specs.Inner.Ringed.{slot_at, place_of, members}
 
 module _ (capacity oldest : ℕ) (begins : oldest < capacity) where
   slot_at-near : (place : ℕ) → place < capacity - oldest → slot_at capacity oldest place ≡ oldest + place

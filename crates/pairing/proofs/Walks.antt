@@ -5,7 +5,7 @@ use Rattle.std.proofs.lemmas.Bool.{cases_lt, cases_eq, cond_below, cond_above, e
 use Rattle.std.proofs.lemmas.List.{length-reverse, get_or-reverse, get_or-map}
 use Rattle.std.proofs.lemmas.List.Sums.{position_or_len_is}
 use Rattle.ptp_units.specs.declared.sequence.Seq.{Seq}
-use Rattle.pairing.specs.Ringed.{slot_at, place_of, members, numbers_of, slot_of, place_at, LeadsBack}
+use Rattle.pairing.specs.Inner.Ringed.{slot_at, place_of, members, numbers_of, slot_of, place_at, LeadsBack}
 use Rattle.pairing.proofs.Pairs.{is_of}
 use Rattle.pairing.proofs.Rings.{slot_at-within, place_of-slot_at, slot_at-place_of, length-members, get_or-members}
 

@@ -1,4 +1,3 @@
 pub mod Latest
-pub mod Listed
 pub mod Marked
-pub mod Ringed
+pub mod Inner

@@ -1,7 +1,7 @@
 ghost use Rattle.std.specs.Prelude.{◌≡◌, ◌≤◌, length, reverse, nat_eq, is_some, option_copied, option_map, find};
 ghost use Rattle.std.specs.Prelude.{position};
 ghost use Rattle.pairing.specs.Marked.{first_value, replace_first};
-ghost use Rattle.pairing.specs.Listed.{entries_of};
+ghost use Rattle.pairing.specs.Inner.Listed.{entries_of};
 
 use crate::pair_table::PairTable;
 use arrayvec::ArrayVec;
@@ -24,7 +24,7 @@ impl<V: Copy + Default, const N: usize> PairTable<V> for ListTable<V, N> {
     ghost use Rattle.std.proofs.Common.{rules};
     ghost use Rattle.std.proofs.lemmas.List.{length-map};
     ghost use Rattle.pairing.specs.Marked.{IsWithin};
-    ghost use Rattle.pairing.specs.Listed.{marked_of};
+    ghost use Rattle.pairing.specs.Inner.Listed.{marked_of};
 
     const CAPACITY: usize = N;
 

@@ -1,6 +1,6 @@
 ghost use Rattle.std.specs.Prelude.{◌≡◌, ◌+◌, ◌-◌, ◌<◌, ◌≤◌, [], ◌∷◌, ◌++◌, length, reverse, drop, nat_eq, position};
 ghost use Rattle.std.specs.Prelude.{option_map, slice_index, slice_set, IfSome};
-ghost use Rattle.pairing.specs.Ringed.{IsLinked, numbers_of, place_of, slot_at, place_at, members};
+ghost use Rattle.pairing.specs.Inner.Ringed.{IsLinked, numbers_of, place_of, slot_at, place_at, members};
 
 use crate::pair_table::PairTable;
 use arrayvec::ArrayVec;
@@ -35,8 +35,8 @@ pub struct RingTable<V, const N: usize> {
 impl<V: Copy + Default, const N: usize> PairTable<V> for RingTable<V, N> {
     ghost use Rattle.std.specs.Prelude.{◌≡◌, ◌≤◌, length, option_copied, is_some};
     ghost use Rattle.pairing.specs.Marked.{IsWithin};
-    ghost use Rattle.pairing.specs.Listed.{marked_of};
-    ghost use Rattle.pairing.specs.Ringed.{members};
+    ghost use Rattle.pairing.specs.Inner.Listed.{marked_of};
+    ghost use Rattle.pairing.specs.Inner.Ringed.{members};
     ghost use Rattle.std.proofs.Common.{arith};
     ghost use Rattle.std.proofs.lemmas.List.{length-map, length-take, length-append, length-drop};
 

@@ -17,7 +17,7 @@ use Rattle.schedule_replay.specs.declared.fault.FaultKind.{FaultKind}
 use Rattle.schedule_replay.specs.declared.fault.FaultKind.TheVariants as kinds
 use Rattle.schedule_replay.specs.Fault.{fault_of}
 use Rattle.schedule_replay.specs.Replay.{IsEventLine}
-use Rattle.schedule_replay.specs.Stage.{LeavesUnwritten, WritesNone, StopsEvent}
+use Rattle.schedule_replay.specs.Inner.Stage.{LeavesUnwritten, WritesNone, StopsEvent}
 
 pub told_line : (old new : State) (event : Event) (stepped : Stepped) (recorded : TraceLine) (value : Data)
     → IsStepped old.network old.run event stepped → new ≡ after event old → TellsAnswer new.network new.run event stepped recorded

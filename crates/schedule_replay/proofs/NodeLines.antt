@@ -15,7 +15,7 @@ use Rattle.schedule_replay.specs.Schedule.{FaultsAtEnd}
 use Rattle.schedule_replay.specs.Replay.{nodes_text, NodesGoOut}
 use Rattle.text_lines.specs.Task.{WentOut}
 use Rattle.schedule_replay.specs.Fault.{is_of_writer}
-use Rattle.schedule_replay.specs.Stage.{LeavesUnwritten}
+use Rattle.schedule_replay.specs.Inner.Stage.{LeavesUnwritten}
 
 -- one node more
 pub nodes_text-more : (count : ℕ) (nodes : Network) (node : NodeSpec) → count < length nodes → node ≡ get_or nodes count node

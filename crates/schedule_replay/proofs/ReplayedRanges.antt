@@ -17,7 +17,8 @@ use Rattle.schedule_lines.specs.Ranges.{IsNode, IsEvent, IsLine}
 use Rattle.schedule_lines.proofs.Ranges.{reads_in_range}
 use Rattle.schedule_replay.specs.declared.fault.FaultKind.{FaultKind}
 use Rattle.schedule_replay.specs.declared.fault.FaultKind.TheVariants.{Field}
-use Rattle.schedule_replay.specs.Schedule.{value_in, entry_of_value, AreEntries, schedule_of}
+use Rattle.schedule_replay.specs.Schedule.{value_in, entry_of_value}
+use Rattle.schedule_replay.specs.Inner.Entries.{AreEntries, schedule_of}
 use Rattle.schedule_replay.specs.Accepted.{IsInRange, EachReplayIsAccepted}
 use Rattle.network_model.proofs.ExactPremises.{IsExact}
 use Rattle.schedule_replay.proofs.OneTranscript.{accepted_by, checked_by}

@@ -14,7 +14,7 @@ use Rattle.schedule_replay.specs.declared.fault.FaultKind.TheVariants.{Field, Wo
 use Rattle.schedule_replay.specs.declared.replaying.Stage.TheVariants.{Events}
 use Rattle.schedule_replay.specs.Schedule.{entry_in, FaultsIn, FaultsAtEnd}
 use Rattle.schedule_replay.specs.Replay.{nodes_text, IsEventLine, owed, NodesGoOut, GoesOut, replay_rules}
-use Rattle.schedule_replay.specs.Stage.{IsStage, IsOwnFault, WritesNone, StopsEvent, state_of}
+use Rattle.schedule_replay.specs.Inner.Stage.{IsStage, IsOwnFault, WritesNone, StopsEvent, state_of}
 use Rattle.network_model.specs.Network.{Network}
 use Rattle.network_model.specs.Run.{Run}
 use Rattle.text_lines.specs.Task.{WentOut}

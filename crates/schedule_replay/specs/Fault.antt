@@ -1,5 +1,5 @@
 -- The numbers of the faults, and which device failed.
-use Rattle.std.specs.Prelude.{◌≡◌, ℕ, Bool, true, false, MatchResult, Result}
+use Rattle.std.specs.Prelude.{ℕ, Bool, true, false, MatchResult, Result}
 use Rattle.text_lines.specs.declared.counted.Counted.{Counted}
 use Rattle.schedule_replay.specs.declared.fault.Fault.{Fault}
 use Rattle.schedule_replay.specs.declared.fault.FaultKind.{FaultKind}
@@ -10,7 +10,7 @@ use Rattle.text_lines.specs.declared.fault.Cause.{Cause}
 use Rattle.text_lines.specs.declared.fault.Cause.TheVariants.{Reading, Task}
 use Rattle.text_lines.specs.declared.fault.ReadingFault.{ReadingFault}
 use Rattle.text_lines.specs.declared.fault.ReadingFault.TheVariants as reading
-use Rattle.text_lines.specs.Counted.{one_more, HasFailed, HasNotFailed}
+use Rattle.text_lines.specs.Counted.{HasFailed, HasNotFailed}
 
 -- the number of a fault
 abbrev pub code_of : FaultKind → ℕ
@@ -38,15 +38,6 @@ kind_of (Task kind) = kind
 abbrev pub is_of_writer : FaultKind → Bool
 is_of_writer Write = true
 is_of_writer kind = false
-
--- how many failures of the writer there are after a fault that isn't in reading, and before it
-abbrev pub WriterFails : FaultKind → (failures failures' : ℕ) → Type 0
-WriterFails Write failures failures' = failures' ≡ one_more failures
-WriterFails Json failures failures' = failures' ≡ failures
-WriterFails Field failures failures' = failures' ≡ failures
-WriterFails (World why) failures failures' = failures' ≡ failures
-WriterFails Memory failures failures' = failures' ≡ failures
-WriterFails kind failures failures' = ⊥
 
 -- the fault by which the refusal of a network or of an event is told
 abbrev pub fault_of : WorldRefusal → FaultKind

@@ -3,9 +3,8 @@ pub mod Answer
 pub mod Show
 pub mod Schedule
 pub mod Replay
-pub mod Stage
 pub mod Program
 pub mod CheckText
 pub mod Accepted
-pub mod Progress
 pub mod OneAnswer
+pub mod Inner

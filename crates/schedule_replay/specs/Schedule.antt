@@ -1,5 +1,5 @@
 -- The nodes and events of a schedule, and the faults of its lines.
-use Rattle.std.specs.Prelude.{◌≡◌, ◌≢◌, ◌⊎◌, ℕ, List, [], ◌++◌, map, reverse, if◌then◌else◌, Option, Some, None, ok_or, Result, Ok, Err, IsOk, ⊤}
+use Rattle.std.specs.Prelude.{◌≡◌, ◌≢◌, ◌⊎◌, ℕ, List, [], if◌then◌else◌, Option, Some, None, ok_or, Result, Ok, Err, IsOk, ⊤}
 use Rattle.std.specs.Option.{option_or}
 use Rattle.std.specs.Result.{result_err}
 use Rattle.std.specs.Str.{is_utf8}
@@ -17,7 +17,6 @@ use Rattle.schedule_lines.specs.declared.reading.schedule.Line.TheVariants as en
 use Rattle.schedule_lines.specs.Line.{line_of}
 use Rattle.schedule_replay.specs.declared.fault.FaultKind.{FaultKind}
 use Rattle.schedule_replay.specs.declared.fault.FaultKind.TheVariants.{Write, Json, Field, World, Memory}
-use Rattle.text_lines.specs.Lines.{AreRead}
 
 -- the JSON value that a line is; None where it isn't UTF-8 or isn't JSON
 abbrev pub value_in : List ℕ → Option Data
@@ -31,14 +30,6 @@ entry_of_value (Some value) = ok_or (line_of value) Field
 -- the node or the event that a line is, or its fault
 abbrev pub entry_in : List ℕ → Result Line FaultKind
 entry_in line = entry_of_value (value_in line)
-
--- lines, of which the first has this number, are these nodes and events in turn
-abbrev pub AreEntries : ℕ → List (List ℕ) → List Line → Type 0
-AreEntries = AreRead entry_in
-
--- a schedule: its nodes, and then its events, the oldest first
-abbrev pub schedule_of : Network → Run → List Line
-schedule_of nodes run = map entries.Node nodes ++ map entries.Event (reverse run)
 
 -- why an event can't happen after these: there is no such network, or the network doesn't accept the event
 abbrev pub refusal_of : Network → Run → Event → Option WorldRefusal

@@ -1,7 +1,8 @@
 ghost use Rattle.std.specs.Prelude.{◌≡◌, ◌≤◌, length, MatchResult, ◌⊎◌, ⊤};
 ghost use Rattle.std.specs.Option.{ForSome};
 ghost use Rattle.std.specs.String.{string_bytes};
-ghost use Rattle.schedule_replay.specs.Fault.{FailedWith, WriterFails};
+ghost use Rattle.schedule_replay.specs.Fault.{FailedWith};
+ghost use Rattle.schedule_replay.specs.Inner.WriterFault.{WriterFails};
 ghost use Rattle.schedule_replay.specs.Show.{IsAnswer, ShowsAnswer, StopsShowing, show_rules};
 ghost use Rattle.text_lines.specs.Lines.{input_limit, line_limit, GivesWithin};
 

@@ -1,7 +1,7 @@
 -- The last completion of a kind, after a tick and after a call that may bring one.
 use Rattle.std.proofs.Common.{◌≡◌, refl, List, [], ◌∷◌, ◌++◌, slice_get, option_to_list, Option, Some, None, option_map, option_and_then}
 use Rattle.slave_port.specs.StandsFor.{last_of}
-use Rattle.slave_port.specs.Changes.{aged, renewed}
+use Rattle.slave_port.specs.Inner.Changes.{aged, renewed}
 
 module _ {C : Type 0} where
   pub last_of-tick : (since before : List C) → option_and_then aged (last_of since before) ≡ last_of [] since

@@ -19,7 +19,7 @@ use Rattle.slave_port.specs.Completion.{SyncCompletion, DelayCompletion, pair, a
 use Rattle.slave_port.specs.Kept.{criteria, usable, held_syncs, held_follows}
 use Rattle.slave_port.specs.Answer.{request_reason, ignored, completed}
 use Rattle.slave_port.specs.StandsFor.{Last, Port, StandsFor}
-use Rattle.slave_port.specs.Changes.{criteria_of, renewed, and_completed, with_sync_completion, unless, responded, taken, taken_or_ignored, sync_heard, general_heard}
+use Rattle.slave_port.specs.Inner.Changes.{criteria_of, renewed, and_completed, with_sync_completion, unless, responded, taken, taken_or_ignored, sync_heard, general_heard}
 use Rattle.slave_port.proofs.Received.{received, received_of, unanswerable_by, IsAnswered, same_criteria, stands-event, stands-general, IsAnswered-used, IsAnswered-ignored}
 
 module _ (port : Port) where

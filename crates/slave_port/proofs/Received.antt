@@ -16,7 +16,7 @@ use Rattle.slave_port.specs.Completion.{SyncCompletion, DelayCompletion, answere
 use Rattle.slave_port.specs.Kept.{kept, criteria, completion_in, usable, sync_completion, delay_completion, delay_completions, last_sync_completion, last_delay_completion}
 use Rattle.slave_port.specs.Answer.{request_reason, completed, used as used_answer, ignored, unless_ignored, answer}
 use Rattle.slave_port.specs.StandsFor.{Port, HoldsWindow, StandsFor, last_of}
-use Rattle.slave_port.specs.Changes.{criteria_of, renewed, and_completed}
+use Rattle.slave_port.specs.Inner.Changes.{criteria_of, renewed, and_completed}
 use Rattle.slave_port.proofs.Completions.{last_of-brought, part-last_of, completion-last_of}
 
 -- the table with what a call brings

@@ -3,7 +3,7 @@ use Rattle.std.proofs.Common.{◌≡◌, ℕ, zero, suc, Bool, true, false, refl
 use Rattle.pairing.specs.Marked.{Entry, entry, first_value, replace_first}
 use Rattle.slave_port.specs.Values.{RequestValue}
 use Rattle.slave_port.specs.Requests.{stamped}
-use Rattle.slave_port.specs.Changes.{left}
+use Rattle.slave_port.specs.Inner.Changes.{left}
 
 pub take-stamped : (n number t3 : ℕ) (requests : List (Entry RequestValue))
     → take n (stamped number t3 requests) ≡ stamped number t3 (take n requests)

@@ -9,7 +9,7 @@ use Rattle.slave_port.specs.Values.{RequestValue}
 use Rattle.slave_port.specs.Requests.{requests, held_requests}
 use Rattle.slave_port.specs.Kept.{kept, delay_completions}
 use Rattle.slave_port.specs.StandsFor.{Port, StandsFor}
-use Rattle.slave_port.specs.Changes.{aged, ticked, with_request, left, with_departure}
+use Rattle.slave_port.specs.Inner.Changes.{aged, ticked, with_request, left, with_departure}
 use Rattle.slave_port.proofs.Completions.{last_of-tick}
 use Rattle.slave_port.proofs.Requests.{take-stamped, stamped-none, stamped-some}
 

@@ -6,8 +6,8 @@ use Rattle.slave_port.specs.declared.reason.Reason.{Reason}
 use Rattle.slave_port.specs.History.{Capacities, Setup, Call, present_master}
 use Rattle.slave_port.specs.Window.{Window, nothing, all, last, after}
 use Rattle.slave_port.specs.declared.used.Used.{Used}
-use Rattle.slave_port.specs.Values.{SyncValue, OneStepValue, FollowValue, ResponseValue}
-use Rattle.slave_port.specs.Used.{part, two_step_sync, one_step_sync, follow_up, delay_resp}
+use Rattle.slave_port.specs.Values.{SyncValue, FollowValue, ResponseValue}
+use Rattle.slave_port.specs.Used.{part, two_step_sync, follow_up, delay_resp}
 use Rattle.slave_port.specs.Usable.{Criteria, usable_in, unusable_in}
 use Rattle.slave_port.specs.Requests.{held_requests}
 use Rattle.slave_port.specs.Completion.{SyncCompletion, DelayCompletion, answered, completed_by}
@@ -66,10 +66,6 @@ unusable setup earlier call = unusable_in (criteria setup earlier) call
 -- the usable two-step Sync that a call brings, which is held
 abbrev pub usable_two_step_sync : Setup → List Call → Call → Option (Entry SyncValue)
 usable_two_step_sync setup earlier call = option_and_then (part two_step_sync) (usable setup earlier call)
-
--- the usable one-step Sync that a call brings, which completes by itself
-abbrev pub usable_one_step_sync : Setup → List Call → Call → Option (Entry OneStepValue)
-usable_one_step_sync setup earlier call = option_and_then (part one_step_sync) (usable setup earlier call)
 
 -- the usable Follow_Up that a call brings, which is held
 abbrev pub usable_follow_up : Setup → List Call → Call → Option (Entry FollowValue)

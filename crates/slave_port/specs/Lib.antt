@@ -9,5 +9,5 @@ pub mod Kept
 pub mod Answer
 pub mod Written
 pub mod StandsFor
-pub mod Changes
 pub mod Refusal
+pub mod Inner

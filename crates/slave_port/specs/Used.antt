@@ -3,7 +3,7 @@ use Rattle.std.specs.Prelude.{option_map, Option, Some, None}
 use Rattle.pairing.specs.Marked.{Entry, entry}
 use Rattle.slave_port.specs.declared.used.Used.{Used}
 use Rattle.slave_port.specs.declared.used.Used.TheVariants.{TwoStepSync, OneStepSync, FollowUp, DelayResp}
-use Rattle.slave_port.specs.Values.{SyncValue, OneStepValue, FollowValue, ResponseValue}
+use Rattle.slave_port.specs.Values.{SyncValue, FollowValue, ResponseValue}
 
 -- the two-step Sync, where it is one
 abbrev pub two_step_sync : Used → Option SyncValue
@@ -11,13 +11,6 @@ two_step_sync (TwoStepSync sync) = Some sync
 two_step_sync (OneStepSync sync) = None
 two_step_sync (FollowUp follow) = None
 two_step_sync (DelayResp response) = None
-
--- the one-step Sync, where it is one
-abbrev pub one_step_sync : Used → Option OneStepValue
-one_step_sync (TwoStepSync sync) = None
-one_step_sync (OneStepSync sync) = Some sync
-one_step_sync (FollowUp follow) = None
-one_step_sync (DelayResp response) = None
 
 -- the Follow_Up, where it is one
 abbrev pub follow_up : Used → Option FollowValue

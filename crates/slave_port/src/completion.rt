@@ -70,7 +70,7 @@ impl<C> Model for Last<C> {
 
 impl<C: Copy> Last<C> {
     ghost use Rattle.std.specs.Prelude.{◌≡◌, Some};
-    ghost use Rattle.slave_port.specs.Changes.{aged, renewed};
+    ghost use Rattle.slave_port.specs.Inner.Changes.{aged, renewed};
 
     /// Of which no tick has come yet.
     pub(crate) fn new(completion: C) -> Last<C>

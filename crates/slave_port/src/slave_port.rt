@@ -8,8 +8,8 @@ ghost use Rattle.slave_port.specs.History.{RequestLeft, Event, General};
 ghost use Rattle.slave_port.specs.Requests.{is_held};
 ghost use Rattle.slave_port.specs.Written.{delay_req};
 ghost use Rattle.slave_port.specs.StandsFor.{StandsFor, StandsAfter, IsAnswer};
-ghost use Rattle.slave_port.specs.Changes.{criteria_of, with_sync, with_follow, with_sync_completion, with_response};
-ghost use Rattle.slave_port.specs.Changes.{and_completed, taken, sync_heard, general_heard};
+ghost use Rattle.slave_port.specs.Inner.Changes.{criteria_of, with_sync, with_follow, with_sync_completion, with_response};
+ghost use Rattle.slave_port.specs.Inner.Changes.{and_completed, taken, sync_heard, general_heard};
 
 use crate::completion::{DelayCompletion, Last, SyncCompletion, alone, answered, pair, report_of};
 use crate::heard::Heard;

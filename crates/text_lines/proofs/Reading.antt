@@ -6,7 +6,8 @@ use Rattle.std.proofs.Math.Dec.{eqb-suc-zero}
 use Rattle.std.specs.Io.KnownBytes.{Consumes, Keeps, IsAtEnd}
 use Rattle.std.proofs.KnownBytes.{Consumes-trans, Consumes-kept}
 use Rattle.text_lines.specs.declared.fault.ReadingFault.TheVariants.{Read, LineTooLong, TooManyLines}
-use Rattle.text_lines.specs.Lines.{lines_of, lfs_in, line_limit, lines_limit, reading_fault, ReadsLine, StopsReading}
+use Rattle.text_lines.specs.Lines.{lines_of, lfs_in, line_limit, lines_limit, reading_fault}
+use Rattle.text_lines.specs.Inner.Reading.{ReadsLine, StopsReading}
 use Rattle.text_lines.proofs.KnownOctets.{Consumes-known}
 use Rattle.text_lines.proofs.Cutting.{IsUnended, lines_of-ended, drop_through-ended, lfs_in-ended, lines_of-last, drop_through-last, first_line, longer_line}
 

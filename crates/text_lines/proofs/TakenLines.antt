@@ -8,7 +8,8 @@ use Rattle.text_lines.specs.declared.fault.Cause.{Cause}
 use Rattle.text_lines.specs.declared.fault.Cause.TheVariants.{Reading, Task}
 use Rattle.text_lines.specs.declared.fault.ReadingFault.{ReadingFault}
 use Rattle.text_lines.specs.declared.fault.ReadingFault.TheVariants.{Read, LineTooLong, TooManyLines}
-use Rattle.text_lines.specs.Lines.{lines_of, lfs_in, after_lines, without_cr, reading_fault, StopsReading, ReadsLine}
+use Rattle.text_lines.specs.Lines.{lines_of, lfs_in, after_lines, without_cr, reading_fault}
+use Rattle.text_lines.specs.Inner.Reading.{StopsReading, ReadsLine}
 use Rattle.text_lines.specs.Task.{Rules, TakesLines, WentOut, StopsBefore, is_of_writer, AnswersAll, AnswersUntil}
 
 -- the first lines, which are count, were taken; each has its LF, unless the end was seen

@@ -2,3 +2,4 @@ pub mod Counted
 pub mod OctetReader
 pub mod Lines
 pub mod Task
+pub mod Inner

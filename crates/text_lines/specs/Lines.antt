@@ -1,5 +1,5 @@
 -- How an input is cut into lines, and what reading one of them answers.
-use Rattle.std.specs.Prelude.{◌≡◌, ◌≢◌, ℕ, zero, suc, ◌+◌, ◌*◌, ◌≤◌, nat_lt, List, [], ◌∷◌, length, take, drop, count_by, All, Bool, true, false, ◌==◌, if◌then◌else◌, Option, Some, None, Result, Ok, ⊤}
+use Rattle.std.specs.Prelude.{◌≡◌, ◌≢◌, ℕ, zero, suc, ◌+◌, ◌*◌, ◌≤◌, nat_lt, List, [], ◌∷◌, length, take, drop, count_by, All, ◌==◌, if◌then◌else◌, Option, Some, None, Result, Ok, ⊤}
 use Rattle.std.specs.Option.{ForSome}
 use Rattle.std.specs.Io.BufRead.{drop_through, strip_last}
 use Rattle.text_lines.specs.declared.counted.Counted.{Counted}
@@ -64,21 +64,6 @@ LeavesUnread Read number octets left =
     (count : ℕ) × (count ≤ room_of number) × All (λ x. x ≢ 10) (take count octets) × (left ≡ Some (drop count octets))
 LeavesUnread LineTooLong number octets left = left ≡ Some (drop (line_limit + 1) octets)
 LeavesUnread TooManyLines number octets left = left ≡ Some (drop 1 octets)
-
--- a fault in reading the line of this number, with which these octets begin, and what it leaves unread
-abbrev pub StopsReading : ReadingFault → ℕ → List ℕ → Option (List ℕ) → Type 0
-StopsReading Read number octets left = LeavesUnread Read number octets left
-StopsReading kind number octets left =
-    (line : List ℕ) × (others : List (List ℕ)) × (lines_of octets ≡ line ∷ others)
-    × (reading_fault number line ≡ Some kind) × LeavesUnread kind number octets left
-
--- a line of this number was read where there was one, and nothing at the end of the input; a line after which the
--- end was not seen has its LF
-abbrev pub ReadsLine : Bool → ℕ → List ℕ → Bool → List ℕ → Option (List ℕ) → Type 0
-ReadsLine true number line ended octets left =
-    (lines_of octets ≡ line ∷ lines_of (after_lines 1 octets)) × (reading_fault number line ≡ None)
-    × (left ≡ Some (after_lines 1 octets)) × (ended ≡ false → lfs_in octets ≡ lfs_in (after_lines 1 octets) + 1)
-ReadsLine false number line ended octets left = (octets ≡ []) × (left ≡ Some [])
 
 -- At most this many octets more were given, and so many were counted; where the reader tells its octets, these are gone.
 pub record GivesWithin {R : Type 0} (remaining : R → Option (List ℕ)) (limit : ℕ) (old new : Counted R) : Type 0 where

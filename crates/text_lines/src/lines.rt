@@ -3,8 +3,10 @@ ghost use Rattle.std.specs.Prelude.{MatchResult, MatchOption, length};
 ghost use Rattle.std.specs.Option.{ForSome};
 ghost use Rattle.std.specs.Io.KnownBytes.{Consumes, IsAtEnd, Keeps};
 ghost use Rattle.text_lines.specs.Counted.{device_of, HasFailed, HasNotFailed};
-ghost use Rattle.text_lines.specs.Lines.{line_limit, lines_limit, room_of, without_cr, GivesWithin, ReadsLine};
-ghost use Rattle.text_lines.specs.Lines.{IsFromReading, StopsReading};
+ghost use Rattle.text_lines.specs.Lines.{line_limit, lines_limit, room_of, without_cr, GivesWithin};
+ghost use Rattle.text_lines.specs.Inner.Reading.{ReadsLine};
+ghost use Rattle.text_lines.specs.Lines.{IsFromReading};
+ghost use Rattle.text_lines.specs.Inner.Reading.{StopsReading};
 
 use crate::counted::Counted;
 use crate::fault::{ReadingFault, Stopped};

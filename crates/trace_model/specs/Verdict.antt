@@ -32,8 +32,3 @@ with_line network e (Refused number why) = Refused number why
 abbrev pub verdict : Network → Lines → Verdict
 verdict network [] = Accepted 0
 verdict network (line ∷ earlier) = with_line network (line_place line earlier) (verdict network earlier)
-
--- how many report lines are accepted
-abbrev pub accepted_count : Verdict → ℕ
-accepted_count (Accepted count) = count
-accepted_count (Refused number why) = 0

@@ -27,8 +27,8 @@ use Rattle.world_model.specs.declared.entry.Octets.{Octets}
 use Rattle.world_model.specs.declared.entry.Left.TheVariants.{Copy, Nothing}
 use Rattle.world_model.specs.declared.station.Master.{Master}
 use Rattle.world_model.specs.declared.station.Slave.{Slave}
-use Rattle.world_model.specs.Stands.{listed, octets_in, MasterStands, SlaveStands}
-use Rattle.world_model.specs.Acts.{Brings, Gives}
+use Rattle.world_model.specs.Inner.Stands.{listed, octets_in, MasterStands, SlaveStands}
+use Rattle.world_model.specs.Inner.Acts.{Brings, Gives}
 use Rattle.world_model.proofs.Own.{history-made, reading_of-read, reading-read, node_as-at}
 
 -- the port at which a message arrives, and what comes of one

@@ -19,7 +19,7 @@ use Rattle.world_model.specs.declared.station.Slave.{Slave}
 use Rattle.world_model.specs.declared.station.Port.{Port}
 use Rattle.world_model.specs.declared.station.Port.TheVariants as ports
 use Rattle.world_model.specs.declared.station.Station.{Station}
-use Rattle.world_model.specs.Stands.{departure, sequence_of, next_sync, MasterStands, SlaveStands, PortStands, Stands}
+use Rattle.world_model.specs.Inner.Stands.{departure, sequence_of, next_sync, MasterStands, SlaveStands, PortStands, Stands}
 use Rattle.world_model.proofs.Own.{count_by-failed}
 
 and_false : (b : Bool) → (b && false) ≡ false

@@ -4,7 +4,7 @@ use Rattle.std.proofs.lemmas.Option.{slice_get_past}
 use Rattle.world_model.specs.declared.entry.Entry.{Entry}
 use Rattle.world_model.specs.declared.entry.Left.{Left}
 use Rattle.world_model.specs.declared.entry.Left.TheVariants.{Copy, Stay, Nothing}
-use Rattle.world_model.specs.Stands.{stay_in, stay_at, ended, spent}
+use Rattle.world_model.specs.Inner.Stands.{stay_in, stay_at, ended, spent}
 
 -- a write at a place where a stay ends
 pub set-spent : (entries : List Entry) (i : ℕ) (d : Entry) → i < length entries

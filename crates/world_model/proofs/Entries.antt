@@ -17,8 +17,8 @@ use Rattle.world_model.specs.declared.entry.Entry.{Entry}
 use Rattle.world_model.specs.declared.entry.Left.{Left}
 use Rattle.world_model.specs.declared.entry.Left.TheVariants.{Copy, Stay, Nothing}
 use Rattle.world_model.specs.declared.entry.Happened.{Happened}
-use Rattle.world_model.specs.Stands.{run_of, octets_in, stay_in, event_at, octets_at, stay_at, ended, spent, entering, open_stay, Keeps}
-use Rattle.world_model.specs.Acts.{Brings, entries_after}
+use Rattle.world_model.specs.Inner.Stands.{run_of, octets_in, stay_in, event_at, octets_at, stay_at, ended, spent, entering, open_stay, Keeps}
+use Rattle.world_model.specs.Inner.Acts.{Brings, entries_after}
 use Rattle.world_model.proofs.Own.{same_if}
 
 -- numbers that are tested for equality

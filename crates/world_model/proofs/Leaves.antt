@@ -32,8 +32,8 @@ use Rattle.world_model.specs.declared.entry.Octets.{Octets}
 use Rattle.world_model.specs.declared.entry.Left.TheVariants.{Copy, Nothing}
 use Rattle.world_model.specs.declared.station.Port.TheVariants as ports
 use Rattle.world_model.specs.declared.station.Station.{Station}
-use Rattle.world_model.specs.Stands.{listed, octets_in, event_at, octets_at, stay_at, entering, open_stay, Keeps, PortStands, Stands}
-use Rattle.world_model.specs.Acts.{Room, Answers, IsSent, Gives, Departs, copy_taken, copy_inside}
+use Rattle.world_model.specs.Inner.Stands.{listed, octets_in, event_at, octets_at, stay_at, entering, open_stay, Keeps, PortStands, Stands}
+use Rattle.world_model.specs.Inner.Acts.{Room, Answers, IsSent, Gives, Departs, copy_taken, copy_inside}
 use Rattle.event_codec.proofs.Lengths.{length-Packet}
 use Rattle.world_model.proofs.Readings.{packet_read}
 use Rattle.world_model.proofs.Own.{difference-stays, reading_of-read, reading-read}

@@ -13,8 +13,8 @@ use Rattle.world_model.specs.declared.station.Slave.{Slave}
 use Rattle.world_model.specs.declared.station.Port.{Port}
 use Rattle.world_model.specs.declared.station.Port.TheVariants as ports
 use Rattle.world_model.specs.declared.station.Station.{Station}
-use Rattle.world_model.specs.Stands.{MasterStands, SlaveStands, PortStands, Stands}
-use Rattle.world_model.specs.Acts.{Room, Answers, MasterActs, SlaveActs}
+use Rattle.world_model.specs.Inner.Stands.{MasterStands, SlaveStands, PortStands, Stands}
+use Rattle.world_model.specs.Inner.Acts.{Room, Answers, MasterActs, SlaveActs}
 use Rattle.world_model.proofs.Own.{difference-stays}
 
 -- a master stands at a node of its kind, with its setup

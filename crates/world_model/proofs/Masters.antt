@@ -16,8 +16,8 @@ use Rattle.network_model.proofs.Sites.{named-self}
 use Rattle.world_model.specs.declared.entry.Octets.{Octets}
 use Rattle.world_model.specs.declared.entry.Left.TheVariants.{Copy}
 use Rattle.world_model.specs.declared.station.Master.{Master}
-use Rattle.world_model.specs.Stands.{listed, departure, sequence_of, MasterStands}
-use Rattle.world_model.specs.Acts.{Brings}
+use Rattle.world_model.specs.Inner.Stands.{listed, departure, sequence_of, MasterStands}
+use Rattle.world_model.specs.Inner.Acts.{Brings}
 use Rattle.world_model.proofs.Own.{next_sync-drawn, reading_of-read, reading-read, node_as-at}
 
 -- a master that waits for the Follow_Up of the Sync that it drew

@@ -18,7 +18,7 @@ use Rattle.network_model.specs.Numbering.{draws_with}
 use Rattle.network_model.specs.SlaveHistory.{call_made, history_of}
 use Rattle.network_model.specs.Outcome.{◌>>=◌, node_as, reads}
 use Rattle.network_model.proofs.Sites.{named-self}
-use Rattle.world_model.specs.Stands.{next_sync}
+use Rattle.world_model.specs.Inner.Stands.{next_sync}
 
 pub same_if : {X : Type 0} (b : Bool) (x : X) → (if b then x else x) ≡ x
 same_if true x = refl

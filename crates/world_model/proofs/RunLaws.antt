@@ -20,7 +20,7 @@ use Rattle.network_model.proofs.Agreement.{tells_true_time}
 use Rattle.network_model.proofs.Order.{reports_dont_go_back}
 use Rattle.network_model.proofs.Evidence.{shows_evidence}
 use Rattle.world_model.specs.State.{State, after}
-use Rattle.world_model.specs.Steps.{Steps}
+use Rattle.world_model.specs.Inner.Steps.{Steps}
 use Rattle.world_model.specs.Turns.{AnswersInTurn}
 use Rattle.world_model.specs.Exact.{IsTimely, IsExactAnswer, AreExactAnswers, RunsKeepLaws}
 

@@ -24,8 +24,8 @@ use Rattle.network_model.proofs.Sites.{named-self}
 use Rattle.world_model.specs.declared.entry.Octets.{Octets}
 use Rattle.world_model.specs.declared.entry.Left.TheVariants.{Copy}
 use Rattle.world_model.specs.declared.station.Slave.{Slave}
-use Rattle.world_model.specs.Stands.{listed, departure, sequence_of, SlaveStands}
-use Rattle.world_model.specs.Acts.{Brings}
+use Rattle.world_model.specs.Inner.Stands.{listed, departure, sequence_of, SlaveStands}
+use Rattle.world_model.specs.Inner.Acts.{Brings}
 use Rattle.world_model.proofs.Own.{history-made, reading_of-read, reading-read, node_as-at}
 
 -- a call that an event makes where it makes one, which draws nothing

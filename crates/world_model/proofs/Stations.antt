@@ -8,7 +8,7 @@ use Rattle.network_model.specs.declared.node.NodeSpec.{NodeSpec}
 use Rattle.network_model.specs.Network.{Network, NodeName, IsNetwork, names, node_of, is_named}
 use Rattle.network_model.specs.Run.{Run, site_of}
 use Rattle.world_model.specs.declared.station.Station.{Station}
-use Rattle.world_model.specs.Stands.{Stands, EachStands, AllStand}
+use Rattle.world_model.specs.Inner.Stands.{Stands, EachStands, AllStand}
 use Rattle.world_model.proofs.Entries.{get-push}
 use Rattle.world_model.proofs.Elsewhere.{Stands-elsewhere}
 

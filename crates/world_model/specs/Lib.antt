@@ -1,6 +1,4 @@
 pub mod State
 pub mod Turns
-pub mod Stands
-pub mod Acts
-pub mod Steps
 pub mod Exact
+pub mod Inner

@@ -3,8 +3,8 @@ ghost use Rattle.std.specs.Result.{result_ok};
 ghost use Rattle.event_codec.specs.Packet.{Contents, Packet};
 ghost use Rattle.transparent_clock.specs.Forwarding.{forwarded};
 ghost use Rattle.network_model.specs.Outcome.{left_outcome};
-ghost use Rattle.world_model.specs.Stands.{listed, stay_in, stay_at, ended, spent};
-ghost use Rattle.world_model.specs.Acts.{IsSent, Gives, Departs, copy_inside};
+ghost use Rattle.world_model.specs.Inner.Stands.{listed, stay_in, stay_at, ended, spent};
+ghost use Rattle.world_model.specs.Inner.Acts.{IsSent, Gives, Departs, copy_inside};
 
 use crate::entry::{Entry, Happened, Left, Octets};
 use crate::station::{Room, Shown};

@@ -1,5 +1,5 @@
 ghost use Rattle.std.specs.Prelude.{◌≡◌, ◌≤◌, length, option_map, IfSome};
-ghost use Rattle.world_model.specs.Stands.{listed, octets_in, octets_at};
+ghost use Rattle.world_model.specs.Inner.Stands.{listed, octets_in, octets_at};
 
 use network_model::{Event, Outcome};
 use ptp_units::ScaledTime;

@@ -1,7 +1,7 @@
 ghost use Rattle.std.specs.Prelude.{ℕ, option_map};
 ghost use Rattle.network_model.specs.Network.{Network, NodeName};
 ghost use Rattle.network_model.specs.Run.{Run};
-ghost use Rattle.world_model.specs.Acts.{SlaveActs, Nothing, Reads, IsCopy, IsNext, IsKind};
+ghost use Rattle.world_model.specs.Inner.Acts.{SlaveActs, Nothing, Reads, IsCopy, IsNext, IsKind};
 
 use crate::entry::{Happened, Left, Octets};
 use crate::station::{Departure, Room, Shown, Slave};

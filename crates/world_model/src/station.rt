@@ -2,8 +2,8 @@ ghost use Rattle.std.specs.Prelude.{◌≡◌, List, [], pos, ◌+ℤ◌, ok_or,
 ghost use Rattle.ptp_units.specs.Moment.{moment_of};
 ghost use Rattle.network_model.specs.Network.{Network, NodeName, IsNetwork};
 ghost use Rattle.world_model.specs.declared.entry.Entry.{Entry};
-ghost use Rattle.world_model.specs.Stands.{Stands, AllStand, spent};
-ghost use Rattle.world_model.specs.Acts.{Acts, ActsIn, entries_after};
+ghost use Rattle.world_model.specs.Inner.Stands.{Stands, AllStand, spent};
+ghost use Rattle.world_model.specs.Inner.Acts.{Acts, ActsIn, entries_after};
 
 use crate::clock::{copy_inside, depart};
 use crate::entry::{Entry, Happened, Left, copy_at, octets_of};

@@ -1,6 +1,6 @@
 ghost use Rattle.std.specs.Prelude.{◌≡◌, ◌<◌, ◌∷◌, ◌++◌, [], length, vec_len, vec_capacity, IfErr, OnOk, OnErr};
-ghost use Rattle.world_model.specs.Stands.{IsWorld, run_of};
-ghost use Rattle.world_model.specs.Steps.{Steps};
+ghost use Rattle.world_model.specs.Inner.Stands.{IsWorld, run_of};
+ghost use Rattle.world_model.specs.Inner.Steps.{Steps};
 
 use crate::entry::{Entry, Left};
 use crate::station::{Room, Station};

@@ -29,7 +29,7 @@ impl Model for World {
 
     ghost Value = { State };
 
-    ghost use Rattle.world_model.specs.Stands.{run_of, IsWorld};
+    ghost use Rattle.world_model.specs.Inner.Stands.{run_of, IsWorld};
 
     ghost view = { λ w. record { network = w.nodes; run = run_of w.entries.items } };
 

@@ -1,5 +1,5 @@
 use Rattle.std.proofs.Common.{reverse, take}
-use Rattle.exchange_check.specs.Machine.{IsKept, machine}
+use Rattle.exchange_check.specs.Inner.Machine.{IsKept, machine}
 use Rattle.exchange_check.proofs.checker.check.Given as goal
 
 abbrev pub invariant-loop-line : goal.invariant-loop-line

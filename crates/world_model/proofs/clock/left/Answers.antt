@@ -1,7 +1,7 @@
 use Rattle.std.proofs.Common.{Ok, ap, subst}
 use Rattle.event_codec.specs.Packet.{Packet}
 use Rattle.transparent_clock.specs.Forwarding.{forwarded}
-use Rattle.world_model.specs.Stands.{listed}
+use Rattle.world_model.specs.Inner.Stands.{listed}
 use Rattle.world_model.proofs.Readings.{IsReading-packet}
 use Rattle.world_model.proofs.Leaves.{is_sent}
 use Rattle.world_model.proofs.clock.left.Goals as goal

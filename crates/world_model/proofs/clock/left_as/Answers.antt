@@ -1,6 +1,6 @@
 use Rattle.std.proofs.Common.{subst}
-use Rattle.world_model.specs.Stands.{listed}
-use Rattle.world_model.specs.Acts.{IsSent}
+use Rattle.world_model.specs.Inner.Stands.{listed}
+use Rattle.world_model.specs.Inner.Acts.{IsSent}
 use Rattle.world_model.proofs.Leaves.{gives_left, gives_no_leave}
 use Rattle.world_model.proofs.clock.left_as.Goals as goal
 

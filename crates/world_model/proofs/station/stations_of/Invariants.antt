@@ -1,5 +1,5 @@
 use Rattle.std.proofs.Common.{◌≡◌, length, []}
-use Rattle.world_model.specs.Stands.{EachStands}
+use Rattle.world_model.specs.Inner.Stands.{EachStands}
 use Rattle.world_model.proofs.station.stations_of.Given as goal
 
 abbrev pub invariant-loop-index : goal.invariant-loop-index

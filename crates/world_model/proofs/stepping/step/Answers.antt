@@ -3,8 +3,8 @@ use Rattle.std.proofs.lemmas.Option.{slice_get_within}
 use Rattle.network_model.specs.declared.stepped.Stepped.{Stepped}
 use Rattle.network_model.specs.Outcome.{IsStepped}
 use Rattle.world_model.specs.declared.entry.Entry.{Entry}
-use Rattle.world_model.specs.Stands.{run_of, IsWorld}
-use Rattle.world_model.specs.Acts.{ActsIn, entries_after}
+use Rattle.world_model.specs.Inner.Stands.{run_of, IsWorld}
+use Rattle.world_model.specs.Inner.Acts.{ActsIn, entries_after}
 use Rattle.world_model.proofs.Entries.{after-length, run_of-after}
 use Rattle.world_model.proofs.Happening.{found, refilled, answered, done-world, done-stepped, refused-world, refused-why, on_ok}
 use Rattle.world_model.proofs.stepping.step.Goals as goal

@@ -1,8 +1,8 @@
 use Rattle.std.proofs.Common.{◌≡◌, ◌∙◌, ap}
 use Rattle.network_model.specs.Run.{site_of}
 use Rattle.exchange_check.specs.declared.facts.Site.{Site}
-use Rattle.exchange_check.specs.Kept.{shown_by}
-use Rattle.exchange_check.specs.Machine.{sites_of}
+use Rattle.exchange_check.specs.Inner.Kept.{shown_by}
+use Rattle.exchange_check.specs.Inner.Machine.{sites_of}
 use Rattle.trace_model.specs.Record.{is_reading}
 use Rattle.exchange_check.proofs.kept.Kept.known.Goals as goal
 

@@ -2,7 +2,7 @@ use Rattle.std.proofs.Common.{◌≡◌, Result, Ok, Err, None, inl, inr, ap}
 use Rattle.std.specs.Prelude.{MatchResult}
 use Rattle.network_model.specs.Kinds.{spent_transit}
 use Rattle.exchange_check.specs.declared.refusal.CheckFault.{CheckFault}
-use Rattle.exchange_check.specs.Machine.{facts_of}
+use Rattle.exchange_check.specs.Inner.Machine.{facts_of}
 use Rattle.exchange_check.proofs.Passing.{others_pass, stays_pass}
 use Rattle.exchange_check.proofs.kept.Kept.note.Goals as goal
 

@@ -1,9 +1,9 @@
 use Rattle.std.proofs.Common.{◌≡◌, ◌∷◌, [], ◌++◌, ◌-◌, ◌+◌, ◌<◌, length, arith, rules}
 use Rattle.std.proofs.lemmas.Grind.{common_steps}
 use Rattle.std.specs.Prelude.{option_and_then}
-use Rattle.exchange_check.specs.Kept.{Leaves, fact_in}
-use Rattle.exchange_check.specs.Stays.{LastStays, stay_of, with_stay, AreStays}
-use Rattle.exchange_check.specs.Machine.{sites_of, stamps_of, sites_told, leaves_told, stamps_told}
+use Rattle.exchange_check.specs.Inner.Kept.{Leaves, fact_in}
+use Rattle.exchange_check.specs.Inner.Stays.{LastStays, stay_of, with_stay, AreStays}
+use Rattle.exchange_check.specs.Inner.Machine.{sites_of, stamps_of, sites_told, leaves_told, stamps_told}
 use Rattle.exchange_check.proofs.Keeping.{IsKept-line, accepted-bound}
 use Rattle.exchange_check.proofs.kept.Kept.step.Goals as goal
 

@@ -3,8 +3,8 @@ use Rattle.std.specs.Prelude.{option_and_then}
 use Rattle.std.specs.BTreeMap.{get}
 use Rattle.std.specs.Ordering.{nat_cmp}
 use Rattle.exchange_check.specs.declared.facts.Fact.{Fact}
-use Rattle.exchange_check.specs.Machine.{facts_of, leaves_told}
-use Rattle.exchange_check.specs.Stays.{stay_of, with_stay, branch_in, AreStays}
+use Rattle.exchange_check.specs.Inner.Machine.{facts_of, leaves_told}
+use Rattle.exchange_check.specs.Inner.Stays.{stay_of, with_stay, branch_in, AreStays}
 use Rattle.exchange_check.proofs.Branches.{one_more}
 use Rattle.exchange_check.proofs.kept.Kept.tell.Goals as goal
 

@@ -7,8 +7,8 @@ use Rattle.std.specs.Prelude.{is_some}
 use Rattle.std.proofs.lemmas.Bool.Decides.{nat_tests}
 use Rattle.std.proofs.lemmas.Option.{same_Some, none-some}
 use Rattle.exchange_check.specs.declared.stays.Branch.{Branch}
-use Rattle.exchange_check.specs.Kept.{left_again}
-use Rattle.exchange_check.specs.Stays.{Branches, Firsts, AreBranches, branch_in, with_branch}
+use Rattle.exchange_check.specs.Inner.Kept.{left_again}
+use Rattle.exchange_check.specs.Inner.Stays.{Branches, Firsts, AreBranches, branch_in, with_branch}
 use Rattle.exchange_check.proofs.Branches.{with_branch-here, with_branch-there}
 use Rattle.exchange_check.proofs.Links.{link, links, links_with, deep_within}
 use Rattle.exchange_check.proofs.Cutting.{cut_flat, cut_start, cut_step, cut_done}

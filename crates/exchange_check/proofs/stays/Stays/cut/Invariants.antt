@@ -1,8 +1,8 @@
 use Rattle.std.proofs.Common.{◌≡◌, ℕ, ◌<◌, Some, length}
 use Rattle.std.specs.BTreeMap.{get}
 use Rattle.std.specs.Ordering.{nat_cmp}
-use Rattle.exchange_check.specs.Kept.{Leaves, left_again}
-use Rattle.exchange_check.specs.Stays.{LastStays, branch_in, AreStays}
+use Rattle.exchange_check.specs.Inner.Kept.{Leaves, left_again}
+use Rattle.exchange_check.specs.Inner.Stays.{LastStays, branch_in, AreStays}
 use Rattle.exchange_check.proofs.Cutting.{IsCutting}
 use Rattle.exchange_check.proofs.Links.{links}
 use Rattle.exchange_check.proofs.stays.Stays.cut.Given as goal

@@ -4,7 +4,7 @@ use Rattle.std.specs.Prelude.{is_some}
 use Rattle.std.specs.BTreeMap.{get}
 use Rattle.std.specs.Ordering.{nat_cmp}
 use Rattle.exchange_check.specs.declared.stays.Branch.{Branch}
-use Rattle.exchange_check.specs.Stays.{Branches, Firsts, with_stay, is_once, AreBranches, branch_in}
+use Rattle.exchange_check.specs.Inner.Stays.{Branches, Firsts, with_stay, is_once, AreBranches, branch_in}
 use Rattle.exchange_check.proofs.Branches.{less-apart, with_branch-here, with_branch-there, grown, marked}
 use Rattle.exchange_check.proofs.stays.Stays.grow.Goals as goal
 

@@ -2,9 +2,9 @@ use Rattle.std.proofs.Common.{◌≡◌, ◌∙◌, ℕ, ◌+◌, true, false, O
 use Rattle.std.specs.Prelude.{option_map, is_some}
 use Rattle.std.specs.BTreeMap.{get}
 use Rattle.std.specs.Ordering.{nat_cmp}
-use Rattle.exchange_check.specs.Kept.{Leaves, left_again}
-use Rattle.exchange_check.specs.Stays.{is_once, Branches, Firsts, LastStays, AreBranches}
-use Rattle.exchange_check.specs.Stays.{AreStays, with_first, with_stay, branch_in}
+use Rattle.exchange_check.specs.Inner.Kept.{Leaves, left_again}
+use Rattle.exchange_check.specs.Inner.Stays.{is_once, Branches, Firsts, LastStays, AreBranches}
+use Rattle.exchange_check.specs.Inner.Stays.{AreStays, with_first, with_stay, branch_in}
 use Rattle.exchange_check.proofs.Branches.{same_branches, one_more, with_none, unused, first_named}
 use Rattle.exchange_check.proofs.Branches.{named_here, named_alone, ended_once, left_again_of}
 use Rattle.exchange_check.proofs.Branches.{with_branch-here, with_branch-there}

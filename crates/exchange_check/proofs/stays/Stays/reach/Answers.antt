@@ -1,5 +1,5 @@
 use Rattle.std.proofs.Common.{◌≡◌, ◌∙◌, ◌∷◌, [], ◌++◌, ap, rules}
-use Rattle.exchange_check.specs.Stays.{root, branch_in}
+use Rattle.exchange_check.specs.Inner.Stays.{root, branch_in}
 use Rattle.exchange_check.proofs.Links.{push_root}
 use Rattle.exchange_check.proofs.stays.Stays.reach.Goals as goal
 

@@ -1,5 +1,5 @@
 use Rattle.std.proofs.Common.{◌≡◌, ◌+◌, ◌-◌, length}
-use Rattle.exchange_check.specs.Stays.{branch_in}
+use Rattle.exchange_check.specs.Inner.Stays.{branch_in}
 use Rattle.exchange_check.proofs.stays.Stays.reach.Given as goal
 
 abbrev pub invariant-loop-self : goal.invariant-loop-self

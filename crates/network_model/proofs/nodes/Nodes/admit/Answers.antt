@@ -1,6 +1,6 @@
 use Rattle.std.proofs.Common.{◌≡◌, false, rules}
 use Rattle.network_model.specs.Clash.{has_name}
-use Rattle.network_model.specs.Index.{IsIndex}
+use Rattle.network_model.specs.Inner.Index.{IsIndex}
 use Rattle.network_model.proofs.Networks.{values_of-admitted, identities-admitted, IsIndex-admitted}
 use Rattle.network_model.proofs.nodes.Nodes.admit.Goals as goal
 

@@ -1,5 +1,5 @@
 use Rattle.std.proofs.Common.{arith}
-use Rattle.pairing.specs.Ringed.{numbers_of}
+use Rattle.pairing.specs.Inner.Ringed.{numbers_of}
 use Rattle.pairing.proofs.Rings.{members-later}
 use Rattle.pairing.proofs.Links.{IsLinked-later}
 use Rattle.pairing.proofs.ring_table.RingTable.drop_oldest.Goals as goal

@@ -1,6 +1,6 @@
 use Rattle.std.proofs.Common.{◌∙◌, ◌≡◌, ◌≢◌, ◌<◌, ◌%◌, List, Option, Some, None, ℕ, sym, ap, subst, get_or, arith}
 use Rattle.std.proofs.lemmas.Bool.{eqb-true, eqb-false}
-use Rattle.pairing.specs.Ringed.{numbers_of, slot_of, place_of, LeadsBack}
+use Rattle.pairing.specs.Inner.Ringed.{numbers_of, slot_of, place_of, LeadsBack}
 use Rattle.pairing.proofs.Walks.{passed-between, passed-here, passed-all, position-found, position-none}
 use Rattle.pairing.proofs.ring_table.RingTable.newest_of.Goals as goal
 use Rattle.pairing.proofs.ring_table.RingTable.newest_of.Goals.{then-place-newer-via-then-place-newer, then-place-newer-via-else-place-newer+then-from-bucket}

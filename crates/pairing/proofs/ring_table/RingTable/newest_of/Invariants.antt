@@ -1,5 +1,5 @@
 use Rattle.std.proofs.Common.{◌≤◌, ◌<◌, ◌%◌}
-use Rattle.pairing.specs.Ringed.{slot_of, LeadsBack, numbers_of}
+use Rattle.pairing.specs.Inner.Ringed.{slot_of, LeadsBack, numbers_of}
 use Rattle.pairing.proofs.Walks.{Passed}
 use Rattle.pairing.proofs.ring_table.RingTable.newest_of.Given as goal
 

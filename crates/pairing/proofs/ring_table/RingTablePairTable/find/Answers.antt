@@ -1,6 +1,6 @@
 use Rattle.std.proofs.Common.{◌∙◌, List, ap, option_copied, arith, length, Some, get_or}
 use Rattle.ptp_units.specs.declared.sequence.Seq.{Seq}
-use Rattle.pairing.specs.Ringed.{members}
+use Rattle.pairing.specs.Inner.Ringed.{members}
 use Rattle.pairing.proofs.Found.{find-absent, find-found}
 use Rattle.pairing.proofs.ring_table.RingTablePairTable.find.Goals as goal
 

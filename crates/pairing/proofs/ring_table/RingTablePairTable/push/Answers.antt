@@ -1,5 +1,5 @@
 use Rattle.std.proofs.Common.{◌∙◌, arith}
-use Rattle.pairing.specs.Ringed.{members}
+use Rattle.pairing.specs.Inner.Ringed.{members}
 use Rattle.pairing.proofs.Pairs.{pushed, pushed_full}
 use Rattle.pairing.proofs.Rings.{length-members}
 use Rattle.pairing.proofs.ring_table.RingTablePairTable.push.Goals as goal

@@ -1,6 +1,6 @@
 use Rattle.std.proofs.Common.{◌∙◌, sym, ap, refl, is_some, length}
 use Rattle.std.proofs.lemmas.List.{length-set}
-use Rattle.pairing.specs.Ringed.{members}
+use Rattle.pairing.specs.Inner.Ringed.{members}
 use Rattle.pairing.proofs.Pairs.{none_replaced}
 use Rattle.pairing.proofs.Links.{IsLinked-set}
 use Rattle.pairing.proofs.Found.{find-absent, find-found, set-found}

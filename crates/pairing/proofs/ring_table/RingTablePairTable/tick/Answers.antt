@@ -1,5 +1,5 @@
 use Rattle.std.proofs.Common.{sym}
-use Rattle.pairing.specs.Ringed.{members}
+use Rattle.pairing.specs.Inner.Ringed.{members}
 use Rattle.pairing.proofs.Pairs.{ticked}
 use Rattle.pairing.proofs.Rings.{length-members}
 use Rattle.pairing.proofs.ring_table.RingTablePairTable.tick.Goals as goal

@@ -1,7 +1,7 @@
 use Rattle.std.proofs.Common.{[], refl}
 use Rattle.std.proofs.KnownBytes.{Appends-nil}
 use Rattle.schedule_lines.specs.declared.reading.transcript.TranscriptLine.TheVariants as recorded
-use Rattle.schedule_replay.specs.Progress.{recorded_of}
+use Rattle.schedule_replay.specs.Inner.Progress.{recorded_of}
 use Rattle.schedule_replay.proofs.checking.CheckingLineTask.take.Goals as goal
 
 pub returns-in_ok-progress-in-Node-clause-taken : goal.returns-in_ok-progress-in-Node-clause-taken

@@ -2,7 +2,7 @@ use Rattle.std.proofs.Common.{◌∙◌, [], refl}
 use Rattle.std.proofs.KnownBytes.{Appends-nil}
 use Rattle.std.proofs.lemmas.Result.{err_from_is_err_and}
 use Rattle.schedule_lines.specs.declared.reading.schedule.Line.TheVariants as entries
-use Rattle.schedule_replay.specs.Stage.{state_of}
+use Rattle.schedule_replay.specs.Inner.Stage.{state_of}
 use Rattle.schedule_replay.proofs.StageLines.{unread_entry, untaken_node, stopped_event, event_taken}
 use Rattle.schedule_replay.proofs.replaying.ReplayingLineTask.take.Goals as goal
 

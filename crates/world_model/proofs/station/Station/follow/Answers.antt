@@ -1,6 +1,6 @@
 use Rattle.std.proofs.Common.{refl}
 use Rattle.network_model.specs.declared.event.Event.TheVariants.{Follow}
-use Rattle.world_model.specs.Acts.{Nothing}
+use Rattle.world_model.specs.Inner.Acts.{Nothing}
 use Rattle.world_model.proofs.Lifting.{lift-master}
 use Rattle.world_model.proofs.station.Station.follow.Goals as goal
 

@@ -1,7 +1,7 @@
 use Rattle.std.proofs.Common.{◌∙◌, pos, ◌+ℤ◌, ok_or, ap, sym}
 use Rattle.ptp_units.specs.Moment.{moment_of}
 use Rattle.network_model.specs.declared.refusal.WorldRefusal.TheVariants.{ReadingOutOfRange}
-use Rattle.world_model.specs.Stands.{listed}
+use Rattle.world_model.specs.Inner.Stands.{listed}
 use Rattle.world_model.proofs.Leaves.{leaving, never_lost}
 use Rattle.world_model.proofs.station.Station.leave.Goals as goal
 

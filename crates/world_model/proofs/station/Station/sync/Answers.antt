@@ -2,7 +2,7 @@ use Rattle.std.proofs.Common.{◌∙◌, pos, ◌+ℤ◌, ok_or, ap, refl}
 use Rattle.ptp_units.specs.Moment.{moment_of}
 use Rattle.network_model.specs.declared.event.Event.TheVariants.{Sync}
 use Rattle.network_model.specs.declared.refusal.WorldRefusal.TheVariants.{ReadingOutOfRange}
-use Rattle.world_model.specs.Acts.{Reads}
+use Rattle.world_model.specs.Inner.Acts.{Reads}
 use Rattle.world_model.proofs.Lifting.{lift-master}
 use Rattle.world_model.proofs.station.Station.sync.Goals as goal
 

@@ -4,7 +4,7 @@ use Rattle.std.specs.Prelude.{IfOk}
 use Rattle.network_model.specs.Premises.{IsAcceptedRun, IsWithinOneTurn, exact_limits}
 use Rattle.world_model.specs.State.{State}
 use Rattle.world_model.specs.Exact.{IsTimely, IsExactAnswer}
-use Rattle.world_model.specs.Stands.{run_of}
+use Rattle.world_model.specs.Inner.Stands.{run_of}
 use Rattle.world_model.proofs.RunLaws.{step_exact, step_exact-one_turn, runs_keep_laws}
 use Rattle.world_model.proofs.world.World.step.Goals as goal
 

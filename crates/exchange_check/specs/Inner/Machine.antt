@@ -11,11 +11,11 @@ use Rattle.trace_model.specs.declared.line.TraceOut.{TraceOut}
 use Rattle.trace_model.specs.declared.verdict.Verdict.{Verdict}
 use Rattle.trace_model.specs.declared.verdict.Verdict.TheVariants.{Accepted, Refused}
 use Rattle.trace_model.specs.Line.{Lines}
-use Rattle.trace_model.specs.Verdict.{report_in, one_more, accepted_count}
-use Rattle.exchange_check.specs.Kept.{Facts, Sites, Leaves, Stamps, new_site, fact_in, site_in}
-use Rattle.exchange_check.specs.Kept.{fact_by, sites_after, leaves_after, stamps_after}
-use Rattle.exchange_check.specs.Stays.{Once, last_stays, once_of, AreStays}
-use Rattle.exchange_check.specs.Judged.{reason_by}
+use Rattle.trace_model.specs.Verdict.{report_in, one_more}
+use Rattle.exchange_check.specs.Inner.Kept.{Facts, Sites, Leaves, Stamps, new_site, fact_in, site_in}
+use Rattle.exchange_check.specs.Inner.Kept.{fact_by, sites_after, leaves_after, stamps_after}
+use Rattle.exchange_check.specs.Inner.Stays.{Once, last_stays, once_of, AreStays}
+use Rattle.exchange_check.specs.Inner.Judged.{reason_by}
 
 -- what is kept
 pub record Machine : Type 0 where
@@ -91,6 +91,11 @@ sites_of kept = site_in kept.sites
 -- what is kept of requests
 abbrev pub stamps_of : Kept → Stamps
 stamps_of kept = get nat_cmp kept.stamps
+
+-- how many report lines are accepted
+abbrev pub accepted_count : Verdict → ℕ
+accepted_count (Accepted count) = count
+accepted_count (Refused number why) = 0
 
 -- what is kept is this, after so many lines
 pub record IsKept (kept : Kept) (count : ℕ) (m : Machine) : Type 0 where

@@ -21,8 +21,8 @@ use Rattle.trace_model.specs.declared.verdict.Why.{Why}
 use Rattle.trace_model.specs.declared.verdict.Why.TheVariants.{NoSuchLine, OtherNumber, OtherMaster, BrokenJourney}
 use Rattle.trace_model.specs.declared.verdict.Why.TheVariants.{WrongReading, WrongValue, TooBig, Bytes}
 use Rattle.trace_model.specs.Sound.{where_passes, below, are_later, is_domain, is_of_line}
-use Rattle.exchange_check.specs.Kept.{Facts, Stamps, Sites, travel_at, longest}
-use Rattle.exchange_check.specs.Stays.{Once}
+use Rattle.exchange_check.specs.Inner.Kept.{Facts, Stamps, Sites, travel_at, longest}
+use Rattle.exchange_check.specs.Inner.Stays.{Once}
 
 -- an event of a wanted kind, where it is at this node
 abbrev pub is_here : Bool → Event → NodeName → Bool

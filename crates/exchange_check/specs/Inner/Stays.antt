@@ -11,7 +11,7 @@ use Rattle.exchange_check.specs.declared.facts.Fact.{Fact}
 use Rattle.exchange_check.specs.declared.refusal.CheckFault.{CheckFault}
 use Rattle.exchange_check.specs.declared.stays.Branch.{Branch}
 use Rattle.exchange_check.specs.declared.stays.Stays.{Stays}
-use Rattle.exchange_check.specs.Kept.{Facts, Leaves}
+use Rattle.exchange_check.specs.Inner.Kept.{Facts, Leaves}
 
 -- the last stay of each copy whose journey is known: the number of its Enter line, and the copy that entered there
 abbrev pub LastStays : Type 0

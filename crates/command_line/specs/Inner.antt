@@ -1,0 +1,2 @@
+-- What the functions inside this crate promise one another. No contract of a public call rests on it, so nobody has to believe it.
+pub mod Clap

@@ -1,0 +1,6 @@
+-- What the functions inside this crate promise one another. No contract of a public call rests on it, so nobody has to believe it.
+pub mod Judged
+pub mod Kept
+pub mod Machine
+pub mod Stays
+pub mod History

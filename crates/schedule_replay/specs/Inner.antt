@@ -1,0 +1,5 @@
+-- What the functions inside this crate promise one another. No contract of a public call rests on it, so nobody has to believe it.
+pub mod Progress
+pub mod Stage
+pub mod WriterFault
+pub mod Entries
