@@ -7,8 +7,8 @@ use Rattle.network_model.specs.Network.{Network, NodeName}
 use Rattle.network_model.specs.Kinds.{is_at, is_follow, heard_copy, is_arrival, is_hearing}
 use Rattle.exchange_check.specs.declared.facts.Fact.{Fact}
 use Rattle.exchange_check.specs.declared.facts.Found.{Found}
-use Rattle.exchange_check.specs.declared.facts.Travel.{Travel}
-use Rattle.exchange_check.specs.declared.facts.Way.{Way}
+use Rattle.exchange_check.specs.declared.facts.KeptJourney.{KeptJourney}
+use Rattle.exchange_check.specs.declared.facts.FoundJourney.{FoundJourney}
 use Rattle.trace_model.specs.Line.{Lines, completes}
 use Rattle.trace_model.specs.Record.{LinePlace, line_number, event_of, line_at}
 use Rattle.trace_model.specs.Journey.{Journey, journey_of}
@@ -16,8 +16,8 @@ use Rattle.trace_model.specs.Sound.{where_passes, below, Exchange, line_of, send
 use Rattle.trace_model.specs.Sound.{follow_line, follow_lines, arrival_line}
 use Rattle.exchange_check.specs.Inner.Kept.{Facts}
 use Rattle.exchange_check.specs.Inner.Judged.{line_of_by, sender_by, sync_by, follow_by, follows_by}
-use Rattle.exchange_check.specs.Inner.Judged.{completion_by, arrival_by, way_at}
-use Rattle.exchange_check.proofs.Told.{travel_of, fact_of, facts_at, travel_at-is}
+use Rattle.exchange_check.specs.Inner.Judged.{completion_by, arrival_by, found_journey_at}
+use Rattle.exchange_check.proofs.Told.{kept_journey_of, fact_of, facts_at, kept_journey_at-is}
 use Rattle.exchange_check.proofs.Messages.{origin_in}
 
 module _ (network : Network) where
@@ -29,8 +29,8 @@ module _ (network : Network) where
     arrival = fact_of network x.arrival;
   }
 
-  abbrev pub way_of : Journey → Way
-  way_of j = record { travel = travel_of network j; origin = fact_of network j.origin }
+  abbrev pub found_journey_of : Journey → FoundJourney
+  found_journey_of j = record { journey = kept_journey_of network j; origin = fact_of network j.origin }
 
   -- a test of what is kept that is the same test of the line
   if_passes : (b : Bool) (e : LinePlace)
@@ -144,19 +144,19 @@ module _ (network : Network) where
     if_found true o = refl
     if_found false o = refl
 
-    way_of_origin : (o : Option Journey)
+    found_journey_of_origin : (o : Option Journey)
         → ((j : Journey) → o ≡ Some j → line_at network lines (line_number j.origin) ≡ Some j.origin)
-        → option_and_then (λ travel. option_map (λ origin. record { travel = travel; origin = origin })
-        (facts travel.origin)) (option_map (travel_of network) o) ≡ option_map way_of o
-    way_of_origin None known = refl
-    way_of_origin (Some j) known =
+        → option_and_then (λ kept_journey. option_map (λ origin. record { journey = kept_journey; origin = origin })
+        (facts kept_journey.origin)) (option_map (kept_journey_of network) o) ≡ option_map found_journey_of o
+    found_journey_of_origin None known = refl
+    found_journey_of_origin (Some j) known =
         ap (λ (o : Option LinePlace). option_map
-        (λ (origin : Fact). let w : Way = record { travel = travel_of network j; origin = origin } in w)
+        (λ (origin : Fact). let w : FoundJourney = record { journey = kept_journey_of network j; origin = origin } in w)
         (option_map (fact_of network) o)) (known j refl)
 
-    pub way_is : (n : ℕ) → way_at facts n ≡ option_map way_of (journey_of network lines n)
-    way_is n =
-        ap (λ (o : Option Travel). option_and_then
-        (λ travel. option_map (λ origin. record { travel = travel; origin = origin }) (facts travel.origin)) o)
-        (travel_at-is network lines n)
-        ∙ way_of_origin (journey_of network lines n) (origin_in network lines n)
+    pub found_journey_is : (n : ℕ) → found_journey_at facts n ≡ option_map found_journey_of (journey_of network lines n)
+    found_journey_is n =
+        ap (λ (o : Option KeptJourney). option_and_then
+        (λ kept_journey. option_map (λ origin. record { journey = kept_journey; origin = origin }) (facts kept_journey.origin)) o)
+        (kept_journey_at-is network lines n)
+        ∙ found_journey_of_origin (journey_of network lines n) (origin_in network lines n)

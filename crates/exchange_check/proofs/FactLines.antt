@@ -13,25 +13,25 @@ use Rattle.network_model.specs.Network.{Network, NodeName, PortSetup}
 use Rattle.network_model.specs.Kinds.{is_sync}
 use Rattle.network_model.specs.Truth.{master_at}
 use Rattle.exchange_check.specs.declared.facts.Fact.{Fact}
-use Rattle.exchange_check.specs.declared.facts.Travel.{Travel}
+use Rattle.exchange_check.specs.declared.facts.KeptJourney.{KeptJourney}
 use Rattle.trace_model.specs.declared.line.TraceLine.{TraceLine}
 use Rattle.trace_model.specs.Line.{Lines, counts}
 use Rattle.trace_model.specs.Record.{LinePlace, line_place, line_number, event_of}
 use Rattle.trace_model.specs.Record.{line_at, last_line, reading, sequence}
 use Rattle.trace_model.specs.Journey.{Journey, residence, with_stay, copy_entered, left_from, journey_made, journey_of}
-use Rattle.trace_model.specs.Octets.{drawing_port, sent, travelled, followed, answered}
+use Rattle.trace_model.specs.Octets.{drawing_port, sent, message_after, followed, answered}
 use Rattle.trace_model.specs.Octets.{message_made, writes_right, is_written}
-use Rattle.exchange_check.specs.Inner.Kept.{Facts, travel_at, travel_by, sent_by, travelled_by, followed_by, answered_by}
-use Rattle.exchange_check.specs.Inner.Kept.{message_by, fact_known, fact_made, written_travel, fact_by}
+use Rattle.exchange_check.specs.Inner.Kept.{Facts, kept_journey_at, kept_journey_by, sent_by, message_after_by, followed_by, answered_by}
+use Rattle.exchange_check.specs.Inner.Kept.{message_by, fact_known, fact_made, written_journey, fact_by}
 use Rattle.exchange_check.proofs.Noted.{site_at}
-use Rattle.exchange_check.proofs.Told.{travel_of, fact_of, facts_at, known_of, number_drawn}
-use Rattle.exchange_check.proofs.Told.{travel_at-is, travel_is, known_is}
+use Rattle.exchange_check.proofs.Told.{kept_journey_of, fact_of, facts_at, known_of, number_drawn}
+use Rattle.exchange_check.proofs.Told.{kept_journey_at-is, kept_journey_is, known_is}
 use Rattle.std.proofs.lemmas.Slice.Eq.{bytes_eq-Decides}
 use Rattle.network_model.specs.Kinds.{is_at}
 use Rattle.network_model.specs.Run.{site_of}
 use Rattle.exchange_check.specs.Inner.Machine.{with_fact}
 use Rattle.trace_model.proofs.Lines.{last_is}
-use Rattle.exchange_check.proofs.Messages.{origin_in, sent_is, travelled_is, min_min}
+use Rattle.exchange_check.proofs.Messages.{origin_in, sent_is, message_after_is, min_min}
 
 -- the port of a master sent its Syncs
 sync_port : (network : Network) (event : Event) (node : NodeName) (port : PortSetup) → is_at is_sync node event ≡ true
@@ -76,34 +76,34 @@ module _ (network : Network) (e : LinePlace) where
 
   message_of : (o : Option Journey)
       → ((j : Journey) → o ≡ Some j → line_at network e.earlier (line_number j.origin) ≡ Some j.origin)
-      → option_and_then (travelled_by network facts) (option_map (travel_of network) o)
-      ≡ option_and_then (travelled network) o
+      → option_and_then (message_after_by network facts) (option_map (kept_journey_of network) o)
+      ≡ option_and_then (message_after network) o
   message_of None known = refl
   message_of (Some j) known =
-      travelled_is network e.earlier j (travel_of network j) (known j refl) refl (min_min (residence j))
+      message_after_is network e.earlier j (kept_journey_of network j) (known j refl) refl (min_min (residence j))
 
   answer_of : (g : Contents → Contents) (o : Option Journey)
-      → option_map g (option_and_then (travelled network) o)
-      ≡ option_and_then (λ j. option_map g (travelled network j)) o
+      → option_map g (option_and_then (message_after network) o)
+      ≡ option_and_then (λ j. option_map g (message_after network j)) o
   answer_of g None = refl
   answer_of g (Some j) = refl
 
   answer_at : (copy : ℕ) (o : Option PortSetup)
-      → option_and_then (λ port. answered_by network facts port (reading e) (travel_at facts copy)) o
+      → option_and_then (λ port. answered_by network facts port (reading e) (kept_journey_at facts copy)) o
       ≡ option_and_then (λ port. option_and_then (answered network port e) (journey_of network e.earlier copy)) o
   answer_at copy None = refl
   answer_at copy (Some port) =
-      ap (λ (t : Option Travel). option_map
+      ap (λ (t : Option KeptJourney). option_map
       (λ (request : Contents). delay_resp port.config request.header (reading e))
-      (option_and_then (travelled_by network facts) t)) (travel_at-is network e.earlier copy)
+      (option_and_then (message_after_by network facts) t)) (kept_journey_at-is network e.earlier copy)
       ∙ ap (λ (m : Option Contents). option_map
       (λ (request : Contents). delay_resp port.config request.header (reading e)) m)
       (message_of (journey_of network e.earlier copy) (origin_in network e.earlier copy))
       ∙ answer_of (λ request. delay_resp port.config request.header (reading e)) (journey_of network e.earlier copy)
 
-  unwritten : (writes : Bool) (t : Option Travel)
-      → option_and_then (travelled_by network facts) (option_map (written_travel writes) t)
-      ≡ option_and_then (travelled_by network facts) t
+  unwritten : (writes : Bool) (t : Option KeptJourney)
+      → option_and_then (message_after_by network facts) (option_map (written_journey writes) t)
+      ≡ option_and_then (message_after_by network facts) t
   unwritten writes None = refl
   unwritten writes (Some t) = refl
 
@@ -129,13 +129,13 @@ module _ (network : Network) (e : LinePlace) where
   left_there node (Some entered) j h = copy_there entered (copy_entered node entered) j h
 
   left_message : (node : NodeName) (transit at : ℕ)
-      → option_and_then (travelled_by network facts) (travel_by facts (known_of network e) (Leave node transit at))
-      ≡ option_and_then (travelled network)
+      → option_and_then (message_after_by network facts) (kept_journey_by facts (known_of network e) (Leave node transit at))
+      ≡ option_and_then (message_after network)
       (journey_made network (Leave node transit at) e (journey_of network e.earlier))
   left_message node transit at =
-      sym (unwritten (writes_right network e) (travel_by facts (known_of network e) (Leave node transit at)))
-      ∙ ap (λ (t : Option Travel). option_and_then (travelled_by network facts) t)
-      (travel_is network e (Leave node transit at))
+      sym (unwritten (writes_right network e) (kept_journey_by facts (known_of network e) (Leave node transit at)))
+      ∙ ap (λ (t : Option KeptJourney). option_and_then (message_after_by network facts) t)
+      (kept_journey_is network e (Leave node transit at))
       ∙ message_of (journey_made network (Leave node transit at) e (journey_of network e.earlier))
       (left_there node (line_at network e.earlier transit))
 
@@ -146,7 +146,7 @@ module _ (network : Network) (e : LinePlace) where
 
   -- the message that is to be written of a line
   pub message_is : (event : Event) → event ≡ event_of e
-      → message_by network facts (known_of network e) (travel_by facts (known_of network e) event) event
+      → message_by network facts (known_of network e) (kept_journey_by facts (known_of network e) event) event
       ≡ message_made network event e
   message_is (Sync node at) same = sent_at (Sync node at) same
   message_is (SyncOne node at) same = sent_at (SyncOne node at) same
@@ -167,12 +167,12 @@ module _ (network : Network) (e : LinePlace) where
 
   -- what is kept of a line
   pub fact_is : fact_known network facts e.line (known_of network e)
-      (travel_by facts (known_of network e) (event_of e)) ≡ fact_of network e
+      (kept_journey_by facts (known_of network e) (event_of e)) ≡ fact_of network e
   fact_is =
       let writes : is_written (message_by network facts (known_of network e)
-      (travel_by facts (known_of network e) (event_of e)) (event_of e)) e.line.out ≡ writes_right network e =
+      (kept_journey_by facts (known_of network e) (event_of e)) (event_of e)) e.line.out ≡ writes_right network e =
       ap (λ (m : Option Contents). is_written m e.line.out) (message_is (event_of e) refl) in
-      (λ i. fact_made e.line (known_of network e) (writes i) (travel_by facts (known_of network e) (event_of e)))
+      (λ i. fact_made e.line (known_of network e) (writes i) (kept_journey_by facts (known_of network e) (event_of e)))
       ∙ (λ i. record {
         line = line_number e;
         event = event_of e;
@@ -183,7 +183,7 @@ module _ (network : Network) (e : LinePlace) where
         reads_right = (fact_of network e).reads_right;
         writes_right = writes_right network e;
         last_sync = (fact_of network e).last_sync;
-        travel = travel_is network e (event_of e) i;
+        journey = kept_journey_is network e (event_of e) i;
       })
 
 -- what is kept of a line, where it tells of something done
@@ -193,7 +193,7 @@ pub fact_by-is : (network : Network) (line : TraceLine) (earlier : Lines)
 fact_by-is network line earlier =
     (λ i. cond (counts network line)
     (Some (fact_known network (facts_at network earlier) line (known_is network line earlier i)
-    (travel_by (facts_at network earlier) (known_is network line earlier i) line.event))) None)
+    (kept_journey_by (facts_at network earlier) (known_is network line earlier i) line.event))) None)
     ∙ (λ i. cond (counts network line) (Some (fact_is network (line_place line earlier) i)) None)
 
 either_fact : (network : Network) (line : TraceLine) (earlier : Lines) (n : ℕ) (here counted : Bool)

@@ -22,7 +22,7 @@ use Rattle.exchange_check.specs.Inner.Kept.{Facts, Leaves, leaves_after, left_ag
 use Rattle.exchange_check.specs.Inner.Stays.{stay_below, stay_of, last_stays, is_once, once_by}
 use Rattle.exchange_check.proofs.Noted.{leaves_at, count_more}
 use Rattle.exchange_check.proofs.Passing.{none_made}
-use Rattle.exchange_check.proofs.Told.{fact_of, travel_of}
+use Rattle.exchange_check.proofs.Told.{fact_of, kept_journey_of}
 use Rattle.trace_model.specs.Sound.{where_passes}
 use Rattle.trace_model.proofs.Lines.{line_at-bound, line_at-number, line_at-later, line_at-here, events_more}
 
@@ -98,12 +98,12 @@ module _ (network : Network) (facts : Facts) (leaves : Leaves) (run : Run)
   below_found : (copy transit : ℕ) → transit < copy → nat_lt transit copy ≡ true
   below_found copy transit h = grind (arith, nat_tests)
 
-  stay_found : (copy transit c : ℕ) (fact en : Fact) → facts copy ≡ Some fact → is_some fact.travel ≡ true
+  stay_found : (copy transit c : ℕ) (fact en : Fact) → facts copy ≡ Some fact → is_some fact.journey ≡ true
       → spent_transit fact.event ≡ Some transit → transit < copy → facts transit ≡ Some en
       → entered_copy en.event ≡ Some c → c < copy → last_stays facts copy ≡ Some (transit, c)
-  stay_found copy transit c fact en a travels b in_transit d f in_copy =
+  stay_found copy transit c fact en a has_journey b in_transit d f in_copy =
       ap (λ (o : Option Fact). option_and_then (stay_of facts copy) o) a
-      ∙ (λ i. cond (travels i) (option_and_then (stay_below facts copy) (b i)) None)
+      ∙ (λ i. cond (has_journey i) (option_and_then (stay_below facts copy) (b i)) None)
       ∙ (λ i. option_and_then (λ (x : Fact). option_map (λ k. (transit, k))
       (where_passes (λ k. nat_lt k copy) (entered_copy x.event)))
       (cond (below_found copy transit in_transit i) (d i) None))
@@ -145,50 +145,50 @@ module _ (network : Network) (facts : Facts) (leaves : Leaves) (run : Run)
         subst P (same_Some _ _ h) (follow_none (length earlier)
         (no_stay (length earlier) (fact_of network (line_place line earlier)) at_line none))
 
-    abbrev Travels : Type 0
-    Travels = is_some (fact_of network (line_place line earlier)).travel ≡ true
+    abbrev HasJourney : Type 0
+    HasJourney = is_some (fact_of network (line_place line earlier)).journey ≡ true
 
-    travels_with : (event : Event) (j : Journey) → event ≡ line.event
-        → journey_made network event (line_place line earlier) (journey_of network earlier) ≡ Some j → Travels
-    travels_with event j same h =
-        ap (λ (o : Option Journey). is_some (option_map (travel_of network) o))
+    has_journey_with : (event : Event) (j : Journey) → event ≡ line.event
+        → journey_made network event (line_place line earlier) (journey_of network earlier) ≡ Some j → HasJourney
+    has_journey_with event j same h =
+        ap (λ (o : Option Journey). is_some (option_map (kept_journey_of network) o))
         (sym (ap (λ (x : Event). journey_made network x (line_place line earlier) (journey_of network earlier))
         same) ∙ h)
 
-    stay_followed : Travels → (transit : ℕ) (entered : LinePlace) (c : ℕ) (o : Option Journey) (j : Journey)
+    stay_followed : HasJourney → (transit : ℕ) (entered : LinePlace) (c : ℕ) (o : Option Journey) (j : Journey)
         → spent_transit line.event ≡ Some transit → line_at network earlier transit ≡ Some entered
         → (entered_copy (event_of entered) ≡ Some c) × (c < line_number entered) → journey_of network earlier c ≡ o
         → option_map (with_stay (line_place line earlier) entered) o ≡ Some j → IsFollowed (length earlier) j
-    stay_followed travels transit entered c None j spent there copied journey h = grind arith
-    stay_followed travels transit entered c (Some k) j spent there copied journey h =
+    stay_followed has_journey transit entered c None j spent there copied journey h = grind arith
+    stay_followed has_journey transit entered c (Some k) j spent there copied journey h =
         let number : line_number entered ≡ transit = line_at-number network earlier transit entered there in
         let inside : transit < length earlier = line_at-bound network earlier transit entered there in
         let below : c < length earlier = omega (arith, copied.1) in
         let found = stay_found (length earlier) transit c (fact_of network (line_place line earlier))
-        (fact_of network entered) at_line travels spent inside
+        (fact_of network entered) at_line has_journey spent inside
         (keeps transit entered (line_at-later network line earlier transit entered there)) copied.0 below in
         let P : Journey → Type 0 = λ x. IsFollowed (length earlier) x in
         subst P (same_Some _ _ h) (λ count within. follow_one (length earlier) transit c (left_once run k) found below
         (before c k journey) count within
         ∙ (λ i. eqb (count_by (spends (sym number i)) run) 1 && left_once run k))
 
-    copy_followed : Travels → (node : NodeName) (transit : ℕ) (entered : LinePlace) (o : Option ℕ) (j : Journey)
+    copy_followed : HasJourney → (node : NodeName) (transit : ℕ) (entered : LinePlace) (o : Option ℕ) (j : Journey)
         → spent_transit line.event ≡ Some transit → line_at network earlier transit ≡ Some entered
         → copy_entered node entered ≡ o
         → option_and_then (λ copy. option_map (with_stay (line_place line earlier) entered)
         (journey_of network earlier copy)) o ≡ Some j → IsFollowed (length earlier) j
-    copy_followed travels node transit entered None j spent there copied h = grind arith
-    copy_followed travels node transit entered (Some c) j spent there copied h =
-        stay_followed travels transit entered c (journey_of network earlier c) j spent there
+    copy_followed has_journey node transit entered None j spent there copied h = grind arith
+    copy_followed has_journey node transit entered (Some c) j spent there copied h =
+        stay_followed has_journey transit entered c (journey_of network earlier c) j spent there
         (entered_is node entered (entered_copy (event_of entered)) c refl copied) refl h
 
-    left_followed : Travels → (node : NodeName) (transit : ℕ) (o : Option LinePlace) (j : Journey)
+    left_followed : HasJourney → (node : NodeName) (transit : ℕ) (o : Option LinePlace) (j : Journey)
         → spent_transit line.event ≡ Some transit → line_at network earlier transit ≡ o
         → option_and_then (left_from node (line_place line earlier) (journey_of network earlier)) o ≡ Some j
         → IsFollowed (length earlier) j
-    left_followed travels node transit None j spent there h = grind arith
-    left_followed travels node transit (Some entered) j spent there h =
-        copy_followed travels node transit entered (copy_entered node entered) j spent there refl h
+    left_followed has_journey node transit None j spent there h = grind arith
+    left_followed has_journey node transit (Some entered) j spent there h =
+        copy_followed has_journey node transit entered (copy_entered node entered) j spent there refl h
 
     nothing_followed : (j : Journey) → None ≡ Some j → IsFollowed (length earlier) j
     nothing_followed j h = absurd (none-some j h)
@@ -201,7 +201,7 @@ module _ (network : Network) (facts : Facts) (leaves : Leaves) (run : Run)
     made_followed (Follow node) j same h = nothing_followed j h
     made_followed (Enter node copy at) j same h = nothing_followed j h
     made_followed (Leave node transit at) j same h =
-        left_followed (travels_with (Leave node transit at) j same h) node transit (line_at network earlier transit) j
+        left_followed (has_journey_with (Leave node transit at) j same h) node transit (line_at network earlier transit) j
         (sym (ap spent_transit same)) refl h
     made_followed (Arrive node copy at) j same h = nothing_followed j h
     made_followed (Hear node copy) j same h = nothing_followed j h

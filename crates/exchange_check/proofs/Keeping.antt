@@ -17,7 +17,7 @@ use Rattle.trace_model.specs.Verdict.{one_more, report_in}
 use Rattle.exchange_check.specs.Inner.Kept.{Facts, Sites, Leaves, Stamps, fact_in, fact_by}
 use Rattle.exchange_check.specs.declared.stays.Stays.{Stays}
 use Rattle.exchange_check.specs.Inner.Stays.{LastStays, stay_below, stay_of, last_stays, with_stay, is_once}
-use Rattle.exchange_check.specs.Inner.Stays.{once_by, Once, once_of, branch_in, is_whole, AreStays, once_in}
+use Rattle.exchange_check.specs.Inner.Stays.{once_by, Once, once_of, state_in, is_whole, AreStays, once_in}
 use Rattle.exchange_check.specs.Inner.Judged.{reason_by}
 use Rattle.network_model.specs.Kinds.{entered_copy, spent_transit}
 use Rattle.trace_model.specs.Sound.{where_passes}
@@ -99,7 +99,7 @@ module _ (facts : Facts) (count : ℕ) (fact : Option Fact) (none : (n : ℕ) �
       by false e = refl
 
   same_stay : (n : ℕ) (x : Fact) → n < count → stay_of now n x ≡ stay_of facts n x
-  same_stay n x h = λ i. cond (is_some x.travel)
+  same_stay n x h = λ i. cond (is_some x.journey)
       (option_and_then (λ transit. same_below n transit h i) (spent_transit x.event)) None
 
   same_stays : (n : ℕ) (o : Option Fact) → n < count
@@ -136,7 +136,7 @@ once_kept kept stays leaves number h = λ i copy. at copy i
       where
         stay : (o : Option (ℕ × ℕ)) → stays copy ≡ o
             → ((c : ℕ) → c < copy → once_in kept c ≡ once_by stays leaves count c)
-            → is_whole (branch_in kept.branches.items) leaves o
+            → is_whole (state_in kept.states.items) leaves o
             ≡ option_map_or (λ s. is_once (leaves s.0) && once_by stays leaves count s.1) o true
         stay None e rest = refl
         stay (Some s) e rest = ap (λ (b : Bool). is_once (leaves s.0) && b)

@@ -1,5 +1,5 @@
 pub mod Stretches
-pub mod Branches
+pub mod CopyStates
 pub mod Cutting
 pub mod Links
 pub mod Passing

@@ -19,16 +19,16 @@ use Rattle.network_model.specs.declared.event.Event.TheVariants.{Sync, SyncOne, 
 use Rattle.network_model.specs.declared.event.Event.TheVariants.{Request, Stamped, Tick, SetMaster, StepClock}
 use Rattle.network_model.specs.Network.{Network, NodeName, PortSetup}
 use Rattle.exchange_check.specs.declared.facts.Fact.{Fact}
-use Rattle.exchange_check.specs.declared.facts.Travel.{Travel}
+use Rattle.exchange_check.specs.declared.facts.KeptJourney.{KeptJourney}
 use Rattle.trace_model.specs.declared.line.TraceLine.{TraceLine}
 use Rattle.trace_model.specs.Line.{Lines, counts}
 use Rattle.trace_model.specs.Record.{LinePlace, line_place, line_number, event_of, line_at, reading, sequence}
 use Rattle.trace_model.specs.Journey.{Journey, residence, begun, with_stay, copy_entered}
 use Rattle.trace_model.specs.Journey.{left_from, journey_made, journey_of}
 use Rattle.transparent_clock.specs.Forwarding.{resided}
-use Rattle.trace_model.specs.Octets.{drawing_port, message_sent, sent, travelled}
+use Rattle.trace_model.specs.Octets.{drawing_port, message_sent, sent, message_after}
 use Rattle.trace_model.proofs.Lines.{line_at-later, line_at-here}
-use Rattle.exchange_check.specs.Inner.Kept.{longest, sent_by, travelled_by}
+use Rattle.exchange_check.specs.Inner.Kept.{longest, sent_by, message_after_by}
 use Rattle.exchange_check.proofs.Told.{fact_of, facts_at, number_drawn}
 
 abbrev IsIn : Network → Lines → Journey → Type 0
@@ -150,16 +150,16 @@ pub min_min : (r : ℕ) → min (min r longest) longest ≡ min r longest
 min_min r = omega arith
 
 -- the message at the end of a journey, from what is kept of the journey
-pub travelled_is : (network : Network) (lines : Lines) (j : Journey) (travel : Travel)
+pub message_after_is : (network : Network) (lines : Lines) (j : Journey) (kept_journey : KeptJourney)
     → line_at network lines (line_number j.origin) ≡ Some j.origin
-    → travel.origin ≡ line_number j.origin → min travel.residence longest ≡ min (residence j) longest
-    → travelled_by network (facts_at network lines) travel ≡ travelled network j
-travelled_is network lines j travel there same time =
-    let at : facts_at network lines travel.origin ≡ Some (fact_of network j.origin) =
+    → kept_journey.origin ≡ line_number j.origin → min kept_journey.residence longest ≡ min (residence j) longest
+    → message_after_by network (facts_at network lines) kept_journey ≡ message_after network j
+message_after_is network lines j kept_journey there same time =
+    let at : facts_at network lines kept_journey.origin ≡ Some (fact_of network j.origin) =
     ap (facts_at network lines) same ∙ ap (λ (o : Option LinePlace). option_map (fact_of network) o) there in
     ap (λ (o : Option Fact). option_and_then
-    (λ origin. option_map (λ m. resided m travel.residence)
+    (λ origin. option_map (λ m. resided m kept_journey.residence)
     (sent_by network origin.event origin.number.0 origin.reading)) o) at
-    ∙ ap (λ (o : Option Contents). option_map (λ m. resided m travel.residence) o) (sent_is network j.origin)
-    ∙ sent_time_at (event_of j.origin) (reading j.origin) (λ port. sequence network port j.origin) travel.residence
+    ∙ ap (λ (o : Option Contents). option_map (λ m. resided m kept_journey.residence) o) (sent_is network j.origin)
+    ∙ sent_time_at (event_of j.origin) (reading j.origin) (λ port. sequence network port j.origin) kept_journey.residence
     (residence j) time (drawing_port network (event_of j.origin))

@@ -12,8 +12,8 @@ use Rattle.network_model.specs.Kinds.{spent_transit}
 use Rattle.exchange_check.specs.declared.facts.Fact.{Fact}
 use Rattle.exchange_check.specs.declared.stays.Stays.{Stays}
 use Rattle.exchange_check.specs.Inner.Kept.{Facts, Leaves, leaves_after, left_again}
-use Rattle.exchange_check.specs.Inner.Stays.{LastStays, stay_below, stay_of, with_stay, branch_in, AreStays}
-use Rattle.exchange_check.proofs.Branches.{one_more}
+use Rattle.exchange_check.specs.Inner.Stays.{LastStays, stay_below, stay_of, with_stay, state_in, AreStays}
+use Rattle.exchange_check.proofs.CopyStates.{one_more}
 
 -- an event that is no Leave event ends no stay
 pub others_pass : (event : Event) → ((node : _) (transit : ℕ) (at : _) → event ≡ Leave node transit at → ⊥)
@@ -35,8 +35,8 @@ others_pass (StepClock node diff) h = refl
 pub none_made : (facts : Facts) (number : ℕ) (fact : Fact) → spent_transit fact.event ≡ None
     → stay_of facts number fact ≡ None
 none_made facts number fact h =
-    (λ i. cond (is_some fact.travel) (option_and_then (stay_below facts number) (h i)) None)
-    ∙ either (is_some fact.travel)
+    (λ i. cond (is_some fact.journey) (option_and_then (stay_below facts number) (h i)) None)
+    ∙ either (is_some fact.journey)
   where
     either : (b : Bool) → cond {A = Option (ℕ × ℕ)} b None None ≡ None
     either true = refl
@@ -49,4 +49,4 @@ pub stays_pass : (kept : Stays) (facts : Facts) (number : ℕ) (fact : Fact) (st
 stays_pass kept facts number fact stays leaves p h =
     transport (λ i. AreStays kept (with_stay number (sym (none_made facts number fact p) i) stays)
     (option_map_or (λ transit. left_again transit leaves) (sym p i) leaves) (number + 1))
-    (one_more (branch_in kept.branches.items) (get nat_cmp kept.firsts) stays leaves number h)
+    (one_more (state_in kept.states.items) (get nat_cmp kept.firsts) stays leaves number h)

@@ -26,8 +26,8 @@ use Rattle.trace_model.specs.Sound.{follow_lines, arrival_line, is_of_line, is_s
 use Rattle.trace_model.specs.Sound.{are_paired, are_later, is_domain, is_of_master, are_readings, fraction_sent, fits}
 use Rattle.trace_model.specs.Sound.{bracket, are_results, are_octets, journeys_reason, exchange_reason, reason}
 use Rattle.exchange_check.specs.Inner.Kept.{Facts, longest}
-use Rattle.exchange_check.specs.Inner.Judged.{found_by, way_at, way_from, way_to, paired_by, is_told, of_master_by, fits_by}
-use Rattle.exchange_check.specs.Inner.Judged.{bracket_by, results_by, octets_by, both_ways, found_reason, reason_by}
+use Rattle.exchange_check.specs.Inner.Judged.{found_by, found_journey_at, found_journey_from, found_journey_to, paired_by, is_told, of_master_by, fits_by}
+use Rattle.exchange_check.specs.Inner.Judged.{bracket_by, results_by, octets_by, both_journeys, found_reason, reason_by}
 use Rattle.exchange_check.proofs.Noted.{site_at, leaves_at, stamps_at, told_master}
 use Rattle.exchange_check.proofs.Told.{fact_of, facts_at}
 use Rattle.exchange_check.proofs.Following.{once_is, followed_is}
@@ -42,8 +42,8 @@ use Rattle.exchange_check.proofs.Noted.{sites-line, leaves-line, stamps-line}
 use Rattle.exchange_check.proofs.FactLines.{fact_by-is, facts-line}
 use Rattle.exchange_check.proofs.Bounds.{sync_within, arrival_within, chain_parts}
 use Rattle.std.proofs.lemmas.Option.{none-some}
-use Rattle.exchange_check.proofs.Exchanges.{found_of, way_of, line_of_is, sync_is, follows_is, arrival_is}
-use Rattle.exchange_check.proofs.Exchanges.{chain, line_chain, chained, if_found, way_is}
+use Rattle.exchange_check.proofs.Exchanges.{found_of, found_journey_of, line_of_is, sync_is, follows_is, arrival_is}
+use Rattle.exchange_check.proofs.Exchanges.{chain, line_chain, chained, if_found, found_journey_is}
 
 last_number : (o : Option LinePlace) (n : ℕ)
     → option_map_or (λ last. eqb last n) (option_map line_number o) false
@@ -108,85 +108,85 @@ module _ (network : Network) (line : TraceLine) (earlier : Lines) where
   slave = site_of line.event
 
   if_way : (b : Bool) (j : Journey)
-      → cond b (Some (way_of network j)) None ≡ option_map (way_of network) (cond b (Some j) None)
+      → cond b (Some (found_journey_of network j)) None ≡ option_map (found_journey_of network) (cond b (Some j) None)
   if_way true j = refl
   if_way false j = refl
 
   two_tests : (a : Bool) (j : Journey)
-      → cond (a && left_once (events network earlier) j) (Some (way_of network j)) None
-      ≡ option_map (way_of network) (where_passes (left_once (events network earlier)) (cond a (Some j) None))
+      → cond (a && left_once (events network earlier) j) (Some (found_journey_of network j)) None
+      ≡ option_map (found_journey_of network) (where_passes (left_once (events network earlier)) (cond a (Some j) None))
   two_tests true j = if_way (left_once (events network earlier) j) j
   two_tests false j = refl
 
-  way_found : (kind : Event → Bool) (copy : ℕ) (o : Option Journey) → journey_of network earlier copy ≡ o
-      → where_passes (λ way. kind way.origin.event && once copy) (option_map (way_of network) o)
-      ≡ option_map (way_of network)
+  found_journey_found : (kind : Event → Bool) (copy : ℕ) (o : Option Journey) → journey_of network earlier copy ≡ o
+      → where_passes (λ found_journey. kind found_journey.origin.event && once copy) (option_map (found_journey_of network) o)
+      ≡ option_map (found_journey_of network)
       (where_passes (left_once (events network earlier))
       (where_passes (λ journey. kind (event_of journey.origin)) o))
-  way_found kind copy None h = refl
-  way_found kind copy (Some j) h =
+  found_journey_found kind copy None h = refl
+  found_journey_found kind copy (Some j) h =
       let followed = followed_is network (facts_at network earlier) (leaves_at network earlier)
       (events network earlier) (once_is network earlier) earlier copy j
       (λ n x there. ap (λ (o : Option LinePlace). option_map (fact_of network) o) there) h (suc copy) (omega arith) in
-      (λ i. cond (kind (event_of j.origin) && followed i) (Some (way_of network j)) None)
+      (λ i. cond (kind (event_of j.origin) && followed i) (Some (found_journey_of network j)) None)
       ∙ two_tests (kind (event_of j.origin)) j
 
   before_here : (copy limit : ℕ) → copy < limit → limit ≤ length earlier
       → journey_of network earlier copy ≡ journey_of network (line ∷ earlier) copy
   before_here copy limit within fits = grind (arith, nat_tests)
 
-  way_below : (kind : Event → Bool) (limit copy : ℕ) (b : Bool) → limit ≤ length earlier → nat_lt copy limit ≡ b
-      → cond b (where_passes (λ way. kind way.origin.event && once copy) (way_at facts copy)) None
-      ≡ option_map (way_of network)
+  found_journey_below : (kind : Event → Bool) (limit copy : ℕ) (b : Bool) → limit ≤ length earlier → nat_lt copy limit ≡ b
+      → cond b (where_passes (λ found_journey. kind found_journey.origin.event && once copy) (found_journey_at facts copy)) None
+      ≡ option_map (found_journey_of network)
       (where_passes (left_once (events network earlier))
       (where_passes (λ journey. kind (event_of journey.origin))
       (cond b (journey_of network (line ∷ earlier) copy) None)))
-  way_below kind limit copy true fits h =
-      ap (where_passes (λ way. kind way.origin.event && once copy)) (way_is network (line ∷ earlier) copy)
-      ∙ way_found kind copy (journey_of network (line ∷ earlier) copy)
+  found_journey_below kind limit copy true fits h =
+      ap (where_passes (λ found_journey. kind found_journey.origin.event && once copy)) (found_journey_is network (line ∷ earlier) copy)
+      ∙ found_journey_found kind copy (journey_of network (line ∷ earlier) copy)
       (before_here copy limit (ltb-true copy limit h) fits)
-  way_below kind limit copy false fits h = refl
+  found_journey_below kind limit copy false fits h = refl
 
-  way_heard : (kind : Event → Bool) (limit : ℕ) (o : Option ℕ) → limit ≤ length earlier
-      → option_and_then (way_from facts once kind limit) o
-      ≡ option_map (way_of network)
+  found_journey_heard : (kind : Event → Bool) (limit : ℕ) (o : Option ℕ) → limit ≤ length earlier
+      → option_and_then (found_journey_from facts once kind limit) o
+      ≡ option_map (found_journey_of network)
       (where_passes (left_once (events network earlier))
       (where_passes (λ journey. kind (event_of journey.origin))
       (option_and_then (below (journey_of network (line ∷ earlier)) limit) o)))
-  way_heard kind limit None fits = refl
-  way_heard kind limit (Some copy) fits = way_below kind limit copy (nat_lt copy limit) fits refl
+  found_journey_heard kind limit None fits = refl
+  found_journey_heard kind limit (Some copy) fits = found_journey_below kind limit copy (nat_lt copy limit) fits refl
 
-  way_to_is : (kind : Event → Bool) (x : LinePlace) → line_number x ≤ length earlier
-      → way_to facts once kind (fact_of network x) ≡ option_map (way_of network) (unbroken network e kind x)
-  way_to_is kind x fits = way_heard kind (line_number x) (heard_copy (event_of x)) fits
+  found_journey_to_is : (kind : Event → Bool) (x : LinePlace) → line_number x ≤ length earlier
+      → found_journey_to facts once kind (fact_of network x) ≡ option_map (found_journey_of network) (unbroken network e kind x)
+  found_journey_to_is kind x fits = found_journey_heard kind (line_number x) (heard_copy (event_of x)) fits
 
   bracket_is : (x : LinePlace) (j : Journey) → fits j ≡ true
-      → bracket_by (fact_of network x) (way_of network j) ≡ bracket x j
+      → bracket_by (fact_of network x) (found_journey_of network j) ≡ bracket x j
   bracket_is x j h = λ i. (pos (reading x) -ℤ pos (reading j.origin)) -ℤ pos
       (whole_residence (fraction_sent j.origin) (residence j) h i)
 
   module _ (report : Report) where
     results_are : (x : Exchange) (s r : Journey) → (fits s && fits r) ≡ true
-        → results_by report (found_of network x) (way_of network s) (way_of network r) ≡ are_results report x s r
+        → results_by report (found_of network x) (found_journey_of network s) (found_journey_of network r) ≡ are_results report x s r
     results_are x s r h =
         let both = and_parts (fits s) (fits r) h in
         let a = bracket_is x.sync s both.0 in
         let b = bracket_is x.arrival r both.1 in
         λ i. int_eq report.offset2 (offset2 (a i) (b i)) && int_eq report.path2 (path2 (a i) (b i))
 
-    ways_are : (x : Exchange) (s r : Option Journey)
-        → both_ways network (site_at network earlier slave) slave report (found_of network x)
-        (option_map (way_of network) s) (option_map (way_of network) r) ≡ journeys_reason network e report x s r
-    ways_are x None r = refl
-    ways_are x (Some s) None = refl
-    ways_are x (Some s) (Some r) = same_first
-        (paired_by (found_of network x) (way_of network s) (way_of network r)) (are_paired network x s r)
-        (of_master_by network (site_at network earlier slave) slave report (found_of network x) (way_of network s))
+    journeys_are_found : (x : Exchange) (s r : Option Journey)
+        → both_journeys network (site_at network earlier slave) slave report (found_of network x)
+        (option_map (found_journey_of network) s) (option_map (found_journey_of network) r) ≡ journeys_reason network e report x s r
+    journeys_are_found x None r = refl
+    journeys_are_found x (Some s) None = refl
+    journeys_are_found x (Some s) (Some r) = same_first
+        (paired_by (found_of network x) (found_journey_of network s) (found_journey_of network r)) (are_paired network x s r)
+        (of_master_by network (site_at network earlier slave) slave report (found_of network x) (found_journey_of network s))
         (is_of_master network slave e report x s)
         (are_readings network x s r)
-        (fits_by (way_of network s) && fits_by (way_of network r)) (fits s && fits r)
-        (results_by report (found_of network x) (way_of network s) (way_of network r)) (are_results report x s r)
-        (octets_by (found_of network x) (way_of network s) (way_of network r)) (are_octets network x s r)
+        (fits_by (found_journey_of network s) && fits_by (found_journey_of network r)) (fits s && fits r)
+        (results_by report (found_of network x) (found_journey_of network s) (found_journey_of network r)) (are_results report x s r)
+        (octets_by (found_of network x) (found_journey_of network s) (found_journey_of network r)) (are_octets network x s r)
         (λ i. followed_line network x.follow s.origin i && eqb (line_number r.origin) (line_number x.request))
         (λ i. told_is (last_line network is_set_master slave earlier) (site s.origin) report i
         && is_named (site x.arrival) (site s.origin)
@@ -205,9 +205,9 @@ module _ (network : Network) (line : TraceLine) (earlier : Lines) where
     found_are None within = refl
     found_are (Some x) within =
         let fits = within x refl in
-        (λ i. both_ways network (site_at network earlier slave) slave report (found_of network x)
-        (way_to_is draws_sync x.sync fits.0 i) (way_to_is is_request x.arrival fits.1 i))
-        ∙ ways_are x (unbroken network e draws_sync x.sync) (unbroken network e is_request x.arrival)
+        (λ i. both_journeys network (site_at network earlier slave) slave report (found_of network x)
+        (found_journey_to_is draws_sync x.sync fits.0 i) (found_journey_to_is is_request x.arrival fits.1 i))
+        ∙ journeys_are_found x (unbroken network e draws_sync x.sync) (unbroken network e is_request x.arrival)
 
     abbrev here : Bool
     here = is_of_line (length earlier) report

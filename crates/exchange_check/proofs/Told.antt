@@ -16,7 +16,7 @@ use Rattle.network_model.specs.Numbering.{number_of}
 use Rattle.network_model.specs.Truth.{master_at, slave_at}
 use Rattle.exchange_check.specs.declared.facts.Fact.{Fact}
 use Rattle.exchange_check.specs.declared.facts.Known.{Known}
-use Rattle.exchange_check.specs.declared.facts.Travel.{Travel}
+use Rattle.exchange_check.specs.declared.facts.KeptJourney.{KeptJourney}
 use Rattle.trace_model.specs.declared.line.TraceLine.{TraceLine}
 use Rattle.trace_model.specs.Line.{Lines, counts, is_made, completes}
 use Rattle.trace_model.specs.Record.{LinePlace, line_place, line_number, event_of, site, line_at}
@@ -25,13 +25,13 @@ use Rattle.trace_model.specs.Journey.{Journey, stay_length, residence, begun, wi
 use Rattle.trace_model.specs.Journey.{copy_entered, left_from, journey_made, journey_of}
 use Rattle.trace_model.specs.Octets.{drawing_port, writes_right}
 use Rattle.trace_model.specs.Sound.{stay_reads_right, journey_reads_right, journey_writes_right}
-use Rattle.exchange_check.specs.Inner.Kept.{Facts, longest, number_by, known_by, travel_at, stayed}
-use Rattle.exchange_check.specs.Inner.Kept.{left_by, begun_by, travel_by, written_travel}
+use Rattle.exchange_check.specs.Inner.Kept.{Facts, longest, number_by, known_by, kept_journey_at, stayed}
+use Rattle.exchange_check.specs.Inner.Kept.{left_by, begun_by, kept_journey_by, written_journey}
 use Rattle.exchange_check.proofs.Noted.{site_at}
 
 -- what is kept of a journey
-abbrev pub travel_of : Network → Journey → Travel
-travel_of network journey = record {
+abbrev pub kept_journey_of : Network → Journey → KeptJourney
+kept_journey_of network journey = record {
   origin = line_number journey.origin;
   residence = min (residence journey) longest;
   reads_right = journey_reads_right network journey;
@@ -58,7 +58,7 @@ fact_of network e = record {
   reads_right = reads_right network e;
   writes_right = writes_right network e;
   last_sync = option_map line_number (last_line network is_sync (site e) e.earlier);
-  travel = option_map (travel_of network) (journey_from network e);
+  journey = option_map (kept_journey_of network) (journey_from network e);
 }
 
 -- what is kept of the line of each number
@@ -128,17 +128,17 @@ journey_of-line_at network (line ∷ earlier) n =
     either_way network line earlier n (eqb (length earlier) n) (counts network line)
     (journey_of-line_at network earlier n)
 
-travel_from : (network : Network) (o : Option LinePlace)
-    → option_and_then (λ (fact : Fact). fact.travel) (option_map (fact_of network) o)
-    ≡ option_map (travel_of network) (option_and_then (journey_from network) o)
-travel_from network None = refl
-travel_from network (Some e) = refl
+kept_journey_from : (network : Network) (o : Option LinePlace)
+    → option_and_then (λ (fact : Fact). fact.journey) (option_map (fact_of network) o)
+    ≡ option_map (kept_journey_of network) (option_and_then (journey_from network) o)
+kept_journey_from network None = refl
+kept_journey_from network (Some e) = refl
 
 -- what is kept of a copy is its journey
-pub travel_at-is : (network : Network) (lines : Lines) (n : ℕ)
-    → travel_at (facts_at network lines) n ≡ option_map (travel_of network) (journey_of network lines n)
-travel_at-is network lines n = travel_from network (line_at network lines n)
-    ∙ ap (λ (o : Option Journey). option_map (travel_of network) o) (sym (journey_of-line_at network lines n))
+pub kept_journey_at-is : (network : Network) (lines : Lines) (n : ℕ)
+    → kept_journey_at (facts_at network lines) n ≡ option_map (kept_journey_of network) (journey_of network lines n)
+kept_journey_at-is network lines n = kept_journey_from network (line_at network lines n)
+    ∙ ap (λ (o : Option Journey). option_map (kept_journey_of network) o) (sym (journey_of-line_at network lines n))
 
 and_true : (b : Bool) → b && true ≡ b
 and_true true = refl
@@ -152,7 +152,7 @@ and_turned true false false = refl
 and_turned false l s = refl
 
 begun_is : (network : Network) (e : LinePlace)
-    → written_travel (writes_right network e) (begun_by (known_of network e)) ≡ travel_of network (begun e)
+    → written_journey (writes_right network e) (begun_by (known_of network e)) ≡ kept_journey_of network (begun e)
 begun_is network e = λ i. record {
   origin = line_number e;
   residence = 0;
@@ -171,9 +171,9 @@ residence_more e entered j =
     ∙ ap (λ (n : ℕ). min n longest) (sym (sum_by-cons stay_length (record { entered = entered; left = e }) j.stays))
 
 stayed_is : (network : Network) (e entered : LinePlace) (j : Journey)
-    → written_travel (writes_right network e)
-    (stayed (known_of network e) (fact_of network entered) (travel_of network j))
-    ≡ travel_of network (with_stay e entered j)
+    → written_journey (writes_right network e)
+    (stayed (known_of network e) (fact_of network entered) (kept_journey_of network j))
+    ≡ kept_journey_of network (with_stay e entered j)
 stayed_is network e entered j = λ i. record {
   origin = line_number j.origin;
   residence = residence_more e entered j i;
@@ -185,46 +185,46 @@ stayed_is network e entered j = λ i. record {
 
 module _ (network : Network) (e : LinePlace) where
   after_stay : (entered : LinePlace) (o : Option Journey)
-      → option_map (written_travel (writes_right network e))
-      (option_map (stayed (known_of network e) (fact_of network entered)) (option_map (travel_of network) o))
-      ≡ option_map (travel_of network) (option_map (with_stay e entered) o)
+      → option_map (written_journey (writes_right network e))
+      (option_map (stayed (known_of network e) (fact_of network entered)) (option_map (kept_journey_of network) o))
+      ≡ option_map (kept_journey_of network) (option_map (with_stay e entered) o)
   after_stay entered None = refl
   after_stay entered (Some j) = ap Some (stayed_is network e entered j)
 
   after_copy : (entered : LinePlace) (c : Option ℕ)
-      → option_map (written_travel (writes_right network e))
+      → option_map (written_journey (writes_right network e))
       (option_and_then (λ copy. option_map (stayed (known_of network e) (fact_of network entered))
-      (travel_at (facts_at network e.earlier) copy)) c)
-      ≡ option_map (travel_of network)
+      (kept_journey_at (facts_at network e.earlier) copy)) c)
+      ≡ option_map (kept_journey_of network)
       (option_and_then (λ copy. option_map (with_stay e entered) (journey_of network e.earlier copy)) c)
   after_copy entered None = refl
   after_copy entered (Some copy) =
-      ap (λ (o : Option Travel). option_map (written_travel (writes_right network e))
-      (option_map (stayed (known_of network e) (fact_of network entered)) o)) (travel_at-is network e.earlier copy)
+      ap (λ (o : Option KeptJourney). option_map (written_journey (writes_right network e))
+      (option_map (stayed (known_of network e) (fact_of network entered)) o)) (kept_journey_at-is network e.earlier copy)
       ∙ after_stay entered (journey_of network e.earlier copy)
 
   after_entered : (node : NodeName) (o : Option LinePlace)
-      → option_map (written_travel (writes_right network e))
+      → option_map (written_journey (writes_right network e))
       (option_and_then (left_by (facts_at network e.earlier) node (known_of network e))
       (option_map (fact_of network) o))
-      ≡ option_map (travel_of network) (option_and_then (left_from node e (journey_of network e.earlier)) o)
+      ≡ option_map (kept_journey_of network) (option_and_then (left_from node e (journey_of network e.earlier)) o)
   after_entered node None = refl
   after_entered node (Some entered) = after_copy entered (copy_entered node entered)
 
   -- the journey that is kept of the copy that a line made
-  pub travel_is : (event : Event)
-      → option_map (written_travel (writes_right network e))
-      (travel_by (facts_at network e.earlier) (known_of network e) event)
-      ≡ option_map (travel_of network) (journey_made network event e (journey_of network e.earlier))
-  travel_is (Sync node at) = ap Some (begun_is network e)
-  travel_is (SyncOne node at) = ap Some (begun_is network e)
-  travel_is (Follow node) = refl
-  travel_is (Enter node copy at) = refl
-  travel_is (Leave node transit at) = after_entered node (line_at network e.earlier transit)
-  travel_is (Arrive node copy at) = refl
-  travel_is (Hear node copy) = refl
-  travel_is (Request node at) = ap Some (begun_is network e)
-  travel_is (Stamped node) = refl
-  travel_is (Tick node) = refl
-  travel_is (SetMaster node master) = refl
-  travel_is (StepClock node diff) = refl
+  pub kept_journey_is : (event : Event)
+      → option_map (written_journey (writes_right network e))
+      (kept_journey_by (facts_at network e.earlier) (known_of network e) event)
+      ≡ option_map (kept_journey_of network) (journey_made network event e (journey_of network e.earlier))
+  kept_journey_is (Sync node at) = ap Some (begun_is network e)
+  kept_journey_is (SyncOne node at) = ap Some (begun_is network e)
+  kept_journey_is (Follow node) = refl
+  kept_journey_is (Enter node copy at) = refl
+  kept_journey_is (Leave node transit at) = after_entered node (line_at network e.earlier transit)
+  kept_journey_is (Arrive node copy at) = refl
+  kept_journey_is (Hear node copy) = refl
+  kept_journey_is (Request node at) = ap Some (begun_is network e)
+  kept_journey_is (Stamped node) = refl
+  kept_journey_is (Tick node) = refl
+  kept_journey_is (SetMaster node master) = refl
+  kept_journey_is (StepClock node diff) = refl

@@ -6,16 +6,16 @@ use ptp_units::{ScaledTime, Seq};
 /// The longest residence that is counted exactly is below this, in units of 2^-16 ns.
 pub(crate) const LONGEST: u64 = (1 << 63) - 1;
 
-/// The way of a copy of an event message from the line that sent it.
+/// What is kept of the journey of a copy of an event message, from the line that sent it.
 #[derive(Clone, Copy, Debug, PartialEq, Eq)]
-pub(crate) struct Travel {
+pub(crate) struct KeptJourney {
     /// The number of the line that sent it.
     pub(crate) origin: u64,
     /// How long it was in clocks, in units of 2^-16 ns; [`LONGEST`] stands for more as well.
     pub(crate) residence: u64,
-    /// Whether all readings on the way are right.
+    /// Whether all readings on it are right.
     pub(crate) reads_right: bool,
-    /// Whether all octets on the way are right.
+    /// Whether all octets on it are right.
     pub(crate) writes_right: bool,
 }
 
@@ -40,8 +40,8 @@ pub(crate) struct Fact {
     pub(crate) writes_right: bool,
     /// The number of the last line before it at which its node sent a two-step Sync.
     pub(crate) last_sync: Option<u64>,
-    /// The way of the copy that it made, where that is a Sync or a Delay_Req.
-    pub(crate) travel: Option<Travel>,
+    /// The journey of the copy that it made, where that is a Sync or a Delay_Req.
+    pub(crate) journey: Option<KeptJourney>,
 }
 
 /// What the lines so far say of a node.
@@ -76,10 +76,10 @@ pub(crate) struct Known {
     pub(crate) last_sync: Option<u64>,
 }
 
-/// The way of a copy, with the line that sent it.
+/// The journey of a copy, with the line that sent it.
 #[derive(Clone, Copy, Debug)]
-pub(crate) struct Way {
-    pub(crate) travel: Travel,
+pub(crate) struct FoundJourney {
+    pub(crate) kept: KeptJourney,
     pub(crate) origin: Fact,
 }
 

@@ -9,13 +9,13 @@ ghost use Rattle.trace_model.specs.Sound.{is_of_line, is_domain, are_later};
 ghost use Rattle.exchange_check.specs.Inner.Kept.{port_setup};
 ghost use Rattle.exchange_check.specs.Inner.Stays.{once_in};
 ghost use Rattle.exchange_check.specs.Inner.Judged.{line_of_by, sender_by, sync_by, follow_by, follows_by, arrival_by};
-ghost use Rattle.exchange_check.specs.Inner.Judged.{completion_by, is_here, is_stamped_by, found_by, way_at, way_to};
+ghost use Rattle.exchange_check.specs.Inner.Judged.{completion_by, is_here, is_stamped_by, found_by, found_journey_at, found_journey_to};
 ghost use Rattle.exchange_check.specs.Inner.Judged.{is_followed_by, paired_by, is_told, of_master_by, readings_by};
-ghost use Rattle.exchange_check.specs.Inner.Judged.{fraction_by, fits_by, bracket_by, results_by, octets_by, ways_reason};
+ghost use Rattle.exchange_check.specs.Inner.Judged.{fraction_by, fits_by, bracket_by, results_by, octets_by, journeys_reason_by};
 ghost use Rattle.exchange_check.specs.Inner.Judged.{found_reason, reason_by};
 ghost use Rattle.exchange_check.specs.Inner.Machine.{facts_of, sites_of, stamps_of};
 
-use crate::facts::{Fact, Found, LONGEST, Site, Way};
+use crate::facts::{Fact, Found, LONGEST, Site, FoundJourney};
 use crate::kept::Kept;
 use crate::octets::{Port, master_at, slave_at};
 use network_model::{Event, Name, Nodes, Report};
@@ -68,7 +68,7 @@ fn is_followed(follow: &Option<Fact>, origin: &Fact) -> bool
 }
 
 /// Whether the Follow_Up is the Sync's, and the Delay_Req the slave's own.
-fn are_paired(found: &Found, sync: &Way, request: &Way) -> bool
+fn are_paired(found: &Found, sync: &FoundJourney, request: &FoundJourney) -> bool
     ensures { result ≡ paired_by found.now sync.now request.now }
 {
     is_followed(&found.follow, &sync.origin) && request.origin.line == found.request.line
@@ -91,7 +91,7 @@ fn is_of_master(
     slave: &Name,
     report: &Report,
     found: &Found,
-    sync: &Way,
+    sync: &FoundJourney,
 ) -> bool
     ensures { result ≡ of_master_by nodes.now at.now slave.now report.now found.now sync.now }
 {
@@ -102,13 +102,13 @@ fn is_of_master(
 }
 
 /// Whether all readings are right.
-fn are_readings(found: &Found, sync: &Way, request: &Way) -> bool
+fn are_readings(found: &Found, sync: &FoundJourney, request: &FoundJourney) -> bool
     ensures { result ≡ readings_by found.now sync.now request.now }
 {
     found.sync.reads_right
-        && sync.travel.reads_right
+        && sync.kept.reads_right
         && found.arrival.reads_right
-        && request.travel.reads_right
+        && request.kept.reads_right
 }
 
 /// The fraction of a nanosecond that a message is sent with in its correctionField.
@@ -123,10 +123,10 @@ fn fraction_sent(origin: &Fact) -> u16
 }
 
 /// Whether the correctionField holds the residence of a journey.
-fn fits(way: &Way) -> bool
-    ensures { result ≡ fits_by way.now }
+fn fits(journey: &FoundJourney) -> bool
+    ensures { result ≡ fits_by journey.now }
 {
-    u128::from(fraction_sent(&way.origin)) + u128::from(way.travel.residence) < u128::from(LONGEST)
+    u128::from(fraction_sent(&journey.origin)) + u128::from(journey.kept.residence) < u128::from(LONGEST)
 }
 
 /// The units of a moment, as a signed number.
@@ -145,12 +145,12 @@ fn elapsed(arrival: ScaledTime, departure: ScaledTime, residence: u64) -> i128
     signed_units(arrival) - signed_units(departure) - i128::from(residence)
 }
 
-/// The same of an arrival and the way to it.
-fn bracket(arrival: &Fact, way: &Way) -> i128
-    ensures value { result ≡ bracket_by arrival.now way.now }
+/// The same of an arrival and the journey to it.
+fn bracket(arrival: &Fact, journey: &FoundJourney) -> i128
+    ensures value { result ≡ bracket_by arrival.now journey.now }
     ensures within { IsBracket result }
 {
-    elapsed(arrival.reading, way.origin.reading, way.travel.residence)
+    elapsed(arrival.reading, journey.origin.reading, journey.kept.residence)
 }
 
 /// Whether two numbers are one.
@@ -170,7 +170,7 @@ fn are_of_brackets(offset: i128, path: i128, a: i128, b: i128) -> bool
 }
 
 /// Whether the two results are those of the readings.
-fn are_results(report: &Report, found: &Found, sync: &Way, request: &Way) -> bool
+fn are_results(report: &Report, found: &Found, sync: &FoundJourney, request: &FoundJourney) -> bool
     ensures { result ≡ results_by report.now found.now sync.now request.now }
 {
     let a = bracket(&found.sync, sync);
@@ -179,27 +179,27 @@ fn are_results(report: &Report, found: &Found, sync: &Way, request: &Way) -> boo
 }
 
 /// Whether all octets are right.
-fn are_octets(found: &Found, sync: &Way, request: &Way) -> bool
+fn are_octets(found: &Found, sync: &FoundJourney, request: &FoundJourney) -> bool
     ensures { result ≡ octets_by found.now sync.now request.now }
 {
     let follow = match &found.follow {
         Some(follow) => follow.writes_right,
         None => true,
     };
-    sync.travel.writes_right && follow && request.travel.writes_right && found.arrival.writes_right
+    sync.kept.writes_right && follow && request.kept.writes_right && found.arrival.writes_right
 }
 
 /// The first condition on an exchange and its journeys that fails.
-fn ways_reason(
+fn journeys_reason_by(
     nodes: &Nodes,
     at: &Site,
     slave: &Name,
     report: &Report,
     found: &Found,
-    sync: &Way,
-    request: &Way,
+    sync: &FoundJourney,
+    request: &FoundJourney,
 ) -> Option<Why>
-    ensures { result ≡ ways_reason nodes.now at.now slave.now report.now found.now sync.now request.now }
+    ensures { result ≡ journeys_reason_by nodes.now at.now slave.now report.now found.now sync.now request.now }
 {
     if !are_paired(found, sync, request) {
         return Some(Why::OtherNumber);
@@ -351,38 +351,38 @@ impl Kept {
     }
 
     /// The journey of the copy that the line of this number made.
-    fn way_at(&self, copy: u64) -> Option<Way>
-        ensures { result ≡ way_at (facts_of self.now) copy }
+    fn found_journey_at(&self, copy: u64) -> Option<FoundJourney>
+        ensures { result ≡ found_journey_at (facts_of self.now) copy }
     {
-        let travel = self.travel_at(copy)?;
-        let origin = *self.at(travel.origin)?;
-        Some(Way { travel, origin })
+        let journey = self.kept_at(copy)?;
+        let origin = *self.at(kept.origin)?;
+        Some(FoundJourney { kept, origin })
     }
 
     /// The journey of a Sync that arrives at a line.
-    fn sync_way(&self, arrival: &Fact) -> Option<Way>
-        ensures { result ≡ way_to (facts_of self.now) (once_in self.now.stays) draws_sync arrival.now }
+    fn sync_journey(&self, arrival: &Fact) -> Option<FoundJourney>
+        ensures { result ≡ found_journey_to (facts_of self.now) (once_in self.now.stays) draws_sync arrival.now }
     {
         let copy = arrival.event.heard_copy()?;
         if copy >= arrival.line {
             return None;
         }
-        match self.way_at(copy) {
-            Some(way) if way.origin.event.draws_sync() && self.stays.once(copy) => Some(way),
+        match self.found_journey_at(copy) {
+            Some(journey) if journey.origin.event.draws_sync() && self.stays.once(copy) => Some(journey),
             _ => None,
         }
     }
 
     /// The journey of a Delay_Req that arrives at a line.
-    fn request_way(&self, arrival: &Fact) -> Option<Way>
-        ensures { result ≡ way_to (facts_of self.now) (once_in self.now.stays) is_request arrival.now }
+    fn request_journey(&self, arrival: &Fact) -> Option<FoundJourney>
+        ensures { result ≡ found_journey_to (facts_of self.now) (once_in self.now.stays) is_request arrival.now }
     {
         let copy = arrival.event.heard_copy()?;
         if copy >= arrival.line {
             return None;
         }
-        match self.way_at(copy) {
-            Some(way) if way.origin.event.is_request() && self.stays.once(copy) => Some(way),
+        match self.found_journey_at(copy) {
+            Some(journey) if journey.origin.event.is_request() && self.stays.once(copy) => Some(journey),
             _ => None,
         }
     }
@@ -401,14 +401,14 @@ impl Kept {
         let Some(found) = found else {
             return Some(Why::NoSuchLine);
         };
-        let Some(sync) = self.sync_way(&found.sync) else {
+        let Some(sync) = self.sync_journey(&found.sync) else {
             return Some(Why::BrokenJourney);
         };
-        let Some(request) = self.request_way(&found.arrival) else {
+        let Some(request) = self.request_journey(&found.arrival) else {
             return Some(Why::BrokenJourney);
         };
         let at = self.site(slave);
-        ways_reason(nodes, &at, slave, report, &found, &sync, &request)
+        journeys_reason_by(nodes, &at, slave, report, &found, &sync, &request)
     }
 
     /// Why a report at a line isn't sound, or nothing where it is.

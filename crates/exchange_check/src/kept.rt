@@ -11,14 +11,14 @@ ghost use Rattle.exchange_check.specs.Inner.Stays.{stay_of, once_in, StaysAfter}
 ghost use Rattle.network_model.specs.Kinds.{spent_transit};
 ghost use Rattle.std.specs.Option.{option_map_or};
 ghost use Rattle.exchange_check.specs.Inner.Kept.{moved, moved_at, stamped, sites_after, leaves_after, stamps_after};
-ghost use Rattle.exchange_check.specs.Inner.Kept.{site_in, travel_at, copy_entered_by, stayed, begun_by, travel_by};
-ghost use Rattle.exchange_check.specs.Inner.Kept.{travelled_by, followed_by, answered_by, message_by, known_by, number_by};
-ghost use Rattle.exchange_check.specs.Inner.Kept.{fact_known, fact_by, travel_left, written_travel, port_setup};
+ghost use Rattle.exchange_check.specs.Inner.Kept.{site_in, kept_journey_at, copy_entered_by, stayed, begun_by, kept_journey_by};
+ghost use Rattle.exchange_check.specs.Inner.Kept.{message_after_by, followed_by, answered_by, message_by, known_by, number_by};
+ghost use Rattle.exchange_check.specs.Inner.Kept.{fact_known, fact_by, kept_journey_left, written_journey, port_setup};
 ghost use Rattle.ptp_units.specs.Sequence.{of_count};
 ghost use Rattle.event_codec.specs.Profile.{contents_of};
 ghost use Rattle.trace_model.specs.Record.{is_reading};
 
-use crate::facts::{Fact, Known, LONGEST, Site, Travel};
+use crate::facts::{Fact, Known, LONGEST, Site, KeptJourney};
 use crate::good::{completes, counts, is_made};
 use crate::octets::{Port, delay_resp, is_written, master_at, resided, sent, slave_at};
 use crate::refusal::CheckFault;
@@ -91,7 +91,7 @@ fn copy_entered(clock: &Name, entered: &Fact) -> Option<u64>
 }
 
 /// A journey and one more stay.
-fn stayed(known: &Known, entered: &Fact, before: &Travel) -> Travel
+fn stayed(known: &Known, entered: &Fact, before: &KeptJourney) -> KeptJourney
     ensures { result ≡ stayed known.now entered.now before.now }
 {
     let stay = known
@@ -100,7 +100,7 @@ fn stayed(known: &Known, entered: &Fact, before: &Travel) -> Travel
         .saturating_sub(entered.reading.value());
     let residence = (u128::from(before.residence) + stay).min(u128::from(LONGEST));
     let rises = known.reading.value() >= entered.reading.value();
-    Travel {
+    KeptJourney {
         origin: before.origin,
         residence: residence as u64,
         reads_right: before.reads_right && (entered.reads_right && known.reads && rises),
@@ -109,10 +109,10 @@ fn stayed(known: &Known, entered: &Fact, before: &Travel) -> Travel
 }
 
 /// The journey of a message that a line sends.
-fn begun(known: &Known) -> Travel
+fn begun(known: &Known) -> KeptJourney
     ensures { result ≡ begun_by known.now }
 {
-    Travel {
+    KeptJourney {
         origin: known.line,
         residence: 0,
         reads_right: known.reads,
@@ -152,10 +152,10 @@ impl Kept {
     }
 
     /// The journey of the copy that the line of this number made.
-    pub(crate) fn travel_at(&self, copy: u64) -> Option<Travel>
-        ensures { result ≡ travel_at (facts_of self.now) copy }
+    pub(crate) fn kept_journey_at(&self, copy: u64) -> Option<KeptJourney>
+        ensures { result ≡ kept_journey_at (facts_of self.now) copy }
     {
-        self.at(copy)?.travel
+        self.at(copy)?.journey
     }
 
     /// The sequenceId that an event draws.
@@ -186,18 +186,18 @@ impl Kept {
     }
 
     /// The journey of a copy that leaves a clock, its own octets left out.
-    fn left(&self, clock: &Name, transit: u64, known: &Known) -> Option<Travel>
-        ensures { result ≡ travel_left (facts_of self.now) clock.now transit known.now }
+    fn left(&self, clock: &Name, transit: u64, known: &Known) -> Option<KeptJourney>
+        ensures { result ≡ kept_journey_left (facts_of self.now) clock.now transit known.now }
     {
         let entered = self.at(transit)?;
         let copy = copy_entered(clock, entered)?;
-        let before = self.travel_at(copy)?;
+        let before = self.kept_journey_at(copy)?;
         Some(stayed(known, entered, &before))
     }
 
     /// The journey of the copy that a line made, its own octets left out.
-    fn travel(&self, known: &Known, event: &Event) -> Option<Travel>
-        ensures { result ≡ travel_by (facts_of self.now) known.now event.now }
+    fn journey(&self, known: &Known, event: &Event) -> Option<KeptJourney>
+        ensures { result ≡ kept_journey_by (facts_of self.now) known.now event.now }
     {
         match event {
             Event::Sync { .. } | Event::SyncOne { .. } | Event::Request { .. } => {
@@ -209,13 +209,13 @@ impl Kept {
     }
 
     /// The message at the end of a journey.
-    fn travelled(&self, nodes: &Nodes, travel: &Travel) -> Option<Written>
-        ensures value { option_map contents_of result ≡ travelled_by nodes.now (facts_of self.now) travel.now }
+    fn message_after(&self, nodes: &Nodes, journey: &KeptJourney) -> Option<Written>
+        ensures value { option_map contents_of result ≡ message_after_by nodes.now (facts_of self.now) journey.now }
         ensures sign { IfSome result (λ m. pos 0 ≤ℤ m.header.correction.0) }
     {
-        let origin = self.at(travel.origin)?;
+        let origin = self.at(journey.origin)?;
         let message = sent(nodes, &origin.event, origin.number, origin.reading)?;
-        Some(resided(&message, travel.residence))
+        Some(resided(&message, journey.residence))
     }
 
     /// The Follow_Up of the Sync line of this number.
@@ -232,12 +232,12 @@ impl Kept {
         nodes: &Nodes,
         port: &Port,
         now: ScaledTime,
-        travel: Option<Travel>,
+        journey: Option<KeptJourney>,
     ) -> Option<Written>
         ensures { option_map contents_of result
-            ≡ answered_by nodes.now (facts_of self.now) (port_setup port.now) now travel }
+            ≡ answered_by nodes.now (facts_of self.now) (port_setup port.now) now journey }
     {
-        let request = self.travelled(nodes, &travel?)?;
+        let request = self.message_after(nodes, &journey?)?;
         delay_resp(&port.config, &request.header, now)
     }
 
@@ -246,20 +246,20 @@ impl Kept {
         &self,
         nodes: &Nodes,
         known: &Known,
-        travel: Option<Travel>,
+        journey: Option<KeptJourney>,
         event: &Event,
     ) -> Option<Written>
-        ensures { option_map contents_of result ≡ message_by nodes.now (facts_of self.now) known.now travel event.now }
+        ensures { option_map contents_of result ≡ message_by nodes.now (facts_of self.now) known.now journey event.now }
     {
         match event {
             Event::Sync { .. } | Event::SyncOne { .. } | Event::Request { .. } => {
                 sent(nodes, event, known.number, known.reading)
             }
             Event::Follow { node } => self.followed(&master_at(nodes, node)?, known.last_sync),
-            Event::Leave { .. } => self.travelled(nodes, &travel?),
+            Event::Leave { .. } => self.message_after(nodes, &journey?),
             Event::Arrive { node, copy, .. } => {
                 let port = master_at(nodes, node)?;
-                self.answered(nodes, &port, known.reading, self.travel_at(*copy))
+                self.answered(nodes, &port, known.reading, self.kept_journey_at(*copy))
             }
             _ => None,
         }
@@ -268,10 +268,10 @@ impl Kept {
     /// What is kept of a line that tells of something done.
     fn told(&self, nodes: &Nodes, line: &TraceLine, known: &Known) -> Fact
         ensures { result ≡ fact_known nodes.now (facts_of self.now) line.now known.now
-            (travel_by (facts_of self.now) known.now line.now.event) }
+            (kept_journey_by (facts_of self.now) known.now line.now.event) }
     {
-        let travel = self.travel(known, &line.event);
-        let message = self.message(nodes, known, travel, &line.event);
+        let journey = self.journey(known, &line.event);
+        let message = self.message(nodes, known, journey, &line.event);
         let writes_right = is_written(&message, &line.out);
         Fact {
             line: known.line,
@@ -283,7 +283,7 @@ impl Kept {
             reads_right: known.reads,
             writes_right,
             last_sync: known.last_sync,
-            travel: with_octets(travel, writes_right),
+            journey: with_octets(journey, writes_right),
         }
     }
 
@@ -304,7 +304,7 @@ impl Kept {
             → option_map (λ copy. (transit, copy)) result ≡ stay_of (facts_of self.now) number fact.now }
         ensures below { IfSome result (λ copy. copy < number) }
     {
-        if fact.travel.is_none() || transit >= number {
+        if fact.journey.is_none() || transit >= number {
             return None;
         }
         let copy = self.at(transit)?.event.entered_copy()?;
@@ -468,12 +468,12 @@ fn stamp(stamps: &mut BTreeMap<u64, u64>, last: Option<u64>, number: u64) -> Res
 }
 
 /// A journey with the line's own octets.
-fn with_octets(travel: Option<Travel>, writes_right: bool) -> Option<Travel>
-    ensures { result ≡ option_map (written_travel writes_right) travel }
+fn with_octets(journey: Option<KeptJourney>, writes_right: bool) -> Option<KeptJourney>
+    ensures { result ≡ option_map (written_journey writes_right) journey }
 {
-    let travel = travel?;
-    Some(Travel {
-        writes_right: travel.writes_right && writes_right,
-        ..travel
+    let journey = journey?;
+    Some(KeptJourney {
+        writes_right: journey.writes_right && writes_right,
+        ..journey
     })
 }

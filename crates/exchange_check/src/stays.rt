@@ -11,7 +11,7 @@ ghost use Rattle.std.specs.Prelude.{None, option_map, length, OnOk, OnErr};
 ghost use Rattle.std.specs.BTreeMap.{get};
 ghost use Rattle.std.specs.Ordering.{nat_cmp};
 ghost use Rattle.exchange_check.specs.Inner.Kept.{Leaves, left_again};
-ghost use Rattle.exchange_check.specs.Inner.Stays.{LastStays, with_stay, is_once, root, branch_in, with_branch};
+ghost use Rattle.exchange_check.specs.Inner.Stays.{LastStays, with_stay, is_once, root, state_in, with_state};
 ghost use Rattle.exchange_check.specs.Inner.Stays.{with_first, AreStays, StaysAfter, once_in};
 
 use crate::refusal::CheckFault;
@@ -20,7 +20,7 @@ use std::collections::BTreeMap;
 
 /// What is kept of a copy of an event message.
 #[derive(Clone, Copy, Debug)]
-pub(crate) struct Branch {
+pub(crate) struct CopyState {
     /// Whether each stay of its journey was ended once.
     pub(crate) once: bool,
     /// How many stays its journey has; 0 also where it was marked when it left.
@@ -29,12 +29,12 @@ pub(crate) struct Branch {
     pub(crate) next: Option<u64>,
 }
 
-impl Branch {
+impl CopyState {
     /// A copy without a stay, as one that was just sent; also the place of a line that made no copy.
-    fn root() -> Branch
+    fn root() -> CopyState
         ensures { result ≡ root }
     {
-        Branch {
+        CopyState {
             once: true,
             depth: 0,
             next: None,
@@ -42,12 +42,12 @@ impl Branch {
     }
 
     /// A copy that is marked when it leaves.
-    fn marked() -> Branch
+    fn marked() -> CopyState
         ensures { result ≡ record root { once = false } }
     {
-        Branch {
+        CopyState {
             once: false,
-            ..Branch::root()
+            ..CopyState::root()
         }
     }
 }
@@ -59,7 +59,7 @@ pub(crate) struct Stays {
     /// writes lines picks these numbers, so they aren't hashed.
     pub(crate) firsts: BTreeMap<u64, u64>,
     /// Of each line up to the last Leave line: the copy that it made.
-    pub(crate) branches: Vec<Branch>,
+    pub(crate) states: Vec<CopyState>,
 }
 
 impl Stays {
@@ -68,16 +68,16 @@ impl Stays {
     {
         Stays {
             firsts: BTreeMap::new(alloc),
-            branches: Vec::new(alloc),
+            states: Vec::new(alloc),
         }
     }
 
-    fn at(&self, copy: u64) -> Branch
-        ensures { result ≡ branch_in self.now.branches.items copy }
+    fn at(&self, copy: u64) -> CopyState
+        ensures { result ≡ state_in self.now.states.items copy }
     {
-        match self.branches.get(copy as usize) {
-            Some(branch) => *branch,
-            None => Branch::root(),
+        match self.states.get(copy as usize) {
+            Some(state) => *state,
+            None => CopyState::root(),
         }
     }
 
@@ -88,25 +88,25 @@ impl Stays {
         self.at(copy).once
     }
 
-    fn set(&mut self, copy: u64, branch: Branch)
-        requires { copy < length self.old.branches.items }
-        ensures branches { branch_in self.new.branches.items
-            ≡ with_branch copy branch (branch_in self.old.branches.items) }
-        ensures length { length self.new.branches.items ≡ length self.old.branches.items }
+    fn set(&mut self, copy: u64, state: CopyState)
+        requires { copy < length self.old.states.items }
+        ensures states { state_in self.new.states.items
+            ≡ with_state copy state (state_in self.old.states.items) }
+        ensures length { length self.new.states.items ≡ length self.old.states.items }
         ensures firsts { self.new.firsts ≡ self.old.firsts }
     {
-        self.branches[copy as usize] = branch;
+        self.states[copy as usize] = state;
     }
 
     /// Makes room for the copy of this number. Where memory is refused, copies of which nothing is
     /// kept may have been added.
     fn reach(&mut self, number: u64) -> Result<(), CheckFault>
-        ensures room { OnOk result (number < length self.new.branches.items) }
-        ensures branches { branch_in self.new.branches.items ≡ branch_in self.old.branches.items }
+        ensures room { OnOk result (number < length self.new.states.items) }
+        ensures states { state_in self.new.states.items ≡ state_in self.old.states.items }
         ensures firsts { self.new.firsts ≡ self.old.firsts }
     {
-        while self.branches.len() as u64 <= number {
-            if self.branches.push(Branch::root()).is_err() {
+        while self.states.len() as u64 <= number {
+            if self.states.push(CopyState::root()).is_err() {
                 return Err(CheckFault::Memory);
             }
         }
@@ -120,7 +120,7 @@ impl Stays {
         ensures stays { (stays : LastStays) (leaves : Leaves) (number transit : ℕ)
             → get nat_cmp self.old.firsts transit ≡ Some first
             → AreStays self.old stays leaves number → AreStays self.new stays (left_again transit leaves) number }
-        ensures length { length self.new.branches.items ≡ length self.old.branches.items }
+        ensures length { length self.new.states.items ≡ length self.old.states.items }
         ensures firsts { self.new.firsts ≡ self.old.firsts }
     {
         let left = self.at(first);
@@ -130,7 +130,7 @@ impl Stays {
         }
         self.set(
             first,
-            Branch {
+            CopyState {
                 once: false,
                 ..left
             },
@@ -142,7 +142,7 @@ impl Stays {
             }
             self.set(
                 copy,
-                Branch {
+                CopyState {
                     once: false,
                     depth: grown.depth,
                     next: None,
@@ -150,7 +150,7 @@ impl Stays {
             );
             self.set(
                 first,
-                Branch {
+                CopyState {
                     once: false,
                     depth,
                     next: grown.next,
@@ -162,7 +162,7 @@ impl Stays {
     /// Puts the copy of this number, which left its clock after a stay that no other line ended,
     /// after the copy that entered there, or marks it where that one is marked.
     fn grow(&mut self, from: u64, number: u64)
-        requires room { number < length self.old.branches.items }
+        requires room { number < length self.old.states.items }
         requires below { from < number }
         ensures stays { (stays : LastStays) (leaves : Leaves) (transit : ℕ)
             → AreStays self.old stays leaves (number + 1) → stays number ≡ None
@@ -175,21 +175,21 @@ impl Stays {
             let depth = parent.depth.saturating_add(1);
             self.set(
                 from,
-                Branch {
+                CopyState {
                     next: Some(number),
                     ..parent
                 },
             );
             self.set(
                 number,
-                Branch {
+                CopyState {
                     once: true,
                     depth,
                     next: parent.next,
                 },
             );
         } else {
-            self.set(number, Branch::marked());
+            self.set(number, CopyState::marked());
         }
     }
 
@@ -205,7 +205,7 @@ impl Stays {
         ensures named { OnOk result (get nat_cmp self.new.firsts
             ≡ with_first transit number (get nat_cmp self.old.firsts)) }
         ensures unchanged { OnErr result (get nat_cmp self.new.firsts ≡ get nat_cmp self.old.firsts) }
-        ensures branches { self.new.branches ≡ self.old.branches }
+        ensures states { self.new.states ≡ self.old.states }
     {
         match self.firsts.insert(transit, number) {
             Ok(_) => Ok(()),
@@ -230,7 +230,7 @@ impl Stays {
         if let Some(first) = self.first(transit) {
             self.cut(first);
             if from.is_some() {
-                self.set(number, Branch::marked());
+                self.set(number, CopyState::marked());
             }
             return Ok(());
         }

@@ -21,7 +21,7 @@ use Rattle.network_model.specs.Run.{Run, place}
 use Rattle.network_model.specs.Clock.{reading}
 use Rattle.network_model.specs.Journey.{Journey, residence, journey_made, journey_of}
 use Rattle.network_model.specs.Numbering.{number_of, waiting_sync}
-use Rattle.network_model.specs.Truth.{master_at, slave_at, drawn, travelled, followed, responded, copy_made, copy_of}
+use Rattle.network_model.specs.Truth.{master_at, slave_at, drawn, message_after, followed, responded, copy_made, copy_of}
 use Rattle.std.proofs.lemmas.Option.{IfSome_then}
 use Rattle.network_model.proofs.Options.{and_then, each_mapped, mapped, either}
 use Rattle.event_codec.specs.declared.message.Body.TheVariants as bodies
@@ -53,8 +53,8 @@ bare_drawn network event earlier = IfSome_then (drawn network event earlier) (pl
 pub zero_drawn : (network : Network) (event : Event) (earlier : Run) → IfSome (drawn network event earlier) IsAtLeastZero
 zero_drawn network event earlier = IfSome_then (drawn network event earlier) (plain_drawn network event earlier) (λ m plain. plain.1)
 
-bare_travelled : (network : Network) (journey : Journey) → IfSome (travelled network journey) IsBare
-bare_travelled network journey =
+bare_message_after : (network : Network) (journey : Journey) → IfSome (message_after network journey) IsBare
+bare_message_after network journey =
     mapped IsBare (λ (m : Contents). resided m (residence journey)) (drawn network journey.origin.event journey.origin.earlier)
     (bare_drawn network journey.origin.event journey.origin.earlier)
 
@@ -77,7 +77,7 @@ bare_made network (Follow node) earlier copies =
     and_then IsBare (λ (port : PortSetup). option_map (followed port) (waiting_sync node earlier)) (master_at network node)
     (λ port. each_mapped IsBare (followed port) (waiting_sync node earlier) (λ waiting. refl))
 bare_made network (Leave node transit at) earlier copies =
-    and_then IsBare (travelled network) (journey_made (Leave node transit at) earlier (journey_of earlier)) (bare_travelled network)
+    and_then IsBare (message_after network) (journey_made (Leave node transit at) earlier (journey_of earlier)) (bare_message_after network)
 bare_made network (Arrive node copy at) earlier copies =
     let now = reading (place (Arrive node copy at) earlier) in
     and_then IsBare (λ (port : PortSetup). option_and_then (responded port now) (copies copy)) (master_at network node)

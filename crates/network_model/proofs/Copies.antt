@@ -25,11 +25,11 @@ use Rattle.network_model.specs.Kinds.{is_at, is_sync, is_one_step_sync, is_reque
 use Rattle.network_model.specs.Clock.{reading}
 use Rattle.network_model.specs.Numbering.{number_of, waiting_sync}
 use Rattle.network_model.specs.Journey.{Journey, begun, journey_made, journey_of, residence}
-use Rattle.network_model.specs.Truth.{master_at, slave_at, drawn, travelled, followed, responded, copy_made, copy_of}
+use Rattle.network_model.specs.Truth.{master_at, slave_at, drawn, message_after, followed, responded, copy_made, copy_of}
 use Rattle.network_model.proofs.Made.{copy_of-place_at, journey_of-place_at}
 use Rattle.network_model.proofs.Sites.{named-self}
 use Rattle.network_model.proofs.Journeys.{IsIn-origin}
-use Rattle.network_model.proofs.Travelled.{copy_of-travelled}
+use Rattle.network_model.proofs.MessagesAfter.{copy_of-message_after}
 
 -- a copy of the message that an event of this kind drew at this node, after its journey
 pub record IsDrawn (run : Run) (copy : ℕ) (m : Contents) (kind : Event → Bool) (port_at : NodeName → Option PortSetup)
@@ -109,7 +109,7 @@ answered config (bodies.DelayReq origin) header t4 m e =
 module _ (network : Network) (run : Run) (copy : ℕ) (m : Contents) where
   -- a copy that has a journey
   with_journey : (event : Event) (earlier : Run) (stays : _) → journey_of run copy ≡ Some (record { origin = place event earlier; stays = stays })
-      → travelled network (record { origin = place event earlier; stays = stays }) ≡ Some m → IsCopy network run copy m
+      → message_after network (record { origin = place event earlier; stays = stays }) ≡ Some m → IsCopy network run copy m
   with_journey (Sync node at) earlier stays made is =
       let journey : Journey = record { origin = place (Sync node at) earlier; stays = stays } in
       let whole = some_image (λ (d : Contents). resided d (residence journey)) (drawn network (Sync node at) earlier) is in
@@ -154,19 +154,19 @@ module _ (network : Network) (run : Run) (copy : ℕ) (m : Contents) where
       })
   with_journey _ earlier stays made is = cc
 
-  travelled_copy : (journey : Journey) → journey_of run copy ≡ Some journey → copy_of network run copy ≡ Some m → IsCopy network run copy m
-  travelled_copy journey made is =
-      with_journey journey.origin.event journey.origin.earlier journey.stays made (sym (copy_of-travelled network run copy journey made) ∙ is)
+  message_after_copy : (journey : Journey) → journey_of run copy ≡ Some journey → copy_of network run copy ≡ Some m → IsCopy network run copy m
+  message_after_copy journey made is =
+      with_journey journey.origin.event journey.origin.earlier journey.stays made (sym (copy_of-message_after network run copy journey made) ∙ is)
 
   made_copy : (event : Event) (earlier : Run) → place_at run copy ≡ Some (place event earlier)
       → copy_made network event earlier (copy_of network earlier) ≡ Some m → copy_of network run copy ≡ Some m
       → journey_of run copy ≡ journey_made event earlier (journey_of earlier) → IsCopy network run copy m
-  made_copy (Sync node at) earlier there made is journey = travelled_copy (begun (Sync node at) earlier) journey is
-  made_copy (SyncOne node at) earlier there made is journey = travelled_copy (begun (SyncOne node at) earlier) journey is
-  made_copy (Request node at) earlier there made is journey = travelled_copy (begun (Request node at) earlier) journey is
+  made_copy (Sync node at) earlier there made is journey = message_after_copy (begun (Sync node at) earlier) journey is
+  made_copy (SyncOne node at) earlier there made is journey = message_after_copy (begun (SyncOne node at) earlier) journey is
+  made_copy (Request node at) earlier there made is journey = message_after_copy (begun (Request node at) earlier) journey is
   made_copy (Leave node transit at) earlier there made is journey =
-      let by = some_step (travelled network) (journey_made (Leave node transit at) earlier (journey_of earlier)) made in
-      travelled_copy by.0 (journey ∙ by.1) is
+      let by = some_step (message_after network) (journey_made (Leave node transit at) earlier (journey_of earlier)) made in
+      message_after_copy by.0 (journey ∙ by.1) is
   made_copy (Follow node) earlier there made is journey =
       let port = some_step (λ (p : PortSetup). option_map (followed p) (waiting_sync node earlier)) (master_at network node) made in
       let waits = some_image (followed port.0) (waiting_sync node earlier) port.2 in

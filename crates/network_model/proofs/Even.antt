@@ -1,5 +1,5 @@
--- In a level network the two ways of a report take one time: each crossing of a way is one of the run, a cable
--- takes one time both ways, and the way back has the cables of the way there.
+-- In a level network the two paths of a report take one time: each crossing of a path is one of the run, a cable
+-- takes one time both ways, and the path back has the cables of the path there.
 use Rattle.std.proofs.Common.{◌≡◌, ◌∙◌, ℕ, ℤ, ◌+ℤ◌, Bool, true, false, List, [], ◌∷◌, ◌++◌, length, Option, Some, None, Ok, IsOk, refl, sym, ap, subst, arith, reverse, if◌then◌else◌, option_map, option_and_then, inl, inr}
 use Rattle.std.specs.Prelude.{◌==◌, ◌⊎◌, IsTrue, ok_or, option_to_list}
 use Rattle.std.specs.List.{list_all, AllZip}
@@ -17,14 +17,14 @@ use Rattle.network_model.specs.Kinds.{entered_copy, timed_copy}
 use Rattle.network_model.specs.Journey.{Journey, Stay, begun, journey_made, journey_of}
 use Rattle.network_model.specs.Truth.{copy_made, copy_of}
 use Rattle.network_model.specs.Outcome.{◌>>=◌, node_as, clock_of, reads, outcome_of, IsRun}
-use Rattle.network_model.specs.Level.{Crossing, crossing, crossing_to, crossings_in, crossings_of, is_same_way, is_same_cable, is_even, are_even, time_of, time_on}
+use Rattle.network_model.specs.Level.{Crossing, crossing, crossing_to, crossings_in, crossings_of, is_same_direction, is_same_cable, is_even, are_even, time_of, time_on}
 use Rattle.slave_port.proofs.Options.{some_step}
 use Rattle.network_model.proofs.Options.{ok_value, ok_step, ok_some}
 use Rattle.network_model.proofs.Places.{accepted-place_at, place_at-within, IsIn-place_at, IsIn-within}
 use Rattle.network_model.proofs.Made.{copy_of-place_at, journey_of-place_at}
 use Rattle.network_model.proofs.Sites.{named-same, named-self}
 use Rattle.network_model.proofs.Journeys.{same_origin, continued}
-use Rattle.network_model.proofs.Ways.{gone_on, time-more}
+use Rattle.network_model.proofs.Paths.{gone_on, time-more}
 
 -- a crossing of a run
 pub record IsCrossing (run : Run) (c : Crossing) : Type 0 where
@@ -33,7 +33,7 @@ pub record IsCrossing (run : Run) (c : Crossing) : Type 0 where
 
 abbrev pub AreCrossings : Run → List Crossing → Type 0
 AreCrossings run [] = Unit {0}
-AreCrossings run (c ∷ way) = IsCrossing run c × AreCrossings run way
+AreCrossings run (c ∷ path) = IsCrossing run c × AreCrossings run path
 
 -- what all crossings of a run pass, each passes
 all_pass : (f : Crossing → Bool) (run : Run) (c : Crossing) → list_all f (crossings_in run) ≡ true → IsCrossing run c → f c ≡ true
@@ -62,20 +62,20 @@ same_time c d even same = grind (arith, Decides-int_eq)
 
 -- a cable has no direction
 turned : (c d : Crossing) → is_same_cable c d ≡ true → is_same_cable d c ≡ true
-turned c d same = by (or_cases (is_same_way c.from c.to d.from d.to) (is_same_way c.from c.to d.to d.from) same)
+turned c d same = by (or_cases (is_same_direction c.from c.to d.from d.to) (is_same_direction c.from c.to d.to d.from) same)
   where
     back : (a b : NodeName) → is_named a b ≡ true → is_named b a ≡ true
     back a b named = subst (λ (n : NodeName). is_named n a ≡ true) (named-same a b named) (named-self a)
 
-    by : ((is_same_way c.from c.to d.from d.to ≡ true) ⊎ (is_same_way c.from c.to d.to d.from ≡ true)) → is_same_cable d c ≡ true
+    by : ((is_same_direction c.from c.to d.from d.to ≡ true) ⊎ (is_same_direction c.from c.to d.to d.from ≡ true)) → is_same_cable d c ≡ true
     by (inl way) =
-        let parts = and_parts (is_named (site_of c.from.event) (site_of d.from.event)) (is_named (site_of c.to.event) (site_of d.to.event)) way in
-        or_left (is_same_way d.from d.to c.from c.to) (is_same_way d.from d.to c.to c.from)
+        let parts = and_parts (is_named (site_of c.from.event) (site_of d.from.event)) (is_named (site_of c.to.event) (site_of d.to.event)) path in
+        or_left (is_same_direction d.from d.to c.from c.to) (is_same_direction d.from d.to c.to c.from)
         (and_from (is_named (site_of d.from.event) (site_of c.from.event)) (is_named (site_of d.to.event) (site_of c.to.event))
         (back (site_of c.from.event) (site_of d.from.event) parts.0) (back (site_of c.to.event) (site_of d.to.event) parts.1))
     by (inr way) =
-        let parts = and_parts (is_named (site_of c.from.event) (site_of d.to.event)) (is_named (site_of c.to.event) (site_of d.from.event)) way in
-        or_right (is_same_way d.from d.to c.from c.to) (is_same_way d.from d.to c.to c.from)
+        let parts = and_parts (is_named (site_of c.from.event) (site_of d.to.event)) (is_named (site_of c.to.event) (site_of d.from.event)) path in
+        or_right (is_same_direction d.from d.to c.from c.to) (is_same_direction d.from d.to c.to c.from)
         (and_from (is_named (site_of d.from.event) (site_of c.to.event)) (is_named (site_of d.to.event) (site_of c.from.event))
         (back (site_of c.to.event) (site_of d.from.event) parts.1) (back (site_of c.from.event) (site_of d.to.event) parts.0))
 
@@ -117,18 +117,18 @@ even_times (event ∷ earlier) c d even is is_too same =
     at (Some x) e even false false there there_too rest =
         rest (and_parts (list_all (is_even x) (crossings_in earlier)) (are_even (crossings_in earlier)) even).1 there there_too
 
--- the times of a way, cable by cable
-pub zipped : (run : Run) (back way : List Crossing) → are_even (crossings_in run) ≡ true → AreCrossings run back → AreCrossings run way
-    → AllZip (λ c d. IsTrue (is_same_cable c d)) back way → time_on back ≡ time_on way
+-- the times of a path, cable by cable
+pub zipped : (run : Run) (back path : List Crossing) → are_even (crossings_in run) ≡ true → AreCrossings run back → AreCrossings run path
+    → AllZip (λ c d. IsTrue (is_same_cable c d)) back path → time_on back ≡ time_on path
 zipped run [] [] even are are_too zip = refl
-zipped run [] (d ∷ way) even are are_too zip = absurd zip
+zipped run [] (d ∷ path) even are are_too zip = absurd zip
 zipped run (c ∷ back) [] even are are_too zip = absurd zip
-zipped run (c ∷ back) (d ∷ way) even are are_too zip =
+zipped run (c ∷ back) (d ∷ path) even are are_too zip =
     let one = even_times run c d even are.0 are_too.0 zip.0 in
-    let rest = zipped run back way even are.1 are_too.1 zip.1 in
-    time-more c back ∙ ap (λ (t : ℤ). t +ℤ time_on back) one ∙ ap (λ (t : ℤ). time_of d +ℤ t) rest ∙ sym (time-more d way)
+    let rest = zipped run back path even are.1 are_too.1 zip.1 in
+    time-more c back ∙ ap (λ (t : ℤ). t +ℤ time_on back) one ∙ ap (λ (t : ℤ). time_of d +ℤ t) rest ∙ sym (time-more d path)
 
--- a way and the same way from its end
+-- a path and the same path from its end
 time-append : (xs ys : List Crossing) → time_on (xs ++ ys) ≡ time_on xs +ℤ time_on ys
 time-append [] ys = omega (arith, ints)
 time-append (c ∷ xs) ys =
@@ -137,25 +137,25 @@ time-append (c ∷ xs) ys =
     let other = time-more c xs in
     omega (arith, ints)
 
-pub time-reverse : (way : List Crossing) → time_on (reverse way) ≡ time_on way
+pub time-reverse : (path : List Crossing) → time_on (reverse path) ≡ time_on path
 time-reverse [] = refl
-time-reverse (c ∷ way) =
-    let turned : reverse (c ∷ way) ≡ reverse way ++ c ∷ [] = reverse_onto way c [] in
-    let rest = time-reverse way in
-    let all = time-append (reverse way) (c ∷ []) in
+time-reverse (c ∷ path) =
+    let turned : reverse (c ∷ path) ≡ reverse path ++ c ∷ [] = reverse_onto path c [] in
+    let rest = time-reverse path in
+    let all = time-append (reverse path) (c ∷ []) in
     let one = time-more c [] in
-    let more = time-more c way in
+    let more = time-more c path in
     ap time_on turned ∙ omega (arith, ints)
 
 crossings-append : (run : Run) (xs ys : List Crossing) → AreCrossings run xs → AreCrossings run ys → AreCrossings run (xs ++ ys)
 crossings-append run [] ys are are_too = are_too
 crossings-append run (c ∷ xs) ys are are_too = (are.0, crossings-append run xs ys are.1 are_too)
 
-pub crossings-reverse : (run : Run) (way : List Crossing) → AreCrossings run way → AreCrossings run (reverse way)
+pub crossings-reverse : (run : Run) (path : List Crossing) → AreCrossings run path → AreCrossings run (reverse path)
 crossings-reverse run [] are = tt
-crossings-reverse run (c ∷ way) are =
-    let turned : reverse (c ∷ way) ≡ reverse way ++ c ∷ [] = reverse_onto way c [] in
-    subst (AreCrossings run) (sym turned) (crossings-append run (reverse way) (c ∷ []) (crossings-reverse run way are.1) (are.0, tt))
+crossings-reverse run (c ∷ path) are =
+    let turned : reverse (c ∷ path) ≡ reverse path ++ c ∷ [] = reverse_onto path c [] in
+    subst (AreCrossings run) (sym turned) (crossings-append run (reverse path) (c ∷ []) (crossings-reverse run path are.1) (are.0, tt))
 
 -- the event that made a copy with a journey: it drew the message, or the copy left a clock at it
 data IsMaker (run : Run) (copy : ℕ) (journey : Journey) : Type 0 where
@@ -207,23 +207,23 @@ same_journey run entered copy q there is =
 -- the crossing by which a copy came
 crossed : (end from : Place) (copy : ℕ) (journey : Journey) → timed_copy end.event ≡ Some copy → journey_of end.earlier copy ≡ Some journey → place_at end.earlier copy ≡ Some from
     → crossing_to end ≡ Some (crossing from end)
-crossed end from copy journey copy_is travelled there =
+crossed end from copy journey copy_is message_after there =
     ap (option_and_then (λ (copy : ℕ). option_and_then (λ (journey : Journey). option_map (λ made. crossing made end) (place_at end.earlier copy)) (journey_of end.earlier copy))) copy_is
-    ∙ ap (option_and_then (λ (journey : Journey). option_map (λ made. crossing made end) (place_at end.earlier copy))) travelled
+    ∙ ap (option_and_then (λ (journey : Journey). option_map (λ made. crossing made end) (place_at end.earlier copy))) message_after
     ∙ ap (option_map (λ made. crossing made end)) there
 
--- each crossing of the way of a copy is one of the run
-pub way_in : (network : Network) (run : Run) → IsRun network run → (origin : Place) (stays : List Stay) (end : Place) (copy : ℕ) → IsIn run end → timed_copy end.event ≡ Some copy
+-- each crossing of the path of a copy is one of the run
+pub path_in : (network : Network) (run : Run) → IsRun network run → (origin : Place) (stays : List Stay) (end : Place) (copy : ℕ) → IsIn run end → timed_copy end.event ≡ Some copy
     → journey_of end.earlier copy ≡ Some (record { origin = origin; stays = stays }) → AreCrossings run (crossings_of origin stays end)
-way_in network run accepted origin [] end copy there copy_is travelled = by (maker_of end.earlier copy (record { origin = origin; stays = [] }) travelled)
+path_in network run accepted origin [] end copy there copy_is message_after = by (maker_of end.earlier copy (record { origin = origin; stays = [] }) message_after)
   where
     by : IsMaker end.earlier copy (record { origin = origin; stays = [] }) → AreCrossings run (crossing origin end ∷ [])
     by (Begins p at stays is) =
-        (record { there = there; is = crossed end origin copy (record { origin = origin; stays = [] }) copy_is travelled (at ∙ ap (λ (o : Place). Some o) (sym is)) }, tt)
+        (record { there = there; is = crossed end origin copy (record { origin = origin; stays = [] }) copy_is message_after (at ∙ ap (λ (o : Place). Some o) (sym is)) }, tt)
     by (Leaves p entered c before at stays is inside c_is known) = cc
-way_in network run accepted origin (stay ∷ stays) end copy there copy_is travelled =
-    by (maker_of end.earlier copy (record { origin = origin; stays = stay ∷ stays }) travelled)
-    (λ end copy there copy_is travelled. way_in network run accepted origin stays end copy there copy_is travelled)
+path_in network run accepted origin (stay ∷ stays) end copy there copy_is message_after =
+    by (maker_of end.earlier copy (record { origin = origin; stays = stay ∷ stays }) message_after)
+    (λ end copy there copy_is message_after. path_in network run accepted origin stays end copy there copy_is message_after)
   where
     by : IsMaker end.earlier copy (record { origin = origin; stays = stay ∷ stays })
         → ((end : Place) (copy : ℕ) → IsIn run end → timed_copy end.event ≡ Some copy → journey_of end.earlier copy ≡ Some (record { origin = origin; stays = stays })
@@ -244,7 +244,7 @@ way_in network run accepted origin (stay ∷ stays) end copy there copy_is trave
         sym (same_journey p.earlier entered c was.1.0 inside was.1.1) ∙ known ∙ ap (λ (j : Journey). Some j) whole in (
           record {
             there = there;
-            is = crossed end stay.left copy (record { origin = origin; stays = stay ∷ stays }) copy_is travelled (at ∙ ap (λ (o : Place). Some o) (sym left_is));
+            is = crossed end stay.left copy (record { origin = origin; stays = stay ∷ stays }) copy_is message_after (at ∙ ap (λ (o : Place). Some o) (sym left_is));
           },
           subst (λ (o : Place). AreCrossings run (crossings_of origin stays o)) (sym entered_is) (rest entered c entered_in was.0 known_there),
         )

@@ -25,7 +25,7 @@ use Rattle.network_model.specs.Evidence.{is_completing, HasOutcome, SyncWasUsed,
 use Rattle.network_model.proofs.Places.{place_at-bound, IsIn-place_at, IsIn-within}
 use Rattle.network_model.proofs.Sites.{at_site}
 use Rattle.network_model.proofs.Journeys.{IsIn-last}
-use Rattle.network_model.proofs.Travelled.{copy_of-travelled}
+use Rattle.network_model.proofs.MessagesAfter.{copy_of-message_after}
 use Rattle.network_model.proofs.Masters.{last_set_master-since}
 use Rattle.network_model.proofs.Requests.{waiting_request-is}
 use Rattle.network_model.proofs.Answers.{answered_by}
@@ -108,7 +108,7 @@ has_sync network port slave run p c report slave_is tag follow shown = record {
     moment = shown.moment;
     there = ap (place_at run) tag ∙ shown.there;
     event = shown.event;
-    travelled = shown.of_master.made;
+    message_after = shown.of_master.made;
   };
   kind = subst (λ (n : NodeName). IsOfKind run slave n report.follow_tag shown.of_master.journey.origin) (sym shown.of_master.site)
       (subst (λ (o : Option ℕ). IsOfKind run slave shown.of_master.node o shown.of_master.journey.origin) (sym follow) shown.kind);
@@ -121,7 +121,7 @@ has_sync network port slave run p c report slave_is tag follow shown = record {
   };
   small = record {
     message = shown.m;
-    arrived = sym (copy_of-travelled network shown.arrival.earlier shown.copy shown.of_master.journey shown.of_master.made) ∙ shown.used.m_is;
+    arrived = sym (copy_of-message_after network shown.arrival.earlier shown.copy shown.of_master.journey shown.of_master.made) ∙ shown.used.m_is;
     small = shown.used.small;
   };
 }
@@ -149,13 +149,13 @@ has_request network port slave run p c report request_tag response_tag shown =
         moment = shown.moment;
         there = IsIn-within run hears.hearing shown.made (IsIn-place_at run report.response_tag hears.hearing hears.there) made_in;
         event = shown.event;
-        travelled = shown.travelled;
+        message_after = shown.message_after;
       };
       drawn = shown.drawn;
       domain = shown.domain;
       small = record {
         message = shown.request;
-        arrived = sym (copy_of-travelled network shown.made.earlier shown.asked shown.journey shown.travelled) ∙ shown.request_is;
+        arrived = sym (copy_of-message_after network shown.made.earlier shown.asked shown.journey shown.message_after) ∙ shown.request_is;
         small = shown.small;
       };
     }
@@ -215,7 +215,7 @@ one_answer : (run : Run) (p q : Place) (node other : NodeName) (j k : Journey) �
 one_answer run p q node other j k one first second =
     let events : Arrive node first.copy first.moment ≡ Arrive other second.copy second.moment = sym first.event ∙ ap (λ (o : Place). o.event) one ∙ second.event in
     let copies : first.copy ≡ second.copy = cc in
-    let journeys : Some j ≡ Some k = sym first.travelled ∙ ap (λ (o : Place). journey_of o.earlier first.copy) one ∙ ap (journey_of q.earlier) copies ∙ second.travelled in
+    let journeys : Some j ≡ Some k = sym first.message_after ∙ ap (λ (o : Place). journey_of o.earlier first.copy) one ∙ ap (journey_of q.earlier) copies ∙ second.message_after in
     (cc, cc)
 
 -- what there is evidence of is what was measured

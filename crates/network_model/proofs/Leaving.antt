@@ -32,9 +32,9 @@ use Rattle.network_model.specs.Kinds.{entered_copy, spends}
 use Rattle.network_model.specs.Clock.{reading}
 use Rattle.network_model.specs.Numbering.{number_of, waiting_sync}
 use Rattle.network_model.specs.Journey.{Journey, Stay, stay_length, residence, goes_on, left_from, journey_made, journey_of}
-use Rattle.network_model.specs.Truth.{drawn, travelled, followed, responded, copy_made, copy_of, master_at, slave_at}
+use Rattle.network_model.specs.Truth.{drawn, message_after, followed, responded, copy_made, copy_of, master_at, slave_at}
 use Rattle.network_model.specs.Outcome.{◌>>=◌, node_as, clock_of, open_transit, copy_in, reads, left_outcome, outcome_of, IsRun}
-use Rattle.network_model.proofs.Travelled.{copy_of-travelled}
+use Rattle.network_model.proofs.MessagesAfter.{copy_of-message_after}
 
 -- two stays add up, and too big stays too big
 residence_added : (c : ℤ) (before after : ℕ) → with_residence (with_residence c before) after ≡ with_residence c (after + before)
@@ -94,7 +94,7 @@ general_made network (Follow node) earlier m none made = followed_general (maste
 general_made network (Arrive node copy at) earlier m none made =
     responded_general (master_at network node) (copy_of network earlier copy) (reading (place (Arrive node copy at) earlier)) m made
 general_made network (Leave node transit at) earlier m none made =
-    let both : None ≡ Some m = sym (ap (option_and_then (travelled network)) none) ∙ made in cc
+    let both : None ≡ Some m = sym (ap (option_and_then (message_after network)) none) ∙ made in cc
 general_made network _ earlier m none made = cc
 
 -- a copy without a journey is a general message
@@ -114,8 +114,8 @@ general network (event ∷ earlier) copy m none made =
     at false none made here before = before none made
 
 -- a message that goes on is an event message
-is_event-travelled : (network : Network) (journey : Journey) (m : Contents) → travelled network journey ≡ Some m → is_event m.body ≡ true
-is_event-travelled network journey m same =
+is_event-message_after : (network : Network) (journey : Journey) (m : Contents) → message_after network journey ≡ Some m → is_event m.body ≡ true
+is_event-message_after network journey m same =
     of (drawn network journey.origin.event journey.origin.earlier) (is_event-drawn network journey.origin.event journey.origin.earlier) same
   where
     of : (d : Option Contents) → ((c : Contents) → d ≡ Some c → is_event c.body ≡ true)
@@ -125,9 +125,9 @@ is_event-travelled network journey m same =
         let is : resided c (residence journey) ≡ m = cc in subst (λ (x : Contents). is_event x.body ≡ true) is (event c refl)
 
 -- a message that stays in one more clock has the residence there added
-travelled-more : (network : Network) (journey : Journey) (stay : Stay) (m : Contents) → travelled network journey ≡ Some m
-    → travelled network (record { origin = journey.origin; stays = stay ∷ journey.stays }) ≡ Some (resided m (stay_length stay))
-travelled-more network journey stay m same =
+message_after-more : (network : Network) (journey : Journey) (stay : Stay) (m : Contents) → message_after network journey ≡ Some m
+    → message_after network (record { origin = journey.origin; stays = stay ∷ journey.stays }) ≡ Some (resided m (stay_length stay))
+message_after-more network journey stay m same =
     ap (λ r. option_map (λ c. resided c r) (drawn network journey.origin.event journey.origin.earlier)) (sum_by-cons stay_length stay journey.stays)
     ∙ of (drawn network journey.origin.event journey.origin.earlier) same
   where
@@ -142,28 +142,28 @@ travelled-more network journey stay m same =
 abbrev leaves_as : (event fell : Bool) → Contents → ℕ → Option Contents
 leaves_as event fell m residence = result_ok (if event then (if fell then Err NegativeResidence else Ok (resided m residence)) else Err NotEvent)
 
-leaves_after : (network : Network) (journey : Journey) (left entered : Place) (m : Contents) → travelled network journey ≡ Some m
-    → option_and_then (travelled network) (goes_on left entered journey)
+leaves_after : (network : Network) (journey : Journey) (left entered : Place) (m : Contents) → message_after network journey ≡ Some m
+    → option_and_then (message_after network) (goes_on left entered journey)
     ≡ leaves_as true (nat_lt (reading left) (reading entered)) m (reading left - reading entered)
 leaves_after network journey left entered m same = at (nat_lt (reading left) (reading entered))
   where
     at : (fell : Bool)
-        → option_and_then (travelled network) (if fell then None else Some (record { origin = journey.origin; stays = record { entered = entered; left = left } ∷ journey.stays }))
+        → option_and_then (message_after network) (if fell then None else Some (record { origin = journey.origin; stays = record { entered = entered; left = left } ∷ journey.stays }))
         ≡ leaves_as true fell m (reading left - reading entered)
     at true = refl
-    at false = travelled-more network journey (record { entered = entered; left = left }) m same
+    at false = message_after-more network journey (record { entered = entered; left = left }) m same
 
 -- what a copy becomes that goes on by a stay, whether or not it has a journey
 goes_on-forwarded : (network : Network) (run : Run) (copy : ℕ) (m : Contents) → copy_of network run copy ≡ Some m
     → (left entered : Place) (journey : Option Journey) → journey_of run copy ≡ journey
-    → option_and_then (travelled network) (option_and_then (goes_on left entered) journey)
+    → option_and_then (message_after network) (option_and_then (goes_on left entered) journey)
     ≡ leaves_as (is_event m.body) (nat_lt (reading left) (reading entered)) m (reading left - reading entered)
 goes_on-forwarded network run copy m is left entered None made =
     ap (λ event. leaves_as event (nat_lt (reading left) (reading entered)) m (reading left - reading entered)) (sym (general network run copy m made is))
 goes_on-forwarded network run copy m is left entered (Some journey) made =
-    let same : travelled network journey ≡ Some m = sym (copy_of-travelled network run copy journey made) ∙ is in
+    let same : message_after network journey ≡ Some m = sym (copy_of-message_after network run copy journey made) ∙ is in
     leaves_after network journey left entered m same
-    ∙ ap (λ event. leaves_as event (nat_lt (reading left) (reading entered)) m (reading left - reading entered)) (sym (is_event-travelled network journey m same))
+    ∙ ap (λ event. leaves_as event (nat_lt (reading left) (reading entered)) m (reading left - reading entered)) (sym (is_event-message_after network journey m same))
 
 -- A Leave event makes what the clock makes of the copy that entered, and no copy where the clock refuses it.
 pub copy_made-forwarded : (network : Network) (run : Run) (node : NodeName) (copy transit at : ℕ) (entered : Place) (m : Contents)
@@ -172,8 +172,8 @@ pub copy_made-forwarded : (network : Network) (run : Run) (node : NodeName) (cop
     ≡ result_ok (forwarded (Ok m) (reading entered) (reading (place (Leave node transit at) run)))
 copy_made-forwarded network run node copy transit at entered m is there takes =
     let left : Place = place (Leave node transit at) run in
-    ap (λ o. option_and_then (travelled network) (option_and_then (left_from left (journey_of run)) o)) there
-    ∙ ap (λ o. option_and_then (travelled network) (option_and_then (λ c. option_and_then (goes_on left entered) (journey_of run c)) o)) takes
+    ap (λ o. option_and_then (message_after network) (option_and_then (left_from left (journey_of run)) o)) there
+    ∙ ap (λ o. option_and_then (message_after network) (option_and_then (λ c. option_and_then (goes_on left entered) (journey_of run c)) o)) takes
     ∙ goes_on-forwarded network run copy m is left entered (journey_of run copy) refl
 
 leave_at : (clock : Result (Unit {0}) WorldRefusal) (entered : Option Place) (stay : Place → Option Place)

@@ -16,7 +16,7 @@ pub mod Hearing
 pub mod Exactness
 pub mod Accepted
 pub mod Short
-pub mod Travelled
+pub mod MessagesAfter
 pub mod Leaving
 pub mod Spent
 pub mod Worked
@@ -42,7 +42,7 @@ pub mod Readings
 pub mod Twice
 pub mod Pairs
 pub mod Steady
-pub mod Ways
+pub mod Paths
 pub mod TrueTime
 pub mod Order
 pub mod Even

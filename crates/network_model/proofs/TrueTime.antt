@@ -1,4 +1,4 @@
--- Where clocks are steady, a report's error is the asymmetry of its two ways: each bracket is the time on its way and the
+-- Where clocks are steady, a report's error is the asymmetry of its two paths: each bracket is the time on its path and the
 -- difference of the two clocks, and the residences cancel.
 use Rattle.std.proofs.Common.{◌≡◌, ◌∙◌, ℕ, ℤ, pos, ◌+ℤ◌, ◌-ℤ◌, Bool, true, false, List, [], ◌∷◌, Option, Some, None, refl, sym, ap, subst, arith, option_map, option_and_then}
 use Rattle.std.specs.Prelude.{is_some, ◌&&◌}
@@ -17,7 +17,7 @@ use Rattle.network_model.specs.Present.{present_master}
 use Rattle.network_model.specs.Premises.{exact_limits, IsFreshAndTickedFor}
 use Rattle.network_model.specs.Reported.{Reports}
 use Rattle.network_model.specs.Exact.{IsBracketOf, IsOfOneSync, IsOfOneRequest, IsTwice, LearnsDeparture, OfPresentMaster}
-use Rattle.network_model.specs.Level.{crossings_of, way_to, maker_heard, time_on, moment_at, IsSteady}
+use Rattle.network_model.specs.Level.{crossings_of, path_to, maker_heard, time_on, moment_at, IsSteady}
 use Rattle.network_model.specs.TrueTime.{twice, IsAsymmetric, ErrorIsAsymmetry}
 use Rattle.network_model.proofs.Places.{IsRun-place_at, IsIn-place_at, IsIn-within}
 use Rattle.network_model.proofs.Sites.{at_kind, at_site}
@@ -28,7 +28,7 @@ use Rattle.network_model.proofs.Pairing.{shorter_for, meet_for, until_each, plac
 use Rattle.network_model.proofs.Reports.{report_event, is_of_one_sync, is_of_one_request}
 use Rattle.network_model.proofs.Twice.{each_twice}
 use Rattle.network_model.proofs.Steady.{reading_is}
-use Rattle.network_model.proofs.Ways.{AreStays, stays_are, way_is}
+use Rattle.network_model.proofs.Paths.{AreStays, stays_are, path_is}
 
 -- stays of an earlier run
 stays-within : (run : Run) (p : Place) (stays : List Stay) → IsIn run p → AreStays p.earlier stays → AreStays run stays
@@ -59,18 +59,18 @@ request_steps_none : (event : Event) → is_request event ≡ true → is_step e
 request_steps_none (Request node at) is = refl
 request_steps_none _ is = cc
 
--- each bracket is the time on the way and the difference of the clocks
+-- each bracket is the time on the path and the difference of the clocks
 bracket_is : (network : Network) (run : Run) (arrival : Place) (journey : Journey) (copy moment : ℕ) (here there : NodeName) (a : ℤ) → IsRun network run → IsSteady run
     → IsIn run arrival → arrival.event ≡ Arrive here copy moment → journey_of arrival.earlier copy ≡ Some journey
     → is_some (true_moment journey.origin.event) ≡ true → is_step journey.origin.event ≡ false → site_of journey.origin.event ≡ there
     → IsBracketOf arrival journey a
     → a ≡ time_on (crossings_of journey.origin journey.stays arrival) +ℤ (difference here run -ℤ difference there run)
-bracket_is network run arrival journey copy moment here there a accepted steady arrival_in event travelled timed steps site bracket =
+bracket_is network run arrival journey copy moment here there a accepted steady arrival_in event message_after timed steps site bracket =
     let before : IsRun network arrival.earlier = IsRun-place_at network run (tag_of arrival) arrival accepted arrival_in in
-    let origin_in : IsIn run journey.origin = IsIn-within run arrival journey.origin arrival_in (IsIn-origin arrival.earlier copy journey travelled) in
+    let origin_in : IsIn run journey.origin = IsIn-within run arrival journey.origin arrival_in (IsIn-origin arrival.earlier copy journey message_after) in
     let arrival_timed : is_some (true_moment arrival.event) ≡ true = ap (λ (e : Event). is_some (true_moment e)) event in
-    let stays = stays-within run arrival journey.stays arrival_in (stays_are network arrival.earlier copy journey before travelled) in
-    let way = way_is network run journey.origin journey.stays arrival accepted steady stays in
+    let stays = stays-within run arrival journey.stays arrival_in (stays_are network arrival.earlier copy journey before message_after) in
+    let path = path_is network run journey.origin journey.stays arrival accepted steady stays in
     let arrived = reading_is network run arrival here accepted steady arrival_in arrival_timed (ap is_step event) (ap site_of event) in
     let left = reading_is network run journey.origin there accepted steady origin_in timed steps site in
     let shown : Some bracket.arrived ≡ Some (pos (reading arrival)) = sym bracket.arrival_shown ∙ shown_reading network run arrival accepted arrival_in arrival_timed in
@@ -78,7 +78,7 @@ bracket_is network run arrival journey copy moment here there a accepted steady 
     let one : bracket.arrived ≡ pos (reading arrival) = cc in
     let other : bracket.left ≡ pos (reading journey.origin) = cc in
     sums a bracket.arrived bracket.left (residence journey) (time_on (crossings_of journey.origin journey.stays arrival)) (moment_at arrival) (moment_at journey.origin)
-    (difference here run) (difference there run) bracket.value (one ∙ arrived) (other ∙ left) way
+    (difference here run) (difference there run) bracket.value (one ∙ arrived) (other ∙ left) path
   where
     sums : (a arrived left : ℤ) (r : ℕ) (t m n d e : ℤ) → a ≡ (arrived -ℤ left) -ℤ pos r → arrived ≡ m +ℤ d → left ≡ n +ℤ e → t +ℤ pos r ≡ m -ℤ n → a ≡ t +ℤ (d -ℤ e)
     sums a arrived left r t m n d e f g h k = omega (arith, ints)
@@ -119,21 +119,21 @@ asymmetric network run answered report master accepted steady there sync request
     let kind : draws_sync sync.journey.origin.event ≡ true = at_kind draws_sync sync.master sync.journey.origin.event drawn in
     let asked : is_request request.journey.origin.event ≡ true = at_kind is_request slave request.journey.origin.event request.request.drawn in
     let a = bracket_is network run sync.arrival sync.journey arrives.copy arrives.moment slave master double.a accepted steady
-    (IsIn-place_at run report.sync_tag sync.arrival arrival_at) arrives.event arrives.travelled (sync_timed sync.journey.origin.event kind)
+    (IsIn-place_at run report.sync_tag sync.arrival arrival_at) arrives.event arrives.message_after (sync_timed sync.journey.origin.event kind)
     (sync_steps_none sync.journey.origin.event kind) (at_site draws_sync sync.master sync.journey.origin.event drawn ∙ sync_master) double.of_sync in
     let b = bracket_is network run request.arrival request.journey back_arrives.copy back_arrives.moment master slave double.b accepted steady
     (IsIn-place_at run (tag_of request.arrival) request.arrival back_at)
-    (back_arrives.event ∙ ap (λ (n : NodeName). Arrive n back_arrives.copy back_arrives.moment) request_master) back_arrives.travelled
+    (back_arrives.event ∙ ap (λ (n : NodeName). Arrive n back_arrives.copy back_arrives.moment) request_master) back_arrives.message_after
     (request_timed request.journey.origin.event asked) (request_steps_none request.journey.origin.event asked)
     (at_site is_request slave request.journey.origin.event request.request.drawn) double.of_request in
     record {
       there = crossings_of sync.journey.origin sync.journey.stays sync.arrival;
       back = crossings_of request.journey.origin request.journey.stays request.arrival;
-      sync = ap (option_and_then way_to) arrival_at ∙ way_of sync.arrival sync.journey arrives.copy (ap timed_copy arrives.event) arrives.travelled;
-      request = ap (λ (o : Option Place). option_and_then way_to (option_and_then maker_heard o)) hearing_at
-          ∙ ap (λ (o : Option ℕ). option_and_then way_to (option_and_then (place_at hears.hearing.earlier) o)) (ap heard_copy hears.event)
-          ∙ ap (option_and_then way_to) hears.made_by
-          ∙ way_of request.arrival request.journey back_arrives.copy (ap timed_copy back_arrives.event) back_arrives.travelled;
+      sync = ap (option_and_then path_to) arrival_at ∙ path_of sync.arrival sync.journey arrives.copy (ap timed_copy arrives.event) arrives.message_after;
+      request = ap (λ (o : Option Place). option_and_then path_to (option_and_then maker_heard o)) hearing_at
+          ∙ ap (λ (o : Option ℕ). option_and_then path_to (option_and_then (place_at hears.hearing.earlier) o)) (ap heard_copy hears.event)
+          ∙ ap (option_and_then path_to) hears.made_by
+          ∙ path_of request.arrival request.journey back_arrives.copy (ap timed_copy back_arrives.event) back_arrives.message_after;
       offset = double.offset
           ∙ offsets double.a double.b (time_on (crossings_of sync.journey.origin sync.journey.stays sync.arrival)) (time_on (crossings_of request.journey.origin request.journey.stays request.arrival))
           (difference slave run) (difference master run) a b;
@@ -142,11 +142,11 @@ asymmetric network run answered report master accepted steady there sync request
           (difference slave run) (difference master run) a b;
     }
   where
-    way_of : (p : Place) (journey : Journey) (copy : ℕ) → timed_copy p.event ≡ Some copy → journey_of p.earlier copy ≡ Some journey
-        → way_to p ≡ Some (crossings_of journey.origin journey.stays p)
-    way_of p journey copy copy_is travelled =
+    path_of : (p : Place) (journey : Journey) (copy : ℕ) → timed_copy p.event ≡ Some copy → journey_of p.earlier copy ≡ Some journey
+        → path_to p ≡ Some (crossings_of journey.origin journey.stays p)
+    path_of p journey copy copy_is message_after =
         ap (option_and_then (λ (copy : ℕ). option_map (λ (journey : Journey). crossings_of journey.origin journey.stays p) (journey_of p.earlier copy))) copy_is
-        ∙ ap (option_map (λ (journey : Journey). crossings_of journey.origin journey.stays p)) travelled
+        ∙ ap (option_map (λ (journey : Journey). crossings_of journey.origin journey.stays p)) message_after
 
     offsets : (a b x y s m : ℤ) → a ≡ x +ℤ (s -ℤ m) → b ≡ y +ℤ (m -ℤ s) → offset2 a b ≡ twice (s -ℤ m) +ℤ (x -ℤ y)
     offsets a b x y s m e f = omega (arith, ints)

@@ -15,7 +15,7 @@ use Rattle.network_model.specs.Network.{Network, NodeName, PortSetup}
 use Rattle.network_model.specs.Run.{Run, Place, IsIn, place_at, tag_of, until, site_of, events_after}
 use Rattle.network_model.specs.Kinds.{is_at, is_sync, is_one_step_sync, is_request, spends}
 use Rattle.network_model.specs.Journey.{Journey}
-use Rattle.network_model.specs.Truth.{master_at, slave_at, travelled}
+use Rattle.network_model.specs.Truth.{master_at, slave_at, message_after}
 use Rattle.network_model.specs.Outcome.{outcome_of, IsRun}
 use Rattle.network_model.specs.Present.{present_master}
 use Rattle.network_model.specs.Premises.{Premise, IsAcceptedRun, is_used}
@@ -80,7 +80,7 @@ pub record ShareDomain (network : Network) (slave master : NodeName) : Type 0 wh
 -- the correction of a message at the end of its journey isn't too big
 pub record IsRepresented (network : Network) (journey : Journey) : Type 0 where
   pub message : Contents
-  pub arrived : travelled network journey ≡ Some message
+  pub arrived : message_after network journey ≡ Some message
   pub small : IsTrue (int_lt message.header.correction.0 too_big)
 
 -- the event of this tag is the hearing of a Follow_Up of this master

@@ -1,4 +1,4 @@
--- Journeys: the way of a copy of an event message from the event that drew it, through clocks (IEEE 1588-2019, 10.2).
+-- Journeys: an event message from the event that drew its number, through clocks (IEEE 1588-2019, 10.2).
 use Rattle.std.specs.Prelude.{ℕ, ◌-◌, List, [], ◌∷◌, length, sum_by, nat_lt, ◌==◌, if◌then◌else◌, Option, Some, None}
 use Rattle.std.specs.Prelude.{option_and_then}
 use Rattle.network_model.specs.declared.event.Event.{Event}

@@ -28,13 +28,13 @@ abbrev pub time_of : Crossing → ℤ
 time_of c = moment_at c.to -ℤ moment_at c.from
 
 -- two crossings start at one node and end at one node
-abbrev pub is_same_way : (from to other_from other_to : Place) → Bool
-is_same_way from to other_from other_to =
+abbrev pub is_same_direction : (from to other_from other_to : Place) → Bool
+is_same_direction from to other_from other_to =
     is_named (site_of from.event) (site_of other_from.event) && is_named (site_of to.event) (site_of other_to.event)
 
 -- two crossings go over one cable: between the same two nodes, either way
 abbrev pub is_same_cable : Crossing → Crossing → Bool
-is_same_cable c d = is_same_way c.from c.to d.from d.to || is_same_way c.from c.to d.to d.from
+is_same_cable c d = is_same_direction c.from c.to d.from d.to || is_same_direction c.from c.to d.to d.from
 
 -- the crossing that ends at an event, where an event message comes to it
 abbrev pub crossing_to : Place → Option Crossing
@@ -76,39 +76,39 @@ abbrev pub crossings_of : Place → List Stay → Place → List Crossing
 crossings_of origin [] end = crossing origin end ∷ []
 crossings_of origin (stay ∷ stays) end = crossing stay.left end ∷ crossings_of origin stays stay.entered
 
--- the way of the copy that came to an event: its crossings, the last one first
-abbrev pub way_to : Place → Option (List Crossing)
-way_to p = option_and_then
+-- the path of the copy that came to an event: its crossings, the last one first
+abbrev pub path_to : Place → Option (List Crossing)
+path_to p = option_and_then
     (λ copy. option_map (λ journey. crossings_of journey.origin journey.stays p) (journey_of p.earlier copy))
     (timed_copy p.event)
 
--- the way of a report's Sync
-abbrev pub sync_way : Run → Report → Option (List Crossing)
-sync_way run report = option_and_then way_to (place_at run report.sync_tag)
+-- the path of a report's Sync
+abbrev pub sync_path : Run → Report → Option (List Crossing)
+sync_path run report = option_and_then path_to (place_at run report.sync_tag)
 
 -- the event that made the copy that is heard at an event
 abbrev pub maker_heard : Place → Option Place
 maker_heard p = option_and_then (place_at p.earlier) (heard_copy p.event)
 
--- the way of a report's Delay_Req, to the arrival that made its Delay_Resp
-abbrev pub request_way : Run → Report → Option (List Crossing)
-request_way run report = option_and_then way_to (option_and_then maker_heard (place_at run report.response_tag))
+-- the path of a report's Delay_Req, to the arrival that made its Delay_Resp
+abbrev pub request_path : Run → Report → Option (List Crossing)
+request_path run report = option_and_then path_to (option_and_then maker_heard (place_at run report.response_tag))
 
--- the true times that the crossings of a way take, all together
+-- the true times that the crossings of a path take, all together
 abbrev pub time_on : List Crossing → ℤ
-time_on way = fold (λ total c. total +ℤ time_of c) (pos 0) way
+time_on path = fold (λ total c. total +ℤ time_of c) (pos 0) path
 
--- a way goes back over the cables of another one
-abbrev pub GoesBackOver : (way back : List Crossing) → Type 0
-GoesBackOver way back = AllZip (λ c d. IsTrue (is_same_cable c d)) back (reverse way)
+-- a path goes back over the cables of another one
+abbrev pub GoesBackOver : (path back : List Crossing) → Type 0
+GoesBackOver path back = AllZip (λ c d. IsTrue (is_same_cable c d)) back (reverse path)
 
 -- A level network, for a report: the clocks are steady, a cable takes one time whenever and whichever way it is
 -- crossed, and the report's Delay_Req went back over the cables of its Sync.
 pub record IsLevelFor (run : Run) (report : Report) : Type 0 where
   pub there : List Crossing
   pub back : List Crossing
-  pub sync : sync_way run report ≡ Some there
-  pub request : request_way run report ≡ Some back
+  pub sync : sync_path run report ≡ Some there
+  pub request : request_path run report ≡ Some back
   pub steady : IsSteady run
   pub even : HasEvenCables run
   pub goes_back : GoesBackOver there back

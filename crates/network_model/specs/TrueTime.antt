@@ -1,4 +1,4 @@
--- Statements on true time: a report's error is the asymmetry of its two ways, and slaves of one master agree.
+-- Statements on true time: a report's error is the asymmetry of its two paths, and slaves of one master agree.
 -- `laws::reports_tell_true_time` promises them.
 use Rattle.std.specs.Prelude.{◌≡◌, ℕ, ℤ, ◌+ℤ◌, ◌-ℤ◌, List, Some}
 use Rattle.slave_port.specs.declared.heard.Report.{Report}
@@ -8,24 +8,24 @@ use Rattle.network_model.specs.Clock.{difference, clock_shows}
 use Rattle.network_model.specs.Present.{present_master}
 use Rattle.network_model.specs.Premises.{Premise, SlavePremise, exact_limits, IsAcceptedRun, IsFreshAndTickedFor}
 use Rattle.network_model.specs.Reported.{ReportedIn}
-use Rattle.network_model.specs.Level.{Crossing, sync_way, request_way, time_on, IsSteady, IsLevelFor}
+use Rattle.network_model.specs.Level.{Crossing, sync_path, request_path, time_on, IsSteady, IsLevelFor}
 
 -- a number doubled
 abbrev pub twice : ℤ → ℤ
 twice x = x +ℤ x
 
--- twice the offset is twice the true difference of the two clocks and the asymmetry of the two ways, and twice the path
--- delay is both ways together
+-- twice the offset is twice the true difference of the two clocks and the asymmetry of the two paths, and twice the path
+-- delay is both paths together
 pub record IsAsymmetric (run : Run) (slave master : NodeName) (report : Report) : Type 0 where
   pub there : List Crossing
   pub back : List Crossing
-  pub sync : sync_way run report ≡ Some there
-  pub request : request_way run report ≡ Some back
+  pub sync : sync_path run report ≡ Some there
+  pub request : request_path run report ≡ Some back
   pub offset : report.offset2
       ≡ twice (difference slave run -ℤ difference master run) +ℤ (time_on there -ℤ time_on back)
   pub path : report.path2 ≡ time_on there +ℤ time_on back
 
--- Where clocks are steady, the error of each report is exactly the asymmetry of its two ways.
+-- Where clocks are steady, the error of each report is exactly the asymmetry of its two paths.
 abbrev pub ErrorIsAsymmetry : SlavePremise → Type 0
 ErrorIsAsymmetry premise =
     (network : Network) (run : Run) (slave master : NodeName) (report : Report)
@@ -34,9 +34,9 @@ ErrorIsAsymmetry premise =
     → present_master slave reported.answered.earlier ≡ Some master
     → IsAsymmetric run slave master report
 
--- In a level network both ways of each report take one time.
-abbrev pub WaysAreEven : Premise → Type 0
-WaysAreEven premise =
+-- In a level network both paths of each report take one time.
+abbrev pub PathsAreEven : Premise → Type 0
+PathsAreEven premise =
     (network : Network) (run : Run) (slave : NodeName) (report : Report)
     → premise network run → ReportedIn network run slave report
     → (level : IsLevelFor run report) → time_on level.there ≡ time_on level.back
@@ -59,8 +59,8 @@ SlavesAgree premise =
     → KnowsMaster run one master first moment × KnowsMaster run other master second moment
 
 -- What reports say of true time, over runs of any length that are fresh and ticked for the slaves that report. That the
--- ways of a level network take one time is so in all accepted runs.
+-- paths of a level network take one time is so in all accepted runs.
 pub record TellsTrueTime : Type 0 where
   pub error : ErrorIsAsymmetry (IsFreshAndTickedFor exact_limits)
-  pub even : WaysAreEven IsAcceptedRun
+  pub even : PathsAreEven IsAcceptedRun
   pub agreement : SlavesAgree (IsFreshAndTickedFor exact_limits)

@@ -38,8 +38,8 @@ drawn network (Request node at) earlier =
 drawn network _ earlier = None
 
 -- a message at the end of its journey: as it was drawn, with the residence of the journey added to its correction
-abbrev pub travelled : Network → Journey → Option Contents
-travelled network journey =
+abbrev pub message_after : Network → Journey → Option Contents
+message_after network journey =
     option_map (λ m. resided m (residence journey)) (drawn network journey.origin.event journey.origin.earlier)
 
 -- the Follow_Up of a waiting Sync: its number, and its reading as t1
@@ -57,7 +57,7 @@ copy_made network (SyncOne node at) earlier copies = drawn network (SyncOne node
 copy_made network (Follow node) earlier copies =
     option_and_then (λ port. option_map (followed port) (waiting_sync node earlier)) (master_at network node)
 copy_made network (Leave node transit at) earlier copies =
-    option_and_then (travelled network) (journey_made (Leave node transit at) earlier (journey_of earlier))
+    option_and_then (message_after network) (journey_made (Leave node transit at) earlier (journey_of earlier))
 copy_made network (Arrive node copy at) earlier copies =
     option_and_then (λ port. option_and_then (responded port (reading (place (Arrive node copy at) earlier)))
     (copies copy)) (master_at network node)

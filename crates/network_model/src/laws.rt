@@ -32,8 +32,8 @@ pub fn no_pair_is_missed()
 
 /// What reports say of true time in runs, of whatever length, that are fresh and ticked for the slaves
 /// that report. Where clocks are steady, twice the offset is twice the true difference of the two clocks
-/// and the asymmetry of the two ways, and twice the path delay is both ways together. In a level network
-/// two slaves of one master agree at every true moment, and in every accepted run both ways take one time.
+/// and the asymmetry of the two paths, and twice the path delay is both paths together. In a level network
+/// two slaves of one master agree at every true moment, and in every accepted run both paths take one time.
 pub fn reports_tell_true_time()
     ensures { TellsTrueTime }
 {}

@@ -53,7 +53,7 @@ use Rattle.trace_model.proofs.Soundness.{verdicts_tell_soundness}
 use Rattle.trace_model.proofs.Certain.{set_master_certain}
 use Rattle.trace_model.proofs.Found.{same_event, same_number, line_counts}
 use Rattle.trace_model.proofs.Last.{last_at, last_at-set_master, last_told}
-use Rattle.trace_model.proofs.Travelled.{accepted_told}
+use Rattle.trace_model.proofs.MessagesAfter.{accepted_told}
 use Rattle.trace_model.proofs.OctetsOfExchanges.{each_exchange_is_written}
 use Rattle.trace_model.proofs.Exchanges.{sync_found, follow_found, request_found, answer_found, stamp_found}
 use Rattle.trace_model.proofs.Measured.{before_it, followed, bracket_told, fits_told}
@@ -234,14 +234,14 @@ module _ (network : Network) (answered : Place) (e : LinePlace) (report : Report
       ap (λ (v : Event). is_some (true_moment v)) os.sync.arrives.event in
       let arrival_timed : is_some (true_moment or.arrival.event) ≡ true =
       ap (λ (v : Event). is_some (true_moment v)) or.request.arrives.event in
-      let sync_way = followed network answered e tells draws_sync os.arrival sync.e os.journey os.sync.arrives.copy
+      let sync_path = followed network answered e tells draws_sync os.arrival sync.e os.journey os.sync.arrives.copy
       sync.tells sync_in (ap heard_copy os.sync.arrives.event) sync_timed_at
-      os.sync.arrives.travelled sync_kind (sync_timed os.journey.origin.event sync_kind) in
-      let request_way = followed network answered e tells is_request or.arrival answer.e or.journey
+      os.sync.arrives.message_after sync_kind (sync_timed os.journey.origin.event sync_kind) in
+      let request_path = followed network answered e tells is_request or.arrival answer.e or.journey
       or.request.arrives.copy answer.tells arrival_in (ap heard_copy or.request.arrives.event)
-      arrival_timed or.request.arrives.travelled request_kind (request_timed or.journey.origin.event request_kind) in
+      arrival_timed or.request.arrives.message_after request_kind (request_timed or.journey.origin.event request_kind) in
       let sync_origin_in = IsIn-within run os.arrival os.journey.origin sync_in
-      (IsIn-origin os.arrival.earlier os.sync.arrives.copy os.journey os.sync.arrives.travelled) in
+      (IsIn-origin os.arrival.earlier os.sync.arrives.copy os.journey os.sync.arrives.message_after) in
       let request_origin_in = IsIn-place_at run report.request_tag or.journey.origin or.request.requested in
       let x : Exchange = record { sync = sync.e; follow = follow.found; request = request.e; arrival = answer.e } in
       let lines : exchange_of network slave e report ≡ Some x =
@@ -250,56 +250,56 @@ module _ (network : Network) (answered : Place) (e : LinePlace) (report : Report
       (line_of network (lines_to e) is_request slave report.request_tag)
       (arrival_line network (lines_to e) slave report.response_tag) else None) in_place
       ∙ (λ i. whole (sync.there i) (follow.there i) (request.there i) (answer.there i)) in
-      let site_sync : site sync_way.by_lines.origin ≡ os.master =
-      ap site_of (same_event network os.journey.origin sync_way.by_lines.origin sync_way.tells.origin)
+      let site_sync : site sync_path.by_lines.origin ≡ os.master =
+      ap site_of (same_event network os.journey.origin sync_path.by_lines.origin sync_path.tells.origin)
       ∙ at_site draws_sync os.master os.journey.origin.event sync_drawn in
       let site_arrival : site answer.e ≡ os.master =
       ap site_of (same_event network or.arrival answer.e answer.tells ∙ or.request.arrives.event) ∙ one_master in
-      let of_present : is_present_master network slave (site sync_way.by_lines.origin) e report ≡ true =
+      let of_present : is_present_master network slave (site sync_path.by_lines.origin) e report ≡ true =
       ap (λ (m : NodeName). is_present_master network slave m e report) site_sync ∙ present os.master os.present in
-      let named : is_named (site answer.e) (site sync_way.by_lines.origin) ≡ true =
-      ap (λ (m : NodeName). is_named m (site sync_way.by_lines.origin)) site_arrival
+      let named : is_named (site answer.e) (site sync_path.by_lines.origin) ≡ true =
+      ap (λ (m : NodeName). is_named m (site sync_path.by_lines.origin)) site_arrival
       ∙ ap (is_named os.master) site_sync ∙ named-self os.master in
-      let domain : is_domain (slave_at network slave) (master_at network (site sync_way.by_lines.origin)) ≡ true =
+      let domain : is_domain (slave_at network slave) (master_at network (site sync_path.by_lines.origin)) ≡ true =
       ap (λ (m : NodeName). is_domain (slave_at network slave) (master_at network m)) site_sync
       ∙ one_domain network slave os.master shown.domain in
-      let of_master : is_of_master network slave e report x sync_way.by_lines ≡ true =
+      let of_master : is_of_master network slave e report x sync_path.by_lines ≡ true =
       λ i. of_present i && named i && domain i in
-      let followed_by = follow.followed sync_way.by_lines.origin sync_way.tells.origin in
-      let own : (line_number request_way.by_lines.origin == line_number request.e) ≡ true =
-      eq-eqb (line_number request_way.by_lines.origin) (line_number request.e)
-      (same_number network or.journey.origin request_way.by_lines.origin request_way.tells.origin
+      let followed_by = follow.followed sync_path.by_lines.origin sync_path.tells.origin in
+      let own : (line_number request_path.by_lines.origin == line_number request.e) ≡ true =
+      eq-eqb (line_number request_path.by_lines.origin) (line_number request.e)
+      (same_number network or.journey.origin request_path.by_lines.origin request_path.tells.origin
       ∙ sym (same_number network or.journey.origin request.e request.tells)) in
       let a = bracket_told network run draws_sync e os.arrival sync.e os.journey measured.exact.a accepted sync_in
       sync_timed_at sync_origin_in (sync_timed os.journey.origin.event sync_kind)
-      measured.exact.of_sync sync_way in
+      measured.exact.of_sync sync_path in
       let b = bracket_told network run is_request e or.arrival answer.e or.journey measured.exact.b accepted
       arrival_in arrival_timed request_origin_in (request_timed or.journey.origin.event request_kind)
-      measured.exact.of_request request_way in
+      measured.exact.of_request request_path in
       let offset : int_eq report.offset2
-      (offset2 (bracket sync.e sync_way.by_lines) (bracket answer.e request_way.by_lines)) ≡ true =
+      (offset2 (bracket sync.e sync_path.by_lines) (bracket answer.e request_path.by_lines)) ≡ true =
       (Decides-int_eq report.offset2
-      (offset2 (bracket sync.e sync_way.by_lines) (bracket answer.e request_way.by_lines))).1
+      (offset2 (bracket sync.e sync_path.by_lines) (bracket answer.e request_path.by_lines))).1
       (measured.exact.offset ∙ (λ i. offset2 (a i) (b i))) in
       let path : int_eq report.path2
-      (path2 (bracket sync.e sync_way.by_lines) (bracket answer.e request_way.by_lines)) ≡ true =
+      (path2 (bracket sync.e sync_path.by_lines) (bracket answer.e request_path.by_lines)) ≡ true =
       (Decides-int_eq report.path2
-      (path2 (bracket sync.e sync_way.by_lines) (bracket answer.e request_way.by_lines))).1
+      (path2 (bracket sync.e sync_path.by_lines) (bracket answer.e request_path.by_lines))).1
       (measured.exact.path ∙ (λ i. path2 (a i) (b i))) in
       record {
         x = x;
-        sync = sync_way.by_lines;
-        request = request_way.by_lines;
+        sync = sync_path.by_lines;
+        request = request_path.by_lines;
         lines = subst (λ (name : NodeName). exchange_of network name e report ≡ Some x) (sym here) lines;
-        sync_unbroken = sync_way.there;
-        request_unbroken = request_way.there;
+        sync_unbroken = sync_path.there;
+        request_unbroken = request_path.there;
         paired = λ i. followed_by i && own i;
-        of_master = subst (λ (name : NodeName). is_of_master network name e report x sync_way.by_lines ≡ true)
+        of_master = subst (λ (name : NodeName). is_of_master network name e report x sync_path.by_lines ≡ true)
             (sym here) of_master;
-        readings = λ i. sync_way.arrival_right i && sync_way.journey_right i && request_way.arrival_right i
-            && request_way.journey_right i;
-        sync_fits = fits_told network draws_sync e os.arrival sync.e os.journey shown.sync_small sync_way;
-        request_fits = fits_told network is_request e or.arrival answer.e or.journey shown.request_small request_way;
+        readings = λ i. sync_path.arrival_right i && sync_path.journey_right i && request_path.arrival_right i
+            && request_path.journey_right i;
+        sync_fits = fits_told network draws_sync e os.arrival sync.e os.journey shown.sync_small sync_path;
+        request_fits = fits_told network is_request e or.arrival answer.e or.journey shown.request_small request_path;
         results = λ i. offset i && path i;
       }
     where

@@ -39,7 +39,7 @@ use Rattle.trace_model.proofs.Certain.{is_certain, sync_certain, request_certain
 use Rattle.trace_model.proofs.Good.{made_told, the_value}
 use Rattle.trace_model.proofs.Found.{same_event, same_number, same_length, line_counts, each_event_has_its_line}
 use Rattle.trace_model.proofs.Last.{last_at-waiting, last_at-alone, last_told}
-use Rattle.trace_model.proofs.Travelled.{accepted_told, certain_took}
+use Rattle.trace_model.proofs.MessagesAfter.{accepted_told, certain_took}
 use Rattle.trace_model.proofs.Octets.{arrival_parts}
 use Rattle.slave_port.specs.declared.heard.Heard.TheVariants as answers
 use Rattle.slave_port.specs.History as calls

@@ -20,13 +20,13 @@ use Rattle.network_model.specs.Run.{Run, Place, place, place_at, site_of}
 use Rattle.network_model.specs.Kinds.{entered_copy, spends}
 use Rattle.network_model.specs.Clock.{reading, reading_of}
 use Rattle.network_model.specs.Journey.{Journey, residence, journey_made, journey_of}
-use Rattle.network_model.specs.Truth.{drawn, travelled, copy_made, copy_of}
+use Rattle.network_model.specs.Truth.{drawn, message_after, copy_made, copy_of}
 use Rattle.network_model.specs.Outcome.{◌>>=◌, node_as, clock_of, reads, open_transit}
 use Rattle.network_model.specs.Outcome.{copy_in, left_outcome, outcome_of}
 use Rattle.network_model.proofs.Options.{ok_step, ok_some}
 use Rattle.network_model.proofs.Sites.{named-same}
 use Rattle.network_model.proofs.Journeys.{continued, same_origin}
-use Rattle.network_model.proofs.Travelled.{copy_of-travelled}
+use Rattle.network_model.proofs.MessagesAfter.{copy_of-message_after}
 use Rattle.network_model.proofs.Leaving.{copy_made-forwarded, copy_of-ahead, copy_of-since}
 
 -- the stay that a Leave event ends, and what came of it
@@ -125,7 +125,7 @@ pub message_of : (network : Network) (run : Run) (copy : ℕ) (m : Contents) (jo
 message_of network run copy m journey is made =
     let drawn_is = some_image (λ (c : Contents). resided c (residence journey))
     (drawn network journey.origin.event journey.origin.earlier)
-    (sym (copy_of-travelled network run copy journey made) ∙ is) in
+    (sym (copy_of-message_after network run copy journey made) ∙ is) in
     (drawn_is.0, drawn_is.1)
 
 -- where the copy goes on, the clock made a message
@@ -150,7 +150,7 @@ left_made network earlier node transit at outcome journey is made =
     ap (λ (o : Place). drawn network o.event o.earlier) (sym origin) ∙ drew.1 in
     let sent : copy_made network (Leave node transit at) earlier (copy_of network earlier)
     ≡ Some (resided drew.0 (residence journey)) =
-    ap (option_and_then (travelled network)) made
+    ap (option_and_then (message_after network)) made
     ∙ ap (option_map (λ (c : Contents). resided c (residence journey))) drew_here in
     let forward : Result Contents ClockRefusal =
     forwarded (Ok left.m) (reading left.entered) (reading (place (Leave node transit at) earlier)) in

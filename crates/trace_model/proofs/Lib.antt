@@ -6,7 +6,7 @@ pub mod Found
 pub mod Recorded
 pub mod Last
 pub mod Left
-pub mod Travelled
+pub mod MessagesAfter
 pub mod Stays
 pub mod Soundness
 pub mod Packets

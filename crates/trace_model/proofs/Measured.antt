@@ -28,14 +28,14 @@ use Rattle.network_model.proofs.Places.{IsIn-before, IsIn-within, IsRun-place_at
 use Rattle.network_model.proofs.Made.{journey_of-place_at}
 use Rattle.network_model.proofs.Journeys.{IsIn-last, IsIn-origin}
 use Rattle.network_model.proofs.Readings.{shown_reading}
-use Rattle.network_model.proofs.Ways.{stays_are}
+use Rattle.network_model.proofs.Paths.{stays_are}
 use Rattle.trace_model.specs.Record.{LinePlace, event_of, line_number, events, reading, reads_right}
 use Rattle.trace_model.specs.Sound.{where_passes, below, lines_to, unbroken, stay_reads_right, journey_reads_right}
 use Rattle.trace_model.specs.Sound.{fraction_sent, fits, bracket}
 use Rattle.trace_model.specs.Told.{TellsRun}
 use Rattle.trace_model.specs.Faithful.{TellsPlace, TellsJourney}
 use Rattle.trace_model.proofs.Found.{same_event, same_number}
-use Rattle.trace_model.proofs.Travelled.{accepted_told, each_journey_is_told}
+use Rattle.trace_model.proofs.MessagesAfter.{accepted_told, each_journey_is_told}
 use Rattle.trace_model.proofs.Stays.{reading_told, stays_told, stays_spent, stays_once}
 use Rattle.trace_model.proofs.Exchanges.{passes, found_below}
 use Rattle.network_model.specs.Clock as clocks

@@ -33,12 +33,12 @@ use Rattle.network_model.proofs.Options.{ok_step, ok_some}
 use Rattle.network_model.proofs.Sites.{at_kind}
 use Rattle.network_model.proofs.Journeys.{IsIn-last}
 use Rattle.network_model.proofs.Readings.{sync_timed}
-use Rattle.network_model.proofs.Travelled.{copy_of-travelled}
+use Rattle.network_model.proofs.MessagesAfter.{copy_of-message_after}
 use Rattle.network_model.proofs.Copies.{answered as answers_request}
 use Rattle.network_model.proofs.Leaving.{copy_made-forwarded, copy_of-since}
 use Rattle.trace_model.specs.Record.{LinePlace, last_line, reading}
 use Rattle.trace_model.specs.Journey as lined
-use Rattle.trace_model.specs.Octets.{travelled, followed, answered, message_made, writes_right}
+use Rattle.trace_model.specs.Octets.{message_after, followed, answered, message_made, writes_right}
 use Rattle.trace_model.specs.Faithful.{TellsPlace}
 use Rattle.trace_model.proofs.Good.{node_is, port_is, the_value}
 use Rattle.trace_model.proofs.Found.{same_event}
@@ -46,9 +46,9 @@ use Rattle.trace_model.proofs.Recorded.{sequence_told}
 use Rattle.trace_model.proofs.Last.{last_at-waiting, last_at-is, last_told}
 use Rattle.trace_model.proofs.Certain.{sync_certain}
 use Rattle.trace_model.proofs.Left.{left_parts}
-use Rattle.trace_model.proofs.Travelled.{accepted_told, made_told, each_journey_is_told}
+use Rattle.trace_model.proofs.MessagesAfter.{accepted_told, made_told, each_journey_is_told}
 use Rattle.trace_model.proofs.Stays.{reading_told}
-use Rattle.trace_model.proofs.Written.{written, travelled_told}
+use Rattle.trace_model.proofs.Written.{written, message_after_told}
 
 -- a message that left a clock
 
@@ -70,7 +70,7 @@ left_written network node transit at earlier e tells is =
     let copy : copy_made network (Leave node transit at) earlier (copy_of network earlier) ≡ Some m.0 =
     copy_made-forwarded network earlier node left.copy transit at left.entered left.m message left.there left.takes
     ∙ m.1 in
-    let journey = some_step (truth.travelled network)
+    let journey = some_step (truth.message_after network)
     (made.journey_made (Leave node transit at) earlier (made.journey_of earlier)) copy in
     let lines = made_told network earlier e.line e.earlier tells.before
     (λ tag j known. each_journey_is_told network earlier e.earlier tag j tells.before known)
@@ -87,8 +87,8 @@ left_written network node transit at earlier e tells is =
     (sym (same_event network (place (Leave node transit at) earlier) e tells)) ∙ lines.there in
     written network (place (Leave node transit at) earlier) e m.0 tells is copy
     (ap (λ (v : Event). message_made network v e) (same_event network (place (Leave node transit at) earlier) e tells)
-    ∙ ap (option_and_then (travelled network)) by_lines
-    ∙ travelled_told network run (length earlier) journey.0 lines.by_lines accepted there lines.tells ∙ journey.2)
+    ∙ ap (option_and_then (message_after network)) by_lines
+    ∙ message_after_told network run (length earlier) journey.0 lines.by_lines accepted there lines.tells ∙ journey.2)
 
 -- a Follow_Up
 
@@ -222,9 +222,9 @@ arrival_written_at network node copy at earlier e response journey tells made is
     (subst IsOk (sym tells.told.answered.outcome) refl, accepted) in
     let read = reading_told network (Arrive node copy at ∷ earlier) (place (Arrive node copy at) earlier) e here
     (IsIn-last (Arrive node copy at) earlier) tells refl in
-    let message : travelled network lines.by_lines ≡ Some parts.m =
-    travelled_told network earlier copy journey lines.by_lines accepted is lines.tells
-    ∙ sym (copy_of-travelled network earlier copy journey is) ∙ parts.message in
+    let message : message_after network lines.by_lines ≡ Some parts.m =
+    message_after_told network earlier copy journey lines.by_lines accepted is lines.tells
+    ∙ sym (copy_of-message_after network earlier copy journey is) ∙ parts.message in
     written network (place (Arrive node copy at) earlier) e response tells
     (tells.told.answered.outcome ∙ ap Ok parts.is_made) made
     (ap (λ (v : Event). message_made network v e) (same_event network (place (Arrive node copy at) earlier) e tells)

@@ -16,7 +16,7 @@ use Rattle.network_model.proofs.Places.{tag_of-place_at, accepted-place_at, IsRu
 use Rattle.network_model.proofs.Sequences.{count-yes, count-more}
 use Rattle.network_model.proofs.Journeys.{continued}
 use Rattle.network_model.proofs.Spent.{spent_once}
-use Rattle.network_model.proofs.Ways.{IsStay, AreStays, gone_on}
+use Rattle.network_model.proofs.Paths.{IsStay, AreStays, gone_on}
 use Rattle.trace_model.specs.Line.{Lines, counts}
 use Rattle.trace_model.specs.Record.{LinePlace, line_number, events, reading, reads_right}
 use Rattle.trace_model.specs.Sound.{stay_reads_right}

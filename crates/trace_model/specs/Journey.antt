@@ -1,4 +1,4 @@
--- Journeys over lines: the way of a copy of an event message from the line that sent it, through clocks (IEEE
+-- Journeys over lines: an event message from the line that sent it, through clocks (IEEE
 -- 1588-2019, 10.2).
 use Rattle.std.specs.Prelude.{ℕ, ◌-◌, Bool, ◌&&◌, List, [], ◌∷◌, length, sum_by, count_by, nat_lt, ◌==◌}
 use Rattle.std.specs.Prelude.{if◌then◌else◌, Option, Some, None, option_map, option_and_then}

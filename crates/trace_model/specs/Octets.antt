@@ -84,8 +84,8 @@ sent network e = option_and_then
     (drawing_port network (event_of e))
 
 -- the message at the end of a journey: as it was sent, with the residence of the journey added to its correction
-abbrev pub travelled : Network → Journey → Option Contents
-travelled network journey = option_map (λ m. resided m (residence journey)) (sent network journey.origin)
+abbrev pub message_after : Network → Journey → Option Contents
+message_after network journey = option_map (λ m. resided m (residence journey)) (sent network journey.origin)
 
 -- the Follow_Up that a master sends: of its last Sync line below, whose reading is t1
 abbrev pub followed : Network → PortSetup → (last : LinePlace) → Contents
@@ -95,7 +95,7 @@ followed network port last = follow_up port.config (sequence network port last) 
 -- arrival
 abbrev pub answered : Network → PortSetup → (arrival : LinePlace) → Journey → Option Contents
 answered network port arrival journey =
-    option_map (λ request. delay_resp port.config request.header (reading arrival)) (travelled network journey)
+    option_map (λ request. delay_resp port.config request.header (reading arrival)) (message_after network journey)
 
 -- the message that a line made
 abbrev pub message_made : Network → Event → LinePlace → Option Contents
@@ -105,7 +105,7 @@ message_made network (Follow node) e = option_and_then
     (λ port. option_map (followed network port) (last_line network is_sync node e.earlier))
     (master_at network node)
 message_made network (Leave node transit at) e = option_and_then
-    (travelled network)
+    (message_after network)
     (journey_made network (Leave node transit at) e (journey_of network e.earlier))
 message_made network (Arrive node copy at) e = option_and_then
     (λ port. option_and_then (answered network port e) (journey_of network e.earlier copy))

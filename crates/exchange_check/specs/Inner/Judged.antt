@@ -16,12 +16,12 @@ use Rattle.network_model.specs.Truth.{master_at, slave_at}
 use Rattle.exchange_check.specs.declared.facts.Fact.{Fact}
 use Rattle.exchange_check.specs.declared.facts.Found.{Found}
 use Rattle.exchange_check.specs.declared.facts.Site.{Site}
-use Rattle.exchange_check.specs.declared.facts.Way.{Way}
+use Rattle.exchange_check.specs.declared.facts.FoundJourney.{FoundJourney}
 use Rattle.trace_model.specs.declared.verdict.Why.{Why}
 use Rattle.trace_model.specs.declared.verdict.Why.TheVariants.{NoSuchLine, OtherNumber, OtherMaster, BrokenJourney}
 use Rattle.trace_model.specs.declared.verdict.Why.TheVariants.{WrongReading, WrongValue, TooBig, Bytes}
 use Rattle.trace_model.specs.Sound.{where_passes, below, are_later, is_domain, is_of_line}
-use Rattle.exchange_check.specs.Inner.Kept.{Facts, Stamps, Sites, travel_at, longest}
+use Rattle.exchange_check.specs.Inner.Kept.{Facts, Stamps, Sites, kept_journey_at, longest}
 use Rattle.exchange_check.specs.Inner.Stays.{Once}
 
 -- an event of a wanted kind, where it is at this node
@@ -77,62 +77,62 @@ found_by facts stamps slave number report =
     else None
 
 -- the journey of the copy that the line of this number made
-abbrev pub way_at : Facts → ℕ → Option Way
-way_at facts copy = option_and_then
-    (λ travel. option_map (λ origin. record { travel = travel; origin = origin }) (facts travel.origin))
-    (travel_at facts copy)
+abbrev pub found_journey_at : Facts → ℕ → Option FoundJourney
+found_journey_at facts copy = option_and_then
+    (λ kept. option_map (λ origin. record { kept = kept; origin = origin }) (facts kept.origin))
+    (kept_journey_at facts copy)
 
-abbrev pub way_from : Facts → Once → (Event → Bool) → (limit copy : ℕ) → Option Way
-way_from facts once kind limit copy =
-    if nat_lt copy limit then where_passes (λ way. kind way.origin.event && once copy) (way_at facts copy) else None
+abbrev pub found_journey_from : Facts → Once → (Event → Bool) → (limit copy : ℕ) → Option FoundJourney
+found_journey_from facts once kind limit copy =
+    if nat_lt copy limit then where_passes (λ journey. kind journey.origin.event && once copy) (found_journey_at facts copy) else None
 
 -- the journey of the copy that arrives at a line, where it begins at a line of this kind and no stay was ended twice
-abbrev pub way_to : Facts → Once → (Event → Bool) → Fact → Option Way
-way_to facts once kind arrival =
-    option_and_then (way_from facts once kind arrival.line) (heard_copy arrival.event)
+abbrev pub found_journey_to : Facts → Once → (Event → Bool) → Fact → Option FoundJourney
+found_journey_to facts once kind arrival =
+    option_and_then (found_journey_from facts once kind arrival.line) (heard_copy arrival.event)
 
 abbrev pub is_followed_by : Option Fact → Fact → Bool
 is_followed_by None origin = is_one_step_sync origin.event
 is_followed_by (Some follow) origin = option_map_or (λ last. last == origin.line) follow.last_sync false
 
-abbrev pub paired_by : Found → (sync request : Way) → Bool
+abbrev pub paired_by : Found → (sync request : FoundJourney) → Bool
 paired_by found sync request =
     is_followed_by found.follow sync.origin && request.origin.line == found.request.line
 
 abbrev pub is_told : Option (NodeName × ℕ) → NodeName → Report → Bool
 is_told set master report = option_map_or (λ told. is_named told.0 master && are_later told.1 report) set false
 
-abbrev pub of_master_by : Network → Site → NodeName → Report → Found → (sync : Way) → Bool
+abbrev pub of_master_by : Network → Site → NodeName → Report → Found → (sync : FoundJourney) → Bool
 of_master_by network site slave report found sync =
     is_told site.set_master (site_of sync.origin.event) report
     && is_named (site_of found.arrival.event) (site_of sync.origin.event)
     && is_domain (slave_at network slave) (master_at network (site_of sync.origin.event))
 
-abbrev pub readings_by : Found → (sync request : Way) → Bool
+abbrev pub readings_by : Found → (sync request : FoundJourney) → Bool
 readings_by found sync request =
-    found.sync.reads_right && sync.travel.reads_right && found.arrival.reads_right && request.travel.reads_right
+    found.sync.reads_right && sync.kept.reads_right && found.arrival.reads_right && request.kept.reads_right
 
 abbrev pub fraction_by : Fact → ℕ
 fraction_by fact = if is_one_step_sync fact.event then fraction_of fact.reading else 0
 
-abbrev pub fits_by : Way → Bool
-fits_by way = nat_lt (fraction_by way.origin + way.travel.residence) longest
+abbrev pub fits_by : FoundJourney → Bool
+fits_by journey = nat_lt (fraction_by journey.origin + journey.kept.residence) longest
 
-abbrev pub bracket_by : Fact → Way → ℤ
-bracket_by arrival way = (pos arrival.reading -ℤ pos way.origin.reading) -ℤ pos way.travel.residence
+abbrev pub bracket_by : Fact → FoundJourney → ℤ
+bracket_by arrival journey = (pos arrival.reading -ℤ pos journey.origin.reading) -ℤ pos journey.kept.residence
 
-abbrev pub results_by : Report → Found → (sync request : Way) → Bool
+abbrev pub results_by : Report → Found → (sync request : FoundJourney) → Bool
 results_by report found sync request =
     int_eq report.offset2 (offset2 (bracket_by found.sync sync) (bracket_by found.arrival request))
     && int_eq report.path2 (path2 (bracket_by found.sync sync) (bracket_by found.arrival request))
 
-abbrev pub octets_by : Found → (sync request : Way) → Bool
+abbrev pub octets_by : Found → (sync request : FoundJourney) → Bool
 octets_by found sync request =
-    sync.travel.writes_right && option_map_or (λ follow. follow.writes_right) found.follow true
-    && request.travel.writes_right && found.arrival.writes_right
+    sync.kept.writes_right && option_map_or (λ follow. follow.writes_right) found.follow true
+    && request.kept.writes_right && found.arrival.writes_right
 
-abbrev pub ways_reason : Network → Site → NodeName → Report → Found → (sync request : Way) → Option Why
-ways_reason network site slave report found sync request =
+abbrev pub journeys_reason_by : Network → Site → NodeName → Report → Found → (sync request : FoundJourney) → Option Why
+journeys_reason_by network site slave report found sync request =
     if not (paired_by found sync request) then Some OtherNumber
     else if not (of_master_by network site slave report found sync) then Some OtherMaster
     else if not (readings_by found sync request) then Some WrongReading
@@ -141,18 +141,18 @@ ways_reason network site slave report found sync request =
     else if not (octets_by found sync request) then Some Bytes
     else None
 
-abbrev pub both_ways : Network → Site → NodeName → Report → Found → Option Way → Option Way → Option Why
-both_ways network site slave report found None request = Some BrokenJourney
-both_ways network site slave report found (Some sync) None = Some BrokenJourney
-both_ways network site slave report found (Some sync) (Some request) =
-    ways_reason network site slave report found sync request
+abbrev pub both_journeys : Network → Site → NodeName → Report → Found → Option FoundJourney → Option FoundJourney → Option Why
+both_journeys network site slave report found None request = Some BrokenJourney
+both_journeys network site slave report found (Some sync) None = Some BrokenJourney
+both_journeys network site slave report found (Some sync) (Some request) =
+    journeys_reason_by network site slave report found sync request
 
 abbrev pub found_reason : Network → Facts → Once → Site → NodeName → Report → Option Found → Option Why
 found_reason network facts once site slave report None = Some NoSuchLine
 found_reason network facts once site slave report (Some found) =
-    both_ways network site slave report found
-    (way_to facts once draws_sync found.sync)
-    (way_to facts once is_request found.arrival)
+    both_journeys network site slave report found
+    (found_journey_to facts once draws_sync found.sync)
+    (found_journey_to facts once is_request found.arrival)
 
 -- why a report at a line that tells of something done isn't sound, or nothing where it is
 abbrev pub fact_reason : Network → Facts → Once → Stamps → Sites → Fact → Report → Option Why

@@ -20,7 +20,7 @@ use Rattle.network_model.specs.Truth.{master_at, slave_at}
 use Rattle.exchange_check.specs.declared.facts.Fact.{Fact}
 use Rattle.exchange_check.specs.declared.facts.Known.{Known}
 use Rattle.exchange_check.specs.declared.facts.Site.{Site}
-use Rattle.exchange_check.specs.declared.facts.Travel.{Travel}
+use Rattle.exchange_check.specs.declared.facts.KeptJourney.{KeptJourney}
 use Rattle.trace_model.specs.declared.line.TraceLine.{TraceLine}
 use Rattle.exchange_check.specs.declared.octets.Port.{Port}
 use Rattle.trace_model.specs.Line.{counts, is_made, completes}
@@ -79,8 +79,8 @@ known_by network sites line n = record {
 }
 
 -- the journey of the copy that the line of this number made
-abbrev pub travel_at : Facts → ℕ → Option Travel
-travel_at facts copy = option_and_then (λ fact. fact.travel) (facts copy)
+abbrev pub kept_journey_at : Facts → ℕ → Option KeptJourney
+kept_journey_at facts copy = option_and_then (λ fact. fact.journey) (facts copy)
 
 -- the copy that entered at a line, where that is a line of this clock and the copy was made below it
 abbrev pub copy_entered_by : NodeName → Fact → Option ℕ
@@ -89,7 +89,7 @@ copy_entered_by clock entered = option_and_then
     (entered_copy entered.event)
 
 -- a journey and one more stay
-abbrev pub stayed : Known → Fact → Travel → Travel
+abbrev pub stayed : Known → Fact → KeptJourney → KeptJourney
 stayed known entered before = record {
   origin = before.origin;
   residence = min (before.residence + (known.reading - entered.reading)) longest;
@@ -98,32 +98,32 @@ stayed known entered before = record {
   writes_right = before.writes_right;
 }
 
-abbrev pub left_by : Facts → NodeName → Known → Fact → Option Travel
+abbrev pub left_by : Facts → NodeName → Known → Fact → Option KeptJourney
 left_by facts clock known entered =
-    option_and_then (λ copy. option_map (stayed known entered) (travel_at facts copy)) (copy_entered_by clock entered)
+    option_and_then (λ copy. option_map (stayed known entered) (kept_journey_at facts copy)) (copy_entered_by clock entered)
 
 -- the journey of a copy that leaves a clock by a stay that began at the line of this number
-abbrev pub travel_left : Facts → NodeName → ℕ → Known → Option Travel
-travel_left facts clock transit known = option_and_then (left_by facts clock known) (facts transit)
+abbrev pub kept_journey_left : Facts → NodeName → ℕ → Known → Option KeptJourney
+kept_journey_left facts clock transit known = option_and_then (left_by facts clock known) (facts transit)
 
 -- the journey of a message that was just sent
-abbrev pub begun_by : Known → Travel
+abbrev pub begun_by : Known → KeptJourney
 begun_by known = record { origin = known.line; residence = 0; reads_right = known.reads; writes_right = true }
 
 -- the journey of the copy that a line made, its own octets left out
-abbrev pub travel_by : Facts → Known → Event → Option Travel
-travel_by facts known (Sync node at) = Some (begun_by known)
-travel_by facts known (SyncOne node at) = Some (begun_by known)
-travel_by facts known (Follow node) = None
-travel_by facts known (Enter node copy at) = None
-travel_by facts known (Leave node transit at) = travel_left facts node transit known
-travel_by facts known (Arrive node copy at) = None
-travel_by facts known (Hear node copy) = None
-travel_by facts known (Request node at) = Some (begun_by known)
-travel_by facts known (Stamped node) = None
-travel_by facts known (Tick node) = None
-travel_by facts known (SetMaster node master) = None
-travel_by facts known (StepClock node diff) = None
+abbrev pub kept_journey_by : Facts → Known → Event → Option KeptJourney
+kept_journey_by facts known (Sync node at) = Some (begun_by known)
+kept_journey_by facts known (SyncOne node at) = Some (begun_by known)
+kept_journey_by facts known (Follow node) = None
+kept_journey_by facts known (Enter node copy at) = None
+kept_journey_by facts known (Leave node transit at) = kept_journey_left facts node transit known
+kept_journey_by facts known (Arrive node copy at) = None
+kept_journey_by facts known (Hear node copy) = None
+kept_journey_by facts known (Request node at) = Some (begun_by known)
+kept_journey_by facts known (Stamped node) = None
+kept_journey_by facts known (Tick node) = None
+kept_journey_by facts known (SetMaster node master) = None
+kept_journey_by facts known (StepClock node diff) = None
 
 -- the message that an event sends
 abbrev pub sent_by : Network → Event → (number now : ℕ) → Option Contents
@@ -131,53 +131,53 @@ sent_by network event number now =
     option_and_then (λ port. message_sent port.config event number now) (drawing_port network event)
 
 -- the message at the end of a journey
-abbrev pub travelled_by : Network → Facts → Travel → Option Contents
-travelled_by network facts travel = option_and_then
-    (λ origin. option_map (λ m. resided m travel.residence)
+abbrev pub message_after_by : Network → Facts → KeptJourney → Option Contents
+message_after_by network facts journey = option_and_then
+    (λ origin. option_map (λ m. resided m journey.residence)
     (sent_by network origin.event origin.number.0 origin.reading))
-    (facts travel.origin)
+    (facts journey.origin)
 
 abbrev pub followed_by : Facts → PortSetup → Option ℕ → Option Contents
 followed_by facts port last =
     option_map (λ sync. follow_up port.config sync.number.0 sync.reading) (option_and_then facts last)
 
-abbrev pub answered_by : Network → Facts → PortSetup → (now : ℕ) → Option Travel → Option Contents
-answered_by network facts port now travel =
+abbrev pub answered_by : Network → Facts → PortSetup → (now : ℕ) → Option KeptJourney → Option Contents
+answered_by network facts port now journey =
     option_map (λ request. delay_resp port.config request.header now)
-    (option_and_then (travelled_by network facts) travel)
+    (option_and_then (message_after_by network facts) journey)
 
 -- the message that a line made
-abbrev pub message_by : Network → Facts → Known → Option Travel → Event → Option Contents
-message_by network facts known travel (Sync node at) = sent_by network (Sync node at) known.number.0 known.reading
-message_by network facts known travel (SyncOne node at) =
+abbrev pub message_by : Network → Facts → Known → Option KeptJourney → Event → Option Contents
+message_by network facts known journey (Sync node at) = sent_by network (Sync node at) known.number.0 known.reading
+message_by network facts known journey (SyncOne node at) =
     sent_by network (SyncOne node at) known.number.0 known.reading
-message_by network facts known travel (Follow node) =
+message_by network facts known journey (Follow node) =
     option_and_then (λ port. followed_by facts port known.last_sync) (master_at network node)
-message_by network facts known travel (Enter node copy at) = None
-message_by network facts known travel (Leave node transit at) = option_and_then (travelled_by network facts) travel
-message_by network facts known travel (Arrive node copy at) =
-    option_and_then (λ port. answered_by network facts port known.reading (travel_at facts copy))
+message_by network facts known journey (Enter node copy at) = None
+message_by network facts known journey (Leave node transit at) = option_and_then (message_after_by network facts) journey
+message_by network facts known journey (Arrive node copy at) =
+    option_and_then (λ port. answered_by network facts port known.reading (kept_journey_at facts copy))
     (master_at network node)
-message_by network facts known travel (Hear node copy) = None
-message_by network facts known travel (Request node at) =
+message_by network facts known journey (Hear node copy) = None
+message_by network facts known journey (Request node at) =
     sent_by network (Request node at) known.number.0 known.reading
-message_by network facts known travel (Stamped node) = None
-message_by network facts known travel (Tick node) = None
-message_by network facts known travel (SetMaster node master) = None
-message_by network facts known travel (StepClock node diff) = None
+message_by network facts known journey (Stamped node) = None
+message_by network facts known journey (Tick node) = None
+message_by network facts known journey (SetMaster node master) = None
+message_by network facts known journey (StepClock node diff) = None
 
 -- a journey with the line's own octets
-abbrev pub written_travel : Bool → Travel → Travel
-written_travel writes travel = record {
-  origin = travel.origin;
-  residence = travel.residence;
-  reads_right = travel.reads_right;
-  writes_right = travel.writes_right && writes;
+abbrev pub written_journey : Bool → KeptJourney → KeptJourney
+written_journey writes journey = record {
+  origin = journey.origin;
+  residence = journey.residence;
+  reads_right = journey.reads_right;
+  writes_right = journey.writes_right && writes;
 }
 
 -- what is kept of a line
-abbrev pub fact_made : TraceLine → Known → (writes : Bool) → Option Travel → Fact
-fact_made line known writes travel = record {
+abbrev pub fact_made : TraceLine → Known → (writes : Bool) → Option KeptJourney → Fact
+fact_made line known writes journey = record {
   line = known.line;
   event = line.event;
   reading = known.reading;
@@ -187,18 +187,18 @@ fact_made line known writes travel = record {
   reads_right = known.reads;
   writes_right = writes;
   last_sync = known.last_sync;
-  travel = option_map (written_travel writes) travel;
+  journey = option_map (written_journey writes) journey;
 }
 
-abbrev pub fact_known : Network → Facts → TraceLine → Known → Option Travel → Fact
-fact_known network facts line known travel =
-    fact_made line known (is_written (message_by network facts known travel line.event) line.out) travel
+abbrev pub fact_known : Network → Facts → TraceLine → Known → Option KeptJourney → Fact
+fact_known network facts line known journey =
+    fact_made line known (is_written (message_by network facts known journey line.event) line.out) journey
 
 abbrev pub fact_by : Network → Facts → Sites → TraceLine → ℕ → Option Fact
 fact_by network facts sites line n =
     if counts network line
     then Some (fact_known network facts line (known_by network sites line n)
-    (travel_by facts (known_by network sites line n) line.event))
+    (kept_journey_by facts (known_by network sites line n) line.event))
     else None
 
 -- what is kept of a node after an event of it at the line of this number

@@ -9,7 +9,7 @@ use Rattle.network_model.specs.Kinds.{entered_copy, spent_transit}
 use Rattle.trace_model.specs.Sound.{where_passes, below}
 use Rattle.exchange_check.specs.declared.facts.Fact.{Fact}
 use Rattle.exchange_check.specs.declared.refusal.CheckFault.{CheckFault}
-use Rattle.exchange_check.specs.declared.stays.Branch.{Branch}
+use Rattle.exchange_check.specs.declared.stays.CopyState.{CopyState}
 use Rattle.exchange_check.specs.declared.stays.Stays.{Stays}
 use Rattle.exchange_check.specs.Inner.Kept.{Facts, Leaves}
 
@@ -27,7 +27,7 @@ stay_below facts limit transit = option_and_then
 -- the last stay of the copy that a line made
 abbrev pub stay_of : Facts → (number : ℕ) → Fact → Option (ℕ × ℕ)
 stay_of facts number fact =
-    if is_some fact.travel then option_and_then (stay_below facts number) (spent_transit fact.event) else None
+    if is_some fact.journey then option_and_then (stay_below facts number) (spent_transit fact.event) else None
 
 -- that of the copy of each number
 abbrev pub last_stays : Facts → LastStays
@@ -57,20 +57,20 @@ abbrev pub once_of : LastStays → Leaves → Once
 once_of stays leaves copy = once_by stays leaves (suc copy) copy
 
 -- what is kept of each copy
-abbrev pub Branches : Type 0
-Branches = ℕ → Branch
+abbrev pub CopyStates : Type 0
+CopyStates = ℕ → CopyState
 
 -- a copy of which nothing is kept
-abbrev pub root : Branch
+abbrev pub root : CopyState
 root = record { once = true; depth = 0; next = None }
 
 -- what a list has of each copy
-abbrev pub branch_in : List Branch → Branches
-branch_in branches copy = unwrap_or (slice_get branches copy) root
+abbrev pub state_in : List CopyState → CopyStates
+state_in states copy = unwrap_or (slice_get states copy) root
 
 -- with what is kept of one of them
-abbrev pub with_branch : ℕ → Branch → Branches → Branches
-with_branch number branch branches copy = if number == copy then branch else branches copy
+abbrev pub with_state : ℕ → CopyState → CopyStates → CopyStates
+with_state number state states copy = if number == copy then state else states copy
 
 -- the copies through which the order leads from a link to a copy, each deeper than this
 abbrev pub IsStretch : (depth : ℕ → ℕ) → (next : ℕ → Option ℕ) → (above : ℕ) → Option ℕ → List ℕ → ℕ → Type 0
@@ -84,11 +84,11 @@ pub record Stretch (depth : ℕ → ℕ) (next : ℕ → Option ℕ) (above : �
   pub leads : IsStretch depth next above from through to
 
 -- how deep each copy is, and which one comes after it
-abbrev pub depths : Branches → ℕ → ℕ
-depths branches copy = (branches copy).depth
+abbrev pub depths : CopyStates → ℕ → ℕ
+depths states copy = (states copy).depth
 
-abbrev pub nexts : Branches → ℕ → Option ℕ
-nexts branches copy = (branches copy).next
+abbrev pub nexts : CopyStates → ℕ → Option ℕ
+nexts states copy = (states copy).next
 
 -- the first Leave line of each stay
 abbrev pub Firsts : Type 0
@@ -100,7 +100,7 @@ with_first transit number firsts stay = if transit == stay then Some number else
 
 -- The order of the copies below a number. Of copies that aren't marked, the links lead from a copy to each that
 -- grew from it directly, through copies deeper than the first.
-pub record IsOrdered (branches : Branches) (firsts : Firsts) (stays : LastStays) (leaves : Leaves)
+pub record IsOrdered (states : CopyStates) (firsts : Firsts) (stays : LastStays) (leaves : Leaves)
     (number : ℕ) : Type 0 where
   -- a copy grew from an older one
   pub within : (n transit copy : ℕ) → stays n ≡ Some (transit, copy) → (copy < n) × (n < number)
@@ -112,34 +112,34 @@ pub record IsOrdered (branches : Branches) (firsts : Firsts) (stays : LastStays)
   pub of_first : (transit first other copy : ℕ) → firsts transit ≡ Some first → stays first ≡ Some (other, copy)
       → other ≡ transit
   -- a copy that isn't marked left by the first Leave line of its stay
-  pub first : (n transit copy : ℕ) → stays n ≡ Some (transit, copy) → (branches n).once ≡ true
+  pub first : (n transit copy : ℕ) → stays n ≡ Some (transit, copy) → (states n).once ≡ true
       → firsts transit ≡ Some n
   -- how deep copies are
-  pub flat : (n : ℕ) → stays n ≡ None → (branches n).depth ≡ 0
-  pub low : (n : ℕ) → (branches n).depth ≤ n
-  pub deeper : (n transit copy : ℕ) → stays n ≡ Some (transit, copy) → (branches n).once ≡ true
-      → (branches n).depth ≡ (branches copy).depth + 1
+  pub flat : (n : ℕ) → stays n ≡ None → (states n).depth ≡ 0
+  pub low : (n : ℕ) → (states n).depth ≤ n
+  pub deeper : (n transit copy : ℕ) → stays n ≡ Some (transit, copy) → (states n).once ≡ true
+      → (states n).depth ≡ (states copy).depth + 1
   -- the links lead from a copy to what grew from it, never two to one copy, and none to a copy without a stay
-  pub runs : (n transit copy : ℕ) → stays n ≡ Some (transit, copy) → (branches n).once ≡ true
-      → (branches copy).once ≡ true
-      → Stretch (depths branches) (nexts branches) (branches copy).depth (branches copy).next n
-  pub one_before : (one other n : ℕ) → (branches one).next ≡ Some n → (branches other).next ≡ Some n → one ≡ other
-  pub no_link_to_a_root : (n after : ℕ) → (branches n).next ≡ Some after → 0 < (branches after).depth
+  pub runs : (n transit copy : ℕ) → stays n ≡ Some (transit, copy) → (states n).once ≡ true
+      → (states copy).once ≡ true
+      → Stretch (depths states) (nexts states) (states copy).depth (states copy).next n
+  pub one_before : (one other n : ℕ) → (states one).next ≡ Some n → (states other).next ≡ Some n → one ≡ other
+  pub no_link_to_a_root : (n after : ℕ) → (states n).next ≡ Some after → 0 < (states after).depth
 
 -- whether a copy's last stay was ended once, and those before it too
-abbrev pub is_whole : Branches → Leaves → Option (ℕ × ℕ) → Bool
-is_whole branches leaves stay = option_map_or (λ s. is_once (leaves s.0) && (branches s.1).once) stay true
+abbrev pub is_whole : CopyStates → Leaves → Option (ℕ × ℕ) → Bool
+is_whole states leaves stay = option_map_or (λ s. is_once (leaves s.0) && (states s.1).once) stay true
 
 -- what is kept of each copy below a number, with these last stays
-pub record AreBranches (branches : Branches) (firsts : Firsts) (stays : LastStays) (leaves : Leaves)
+pub record AreCopyStates (states : CopyStates) (firsts : Firsts) (stays : LastStays) (leaves : Leaves)
     (number : ℕ) : Type 0 where
-  pub ordered : IsOrdered branches firsts stays leaves number
-  pub once : (n : ℕ) → (branches n).once ≡ is_whole branches leaves (stays n)
+  pub ordered : IsOrdered states firsts stays leaves number
+  pub once : (n : ℕ) → (states n).once ≡ is_whole states leaves (stays n)
 
 -- the same of what is kept
 abbrev pub AreStays : Stays → LastStays → Leaves → ℕ → Type 0
 AreStays kept stays leaves number =
-    AreBranches (branch_in kept.branches.items) (get nat_cmp kept.firsts) stays leaves number
+    AreCopyStates (state_in kept.states.items) (get nat_cmp kept.firsts) stays leaves number
 
 -- the line of this number gives its copy this last stay, if any, and changes which stays were ended; where memory is
 -- refused, what is kept says the same as before
@@ -152,4 +152,4 @@ StaysAfter old new number stay ended result =
 
 -- what is kept of each copy's journey
 abbrev pub once_in : Stays → Once
-once_in kept copy = (branch_in kept.branches.items copy).once
+once_in kept copy = (state_in kept.states.items copy).once

@@ -2,7 +2,7 @@ use Rattle.std.proofs.Common.{◌≡◌, ℕ, ◌<◌, Some, length}
 use Rattle.std.specs.BTreeMap.{get}
 use Rattle.std.specs.Ordering.{nat_cmp}
 use Rattle.exchange_check.specs.Inner.Kept.{Leaves, left_again}
-use Rattle.exchange_check.specs.Inner.Stays.{LastStays, branch_in, AreStays}
+use Rattle.exchange_check.specs.Inner.Stays.{LastStays, state_in, AreStays}
 use Rattle.exchange_check.proofs.Cutting.{IsCutting}
 use Rattle.exchange_check.proofs.Links.{links}
 use Rattle.exchange_check.proofs.stays.Stays.cut.Given as goal
@@ -11,10 +11,10 @@ abbrev pub invariant-loop-copy : goal.invariant-loop-copy
 invariant-loop-copy l =
     ((stays : LastStays) (leaves : Leaves) (number transit : ℕ)
     → get nat_cmp l.fn.self.firsts transit ≡ Some l.fn.first → AreStays l.fn.self stays leaves number
-    → IsCutting (branch_in l.self.branches.items) (get nat_cmp l.fn.self.firsts) stays
+    → IsCutting (state_in l.self.states.items) (get nat_cmp l.fn.self.firsts) stays
     (left_again transit leaves) number l.fn.first)
-    × (l.self.firsts ≡ l.fn.self.firsts) × (length l.self.branches.items ≡ length l.fn.self.branches.items)
-    × (l.depth ≡ (branch_in l.self.branches.items l.fn.first).depth) × (0 < l.depth)
+    × (l.self.firsts ≡ l.fn.self.firsts) × (length l.self.states.items ≡ length l.fn.self.states.items)
+    × (l.depth ≡ (state_in l.self.states.items l.fn.first).depth) × (0 < l.depth)
 
 abbrev pub decreases-loop-copy : goal.decreases-loop-copy
-decreases-loop-copy l = links (branch_in l.self.branches.items) (length l.self.branches.items)
+decreases-loop-copy l = links (state_in l.self.states.items) (length l.self.states.items)

@@ -1,12 +1,12 @@
 use Rattle.std.proofs.Common.{◌≡◌, ◌∙◌, ◌∷◌, [], ◌++◌, ap, rules}
-use Rattle.exchange_check.specs.Inner.Stays.{root, branch_in}
+use Rattle.exchange_check.specs.Inner.Stays.{root, state_in}
 use Rattle.exchange_check.proofs.Links.{push_root}
 use Rattle.exchange_check.proofs.stays.Stays.reach.Goals as goal
 
 pub loop-self-preserved : goal.loop-self-preserved
 loop-self-preserved c =
-    let pushed : c.push.new.self.items ≡ c.loop-self.self.branches.items ++ root ∷ [] = search rules in (
-      ap branch_in pushed ∙ push_root c.loop-self.self.branches.items
+    let pushed : c.push.new.self.items ≡ c.loop-self.self.states.items ++ root ∷ [] = search rules in (
+      ap state_in pushed ∙ push_root c.loop-self.self.states.items
           ∙ c.loop-self.invariant.0,
       c.loop-self.invariant.1,
     )

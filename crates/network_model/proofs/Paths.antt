@@ -1,4 +1,4 @@
--- The way of a journey: each stay is at one clock and ends no earlier than it began, so the times of the crossings and the
+-- The path of a journey: each stay is at one clock and ends no earlier than it began, so the times of the crossings and the
 -- residence add up to the whole.
 use Rattle.std.proofs.Common.{◌≡◌, ◌∙◌, ℕ, ◌+◌, ◌-◌, ◌≤◌, ℤ, pos, ◌+ℤ◌, ◌-ℤ◌, Bool, true, false, List, [], ◌∷◌, length, Some, None, Ok, IsOk, refl, sym, ap, subst, arith, if◌then◌else◌, option_and_then}
 use Rattle.std.specs.Prelude.{◌==◌, ◌&&◌, not, is_some, fold, nat_lt, ok_or, sum_by}
@@ -142,15 +142,15 @@ stays_are network (event ∷ earlier) tag journey accepted made = at (length ear
     at false made rest = rest tag journey made
 
 -- times are added up one after the other
-time-from : (total : ℤ) (way : List Crossing) → fold (λ total c. total +ℤ time_of c) total way ≡ total +ℤ time_on way
+time-from : (total : ℤ) (path : List Crossing) → fold (λ total c. total +ℤ time_of c) total path ≡ total +ℤ time_on path
 time-from total [] = omega (arith, ints)
-time-from total (c ∷ way) =
-    let first = time-from (total +ℤ time_of c) way in
-    let second = time-from (pos 0 +ℤ time_of c) way in
+time-from total (c ∷ path) =
+    let first = time-from (total +ℤ time_of c) path in
+    let second = time-from (pos 0 +ℤ time_of c) path in
     omega (arith, ints)
 
-pub time-more : (c : Crossing) (way : List Crossing) → time_on (c ∷ way) ≡ time_of c +ℤ time_on way
-time-more c way = let first = time-from (pos 0 +ℤ time_of c) way in omega (arith, ints)
+pub time-more : (c : Crossing) (path : List Crossing) → time_on (c ∷ path) ≡ time_of c +ℤ time_on path
+time-more c path = let first = time-from (pos 0 +ℤ time_of c) path in omega (arith, ints)
 
 -- the length of a stay, by true moments
 stay_is : (network : Network) (run : Run) (stay : Stay) → IsRun network run → IsSteady run → IsStay run stay
@@ -164,11 +164,11 @@ stay_is network run stay accepted steady is =
     lengths left entered m n d order e f = omega (arith, ints)
 
 -- the crossings and the residence are the whole
-pub way_is : (network : Network) (run : Run) (origin : Place) (stays : List Stay) (end : Place) → IsRun network run → IsSteady run → AreStays run stays
+pub path_is : (network : Network) (run : Run) (origin : Place) (stays : List Stay) (end : Place) → IsRun network run → IsSteady run → AreStays run stays
     → time_on (crossings_of origin stays end) +ℤ pos (sum_by stay_length stays) ≡ moment_at end -ℤ moment_at origin
-way_is network run origin [] end accepted steady are = let one = time-more (crossing origin end) [] in omega (arith, ints)
-way_is network run origin (stay ∷ stays) end accepted steady are =
-    let rest = way_is network run origin stays stay.entered accepted steady are.1 in
+path_is network run origin [] end accepted steady are = let one = time-more (crossing origin end) [] in omega (arith, ints)
+path_is network run origin (stay ∷ stays) end accepted steady are =
+    let rest = path_is network run origin stays stay.entered accepted steady are.1 in
     let first = stay_is network run stay accepted steady are.0 in
     let more = time-more (crossing stay.left end) (crossings_of origin stays stay.entered) in
     whole (time_on (crossing stay.left end ∷ crossings_of origin stays stay.entered)) (time_on (crossings_of origin stays stay.entered))

@@ -17,7 +17,7 @@ use Rattle.network_model.specs.Run.{Run, place}
 use Rattle.network_model.specs.Clock.{reading}
 use Rattle.network_model.specs.Numbering.{number_of}
 use Rattle.network_model.specs.Journey.{Journey, journey_made, journey_of}
-use Rattle.network_model.specs.Truth.{drawn, travelled, copy_made, copy_of, master_at, slave_at}
+use Rattle.network_model.specs.Truth.{drawn, message_after, copy_made, copy_of, master_at, slave_at}
 
 -- a fraction of a nanosecond is far from too big
 fraction_as_it_was : (time : ℕ) → with_residence (pos (fraction_of time)) 0 ≡ pos (fraction_of time)
@@ -51,18 +51,18 @@ request_as_drawn network node at earlier =
 the_journey : {first second : Journey} → Some first ≡ Some second → first ≡ second
 the_journey same = cc
 
-copy_made-travelled : (network : Network) (event : Event) (earlier : Run) (journey : Journey)
+copy_made-message_after : (network : Network) (event : Event) (earlier : Run) (journey : Journey)
     → journey_made event earlier (journey_of earlier) ≡ Some journey
-    → copy_made network event earlier (copy_of network earlier) ≡ travelled network journey
-copy_made-travelled network (Sync node at) earlier journey made = sym (sync_as_drawn network node at earlier) ∙ ap (travelled network) (the_journey made)
-copy_made-travelled network (SyncOne node at) earlier journey made = sym (one_step_sync_as_drawn network node at earlier) ∙ ap (travelled network) (the_journey made)
-copy_made-travelled network (Request node at) earlier journey made = sym (request_as_drawn network node at earlier) ∙ ap (travelled network) (the_journey made)
-copy_made-travelled network (Leave node transit at) earlier journey made = ap (option_and_then (travelled network)) made
-copy_made-travelled network _ earlier journey made = grind arith
+    → copy_made network event earlier (copy_of network earlier) ≡ message_after network journey
+copy_made-message_after network (Sync node at) earlier journey made = sym (sync_as_drawn network node at earlier) ∙ ap (message_after network) (the_journey made)
+copy_made-message_after network (SyncOne node at) earlier journey made = sym (one_step_sync_as_drawn network node at earlier) ∙ ap (message_after network) (the_journey made)
+copy_made-message_after network (Request node at) earlier journey made = sym (request_as_drawn network node at earlier) ∙ ap (message_after network) (the_journey made)
+copy_made-message_after network (Leave node transit at) earlier journey made = ap (option_and_then (message_after network)) made
+copy_made-message_after network _ earlier journey made = grind arith
 
 -- a copy that has a journey is the message that made this journey
-pub copy_of-travelled : (network : Network) (run : Run) (tag : ℕ) (journey : Journey)
-    → journey_of run tag ≡ Some journey → copy_of network run tag ≡ travelled network journey
-copy_of-travelled network [] tag journey made = grind arith
-copy_of-travelled network (event ∷ earlier) tag journey made =
-    grind (arith, nat_tests, copy_made-travelled network event earlier journey, copy_of-travelled network earlier tag journey)
+pub copy_of-message_after : (network : Network) (run : Run) (tag : ℕ) (journey : Journey)
+    → journey_of run tag ≡ Some journey → copy_of network run tag ≡ message_after network journey
+copy_of-message_after network [] tag journey made = grind arith
+copy_of-message_after network (event ∷ earlier) tag journey made =
+    grind (arith, nat_tests, copy_made-message_after network event earlier journey, copy_of-message_after network earlier tag journey)

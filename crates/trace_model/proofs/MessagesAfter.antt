@@ -14,7 +14,7 @@ use Rattle.network_model.proofs.Options.{ok_value}
 use Rattle.network_model.proofs.Places.{accepted-place_at}
 use Rattle.network_model.proofs.Sites.{named-self}
 use Rattle.network_model.proofs.Journeys.{continued, same_origin}
-use Rattle.network_model.proofs.Ways.{gone_on}
+use Rattle.network_model.proofs.Paths.{gone_on}
 use Rattle.trace_model.specs.declared.line.TraceLine.{TraceLine}
 use Rattle.trace_model.specs.Line.{Lines, counts}
 use Rattle.trace_model.specs.Record.{LinePlace, line_place, event_of, site, line_number}
