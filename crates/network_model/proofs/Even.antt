@@ -68,12 +68,12 @@ turned c d same = by (or_cases (is_same_direction c.from c.to d.from d.to) (is_s
     back a b named = subst (λ (n : NodeName). is_named n a ≡ true) (named-same a b named) (named-self a)
 
     by : ((is_same_direction c.from c.to d.from d.to ≡ true) ⊎ (is_same_direction c.from c.to d.to d.from ≡ true)) → is_same_cable d c ≡ true
-    by (inl way) =
+    by (inl path) =
         let parts = and_parts (is_named (site_of c.from.event) (site_of d.from.event)) (is_named (site_of c.to.event) (site_of d.to.event)) path in
         or_left (is_same_direction d.from d.to c.from c.to) (is_same_direction d.from d.to c.to c.from)
         (and_from (is_named (site_of d.from.event) (site_of c.from.event)) (is_named (site_of d.to.event) (site_of c.to.event))
         (back (site_of c.from.event) (site_of d.from.event) parts.0) (back (site_of c.to.event) (site_of d.to.event) parts.1))
-    by (inr way) =
+    by (inr path) =
         let parts = and_parts (is_named (site_of c.from.event) (site_of d.to.event)) (is_named (site_of c.to.event) (site_of d.from.event)) path in
         or_right (is_same_direction d.from d.to c.from c.to) (is_same_direction d.from d.to c.to c.from)
         (and_from (is_named (site_of d.from.event) (site_of c.to.event)) (is_named (site_of d.to.event) (site_of c.from.event))
