@@ -47,7 +47,7 @@ arrival_within network lines slave n e h =
 -- the two of an exchange
 pub chain_parts : (network : Network) (lines : Lines) (s : Option LinePlace) (f : Option (Option LinePlace))
     (u r : Option LinePlace) (x : Exchange)
-    → line_chain network lines s f u r ≡ Some x → (s ≡ Some x.sync) × (r ≡ Some x.arrival)
+    → line_chain network lines s f u r ≡ Some x → (s ≡ Some x.sync_arrival) × (r ≡ Some x.request_arrival)
 chain_parts network lines None f u r x h = absurd (none-some x h)
 chain_parts network lines (Some s) None u r x h = absurd (none-some x h)
 chain_parts network lines (Some s) (Some f) None r x h = absurd (none-some x h)

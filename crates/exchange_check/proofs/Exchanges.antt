@@ -11,7 +11,7 @@ use Rattle.exchange_check.specs.declared.facts.KeptJourney.{KeptJourney}
 use Rattle.exchange_check.specs.declared.facts.FoundJourney.{FoundJourney}
 use Rattle.trace_model.specs.Line.{Lines, completes}
 use Rattle.trace_model.specs.Record.{LinePlace, line_number, event_of, line_at}
-use Rattle.trace_model.specs.Journey.{Journey, journey_of}
+use Rattle.trace_model.specs.Journey.{LineJourney, line_journey_of}
 use Rattle.trace_model.specs.Sound.{where_passes, below, Exchange, line_of, sender, sync_line}
 use Rattle.trace_model.specs.Sound.{follow_line, follow_lines, arrival_line}
 use Rattle.exchange_check.specs.Inner.Kept.{Facts}
@@ -23,13 +23,13 @@ use Rattle.exchange_check.proofs.Messages.{origin_in}
 module _ (network : Network) where
   abbrev pub found_of : Exchange → Found
   found_of x = record {
-    sync = fact_of network x.sync;
+    sync = fact_of network x.sync_arrival;
     follow = option_map (fact_of network) x.follow;
     request = fact_of network x.request;
-    arrival = fact_of network x.arrival;
+    arrival = fact_of network x.request_arrival;
   }
 
-  abbrev pub found_journey_of : Journey → FoundJourney
+  abbrev pub found_journey_of : LineJourney → FoundJourney
   found_journey_of j = record { journey = kept_journey_of network j; origin = fact_of network j.origin }
 
   -- a test of what is kept that is the same test of the line
@@ -120,14 +120,14 @@ module _ (network : Network) where
     chain s f u r = option_and_then
         (λ sync. option_and_then (λ follow. option_and_then
         (λ request. option_map (λ arrival.
-        record { sync = sync; follow = follow; request = request; arrival = arrival }) r) u) f) s
+        record { sync_arrival = sync; follow = follow; request = request; request_arrival = arrival }) r) u) f) s
 
     abbrev pub line_chain : Option LinePlace → Option (Option LinePlace) → Option LinePlace → Option LinePlace
         → Option Exchange
     line_chain s f u r = option_and_then
         (λ sync. option_and_then (λ follow. option_and_then
         (λ request. option_map (λ arrival.
-        record { sync = sync; follow = follow; request = request; arrival = arrival }) r) u) f) s
+        record { sync_arrival = sync; follow = follow; request = request; request_arrival = arrival }) r) u) f) s
 
     pub chained : (s : Option LinePlace) (f : Option (Option LinePlace)) (u r : Option LinePlace)
         → chain (option_map (fact_of network) s) (option_map (option_map (fact_of network)) f)
@@ -144,8 +144,8 @@ module _ (network : Network) where
     if_found true o = refl
     if_found false o = refl
 
-    found_journey_of_origin : (o : Option Journey)
-        → ((j : Journey) → o ≡ Some j → line_at network lines (line_number j.origin) ≡ Some j.origin)
+    found_journey_of_origin : (o : Option LineJourney)
+        → ((j : LineJourney) → o ≡ Some j → line_at network lines (line_number j.origin) ≡ Some j.origin)
         → option_and_then (λ kept_journey. option_map (λ origin. record { journey = kept_journey; origin = origin })
         (facts kept_journey.origin)) (option_map (kept_journey_of network) o) ≡ option_map found_journey_of o
     found_journey_of_origin None known = refl
@@ -154,9 +154,9 @@ module _ (network : Network) where
         (λ (origin : Fact). let w : FoundJourney = record { journey = kept_journey_of network j; origin = origin } in w)
         (option_map (fact_of network) o)) (known j refl)
 
-    pub found_journey_is : (n : ℕ) → found_journey_at facts n ≡ option_map found_journey_of (journey_of network lines n)
+    pub found_journey_is : (n : ℕ) → found_journey_at facts n ≡ option_map found_journey_of (line_journey_of network lines n)
     found_journey_is n =
         ap (λ (o : Option KeptJourney). option_and_then
         (λ kept_journey. option_map (λ origin. record { journey = kept_journey; origin = origin }) (facts kept_journey.origin)) o)
         (kept_journey_at-is network lines n)
-        ∙ found_journey_of_origin (journey_of network lines n) (origin_in network lines n)
+        ∙ found_journey_of_origin (line_journey_of network lines n) (origin_in network lines n)

@@ -18,8 +18,8 @@ use Rattle.trace_model.specs.declared.line.TraceLine.{TraceLine}
 use Rattle.trace_model.specs.Line.{Lines, counts}
 use Rattle.trace_model.specs.Record.{LinePlace, line_place, line_number, event_of}
 use Rattle.trace_model.specs.Record.{line_at, last_line, reading, sequence}
-use Rattle.trace_model.specs.Journey.{Journey, residence, with_stay, copy_entered, left_from, journey_made, journey_of}
-use Rattle.trace_model.specs.Octets.{drawing_port, sent, message_after, followed, answered}
+use Rattle.trace_model.specs.Journey.{LineJourney, line_residence, with_stay, copy_entered, line_left_from, line_journey_made, line_journey_of}
+use Rattle.trace_model.specs.Octets.{drawing_port, sent, sent_after, follow_up_sent, answered}
 use Rattle.trace_model.specs.Octets.{message_made, writes_right, is_written}
 use Rattle.exchange_check.specs.Inner.Kept.{Facts, kept_journey_at, kept_journey_by, sent_by, message_after_by, followed_by, answered_by}
 use Rattle.exchange_check.specs.Inner.Kept.{message_by, fact_known, fact_made, written_journey, fact_by}
@@ -56,7 +56,7 @@ module _ (network : Network) (e : LinePlace) where
 
   follow_of : (node : NodeName) (port : PortSetup) → master_at network node ≡ Some port → (o : Option LinePlace)
       → last_line network is_sync node e.earlier ≡ o
-      → followed_by facts port (option_map line_number o) ≡ option_map (followed network port) o
+      → followed_by facts port (option_map line_number o) ≡ option_map (follow_up_sent network port) o
   follow_of node port there None h = refl
   follow_of node port there (Some k) h =
       let found = last_is network is_sync node e.earlier k h in
@@ -70,27 +70,27 @@ module _ (network : Network) (e : LinePlace) where
   follow_at : (node : NodeName) (o : Option PortSetup) → master_at network node ≡ o
       → option_and_then (λ port. followed_by facts port
       (option_map line_number (last_line network is_sync node e.earlier))) o
-      ≡ option_and_then (λ port. option_map (followed network port) (last_line network is_sync node e.earlier)) o
+      ≡ option_and_then (λ port. option_map (follow_up_sent network port) (last_line network is_sync node e.earlier)) o
   follow_at node None h = refl
   follow_at node (Some port) h = follow_of node port h (last_line network is_sync node e.earlier) refl
 
-  message_of : (o : Option Journey)
-      → ((j : Journey) → o ≡ Some j → line_at network e.earlier (line_number j.origin) ≡ Some j.origin)
+  message_of : (o : Option LineJourney)
+      → ((j : LineJourney) → o ≡ Some j → line_at network e.earlier (line_number j.origin) ≡ Some j.origin)
       → option_and_then (message_after_by network facts) (option_map (kept_journey_of network) o)
-      ≡ option_and_then (message_after network) o
+      ≡ option_and_then (sent_after network) o
   message_of None known = refl
   message_of (Some j) known =
-      message_after_is network e.earlier j (kept_journey_of network j) (known j refl) refl (min_min (residence j))
+      message_after_is network e.earlier j (kept_journey_of network j) (known j refl) refl (min_min (line_residence j))
 
-  answer_of : (g : Contents → Contents) (o : Option Journey)
-      → option_map g (option_and_then (message_after network) o)
-      ≡ option_and_then (λ j. option_map g (message_after network j)) o
+  answer_of : (g : Contents → Contents) (o : Option LineJourney)
+      → option_map g (option_and_then (sent_after network) o)
+      ≡ option_and_then (λ j. option_map g (sent_after network j)) o
   answer_of g None = refl
   answer_of g (Some j) = refl
 
   answer_at : (copy : ℕ) (o : Option PortSetup)
       → option_and_then (λ port. answered_by network facts port (reading e) (kept_journey_at facts copy)) o
-      ≡ option_and_then (λ port. option_and_then (answered network port e) (journey_of network e.earlier copy)) o
+      ≡ option_and_then (λ port. option_and_then (answered network port e) (line_journey_of network e.earlier copy)) o
   answer_at copy None = refl
   answer_at copy (Some port) =
       ap (λ (t : Option KeptJourney). option_map
@@ -98,8 +98,8 @@ module _ (network : Network) (e : LinePlace) where
       (option_and_then (message_after_by network facts) t)) (kept_journey_at-is network e.earlier copy)
       ∙ ap (λ (m : Option Contents). option_map
       (λ (request : Contents). delay_resp port.config request.header (reading e)) m)
-      (message_of (journey_of network e.earlier copy) (origin_in network e.earlier copy))
-      ∙ answer_of (λ request. delay_resp port.config request.header (reading e)) (journey_of network e.earlier copy)
+      (message_of (line_journey_of network e.earlier copy) (origin_in network e.earlier copy))
+      ∙ answer_of (λ request. delay_resp port.config request.header (reading e)) (line_journey_of network e.earlier copy)
 
   unwritten : (writes : Bool) (t : Option KeptJourney)
       → option_and_then (message_after_by network facts) (option_map (written_journey writes) t)
@@ -107,36 +107,36 @@ module _ (network : Network) (e : LinePlace) where
   unwritten writes None = refl
   unwritten writes (Some t) = refl
 
-  stay_there : (entered : LinePlace) (o : Option Journey) (j : Journey)
-      → ((k : Journey) → o ≡ Some k → line_at network e.earlier (line_number k.origin) ≡ Some k.origin)
+  stay_there : (entered : LinePlace) (o : Option LineJourney) (j : LineJourney)
+      → ((k : LineJourney) → o ≡ Some k → line_at network e.earlier (line_number k.origin) ≡ Some k.origin)
       → option_map (with_stay e entered) o ≡ Some j → line_at network e.earlier (line_number j.origin) ≡ Some j.origin
   stay_there entered None j known h = grind arith
   stay_there entered (Some k) j known h =
-      let P : Journey → Type 0 = λ x. line_at network e.earlier (line_number x.origin) ≡ Some x.origin in
+      let P : LineJourney → Type 0 = λ x. line_at network e.earlier (line_number x.origin) ≡ Some x.origin in
       subst P (same_Some _ _ h) (known k refl)
 
-  copy_there : (entered : LinePlace) (c : Option ℕ) (j : Journey)
-      → option_and_then (λ copy. option_map (with_stay e entered) (journey_of network e.earlier copy)) c ≡ Some j
+  copy_there : (entered : LinePlace) (c : Option ℕ) (j : LineJourney)
+      → option_and_then (λ copy. option_map (with_stay e entered) (line_journey_of network e.earlier copy)) c ≡ Some j
       → line_at network e.earlier (line_number j.origin) ≡ Some j.origin
   copy_there entered None j h = grind arith
   copy_there entered (Some copy) j h =
-      stay_there entered (journey_of network e.earlier copy) j (origin_in network e.earlier copy) h
+      stay_there entered (line_journey_of network e.earlier copy) j (origin_in network e.earlier copy) h
 
-  left_there : (node : NodeName) (o : Option LinePlace) (j : Journey)
-      → option_and_then (left_from node e (journey_of network e.earlier)) o ≡ Some j
+  left_there : (node : NodeName) (o : Option LinePlace) (j : LineJourney)
+      → option_and_then (line_left_from node e (line_journey_of network e.earlier)) o ≡ Some j
       → line_at network e.earlier (line_number j.origin) ≡ Some j.origin
   left_there node None j h = grind arith
   left_there node (Some entered) j h = copy_there entered (copy_entered node entered) j h
 
   left_message : (node : NodeName) (transit at : ℕ)
       → option_and_then (message_after_by network facts) (kept_journey_by facts (known_of network e) (Leave node transit at))
-      ≡ option_and_then (message_after network)
-      (journey_made network (Leave node transit at) e (journey_of network e.earlier))
+      ≡ option_and_then (sent_after network)
+      (line_journey_made network (Leave node transit at) e (line_journey_of network e.earlier))
   left_message node transit at =
       sym (unwritten (writes_right network e) (kept_journey_by facts (known_of network e) (Leave node transit at)))
       ∙ ap (λ (t : Option KeptJourney). option_and_then (message_after_by network facts) t)
       (kept_journey_is network e (Leave node transit at))
-      ∙ message_of (journey_made network (Leave node transit at) e (journey_of network e.earlier))
+      ∙ message_of (line_journey_made network (Leave node transit at) e (line_journey_of network e.earlier))
       (left_there node (line_at network e.earlier transit))
 
   sent_at : (event : Event) → event ≡ event_of e

@@ -16,8 +16,8 @@ use Rattle.exchange_check.specs.declared.facts.Fact.{Fact}
 use Rattle.trace_model.specs.declared.line.TraceLine.{TraceLine}
 use Rattle.trace_model.specs.Line.{Lines, counts}
 use Rattle.trace_model.specs.Record.{LinePlace, line_place, line_number, event_of, site, line_at, events}
-use Rattle.trace_model.specs.Journey.{Journey, begun, with_stay, copy_entered, left_from}
-use Rattle.trace_model.specs.Journey.{journey_made, journey_of, left_once}
+use Rattle.trace_model.specs.Journey.{LineJourney, line_begun, with_stay, copy_entered, line_left_from}
+use Rattle.trace_model.specs.Journey.{line_journey_made, line_journey_of, left_once}
 use Rattle.exchange_check.specs.Inner.Kept.{Facts, Leaves, leaves_after, left_again}
 use Rattle.exchange_check.specs.Inner.Stays.{stay_below, stay_of, last_stays, is_once, once_by}
 use Rattle.exchange_check.proofs.Noted.{leaves_at, count_more}
@@ -92,7 +92,7 @@ module _ (network : Network) (facts : Facts) (leaves : Leaves) (run : Run)
   abbrev Keeps : Lines → Type 0
   Keeps lines = (n : ℕ) (e : LinePlace) → line_at network lines n ≡ Some e → facts n ≡ Some (fact_of network e)
 
-  abbrev IsFollowed : ℕ → Journey → Type 0
+  abbrev IsFollowed : ℕ → LineJourney → Type 0
   IsFollowed copy j = (count : ℕ) → copy < count → once_by (last_stays facts) leaves count copy ≡ left_once run j
 
   below_found : (copy transit : ℕ) → transit < copy → nat_lt transit copy ≡ true
@@ -134,30 +134,30 @@ module _ (network : Network) (facts : Facts) (leaves : Leaves) (run : Run)
       (λ s. is_once (leaves s.0) && once_by (last_stays facts) leaves n s.1) o true) found
 
   module _ (line : TraceLine) (earlier : Lines) (counted : counts network line ≡ true) (keeps : Keeps (line ∷ earlier))
-      (before : (n : ℕ) (j : Journey) → journey_of network earlier n ≡ Some j → IsFollowed n j) where
+      (before : (n : ℕ) (j : LineJourney) → line_journey_of network earlier n ≡ Some j → IsFollowed n j) where
     at_line : facts (length earlier) ≡ Some (fact_of network (line_place line earlier))
     at_line = keeps (length earlier) (line_place line earlier) (line_at-here network line earlier counted)
 
-    begun_followed : (j : Journey) → spent_transit line.event ≡ None → Some (begun (line_place line earlier)) ≡ Some j
+    begun_followed : (j : LineJourney) → spent_transit line.event ≡ None → Some (line_begun (line_place line earlier)) ≡ Some j
         → IsFollowed (length earlier) j
     begun_followed j none h =
-        let P : Journey → Type 0 = λ x. IsFollowed (length earlier) x in
+        let P : LineJourney → Type 0 = λ x. IsFollowed (length earlier) x in
         subst P (same_Some _ _ h) (follow_none (length earlier)
         (no_stay (length earlier) (fact_of network (line_place line earlier)) at_line none))
 
     abbrev HasJourney : Type 0
     HasJourney = is_some (fact_of network (line_place line earlier)).journey ≡ true
 
-    has_journey_with : (event : Event) (j : Journey) → event ≡ line.event
-        → journey_made network event (line_place line earlier) (journey_of network earlier) ≡ Some j → HasJourney
+    has_journey_with : (event : Event) (j : LineJourney) → event ≡ line.event
+        → line_journey_made network event (line_place line earlier) (line_journey_of network earlier) ≡ Some j → HasJourney
     has_journey_with event j same h =
-        ap (λ (o : Option Journey). is_some (option_map (kept_journey_of network) o))
-        (sym (ap (λ (x : Event). journey_made network x (line_place line earlier) (journey_of network earlier))
+        ap (λ (o : Option LineJourney). is_some (option_map (kept_journey_of network) o))
+        (sym (ap (λ (x : Event). line_journey_made network x (line_place line earlier) (line_journey_of network earlier))
         same) ∙ h)
 
-    stay_followed : HasJourney → (transit : ℕ) (entered : LinePlace) (c : ℕ) (o : Option Journey) (j : Journey)
+    stay_followed : HasJourney → (transit : ℕ) (entered : LinePlace) (c : ℕ) (o : Option LineJourney) (j : LineJourney)
         → spent_transit line.event ≡ Some transit → line_at network earlier transit ≡ Some entered
-        → (entered_copy (event_of entered) ≡ Some c) × (c < line_number entered) → journey_of network earlier c ≡ o
+        → (entered_copy (event_of entered) ≡ Some c) × (c < line_number entered) → line_journey_of network earlier c ≡ o
         → option_map (with_stay (line_place line earlier) entered) o ≡ Some j → IsFollowed (length earlier) j
     stay_followed has_journey transit entered c None j spent there copied journey h = grind arith
     stay_followed has_journey transit entered c (Some k) j spent there copied journey h =
@@ -167,34 +167,34 @@ module _ (network : Network) (facts : Facts) (leaves : Leaves) (run : Run)
         let found = stay_found (length earlier) transit c (fact_of network (line_place line earlier))
         (fact_of network entered) at_line has_journey spent inside
         (keeps transit entered (line_at-later network line earlier transit entered there)) copied.0 below in
-        let P : Journey → Type 0 = λ x. IsFollowed (length earlier) x in
+        let P : LineJourney → Type 0 = λ x. IsFollowed (length earlier) x in
         subst P (same_Some _ _ h) (λ count within. follow_one (length earlier) transit c (left_once run k) found below
         (before c k journey) count within
         ∙ (λ i. eqb (count_by (spends (sym number i)) run) 1 && left_once run k))
 
-    copy_followed : HasJourney → (node : NodeName) (transit : ℕ) (entered : LinePlace) (o : Option ℕ) (j : Journey)
+    copy_followed : HasJourney → (node : NodeName) (transit : ℕ) (entered : LinePlace) (o : Option ℕ) (j : LineJourney)
         → spent_transit line.event ≡ Some transit → line_at network earlier transit ≡ Some entered
         → copy_entered node entered ≡ o
         → option_and_then (λ copy. option_map (with_stay (line_place line earlier) entered)
-        (journey_of network earlier copy)) o ≡ Some j → IsFollowed (length earlier) j
+        (line_journey_of network earlier copy)) o ≡ Some j → IsFollowed (length earlier) j
     copy_followed has_journey node transit entered None j spent there copied h = grind arith
     copy_followed has_journey node transit entered (Some c) j spent there copied h =
-        stay_followed has_journey transit entered c (journey_of network earlier c) j spent there
+        stay_followed has_journey transit entered c (line_journey_of network earlier c) j spent there
         (entered_is node entered (entered_copy (event_of entered)) c refl copied) refl h
 
-    left_followed : HasJourney → (node : NodeName) (transit : ℕ) (o : Option LinePlace) (j : Journey)
+    left_followed : HasJourney → (node : NodeName) (transit : ℕ) (o : Option LinePlace) (j : LineJourney)
         → spent_transit line.event ≡ Some transit → line_at network earlier transit ≡ o
-        → option_and_then (left_from node (line_place line earlier) (journey_of network earlier)) o ≡ Some j
+        → option_and_then (line_left_from node (line_place line earlier) (line_journey_of network earlier)) o ≡ Some j
         → IsFollowed (length earlier) j
     left_followed has_journey node transit None j spent there h = grind arith
     left_followed has_journey node transit (Some entered) j spent there h =
         copy_followed has_journey node transit entered (copy_entered node entered) j spent there refl h
 
-    nothing_followed : (j : Journey) → None ≡ Some j → IsFollowed (length earlier) j
+    nothing_followed : (j : LineJourney) → None ≡ Some j → IsFollowed (length earlier) j
     nothing_followed j h = absurd (none-some j h)
 
-    made_followed : (event : Event) (j : Journey) → event ≡ line.event
-        → journey_made network event (line_place line earlier) (journey_of network earlier) ≡ Some j
+    made_followed : (event : Event) (j : LineJourney) → event ≡ line.event
+        → line_journey_made network event (line_place line earlier) (line_journey_of network earlier) ≡ Some j
         → IsFollowed (length earlier) j
     made_followed (Sync node at) j same h = begun_followed j (sym (ap spent_transit same)) h
     made_followed (SyncOne node at) j same h = begun_followed j (sym (ap spent_transit same)) h
@@ -211,11 +211,11 @@ module _ (network : Network) (facts : Facts) (leaves : Leaves) (run : Run)
     made_followed (SetMaster node master) j same h = nothing_followed j h
     made_followed (StepClock node diff) j same h = nothing_followed j h
 
-  either_followed : (line : TraceLine) (earlier : Lines) (n : ℕ) (j : Journey) (here counted : Bool)
+  either_followed : (line : TraceLine) (earlier : Lines) (n : ℕ) (j : LineJourney) (here counted : Bool)
       → eqb (length earlier) n ≡ here → counts network line ≡ counted → Keeps (line ∷ earlier)
-      → ((m : ℕ) (k : Journey) → journey_of network earlier m ≡ Some k → IsFollowed m k)
-      → cond here (cond counted (journey_made network line.event (line_place line earlier)
-      (journey_of network earlier)) None) (journey_of network earlier n) ≡ Some j → IsFollowed n j
+      → ((m : ℕ) (k : LineJourney) → line_journey_of network earlier m ≡ Some k → IsFollowed m k)
+      → cond here (cond counted (line_journey_made network line.event (line_place line earlier)
+      (line_journey_of network earlier)) None) (line_journey_of network earlier n) ≡ Some j → IsFollowed n j
   either_followed line earlier n j true true p c keeps before h =
       let P : ℕ → Type 0 = λ m. IsFollowed m j in
       subst P (eqb-true (length earlier) n p) (made_followed line earlier c keeps before line.event j refl h)
@@ -223,7 +223,7 @@ module _ (network : Network) (facts : Facts) (leaves : Leaves) (run : Run)
   either_followed line earlier n j false counted p c keeps before h = before n j h
 
   -- following the stays finds whether each was ended once
-  pub followed_is : (lines : Lines) (n : ℕ) (j : Journey) → Keeps lines → journey_of network lines n ≡ Some j
+  pub followed_is : (lines : Lines) (n : ℕ) (j : LineJourney) → Keeps lines → line_journey_of network lines n ≡ Some j
       → (count : ℕ) → n < count → once_by (last_stays facts) leaves count n ≡ left_once run j
   followed_is [] n j keeps h = absurd (none-some j h)
   followed_is (line ∷ earlier) n j keeps h =

@@ -23,49 +23,49 @@ use Rattle.exchange_check.specs.declared.facts.KeptJourney.{KeptJourney}
 use Rattle.trace_model.specs.declared.line.TraceLine.{TraceLine}
 use Rattle.trace_model.specs.Line.{Lines, counts}
 use Rattle.trace_model.specs.Record.{LinePlace, line_place, line_number, event_of, line_at, reading, sequence}
-use Rattle.trace_model.specs.Journey.{Journey, residence, begun, with_stay, copy_entered}
-use Rattle.trace_model.specs.Journey.{left_from, journey_made, journey_of}
+use Rattle.trace_model.specs.Journey.{LineJourney, line_residence, line_begun, with_stay, copy_entered}
+use Rattle.trace_model.specs.Journey.{line_left_from, line_journey_made, line_journey_of}
 use Rattle.transparent_clock.specs.Forwarding.{resided}
-use Rattle.trace_model.specs.Octets.{drawing_port, message_sent, sent, message_after}
+use Rattle.trace_model.specs.Octets.{drawing_port, message_sent, sent, sent_after}
 use Rattle.trace_model.proofs.Lines.{line_at-later, line_at-here}
 use Rattle.exchange_check.specs.Inner.Kept.{longest, sent_by, message_after_by}
 use Rattle.exchange_check.proofs.Told.{fact_of, facts_at, number_drawn}
 
-abbrev IsIn : Network → Lines → Journey → Type 0
+abbrev IsIn : Network → Lines → LineJourney → Type 0
 IsIn network lines j = line_at network lines (line_number j.origin) ≡ Some j.origin
 
 module _ (network : Network) (line : TraceLine) (earlier : Lines) (counted : counts network line ≡ true)
-    (before : (n : ℕ) (j : Journey) → journey_of network earlier n ≡ Some j → IsIn network earlier j) where
-  stay_in : (entered : LinePlace) (o : Option Journey) (j : Journey)
-      → ((k : Journey) → o ≡ Some k → IsIn network earlier k)
+    (before : (n : ℕ) (j : LineJourney) → line_journey_of network earlier n ≡ Some j → IsIn network earlier j) where
+  stay_in : (entered : LinePlace) (o : Option LineJourney) (j : LineJourney)
+      → ((k : LineJourney) → o ≡ Some k → IsIn network earlier k)
       → option_map (with_stay (line_place line earlier) entered) o ≡ Some j → IsIn network (line ∷ earlier) j
   stay_in entered None j known h = grind arith
   stay_in entered (Some k) j known h =
-      let P : Journey → Type 0 = λ x. IsIn network (line ∷ earlier) x in
+      let P : LineJourney → Type 0 = λ x. IsIn network (line ∷ earlier) x in
       subst P (same_Some _ _ h) (line_at-later network line earlier (line_number k.origin) k.origin (known k refl))
 
-  copy_in : (entered : LinePlace) (c : Option ℕ) (j : Journey)
+  copy_in : (entered : LinePlace) (c : Option ℕ) (j : LineJourney)
       → option_and_then (λ copy. option_map (with_stay (line_place line earlier) entered)
-      (journey_of network earlier copy)) c ≡ Some j → IsIn network (line ∷ earlier) j
+      (line_journey_of network earlier copy)) c ≡ Some j → IsIn network (line ∷ earlier) j
   copy_in entered None j h = grind arith
-  copy_in entered (Some copy) j h = stay_in entered (journey_of network earlier copy) j (before copy) h
+  copy_in entered (Some copy) j h = stay_in entered (line_journey_of network earlier copy) j (before copy) h
 
-  left_in : (node : NodeName) (o : Option LinePlace) (j : Journey)
-      → option_and_then (left_from node (line_place line earlier) (journey_of network earlier)) o ≡ Some j
+  left_in : (node : NodeName) (o : Option LinePlace) (j : LineJourney)
+      → option_and_then (line_left_from node (line_place line earlier) (line_journey_of network earlier)) o ≡ Some j
       → IsIn network (line ∷ earlier) j
   left_in node None j h = grind arith
   left_in node (Some entered) j h = copy_in entered (copy_entered node entered) j h
 
-  begun_in : (j : Journey) → Some (begun (line_place line earlier)) ≡ Some j → IsIn network (line ∷ earlier) j
+  begun_in : (j : LineJourney) → Some (line_begun (line_place line earlier)) ≡ Some j → IsIn network (line ∷ earlier) j
   begun_in j h =
-      let P : Journey → Type 0 = λ x. IsIn network (line ∷ earlier) x in
+      let P : LineJourney → Type 0 = λ x. IsIn network (line ∷ earlier) x in
       subst P (same_Some _ _ h) (line_at-here network line earlier counted)
 
-  nothing_in : (j : Journey) → None ≡ Some j → IsIn network (line ∷ earlier) j
+  nothing_in : (j : LineJourney) → None ≡ Some j → IsIn network (line ∷ earlier) j
   nothing_in j h = grind arith
 
-  made_in : (event : Event) (j : Journey)
-      → journey_made network event (line_place line earlier) (journey_of network earlier) ≡ Some j
+  made_in : (event : Event) (j : LineJourney)
+      → line_journey_made network event (line_place line earlier) (line_journey_of network earlier) ≡ Some j
       → IsIn network (line ∷ earlier) j
   made_in (Sync node at) j h = begun_in j h
   made_in (SyncOne node at) j h = begun_in j h
@@ -80,11 +80,11 @@ module _ (network : Network) (line : TraceLine) (earlier : Lines) (counted : cou
   made_in (SetMaster node master) j h = nothing_in j h
   made_in (StepClock node diff) j h = nothing_in j h
 
-either_in : (network : Network) (line : TraceLine) (earlier : Lines) (n : ℕ) (j : Journey) (here counted : Bool)
+either_in : (network : Network) (line : TraceLine) (earlier : Lines) (n : ℕ) (j : LineJourney) (here counted : Bool)
     → counts network line ≡ counted
-    → ((m : ℕ) (k : Journey) → journey_of network earlier m ≡ Some k → IsIn network earlier k)
-    → cond here (cond counted (journey_made network line.event (line_place line earlier) (journey_of network earlier))
-    None) (journey_of network earlier n) ≡ Some j
+    → ((m : ℕ) (k : LineJourney) → line_journey_of network earlier m ≡ Some k → IsIn network earlier k)
+    → cond here (cond counted (line_journey_made network line.event (line_place line earlier) (line_journey_of network earlier))
+    None) (line_journey_of network earlier n) ≡ Some j
     → IsIn network (line ∷ earlier) j
 either_in network line earlier n j true true c before h = made_in network line earlier c before line.event j h
 either_in network line earlier n j true false c before h = grind arith
@@ -92,7 +92,7 @@ either_in network line earlier n j false counted c before h =
     line_at-later network line earlier (line_number j.origin) j.origin (before n j h)
 
 -- the line that sent a message is among the lines
-pub origin_in : (network : Network) (lines : Lines) (n : ℕ) (j : Journey) → journey_of network lines n ≡ Some j
+pub origin_in : (network : Network) (lines : Lines) (n : ℕ) (j : LineJourney) → line_journey_of network lines n ≡ Some j
     → line_at network lines (line_number j.origin) ≡ Some j.origin
 origin_in network [] n j h = grind arith
 origin_in network (line ∷ earlier) n j h =
@@ -150,10 +150,10 @@ pub min_min : (r : ℕ) → min (min r longest) longest ≡ min r longest
 min_min r = omega arith
 
 -- the message at the end of a journey, from what is kept of the journey
-pub message_after_is : (network : Network) (lines : Lines) (j : Journey) (kept_journey : KeptJourney)
+pub message_after_is : (network : Network) (lines : Lines) (j : LineJourney) (kept_journey : KeptJourney)
     → line_at network lines (line_number j.origin) ≡ Some j.origin
-    → kept_journey.origin ≡ line_number j.origin → min kept_journey.residence longest ≡ min (residence j) longest
-    → message_after_by network (facts_at network lines) kept_journey ≡ message_after network j
+    → kept_journey.origin ≡ line_number j.origin → min kept_journey.residence longest ≡ min (line_residence j) longest
+    → message_after_by network (facts_at network lines) kept_journey ≡ sent_after network j
 message_after_is network lines j kept_journey there same time =
     let at : facts_at network lines kept_journey.origin ≡ Some (fact_of network j.origin) =
     ap (facts_at network lines) same ∙ ap (λ (o : Option LinePlace). option_map (fact_of network) o) there in
@@ -162,4 +162,4 @@ message_after_is network lines j kept_journey there same time =
     (sent_by network origin.event origin.number.0 origin.reading)) o) at
     ∙ ap (λ (o : Option Contents). option_map (λ m. resided m kept_journey.residence) o) (sent_is network j.origin)
     ∙ sent_time_at (event_of j.origin) (reading j.origin) (λ port. sequence network port j.origin) kept_journey.residence
-    (residence j) time (drawing_port network (event_of j.origin))
+    (line_residence j) time (drawing_port network (event_of j.origin))

@@ -20,7 +20,7 @@ use Rattle.trace_model.specs.declared.verdict.Why.TheVariants.{WrongValue, TooBi
 use Rattle.trace_model.specs.Line.{Lines, counts}
 use Rattle.trace_model.specs.Record.{LinePlace, line_place, line_number, event_of, site, events, last_line, reading}
 use Rattle.trace_model.specs.Octets.{writes_right}
-use Rattle.trace_model.specs.Journey.{Journey, journey_of, residence, left_once}
+use Rattle.trace_model.specs.Journey.{LineJourney, line_journey_of, line_residence, left_once}
 use Rattle.trace_model.specs.Sound.{journey_writes_right, where_passes, below, Exchange, line_of, sync_line}
 use Rattle.trace_model.specs.Sound.{follow_lines, arrival_line, is_of_line, is_stamped_between, unbroken, is_followed}
 use Rattle.trace_model.specs.Sound.{are_paired, are_later, is_domain, is_of_master, are_readings, fraction_sent, fits}
@@ -107,18 +107,18 @@ module _ (network : Network) (line : TraceLine) (earlier : Lines) where
   abbrev slave : NodeName
   slave = site_of line.event
 
-  if_way : (b : Bool) (j : Journey)
+  if_way : (b : Bool) (j : LineJourney)
       → cond b (Some (found_journey_of network j)) None ≡ option_map (found_journey_of network) (cond b (Some j) None)
   if_way true j = refl
   if_way false j = refl
 
-  two_tests : (a : Bool) (j : Journey)
+  two_tests : (a : Bool) (j : LineJourney)
       → cond (a && left_once (events network earlier) j) (Some (found_journey_of network j)) None
       ≡ option_map (found_journey_of network) (where_passes (left_once (events network earlier)) (cond a (Some j) None))
   two_tests true j = if_way (left_once (events network earlier) j) j
   two_tests false j = refl
 
-  found_journey_found : (kind : Event → Bool) (copy : ℕ) (o : Option Journey) → journey_of network earlier copy ≡ o
+  found_journey_found : (kind : Event → Bool) (copy : ℕ) (o : Option LineJourney) → line_journey_of network earlier copy ≡ o
       → where_passes (λ found_journey. kind found_journey.origin.event && once copy) (option_map (found_journey_of network) o)
       ≡ option_map (found_journey_of network)
       (where_passes (left_once (events network earlier))
@@ -132,7 +132,7 @@ module _ (network : Network) (line : TraceLine) (earlier : Lines) where
       ∙ two_tests (kind (event_of j.origin)) j
 
   before_here : (copy limit : ℕ) → copy < limit → limit ≤ length earlier
-      → journey_of network earlier copy ≡ journey_of network (line ∷ earlier) copy
+      → line_journey_of network earlier copy ≡ line_journey_of network (line ∷ earlier) copy
   before_here copy limit within fits = grind (arith, nat_tests)
 
   found_journey_below : (kind : Event → Bool) (limit copy : ℕ) (b : Bool) → limit ≤ length earlier → nat_lt copy limit ≡ b
@@ -140,10 +140,10 @@ module _ (network : Network) (line : TraceLine) (earlier : Lines) where
       ≡ option_map (found_journey_of network)
       (where_passes (left_once (events network earlier))
       (where_passes (λ journey. kind (event_of journey.origin))
-      (cond b (journey_of network (line ∷ earlier) copy) None)))
+      (cond b (line_journey_of network (line ∷ earlier) copy) None)))
   found_journey_below kind limit copy true fits h =
       ap (where_passes (λ found_journey. kind found_journey.origin.event && once copy)) (found_journey_is network (line ∷ earlier) copy)
-      ∙ found_journey_found kind copy (journey_of network (line ∷ earlier) copy)
+      ∙ found_journey_found kind copy (line_journey_of network (line ∷ earlier) copy)
       (before_here copy limit (ltb-true copy limit h) fits)
   found_journey_below kind limit copy false fits h = refl
 
@@ -152,7 +152,7 @@ module _ (network : Network) (line : TraceLine) (earlier : Lines) where
       ≡ option_map (found_journey_of network)
       (where_passes (left_once (events network earlier))
       (where_passes (λ journey. kind (event_of journey.origin))
-      (option_and_then (below (journey_of network (line ∷ earlier)) limit) o)))
+      (option_and_then (below (line_journey_of network (line ∷ earlier)) limit) o)))
   found_journey_heard kind limit None fits = refl
   found_journey_heard kind limit (Some copy) fits = found_journey_below kind limit copy (nat_lt copy limit) fits refl
 
@@ -160,21 +160,21 @@ module _ (network : Network) (line : TraceLine) (earlier : Lines) where
       → found_journey_to facts once kind (fact_of network x) ≡ option_map (found_journey_of network) (unbroken network e kind x)
   found_journey_to_is kind x fits = found_journey_heard kind (line_number x) (heard_copy (event_of x)) fits
 
-  bracket_is : (x : LinePlace) (j : Journey) → fits j ≡ true
+  bracket_is : (x : LinePlace) (j : LineJourney) → fits j ≡ true
       → bracket_by (fact_of network x) (found_journey_of network j) ≡ bracket x j
   bracket_is x j h = λ i. (pos (reading x) -ℤ pos (reading j.origin)) -ℤ pos
-      (whole_residence (fraction_sent j.origin) (residence j) h i)
+      (whole_residence (fraction_sent j.origin) (line_residence j) h i)
 
   module _ (report : Report) where
-    results_are : (x : Exchange) (s r : Journey) → (fits s && fits r) ≡ true
+    results_are : (x : Exchange) (s r : LineJourney) → (fits s && fits r) ≡ true
         → results_by report (found_of network x) (found_journey_of network s) (found_journey_of network r) ≡ are_results report x s r
     results_are x s r h =
         let both = and_parts (fits s) (fits r) h in
-        let a = bracket_is x.sync s both.0 in
-        let b = bracket_is x.arrival r both.1 in
+        let a = bracket_is x.sync_arrival s both.0 in
+        let b = bracket_is x.request_arrival r both.1 in
         λ i. int_eq report.offset2 (offset2 (a i) (b i)) && int_eq report.path2 (path2 (a i) (b i))
 
-    journeys_are_found : (x : Exchange) (s r : Option Journey)
+    journeys_are_found : (x : Exchange) (s r : Option LineJourney)
         → both_journeys network (site_at network earlier slave) slave report (found_of network x)
         (option_map (found_journey_of network) s) (option_map (found_journey_of network) r) ≡ journeys_reason network e report x s r
     journeys_are_found x None r = refl
@@ -189,13 +189,13 @@ module _ (network : Network) (line : TraceLine) (earlier : Lines) where
         (octets_by (found_of network x) (found_journey_of network s) (found_journey_of network r)) (are_octets network x s r)
         (λ i. followed_line network x.follow s.origin i && eqb (line_number r.origin) (line_number x.request))
         (λ i. told_is (last_line network is_set_master slave earlier) (site s.origin) report i
-        && is_named (site x.arrival) (site s.origin)
+        && is_named (site x.request_arrival) (site s.origin)
         && is_domain (slave_at network slave) (master_at network (site s.origin)))
-        (λ i. fits_number (fraction_sent s.origin) (residence s) i
-        && fits_number (fraction_sent r.origin) (residence r) i)
+        (λ i. fits_number (fraction_sent s.origin) (line_residence s) i
+        && fits_number (fraction_sent r.origin) (line_residence r) i)
         (results_are x s r)
         (λ i. journey_writes_right network s && follow_octets network x.follow i && journey_writes_right network r
-        && writes_right network x.arrival)
+        && writes_right network x.request_arrival)
 
     found_are : (x : Option Exchange)
         → ((y : Exchange) → x ≡ Some y
@@ -206,8 +206,8 @@ module _ (network : Network) (line : TraceLine) (earlier : Lines) where
     found_are (Some x) within =
         let fits = within x refl in
         (λ i. both_journeys network (site_at network earlier slave) slave report (found_of network x)
-        (found_journey_to_is draws_sync x.sync fits.0 i) (found_journey_to_is is_request x.arrival fits.1 i))
-        ∙ journeys_are_found x (unbroken network e draws_sync x.sync) (unbroken network e is_request x.arrival)
+        (found_journey_to_is draws_sync x.sync_arrival fits.0 i) (found_journey_to_is is_request x.request_arrival fits.1 i))
+        ∙ journeys_are_found x (unbroken network e draws_sync x.sync_arrival) (unbroken network e is_request x.request_arrival)
 
     abbrev here : Bool
     here = is_of_line (length earlier) report

@@ -21,8 +21,8 @@ use Rattle.trace_model.specs.declared.line.TraceLine.{TraceLine}
 use Rattle.trace_model.specs.Line.{Lines, counts, is_made, completes}
 use Rattle.trace_model.specs.Record.{LinePlace, line_place, line_number, event_of, site, line_at}
 use Rattle.trace_model.specs.Record.{events, last_line, reading, reads_right, sequence}
-use Rattle.trace_model.specs.Journey.{Journey, stay_length, residence, begun, with_stay}
-use Rattle.trace_model.specs.Journey.{copy_entered, left_from, journey_made, journey_of}
+use Rattle.trace_model.specs.Journey.{LineJourney, line_stay_length, line_residence, line_begun, with_stay}
+use Rattle.trace_model.specs.Journey.{copy_entered, line_left_from, line_journey_made, line_journey_of}
 use Rattle.trace_model.specs.Octets.{drawing_port, writes_right}
 use Rattle.trace_model.specs.Sound.{stay_reads_right, journey_reads_right, journey_writes_right}
 use Rattle.exchange_check.specs.Inner.Kept.{Facts, longest, number_by, known_by, kept_journey_at, stayed}
@@ -30,10 +30,10 @@ use Rattle.exchange_check.specs.Inner.Kept.{left_by, begun_by, kept_journey_by, 
 use Rattle.exchange_check.proofs.Noted.{site_at}
 
 -- what is kept of a journey
-abbrev pub kept_journey_of : Network → Journey → KeptJourney
+abbrev pub kept_journey_of : Network → LineJourney → KeptJourney
 kept_journey_of network journey = record {
   origin = line_number journey.origin;
-  residence = min (residence journey) longest;
+  line_residence = min (line_residence journey) longest;
   reads_right = journey_reads_right network journey;
   writes_right = journey_writes_right network journey;
 }
@@ -43,8 +43,8 @@ abbrev pub number_drawn : Network → LinePlace → ℕ
 number_drawn network e = option_map_or (λ port. sequence network port e) (drawing_port network (event_of e)) 0
 
 -- the journey of the copy that a line made
-abbrev pub journey_from : Network → LinePlace → Option Journey
-journey_from network e = journey_made network (event_of e) e (journey_of network e.earlier)
+abbrev pub journey_from : Network → LinePlace → Option LineJourney
+journey_from network e = line_journey_made network (event_of e) e (line_journey_of network e.earlier)
 
 -- what is kept of a line
 abbrev pub fact_of : Network → LinePlace → Fact
@@ -111,9 +111,9 @@ known_is network line earlier = λ i. record {
 }
 
 either_way : (network : Network) (line : TraceLine) (earlier : Lines) (n : ℕ) (here counted : Bool)
-    → journey_of network earlier n ≡ option_and_then (journey_from network) (line_at network earlier n)
-    → cond here (cond counted (journey_made network line.event (line_place line earlier) (journey_of network earlier))
-    None) (journey_of network earlier n)
+    → line_journey_of network earlier n ≡ option_and_then (journey_from network) (line_at network earlier n)
+    → cond here (cond counted (line_journey_made network line.event (line_place line earlier) (line_journey_of network earlier))
+    None) (line_journey_of network earlier n)
     ≡ option_and_then (journey_from network)
     (cond here (cond counted (Some (line_place line earlier)) None) (line_at network earlier n))
 either_way network line earlier n true true h = refl
@@ -122,7 +122,7 @@ either_way network line earlier n false counted h = h
 
 -- the journey of a copy is that of the line which made it
 pub journey_of-line_at : (network : Network) (lines : Lines) (n : ℕ)
-    → journey_of network lines n ≡ option_and_then (journey_from network) (line_at network lines n)
+    → line_journey_of network lines n ≡ option_and_then (journey_from network) (line_at network lines n)
 journey_of-line_at network [] n = refl
 journey_of-line_at network (line ∷ earlier) n =
     either_way network line earlier n (eqb (length earlier) n) (counts network line)
@@ -136,9 +136,9 @@ kept_journey_from network (Some e) = refl
 
 -- what is kept of a copy is its journey
 pub kept_journey_at-is : (network : Network) (lines : Lines) (n : ℕ)
-    → kept_journey_at (facts_at network lines) n ≡ option_map (kept_journey_of network) (journey_of network lines n)
+    → kept_journey_at (facts_at network lines) n ≡ option_map (kept_journey_of network) (line_journey_of network lines n)
 kept_journey_at-is network lines n = kept_journey_from network (line_at network lines n)
-    ∙ ap (λ (o : Option Journey). option_map (kept_journey_of network) o) (sym (journey_of-line_at network lines n))
+    ∙ ap (λ (o : Option LineJourney). option_map (kept_journey_of network) o) (sym (journey_of-line_at network lines n))
 
 and_true : (b : Bool) → b && true ≡ b
 and_true true = refl
@@ -152,10 +152,10 @@ and_turned true false false = refl
 and_turned false l s = refl
 
 begun_is : (network : Network) (e : LinePlace)
-    → written_journey (writes_right network e) (begun_by (known_of network e)) ≡ kept_journey_of network (begun e)
+    → written_journey (writes_right network e) (begun_by (known_of network e)) ≡ kept_journey_of network (line_begun e)
 begun_is network e = λ i. record {
   origin = line_number e;
-  residence = 0;
+  line_residence = 0;
   reads_right = sym (and_true (reads_right network e)) i;
   writes_right = sym (and_true (writes_right network e)) i;
 }
@@ -163,20 +163,20 @@ begun_is network e = λ i. record {
 min_more : (r s : ℕ) → min (min r longest + s) longest ≡ min (s + r) longest
 min_more r s = omega arith
 
-residence_more : (e entered : LinePlace) (j : Journey)
-    → min (min (residence j) longest + (reading e - reading entered)) longest
-    ≡ min (residence (with_stay e entered j)) longest
+residence_more : (e entered : LinePlace) (j : LineJourney)
+    → min (min (line_residence j) longest + (reading e - reading entered)) longest
+    ≡ min (line_residence (with_stay e entered j)) longest
 residence_more e entered j =
-    min_more (residence j) (reading e - reading entered)
-    ∙ ap (λ (n : ℕ). min n longest) (sym (sum_by-cons stay_length (record { entered = entered; left = e }) j.stays))
+    min_more (line_residence j) (reading e - reading entered)
+    ∙ ap (λ (n : ℕ). min n longest) (sym (sum_by-cons line_stay_length (record { entered = entered; left = e }) j.stays))
 
-stayed_is : (network : Network) (e entered : LinePlace) (j : Journey)
+stayed_is : (network : Network) (e entered : LinePlace) (j : LineJourney)
     → written_journey (writes_right network e)
     (stayed (known_of network e) (fact_of network entered) (kept_journey_of network j))
     ≡ kept_journey_of network (with_stay e entered j)
 stayed_is network e entered j = λ i. record {
   origin = line_number j.origin;
-  residence = residence_more e entered j i;
+  line_residence = residence_more e entered j i;
   reads_right = and_turned (reads_right network j.origin) (list_all (stay_reads_right network) j.stays)
       (stay_reads_right network (record { entered = entered; left = e })) i;
   writes_right = and_turned (writes_right network j.origin)
@@ -184,7 +184,7 @@ stayed_is network e entered j = λ i. record {
 }
 
 module _ (network : Network) (e : LinePlace) where
-  after_stay : (entered : LinePlace) (o : Option Journey)
+  after_stay : (entered : LinePlace) (o : Option LineJourney)
       → option_map (written_journey (writes_right network e))
       (option_map (stayed (known_of network e) (fact_of network entered)) (option_map (kept_journey_of network) o))
       ≡ option_map (kept_journey_of network) (option_map (with_stay e entered) o)
@@ -196,18 +196,18 @@ module _ (network : Network) (e : LinePlace) where
       (option_and_then (λ copy. option_map (stayed (known_of network e) (fact_of network entered))
       (kept_journey_at (facts_at network e.earlier) copy)) c)
       ≡ option_map (kept_journey_of network)
-      (option_and_then (λ copy. option_map (with_stay e entered) (journey_of network e.earlier copy)) c)
+      (option_and_then (λ copy. option_map (with_stay e entered) (line_journey_of network e.earlier copy)) c)
   after_copy entered None = refl
   after_copy entered (Some copy) =
       ap (λ (o : Option KeptJourney). option_map (written_journey (writes_right network e))
       (option_map (stayed (known_of network e) (fact_of network entered)) o)) (kept_journey_at-is network e.earlier copy)
-      ∙ after_stay entered (journey_of network e.earlier copy)
+      ∙ after_stay entered (line_journey_of network e.earlier copy)
 
   after_entered : (node : NodeName) (o : Option LinePlace)
       → option_map (written_journey (writes_right network e))
       (option_and_then (left_by (facts_at network e.earlier) node (known_of network e))
       (option_map (fact_of network) o))
-      ≡ option_map (kept_journey_of network) (option_and_then (left_from node e (journey_of network e.earlier)) o)
+      ≡ option_map (kept_journey_of network) (option_and_then (line_left_from node e (line_journey_of network e.earlier)) o)
   after_entered node None = refl
   after_entered node (Some entered) = after_copy entered (copy_entered node entered)
 
@@ -215,7 +215,7 @@ module _ (network : Network) (e : LinePlace) where
   pub kept_journey_is : (event : Event)
       → option_map (written_journey (writes_right network e))
       (kept_journey_by (facts_at network e.earlier) (known_of network e) event)
-      ≡ option_map (kept_journey_of network) (journey_made network event e (journey_of network e.earlier))
+      ≡ option_map (kept_journey_of network) (line_journey_made network event e (line_journey_of network e.earlier))
   kept_journey_is (Sync node at) = ap Some (begun_is network e)
   kept_journey_is (SyncOne node at) = ap Some (begun_is network e)
   kept_journey_is (Follow node) = refl

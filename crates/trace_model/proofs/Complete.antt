@@ -119,7 +119,7 @@ one_domain network slave master shared =
 abbrev whole : Option LinePlace → Option (Option LinePlace) → Option LinePlace → Option LinePlace → Option Exchange
 whole s f r a =
     option_and_then (λ sync. option_and_then (λ follow. option_and_then (λ request.
-    option_map (λ arrival. record { sync = sync; follow = follow; request = request; arrival = arrival }) a) r) f) s
+    option_map (λ arrival. record { sync_arrival = sync; follow = follow; request = request; request_arrival = arrival }) a) r) f) s
 
 module _ (network : Network) (answered : Place) (e : LinePlace) (report : Report)
     (tells : TellsPlace network answered e) (reports : Reports network answered report)
@@ -243,7 +243,7 @@ module _ (network : Network) (answered : Place) (e : LinePlace) (report : Report
       let sync_origin_in = IsIn-within run os.arrival os.journey.origin sync_in
       (IsIn-origin os.arrival.earlier os.sync.arrives.copy os.journey os.sync.arrives.message_after) in
       let request_origin_in = IsIn-place_at run report.request_tag or.journey.origin or.request.requested in
-      let x : Exchange = record { sync = sync.e; follow = follow.found; request = request.e; arrival = answer.e } in
+      let x : Exchange = record { sync_arrival = sync.e; follow = follow.found; request = request.e; request_arrival = answer.e } in
       let lines : exchange_of network slave e report ≡ Some x =
       ap (λ (b : Bool). if b then whole (sync_line network (lines_to e) slave report)
       (follow_lines network (lines_to e) slave report.follow_tag)

@@ -75,14 +75,14 @@ journey_within run p tag journey there is =
 -- the journey of a message that arrived, by lines
 pub record IsFollowed (network : Network) (e : LinePlace) (kind : Event → Bool) (arrival : Place)
     (arrived : LinePlace) (journey : made.Journey) : Type 0 where
-  pub by_lines : lined.Journey
+  pub by_lines : lined.LineJourney
   pub there : unbroken network e kind arrived ≡ Some by_lines
   pub tells : TellsJourney network journey by_lines
   pub arrival_read : reading arrived ≡ clocks.reading arrival
   pub arrival_right : reads_right network arrived ≡ true
   pub origin_read : reading by_lines.origin ≡ clocks.reading journey.origin
   pub journey_right : journey_reads_right network by_lines ≡ true
-  pub residence : lined.residence by_lines ≡ made.residence journey
+  pub residence : lined.line_residence by_lines ≡ made.residence journey
 
 pub followed : (network : Network) (answered : Place) (e : LinePlace) → TellsPlace network answered e
     → (kind : Event → Bool) (arrival : Place) (arrived : LinePlace) (journey : made.Journey) (copy : ℕ)
@@ -117,16 +117,16 @@ followed network answered e tells kind arrival arrived journey copy tells_arriva
     record {
       by_lines = lines.by_lines;
       there = ap (λ (o : Option ℕ). where_passes (lined.left_once (events network e.earlier))
-          (where_passes (λ (j : lined.Journey). kind (event_of j.origin))
-          (option_and_then (below (lined.journey_of network (lines_to e)) (line_number arrived)) o)))
+          (where_passes (λ (j : lined.LineJourney). kind (event_of j.origin))
+          (option_and_then (below (lined.line_journey_of network (lines_to e)) (line_number arrived)) o)))
           (ap heard_copy (same_event network arrival arrived tells_arrival) ∙ hears)
-          ∙ ap (λ (o : Option lined.Journey). where_passes (lined.left_once (events network e.earlier))
-          (where_passes (λ (j : lined.Journey). kind (event_of j.origin)) o))
-          (found_below (lined.journey_of network (lines_to e)) (line_number arrived) copy
+          ∙ ap (λ (o : Option lined.LineJourney). where_passes (lined.left_once (events network e.earlier))
+          (where_passes (λ (j : lined.LineJourney). kind (event_of j.origin)) o))
+          (found_below (lined.line_journey_of network (lines_to e)) (line_number arrived) copy
           (subst (λ (n : ℕ). copy < n) (sym (same_number network arrival arrived tells_arrival)) small)
           ∙ lines.there)
           ∙ ap (where_passes (lined.left_once (events network e.earlier)))
-          (passes (λ (j : lined.Journey). kind (event_of j.origin)) lines.by_lines begins)
+          (passes (λ (j : lined.LineJourney). kind (event_of j.origin)) lines.by_lines begins)
           ∙ passes (lined.left_once (events network e.earlier)) lines.by_lines once;
       tells = lines.tells;
       arrival_read = read.0;
@@ -152,9 +152,9 @@ bracket_told network run kind e arrival arrived journey a accepted there timed o
     is.value
     ∙ ap (λ (z : ℤ). (z -ℤ is.left) -ℤ pos (made.residence journey)) one
     ∙ ap (λ (z : ℤ). (pos (clocks.reading arrival) -ℤ z) -ℤ pos (made.residence journey)) other
-    ∙ sym (ap (λ (n : ℕ). (pos n -ℤ pos (reading f.by_lines.origin)) -ℤ pos (lined.residence f.by_lines))
+    ∙ sym (ap (λ (n : ℕ). (pos n -ℤ pos (reading f.by_lines.origin)) -ℤ pos (lined.line_residence f.by_lines))
     f.arrival_read
-    ∙ ap (λ (n : ℕ). (pos (clocks.reading arrival) -ℤ pos n) -ℤ pos (lined.residence f.by_lines)) f.origin_read
+    ∙ ap (λ (n : ℕ). (pos (clocks.reading arrival) -ℤ pos n) -ℤ pos (lined.line_residence f.by_lines)) f.origin_read
     ∙ ap (λ (n : ℕ). (pos (clocks.reading arrival) -ℤ pos (clocks.reading journey.origin)) -ℤ pos n) f.residence)
 
 -- the correction that a message is drawn with
@@ -204,6 +204,6 @@ fits_told network kind e arrival arrived journey is f =
     ap (λ (v : Event). if is_one_step_sync v then fraction_of (reading f.by_lines.origin) else 0)
     (same_event network journey.origin f.by_lines.origin f.tells.origin)
     ∙ ap (λ (t : ℕ). if is_one_step_sync journey.origin.event then fraction_of t else 0) f.origin_read in
-    ap (λ (n : ℕ). nat_lt (n + lined.residence f.by_lines) (2 ^ 63 - 1)) same
+    ap (λ (n : ℕ). nat_lt (n + lined.line_residence f.by_lines) (2 ^ 63 - 1)) same
     ∙ ap (λ (n : ℕ). nat_lt (fraction + n) (2 ^ 63 - 1)) f.residence
     ∙ fits_so fraction (made.residence journey) small

@@ -48,9 +48,9 @@ enter_certain _ copy takes = cc
 
 -- the journey of the copy that a line made, which counts
 pub record HasMade (network : Network) (line : TraceLine) (lines : Lines) (journey : made.Journey) : Type 0 where
-  pub by_lines : lined.Journey
+  pub by_lines : lined.LineJourney
   pub counted : counts network line ≡ true
-  pub there : lined.journey_made network line.event (line_place line lines) (lined.journey_of network lines)
+  pub there : lined.line_journey_made network line.event (line_place line lines) (lined.line_journey_of network lines)
       ≡ Some by_lines
   pub tells : TellsJourney network journey by_lines
 
@@ -76,18 +76,18 @@ module _ (network : Network) (earlier : Run) (line : TraceLine) (lines : Lines) 
     → HasJourney network lines tag journey) where
   -- a journey that begins here
   begins : (event : Event) (journey : made.Journey) → TellsEvent network event earlier line → is_certain event ≡ true
-      → lined.journey_made network event (line_place line lines) (lined.journey_of network lines)
-      ≡ Some (lined.begun (line_place line lines))
+      → lined.line_journey_made network event (line_place line lines) (lined.line_journey_of network lines)
+      ≡ Some (lined.line_begun (line_place line lines))
       → made.begun event earlier ≡ journey → HasMade network line lines journey
   begins event journey tells certain there same =
-      let here : TellsJourney network (made.begun event earlier) (lined.begun (line_place line lines)) =
+      let here : TellsJourney network (made.begun event earlier) (lined.line_begun (line_place line lines)) =
       record { origin = record { told = tells; before = told }; stays = tt } in
       record {
-        by_lines = lined.begun (line_place line lines);
+        by_lines = lined.line_begun (line_place line lines);
         counted = certain_counts network event earlier line tells certain;
-        there = ap (λ (e : Event). lined.journey_made network e (line_place line lines)
-            (lined.journey_of network lines)) (event_told network event earlier line tells) ∙ there;
-        tells = subst (λ (j : made.Journey). TellsJourney network j (lined.begun (line_place line lines))) same here;
+        there = ap (λ (e : Event). lined.line_journey_made network e (line_place line lines)
+            (lined.line_journey_of network lines)) (event_told network event earlier line tells) ∙ there;
+        tells = subst (λ (j : made.Journey). TellsJourney network j (lined.line_begun (line_place line lines))) same here;
       }
 
   -- and one that goes on
@@ -115,7 +115,7 @@ module _ (network : Network) (earlier : Run) (line : TraceLine) (lines : Lines) 
       let prior = before from.1 from.2 from.5 in
       let copy_is = copy_entered_told network node from.0 entered.e from.1 entered.tells
       (ap (λ (p : Place). site_of p.event) (sym one) ∙ left.site) from.4 below in
-      let by_lines : lined.Journey = lined.with_stay (line_place line lines) entered.e prior.by_lines in
+      let by_lines : lined.LineJourney = lined.with_stay (line_place line lines) entered.e prior.by_lines in
       let on = gone_on here from.0 from.2 journey from.6 in
       let stays : TellsStays network (record { entered = from.0; left = here } ∷ from.2.stays) by_lines.stays =
       (record { entered = entered.tells; left = record { told = tells; before = told } }, prior.tells.stays) in
@@ -125,12 +125,12 @@ module _ (network : Network) (earlier : Run) (line : TraceLine) (lines : Lines) 
             (ap took_effect tells.answered.outcome
             ∙ ap is_effective (left_made network earlier node transit at tells.stepped.outcome journey
             tells.answered.outcome is));
-        there = ap (λ (e : Event). lined.journey_made network e (line_place line lines)
-            (lined.journey_of network lines)) (event_told network (Leave node transit at) earlier line tells)
-            ∙ ap (option_and_then (lined.left_from node (line_place line lines) (lined.journey_of network lines)))
+        there = ap (λ (e : Event). lined.line_journey_made network e (line_place line lines)
+            (lined.line_journey_of network lines)) (event_told network (Leave node transit at) earlier line tells)
+            ∙ ap (option_and_then (lined.line_left_from node (line_place line lines) (lined.line_journey_of network lines)))
             entered.there
             ∙ ap (option_and_then (λ (copy : ℕ). option_map (lined.with_stay (line_place line lines) entered.e)
-            (lined.journey_of network lines copy))) copy_is
+            (lined.line_journey_of network lines copy))) copy_is
             ∙ ap (option_map (lined.with_stay (line_place line lines) entered.e)) prior.there;
         tells = record {
           origin = subst (λ (o : Place). TellsPlace network o prior.by_lines.origin)
@@ -156,11 +156,11 @@ each_journey_is_told network (event ∷ earlier) (line ∷ lines) tag journey to
     numbers : (length lines == tag) ≡ (length earlier == tag)
     numbers = ap (λ (n : ℕ). n == tag) (same_length network earlier lines told.1)
 
-    unfolded : Bool → Bool → Option lined.Journey
+    unfolded : Bool → Bool → Option lined.LineJourney
     unfolded here counted = if here
-        then (if counted then lined.journey_made network line.event (line_place line lines)
-        (lined.journey_of network lines) else None)
-        else lined.journey_of network lines tag
+        then (if counted then lined.line_journey_made network line.event (line_place line lines)
+        (lined.line_journey_of network lines) else None)
+        else lined.line_journey_of network lines tag
 
     at : (same : Bool) → (length earlier == tag) ≡ same
         → (if same then made.journey_made event earlier (made.journey_of earlier) else made.journey_of earlier tag)

@@ -38,7 +38,7 @@ use Rattle.network_model.proofs.Copies.{answered as answers_request}
 use Rattle.network_model.proofs.Leaving.{copy_made-forwarded, copy_of-since}
 use Rattle.trace_model.specs.Record.{LinePlace, last_line, reading}
 use Rattle.trace_model.specs.Journey as lined
-use Rattle.trace_model.specs.Octets.{message_after, followed, answered, message_made, writes_right}
+use Rattle.trace_model.specs.Octets.{sent_after, follow_up_sent, answered, message_made, writes_right}
 use Rattle.trace_model.specs.Faithful.{TellsPlace}
 use Rattle.trace_model.proofs.Good.{node_is, port_is, the_value}
 use Rattle.trace_model.proofs.Found.{same_event}
@@ -81,13 +81,13 @@ left_written network node transit at earlier e tells is =
     let there : made.journey_of run (length earlier) ≡ Some journey.0 =
     ap (λ (b : Bool). if b then made.journey_made (Leave node transit at) earlier (made.journey_of earlier)
     else made.journey_of earlier (length earlier)) (eq-eqb (length earlier) (length earlier) refl) ∙ journey.1 in
-    let by_lines : lined.journey_made network (Leave node transit at) e (lined.journey_of network e.earlier)
+    let by_lines : lined.line_journey_made network (Leave node transit at) e (lined.line_journey_of network e.earlier)
     ≡ Some lines.by_lines =
-    ap (λ (v : Event). lined.journey_made network v e (lined.journey_of network e.earlier))
+    ap (λ (v : Event). lined.line_journey_made network v e (lined.line_journey_of network e.earlier))
     (sym (same_event network (place (Leave node transit at) earlier) e tells)) ∙ lines.there in
     written network (place (Leave node transit at) earlier) e m.0 tells is copy
     (ap (λ (v : Event). message_made network v e) (same_event network (place (Leave node transit at) earlier) e tells)
-    ∙ ap (option_and_then (message_after network)) by_lines
+    ∙ ap (option_and_then (sent_after network)) by_lines
     ∙ message_after_told network run (length earlier) journey.0 lines.by_lines accepted there lines.tells ∙ journey.2)
 
 -- a Follow_Up
@@ -117,9 +117,9 @@ follow_written_at network node earlier e origin tells waits =
     ap (option_and_then (λ (p : PortSetup). option_map (truth.followed p) (waiting_sync node earlier))) parts.2
     ∙ ap (option_map (truth.followed port)) waits in
     let message : message_made network (Follow node) e ≡ Some (truth.followed port origin) =
-    ap (option_and_then (λ (p : PortSetup). option_map (followed network p)
+    ap (option_and_then (λ (p : PortSetup). option_map (follow_up_sent network p)
     (last_line network is_sync node e.earlier))) parts.2
-    ∙ ap (option_map (followed network port)) found.there
+    ∙ ap (option_map (follow_up_sent network port)) found.there
     ∙ ap (λ (n : ℕ). Some (follow_up port.config n (reading found.e)))
     (sequence_told network origin found.e found.tells port)
     ∙ ap (λ (t : ℕ). Some (follow_up port.config (of_count (number_of port origin)) t)) read.0 in
@@ -222,14 +222,14 @@ arrival_written_at network node copy at earlier e response journey tells made is
     (subst IsOk (sym tells.told.answered.outcome) refl, accepted) in
     let read = reading_told network (Arrive node copy at ∷ earlier) (place (Arrive node copy at) earlier) e here
     (IsIn-last (Arrive node copy at) earlier) tells refl in
-    let message : message_after network lines.by_lines ≡ Some parts.m =
+    let message : sent_after network lines.by_lines ≡ Some parts.m =
     message_after_told network earlier copy journey lines.by_lines accepted is lines.tells
     ∙ sym (copy_of-message_after network earlier copy journey is) ∙ parts.message in
     written network (place (Arrive node copy at) earlier) e response tells
     (tells.told.answered.outcome ∙ ap Ok parts.is_made) made
     (ap (λ (v : Event). message_made network v e) (same_event network (place (Arrive node copy at) earlier) e tells)
     ∙ ap (option_and_then (λ (port : PortSetup). option_and_then (answered network port e)
-    (lined.journey_of network e.earlier copy))) parts.master
+    (lined.line_journey_of network e.earlier copy))) parts.master
     ∙ ap (option_and_then (answered network parts.port e)) lines.there
     ∙ ap (option_map (λ (request : Contents). delay_resp parts.port.config request.header (reading e))) message
     ∙ ap (λ (t : ℕ). Some (delay_resp parts.port.config parts.m.header t)) read.0

@@ -21,8 +21,8 @@ use Rattle.trace_model.specs.declared.line.TraceOut.{TraceOut}
 use Rattle.trace_model.specs.Line.{Lines, is_made, is_refused, is_ignored, is_master, is_slave, is_clock, completes}
 use Rattle.trace_model.specs.Line.{counts, is_good}
 use Rattle.trace_model.specs.Record.{LinePlace, line_place, event_of, site, line_number, line_at, events}
-use Rattle.trace_model.specs.Journey.{Journey, Stay, begun, with_stay, copy_entered, left_from, journey_made}
-use Rattle.trace_model.specs.Journey.{journey_of, left_once}
+use Rattle.trace_model.specs.Journey.{LineJourney, LineStay, line_begun, with_stay, copy_entered, line_left_from, line_journey_made}
+use Rattle.trace_model.specs.Journey.{line_journey_of, left_once}
 use Rattle.trace_model.specs.Octets.{writes_right}
 use Rattle.trace_model.specs.Sound.{Exchange, where_passes, below, lines_to, line_of, sender, sync_line, follow_line}
 use Rattle.trace_model.specs.Sound.{follow_lines, arrival_line, is_report_in_place, exchange_of, journey_to, unbroken}
@@ -86,8 +86,8 @@ unrefused false y is = refl
 
 message_there : (network : Network) (event : Event) (line : TraceLine) → line.event ≡ event
     → counts network line ≡ true
-    → (journey : Journey) (e : LinePlace) (journeys : ℕ → Option Journey)
-    → journey_made network event e journeys ≡ Some journey → is_made line.out ≡ true
+    → (journey : LineJourney) (e : LinePlace) (journeys : ℕ → Option LineJourney)
+    → line_journey_made network event e journeys ≡ Some journey → is_made line.out ≡ true
 message_there network event line same counted journey e journeys made = by event same made
   where
     parts : (is_good network line.event line.out ≡ true) × (not (is_refused line.out || is_ignored line.out) ≡ true)
@@ -96,7 +96,7 @@ message_there network event line same counted journey e journeys made = by event
     good : (v : Event) → line.event ≡ v → is_good network v line.out ≡ true
     good v same = subst (λ (v : Event). is_good network v line.out ≡ true) same parts.0
 
-    by : (v : Event) → line.event ≡ v → journey_made network v e journeys ≡ Some journey → is_made line.out ≡ true
+    by : (v : Event) → line.event ≡ v → line_journey_made network v e journeys ≡ Some journey → is_made line.out ≡ true
     by (Sync node at) same is = (and_parts (is_master network node) (is_made line.out) (good (Sync node at) same)).1
     by (SyncOne node at) same is =
         (and_parts (is_master network node) (is_made line.out) (good (SyncOne node at) same)).1
@@ -107,34 +107,34 @@ message_there network event line same counted journey e journeys made = by event
     by _ same is = cc
 
 -- a journey goes on with right octets
-goes_right : (network : Network) (event : Event) (e : LinePlace) (journeys : ℕ → Option Journey) (journey : Journey)
-    → journey_made network event e journeys ≡ Some journey
+goes_right : (network : Network) (event : Event) (e : LinePlace) (journeys : ℕ → Option LineJourney) (journey : LineJourney)
+    → line_journey_made network event e journeys ≡ Some journey
     → writes_right network e ≡ true
-    → ((copy : ℕ) (j : Journey) → journeys copy ≡ Some j → journey_writes_right network j ≡ true)
+    → ((copy : ℕ) (j : LineJourney) → journeys copy ≡ Some j → journey_writes_right network j ≡ true)
     → journey_writes_right network journey ≡ true
 goes_right network (Sync node at) e journeys journey made right before =
-    let same : begun e ≡ journey =
-    cc in subst (λ (j : Journey). journey_writes_right network j ≡ true) same (λ i. right i && true)
+    let same : line_begun e ≡ journey =
+    cc in subst (λ (j : LineJourney). journey_writes_right network j ≡ true) same (λ i. right i && true)
 goes_right network (SyncOne node at) e journeys journey made right before =
-    let same : begun e ≡ journey =
-    cc in subst (λ (j : Journey). journey_writes_right network j ≡ true) same (λ i. right i && true)
+    let same : line_begun e ≡ journey =
+    cc in subst (λ (j : LineJourney). journey_writes_right network j ≡ true) same (λ i. right i && true)
 goes_right network (Request node at) e journeys journey made right before =
-    let same : begun e ≡ journey =
-    cc in subst (λ (j : Journey). journey_writes_right network j ≡ true) same (λ i. right i && true)
+    let same : line_begun e ≡ journey =
+    cc in subst (λ (j : LineJourney). journey_writes_right network j ≡ true) same (λ i. right i && true)
 goes_right network (Leave node transit at) e journeys journey made right before =
-    let entered = some_step (left_from node e journeys) (line_at network e.earlier transit) made in
+    let entered = some_step (line_left_from node e journeys) (line_at network e.earlier transit) made in
     let copy = some_step (λ (c : ℕ). option_map (with_stay e entered.0) (journeys c))
     (copy_entered node entered.0) entered.2 in
     let prior = some_image (with_stay e entered.0) (journeys copy.0) copy.2 in
     let parts = and_parts (writes_right network prior.0.origin)
-    (list_all (λ (stay : Stay). writes_right network stay.left) prior.0.stays) (before copy.0 prior.0 prior.1) in
-    subst (λ (j : Journey). journey_writes_right network j ≡ true) prior.2
-    (and_from (writes_right network prior.0.origin) (writes_right network e && list_all (λ (stay : Stay). writes_right network stay.left) prior.0.stays) parts.0
-    (and_from (writes_right network e) (list_all (λ (stay : Stay). writes_right network stay.left) prior.0.stays) right parts.1))
+    (list_all (λ (stay : LineStay). writes_right network stay.left) prior.0.stays) (before copy.0 prior.0 prior.1) in
+    subst (λ (j : LineJourney). journey_writes_right network j ≡ true) prior.2
+    (and_from (writes_right network prior.0.origin) (writes_right network e && list_all (λ (stay : LineStay). writes_right network stay.left) prior.0.stays) parts.0
+    (and_from (writes_right network e) (list_all (λ (stay : LineStay). writes_right network stay.left) prior.0.stays) right parts.1))
 goes_right network _ e journeys journey made right before = cc
 
-journey_right : (network : Network) (run : Run) (lines : Lines) (number : ℕ) (journey : Journey)
-    → TellsRun network run lines → journey_of network lines number ≡ Some journey
+journey_right : (network : Network) (run : Run) (lines : Lines) (number : ℕ) (journey : LineJourney)
+    → TellsRun network run lines → line_journey_of network lines number ≡ Some journey
     → journey_writes_right network journey ≡ true
 journey_right network run [] number journey told is = cc
 journey_right network [] (line ∷ lines) number journey told is = absurd told
@@ -143,16 +143,16 @@ journey_right network (event ∷ earlier) (line ∷ lines) number journey told i
     (λ n j known. journey_right network earlier lines n j told.1 known)
   where
     at : (here counted : Bool) → counts network line ≡ counted
-        → (if here then (if counted then journey_made network line.event (line_place line lines)
-        (journey_of network lines) else None) else journey_of network lines number) ≡ Some journey
-        → ((n : ℕ) (j : Journey) → journey_of network lines n ≡ Some j → journey_writes_right network j ≡ true)
+        → (if here then (if counted then line_journey_made network line.event (line_place line lines)
+        (line_journey_of network lines) else None) else line_journey_of network lines number) ≡ Some journey
+        → ((n : ℕ) (j : LineJourney) → line_journey_of network lines n ≡ Some j → journey_writes_right network j ≡ true)
         → journey_writes_right network journey ≡ true
     at true true counted is before =
         let right = made_right network (place event earlier) (line_place line lines)
         (record { told = told.0; before = told.1 })
         (message_there network line.event line refl counted journey (line_place line lines)
-        (journey_of network lines) is) in
-        goes_right network line.event (line_place line lines) (journey_of network lines) journey is right before
+        (line_journey_of network lines) is) in
+        goes_right network line.event (line_place line lines) (line_journey_of network lines) journey is right before
     at true false counted is before = cc
     at false counted e is before = before number journey is
 
@@ -227,17 +227,17 @@ module _ (network : Network) (run : Run) (lines : Lines) (told : TellsRun networ
       made_right network here.0 e here.1 (and_parts (is_arrival (event_of e)) (is_made e.line.out) parts.1).1
 
 -- the journey of what arrived is that of a copy
-journey_found : (network : Network) (e : LinePlace) (kind : Event → Bool) (arrival : LinePlace) (journey : Journey)
+journey_found : (network : Network) (e : LinePlace) (kind : Event → Bool) (arrival : LinePlace) (journey : LineJourney)
     → unbroken network e kind arrival ≡ Some journey
-    → (copy : ℕ) × (journey_of network (lines_to e) copy ≡ Some journey)
+    → (copy : ℕ) × (line_journey_of network (lines_to e) copy ≡ Some journey)
 journey_found network e kind arrival journey is =
     let once = passed (left_once (events network e.earlier)) (journey_to network (lines_to e) kind arrival) is in
-    let begins = passed (λ (j : Journey). kind (event_of j.origin))
-    (option_and_then (below (journey_of network (lines_to e)) (line_number arrival))
+    let begins = passed (λ (j : LineJourney). kind (event_of j.origin))
+    (option_and_then (below (line_journey_of network (lines_to e)) (line_number arrival))
     (heard_copy (event_of arrival))) once.0 in
-    let copy = some_step (below (journey_of network (lines_to e)) (line_number arrival))
+    let copy = some_step (below (line_journey_of network (lines_to e)) (line_number arrival))
     (heard_copy (event_of arrival)) begins.0 in
-    (copy.0, was_below (journey_of network (lines_to e)) (line_number arrival) copy.0 copy.2)
+    (copy.0, was_below (line_journey_of network (lines_to e)) (line_number arrival) copy.0 copy.2)
 
 -- the lines of an exchange
 abbrev of_lines : Option LinePlace → Option (Option LinePlace) → Option LinePlace → Option LinePlace → Option Exchange
@@ -245,23 +245,23 @@ of_lines s f r a =
     option_and_then (λ (sync : LinePlace). option_and_then
     (λ (follow : Option LinePlace). option_and_then (λ (request : LinePlace).
     option_map (λ (arrival : LinePlace).
-    record { sync = sync; follow = follow; request = request; arrival = arrival }) a) r) f) s
+    record { sync_arrival = sync; follow = follow; request = request; request_arrival = arrival }) a) r) f) s
 
 -- an exchange's Follow_Up and arrival
 exchange_parts : (network : Network) (slave : NodeName) (e : LinePlace) (report : Report) (x : Exchange)
     → exchange_of network slave e report ≡ Some x
     → (follow_lines network (lines_to e) slave report.follow_tag ≡ Some x.follow)
-    × (arrival_line network (lines_to e) slave report.response_tag ≡ Some x.arrival)
+    × (arrival_line network (lines_to e) slave report.response_tag ≡ Some x.request_arrival)
 exchange_parts network slave e report x is = by (is_report_in_place network e report) is
   where
     parts : (s : Option LinePlace) (f : Option (Option LinePlace)) (r a : Option LinePlace)
-        → of_lines s f r a ≡ Some x → (f ≡ Some x.follow) × (a ≡ Some x.arrival)
+        → of_lines s f r a ≡ Some x → (f ≡ Some x.follow) × (a ≡ Some x.request_arrival)
     parts None f r a is = cc
     parts (Some s) None r a is = cc
     parts (Some s) (Some f) None a is = cc
     parts (Some s) (Some f) (Some r) None is = cc
     parts (Some s) (Some f) (Some r) (Some a) is =
-        let same : (record { sync = s; follow = f; request = r; arrival = a }) ≡ x = cc in
+        let same : (record { sync_arrival = s; follow = f; request = r; request_arrival = a }) ≡ x = cc in
         (ap (λ (y : Exchange). Some y.follow) same, ap (λ (y : Exchange). Some y.arrival) same)
 
     by : (placed : Bool) → (if placed
@@ -270,7 +270,7 @@ exchange_parts network slave e report x is = by (is_report_in_place network e re
         (line_of network (lines_to e) is_request slave report.request_tag)
         (arrival_line network (lines_to e) slave report.response_tag) else None) ≡ Some x
         → (follow_lines network (lines_to e) slave report.follow_tag ≡ Some x.follow)
-        × (arrival_line network (lines_to e) slave report.response_tag ≡ Some x.arrival)
+        × (arrival_line network (lines_to e) slave report.response_tag ≡ Some x.request_arrival)
     by true is = parts (sync_line network (lines_to e) slave report)
         (follow_lines network (lines_to e) slave report.follow_tag)
         (line_of network (lines_to e) is_request slave report.request_tag)
@@ -282,10 +282,10 @@ each_exchange_is_written network p e report tells has =
     let run : Run = until p in
     let told : TellsRun network run (lines_to e) = (tells.told, tells.before) in
     let parts = exchange_parts network (site e) e report has.x has.lines in
-    let sync = journey_found network e draws_sync has.x.sync has.sync has.sync_unbroken in
-    let request = journey_found network e is_request has.x.arrival has.request has.request_unbroken in
+    let sync = journey_found network e draws_sync has.x.sync_arrival has.sync has.sync_unbroken in
+    let request = journey_found network e is_request has.x.request_arrival has.request has.request_unbroken in
     let sync_right = journey_right network run (lines_to e) sync.0 has.sync told sync.1 in
     let request_right = journey_right network run (lines_to e) request.0 has.request told request.1 in
     let follow = follow_right network run (lines_to e) told (site e) report.follow_tag has.x.follow parts.0 in
-    let arrival = arrival_right network run (lines_to e) told (site e) report.response_tag has.x.arrival parts.1 in
+    let arrival = arrival_right network run (lines_to e) told (site e) report.response_tag has.x.request_arrival parts.1 in
     (λ i. sync_right i && follow i && request_right i && arrival i)

@@ -14,7 +14,7 @@ use Rattle.trace_model.specs.declared.verdict.Why.TheVariants.{OtherNumber, Othe
 use Rattle.trace_model.specs.declared.verdict.Why.TheVariants.{WrongValue, TooBig, Bytes}
 use Rattle.trace_model.specs.Line.{Lines}
 use Rattle.trace_model.specs.Record.{LinePlace, line_place, line_number, site}
-use Rattle.trace_model.specs.Journey.{Journey}
+use Rattle.trace_model.specs.Journey.{LineJourney}
 use Rattle.trace_model.specs.Sound.{Exchange, Sound, exchange_of, unbroken, are_paired, is_of_master, are_readings}
 use Rattle.trace_model.specs.Sound.{fits, are_results, are_octets, journeys_reason, exchange_reason, reason}
 use Rattle.trace_model.specs.Verdict.{report_in, one_more, with_line, verdict}
@@ -47,8 +47,8 @@ module _ (network : Network) (e : LinePlace) (report : Report) where
       ∙ (λ i. first_failing (has.paired i) (has.of_master i) (has.readings i) (has.sync_fits i && has.request_fits i)
       (has.results i) (s.octets i))
 
-  journeys_sound : (x : Exchange) (sync request : Option Journey) → exchange_of network (site e) e report ≡ Some x
-      → unbroken network e draws_sync x.sync ≡ sync → unbroken network e is_request x.arrival ≡ request
+  journeys_sound : (x : Exchange) (sync request : Option LineJourney) → exchange_of network (site e) e report ≡ Some x
+      → unbroken network e draws_sync x.sync_arrival ≡ sync → unbroken network e is_request x.request_arrival ≡ request
       → journeys_reason network e report x sync request ≡ None → Sound network e report
   journeys_sound x (Some sync) (Some request) lines s r h =
       let p = none_fails (are_paired network x sync request) (is_of_master network (site e) e report x sync)

@@ -97,9 +97,9 @@ stays_spent network (event ∷ earlier) tag journey accepted is =
     at false is before = before tag journey is
 
 -- how long a message was in one clock, and that the readings are right
-stay_told : (network : Network) (run : Run) (stay : made.Stay) (lines : lined.Stay) → IsRun network run
+stay_told : (network : Network) (run : Run) (stay : made.Stay) (lines : lined.LineStay) → IsRun network run
     → IsStay run stay → TellsStay network stay lines
-    → (lined.stay_length lines ≡ made.stay_length stay) × (stay_reads_right network lines ≡ true)
+    → (lined.line_stay_length lines ≡ made.stay_length stay) × (stay_reads_right network lines ≡ true)
 stay_told network run stay lines accepted is tells =
     let entered = reading_told network run stay.entered lines.entered accepted is.entered_in tells.entered
     is.entered_timed in
@@ -113,9 +113,9 @@ stay_told network run stay lines accepted is tells =
           ∙ le-ltb (clocks.reading stay.left) (clocks.reading stay.entered) is.order)),
     )
 
-pub stays_told : (network : Network) (run : Run) (stays : List made.Stay) (lines : List lined.Stay)
+pub stays_told : (network : Network) (run : Run) (stays : List made.Stay) (lines : List lined.LineStay)
     → IsRun network run → AreStays run stays → TellsStays network stays lines
-    → (sum_by lined.stay_length lines ≡ sum_by made.stay_length stays)
+    → (sum_by lined.line_stay_length lines ≡ sum_by made.stay_length stays)
     × (list_all (stay_reads_right network) lines ≡ true)
 stays_told network run [] [] accepted are tells = (refl, refl)
 stays_told network run [] (l ∷ lines) accepted are tells = absurd tells
@@ -123,7 +123,7 @@ stays_told network run (stay ∷ stays) [] accepted are tells = absurd tells
 stays_told network run (stay ∷ stays) (l ∷ lines) accepted are tells =
     let first = stay_told network run stay l accepted are.0 tells.0 in
     let others = stays_told network run stays lines accepted are.1 tells.1 in (
-      sum_by-cons lined.stay_length l lines ∙ ap (λ (n : ℕ). n + sum_by lined.stay_length lines) first.0
+      sum_by-cons lined.line_stay_length l lines ∙ ap (λ (n : ℕ). n + sum_by lined.line_stay_length lines) first.0
           ∙ ap (λ (n : ℕ). made.stay_length stay + n) others.0 ∙ sym (sum_by-cons made.stay_length stay stays),
       and_from (stay_reads_right network l) (list_all (stay_reads_right network) lines) first.1 others.1,
     )
@@ -161,7 +161,7 @@ count_present network kind (event ∷ earlier) (line ∷ lines) tag p told there
 
 -- each stay was ended once
 pub stays_once : (network : Network) (run : Run) (lines : Lines) (small : Run) (stays : List made.Stay)
-    (others : List lined.Stay) → TellsRun network run lines → IsRun network run
+    (others : List lined.LineStay) → TellsRun network run lines → IsRun network run
     → ((q : Place) → IsIn small q → IsIn run q) → AreStays small stays → AreSpent network stays
     → TellsStays network stays others
     → list_all (λ stay. count_by (spends (line_number stay.entered)) (events network lines) == 1) others ≡ true
@@ -178,7 +178,7 @@ stays_once network run lines small (stay ∷ stays) (l ∷ others) told accepted
     let once = spent_once network run (tag_of stay.entered) accepted in
     let one : count_by (spends (tag_of stay.entered)) (events network lines) ≡ 1 = omega arith in
     and_from (count_by (spends (line_number l.entered)) (events network lines) == 1)
-    (list_all (λ (stay : lined.Stay). count_by (spends (line_number stay.entered)) (events network lines) == 1) others)
+    (list_all (λ (stay : lined.LineStay). count_by (spends (line_number stay.entered)) (events network lines) == 1) others)
     (eq-eqb (count_by (spends (line_number l.entered)) (events network lines)) 1
     (ap (λ (n : ℕ). count_by (spends n) (events network lines)) number ∙ one))
     (stays_once network run lines small stays others told accepted within are.1 spent.1 tells.1)

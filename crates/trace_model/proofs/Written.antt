@@ -23,7 +23,7 @@ use Rattle.network_model.proofs.Journeys.{IsIn-last, IsIn-origin}
 use Rattle.network_model.proofs.Paths.{stays_are}
 use Rattle.trace_model.specs.declared.line.TraceOut.{TraceOut}
 use Rattle.trace_model.specs.Record.{LinePlace, event_of, reading, sequence}
-use Rattle.trace_model.specs.Octets.{drawing_port, message_sent, sent, message_after, message_made, is_written}
+use Rattle.trace_model.specs.Octets.{drawing_port, message_sent, sent, sent_after, message_made, is_written}
 use Rattle.trace_model.specs.Octets.{writes_right}
 use Rattle.trace_model.specs.Told.{TellsMade, TellsOutcome}
 use Rattle.trace_model.specs.Faithful.{TellsPlace, TellsJourney}
@@ -113,9 +113,9 @@ sent_told network event earlier e accepted tells =
     by _ same = refl
 
 -- the message at the end of a journey
-pub message_after_told : (network : Network) (run : Run) (tag : ℕ) (journey : made.Journey) (lines : lined.Journey)
+pub message_after_told : (network : Network) (run : Run) (tag : ℕ) (journey : made.Journey) (lines : lined.LineJourney)
     → IsRun network run → made.journey_of run tag ≡ Some journey
-    → TellsJourney network journey lines → message_after network lines ≡ truth.message_after network journey
+    → TellsJourney network journey lines → sent_after network lines ≡ truth.message_after network journey
 message_after_told network run tag journey lines accepted is tells =
     let stays = stays_told network run journey.stays lines.stays accepted
     (stays_are network run tag journey accepted is) tells.stays in

@@ -72,26 +72,26 @@ EachEventIsRecorded =
     → is_some (true_moment p.event) ≡ true → IsRecorded network p e
 
 -- two lines tell a stay in a clock
-pub record TellsStay (network : Network) (stay : made.Stay) (lines : lined.Stay) : Type 0 where
+pub record TellsStay (network : Network) (stay : made.Stay) (lines : lined.LineStay) : Type 0 where
   pub entered : TellsPlace network stay.entered lines.entered
   pub left : TellsPlace network stay.left lines.left
 
 -- lines tell stays, one by one
-abbrev pub TellsStays : Network → List made.Stay → List lined.Stay → Type 0
+abbrev pub TellsStays : Network → List made.Stay → List lined.LineStay → Type 0
 TellsStays network [] [] = Unit {0}
 TellsStays network (stay ∷ stays) (lines ∷ others) = TellsStay network stay lines × TellsStays network stays others
 TellsStays network [] (lines ∷ others) = ⊥
 TellsStays network (stay ∷ stays) [] = ⊥
 
 -- lines tell a journey: where it began, and its stays
-pub record TellsJourney (network : Network) (journey : made.Journey) (lines : lined.Journey) : Type 0 where
+pub record TellsJourney (network : Network) (journey : made.Journey) (lines : lined.LineJourney) : Type 0 where
   pub origin : TellsPlace network journey.origin lines.origin
   pub stays : TellsStays network journey.stays lines.stays
 
 -- by these lines the copy of a line made a journey, and they tell this one
 pub record HasJourney (network : Network) (lines : Lines) (number : ℕ) (journey : made.Journey) : Type 0 where
-  pub by_lines : lined.Journey
-  pub there : lined.journey_of network lines number ≡ Some by_lines
+  pub by_lines : lined.LineJourney
+  pub there : lined.line_journey_of network lines number ≡ Some by_lines
   pub tells : TellsJourney network journey by_lines
 
 -- The journey of each copy is the one that lines tell.

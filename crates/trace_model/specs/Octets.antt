@@ -22,7 +22,7 @@ use Rattle.network_model.specs.Truth.{master_at, slave_at}
 use Rattle.trace_model.specs.declared.line.TraceOut.{TraceOut}
 use Rattle.trace_model.specs.declared.line.TraceOut.TheVariants as outs
 use Rattle.trace_model.specs.Record.{LinePlace, event_of, last_line, reading, sequence}
-use Rattle.trace_model.specs.Journey.{Journey, journey_of, journey_made, residence}
+use Rattle.trace_model.specs.Journey.{LineJourney, line_journey_of, line_journey_made, line_residence}
 
 -- whether the ten octets of b from octet i on are this port's identity
 abbrev pub is_identity_at : PortIdentity → List ℕ → ℕ → Bool
@@ -83,32 +83,32 @@ sent network e = option_and_then
     (λ port. message_sent port.config (event_of e) (sequence network port e) (reading e))
     (drawing_port network (event_of e))
 
--- the message at the end of a journey: as it was sent, with the residence of the journey added to its correction
-abbrev pub message_after : Network → Journey → Option Contents
-message_after network journey = option_map (λ m. resided m (residence journey)) (sent network journey.origin)
+-- the message at the end of a journey: as it was sent, with the line_residence of the journey added to its correction
+abbrev pub sent_after : Network → LineJourney → Option Contents
+sent_after network journey = option_map (λ m. resided m (line_residence journey)) (sent network journey.origin)
 
 -- the Follow_Up that a master sends: of its last Sync line below, whose reading is t1
-abbrev pub followed : Network → PortSetup → (last : LinePlace) → Contents
-followed network port last = follow_up port.config (sequence network port last) (reading last)
+abbrev pub follow_up_sent : Network → PortSetup → (last : LinePlace) → Contents
+follow_up_sent network port last = follow_up port.config (sequence network port last) (reading last)
 
 -- the Delay_Resp that a master sends to a Delay_Req that arrived after this journey, t4 being the reading of the
 -- arrival
-abbrev pub answered : Network → PortSetup → (arrival : LinePlace) → Journey → Option Contents
+abbrev pub answered : Network → PortSetup → (arrival : LinePlace) → LineJourney → Option Contents
 answered network port arrival journey =
-    option_map (λ request. delay_resp port.config request.header (reading arrival)) (message_after network journey)
+    option_map (λ request. delay_resp port.config request.header (reading arrival)) (sent_after network journey)
 
 -- the message that a line made
 abbrev pub message_made : Network → Event → LinePlace → Option Contents
 message_made network (Sync node at) e = sent network e
 message_made network (SyncOne node at) e = sent network e
 message_made network (Follow node) e = option_and_then
-    (λ port. option_map (followed network port) (last_line network is_sync node e.earlier))
+    (λ port. option_map (follow_up_sent network port) (last_line network is_sync node e.earlier))
     (master_at network node)
 message_made network (Leave node transit at) e = option_and_then
-    (message_after network)
-    (journey_made network (Leave node transit at) e (journey_of network e.earlier))
+    (sent_after network)
+    (line_journey_made network (Leave node transit at) e (line_journey_of network e.earlier))
 message_made network (Arrive node copy at) e = option_and_then
-    (λ port. option_and_then (answered network port e) (journey_of network e.earlier copy))
+    (λ port. option_and_then (answered network port e) (line_journey_of network e.earlier copy))
     (master_at network node)
 message_made network (Request node at) e = sent network e
 message_made network _ e = None

@@ -20,7 +20,7 @@ use Rattle.trace_model.specs.declared.verdict.Why.TheVariants.{WrongReading, Wro
 use Rattle.trace_model.specs.Line.{Lines, counts, is_made, completes}
 use Rattle.trace_model.specs.Record.{LinePlace, line_number, event_of, site, line_at, events, last_line, first_stamp}
 use Rattle.trace_model.specs.Record.{reading, reads_right}
-use Rattle.trace_model.specs.Journey.{Stay, Journey, journey_of, residence, left_once}
+use Rattle.trace_model.specs.Journey.{LineStay, LineJourney, line_journey_of, line_residence, left_once}
 use Rattle.trace_model.specs.Octets.{writes_right}
 
 -- a value, where there is one and it passes a test
@@ -41,13 +41,13 @@ lines_to e = e.line ∷ e.earlier
 -- the lines of an exchange
 pub record Exchange : Type 0 where
   -- the Sync's arrival at the slave
-  pub sync : LinePlace
+  pub sync_arrival : LinePlace
   -- the line that sent the Follow_Up, of a two-step Sync
   pub follow : Option LinePlace
   -- the line that sent the Delay_Req
   pub request : LinePlace
   -- the Delay_Req's arrival at a master, which sent the Delay_Resp
-  pub arrival : LinePlace
+  pub request_arrival : LinePlace
 
 -- the line of this number, where it is of this kind and at this node
 abbrev pub line_of : Network → Lines → (Event → Bool) → NodeName → ℕ → Option LinePlace
@@ -106,7 +106,7 @@ exchange_of network slave e report =
     then option_and_then (λ sync.
     option_and_then (λ follow.
     option_and_then (λ request.
-    option_map (λ arrival. record { sync = sync; follow = follow; request = request; arrival = arrival })
+    option_map (λ arrival. record { sync_arrival = sync; follow = follow; request = request; request_arrival = arrival })
     (arrival_line network (lines_to e) slave report.response_tag))
     (line_of network (lines_to e) is_request slave report.request_tag))
     (follow_lines network (lines_to e) slave report.follow_tag))
@@ -116,13 +116,13 @@ exchange_of network slave e report =
 -- 704: the journeys can be followed
 
 -- the journey of the copy that arrives at a line, where it begins at a line of this kind
-abbrev pub journey_to : Network → Lines → (Event → Bool) → LinePlace → Option Journey
+abbrev pub journey_to : Network → Lines → (Event → Bool) → LinePlace → Option LineJourney
 journey_to network lines kind e =
     where_passes (λ journey. kind (event_of journey.origin))
-    (option_and_then (below (journey_of network lines) (line_number e)) (heard_copy (event_of e)))
+    (option_and_then (below (line_journey_of network lines) (line_number e)) (heard_copy (event_of e)))
 
 -- the same, where no stay was ended twice by the events of these lines
-abbrev pub unbroken : Network → LinePlace → (Event → Bool) → LinePlace → Option Journey
+abbrev pub unbroken : Network → LinePlace → (Event → Bool) → LinePlace → Option LineJourney
 unbroken network e kind arrival =
     where_passes (left_once (events network e.earlier)) (journey_to network (lines_to e) kind arrival)
 
@@ -136,7 +136,7 @@ is_followed network (Some follow) origin =
     option_map_or (λ last. line_number last == line_number origin)
     (last_line network is_sync (site follow) follow.earlier) false
 
-abbrev pub are_paired : Network → Exchange → (sync request : Journey) → Bool
+abbrev pub are_paired : Network → Exchange → (sync request : LineJourney) → Bool
 are_paired network x sync request =
     is_followed network x.follow sync.origin && line_number request.origin == line_number x.request
 
@@ -161,71 +161,71 @@ is_domain (Some one) (Some other) = one.config.domain == other.config.domain
 is_domain (Some one) None = false
 is_domain None other = false
 
-abbrev pub is_of_master : Network → NodeName → LinePlace → Report → Exchange → (sync : Journey) → Bool
+abbrev pub is_of_master : Network → NodeName → LinePlace → Report → Exchange → (sync : LineJourney) → Bool
 is_of_master network slave e report x sync =
     is_present_master network slave (site sync.origin) e report
-    && is_named (site x.arrival) (site sync.origin)
+    && is_named (site x.request_arrival) (site sync.origin)
     && is_domain (slave_at network slave) (master_at network (site sync.origin))
 
 -- 705: the readings are those of the clocks
 
 -- no clock reads less at the end of a stay than at its beginning, and both readings are right
-abbrev pub stay_reads_right : Network → Stay → Bool
+abbrev pub stay_reads_right : Network → LineStay → Bool
 stay_reads_right network s =
     reads_right network s.entered && reads_right network s.left && not (nat_lt (reading s.left) (reading s.entered))
 
 -- all readings of a journey are right
-abbrev pub journey_reads_right : Network → Journey → Bool
+abbrev pub journey_reads_right : Network → LineJourney → Bool
 journey_reads_right network journey =
     reads_right network journey.origin && list_all (stay_reads_right network) journey.stays
 
-abbrev pub are_readings : Network → Exchange → (sync request : Journey) → Bool
+abbrev pub are_readings : Network → Exchange → (sync request : LineJourney) → Bool
 are_readings network x sync request =
-    reads_right network x.sync && journey_reads_right network sync
-    && reads_right network x.arrival && journey_reads_right network request
+    reads_right network x.sync_arrival && journey_reads_right network sync
+    && reads_right network x.request_arrival && journey_reads_right network request
 
--- 707: the residence fits the correctionField
+-- 707: the line_residence fits the correctionField
 
 -- the fraction of a nanosecond that a message is sent with in its correctionField: only a one-step Sync is
 abbrev pub fraction_sent : LinePlace → ℕ
 fraction_sent e = if is_one_step_sync (event_of e) then fraction_of (reading e) else 0
 
-abbrev pub fits : Journey → Bool
-fits journey = nat_lt (fraction_sent journey.origin + residence journey) (2 ^ 63 - 1)
+abbrev pub fits : LineJourney → Bool
+fits journey = nat_lt (fraction_sent journey.origin + line_residence journey) (2 ^ 63 - 1)
 
 -- 706: the two results
 
--- what a clock read at the arrival, less what another read at the departure, less the residence
-abbrev pub bracket : (arrival : LinePlace) → Journey → ℤ
-bracket arrival journey = (pos (reading arrival) -ℤ pos (reading journey.origin)) -ℤ pos (residence journey)
+-- what a clock read at the arrival, less what another read at the departure, less the line_residence
+abbrev pub bracket : (arrival : LinePlace) → LineJourney → ℤ
+bracket arrival journey = (pos (reading arrival) -ℤ pos (reading journey.origin)) -ℤ pos (line_residence journey)
 
 -- twice offsetFromMaster and twice meanPathDelay (IEEE 1588-2019, 11.2 and 11.3)
-abbrev pub are_results : Report → Exchange → (sync request : Journey) → Bool
+abbrev pub are_results : Report → Exchange → (sync request : LineJourney) → Bool
 are_results report x sync request =
-    int_eq report.offset2 (offset2 (bracket x.sync sync) (bracket x.arrival request))
-    && int_eq report.path2 (path2 (bracket x.sync sync) (bracket x.arrival request))
+    int_eq report.offset2 (offset2 (bracket x.sync_arrival sync) (bracket x.request_arrival request))
+    && int_eq report.path2 (path2 (bracket x.sync_arrival sync) (bracket x.request_arrival request))
 
 -- 708: the octets are those that ports and clocks write
 
 -- all octets of a journey: those that were sent, and those that left each clock
-abbrev pub journey_writes_right : Network → Journey → Bool
+abbrev pub journey_writes_right : Network → LineJourney → Bool
 journey_writes_right network journey =
     writes_right network journey.origin && list_all (λ stay. writes_right network stay.left) journey.stays
 
-abbrev pub are_octets : Network → Exchange → (sync request : Journey) → Bool
+abbrev pub are_octets : Network → Exchange → (sync request : LineJourney) → Bool
 are_octets network x sync request =
     journey_writes_right network sync && option_map_or (writes_right network) x.follow true
-    && journey_writes_right network request && writes_right network x.arrival
+    && journey_writes_right network request && writes_right network x.request_arrival
 
 -- the conditions of a sound line that don't speak of octets: its lines, its two journeys, one Sync and one
 -- Delay_Req, the present master, the readings, what fits, and the two results
 pub record HasExchange (network : Network) (e : LinePlace) (report : Report) : Type 0 where
   pub x : Exchange
-  pub sync : Journey
-  pub request : Journey
+  pub sync : LineJourney
+  pub request : LineJourney
   pub lines : exchange_of network (site e) e report ≡ Some x
-  pub sync_unbroken : unbroken network e draws_sync x.sync ≡ Some sync
-  pub request_unbroken : unbroken network e is_request x.arrival ≡ Some request
+  pub sync_unbroken : unbroken network e draws_sync x.sync_arrival ≡ Some sync
+  pub request_unbroken : unbroken network e is_request x.request_arrival ≡ Some request
   pub paired : IsTrue (are_paired network x sync request)
   pub of_master : IsTrue (is_of_master network (site e) e report x sync)
   pub readings : IsTrue (are_readings network x sync request)
@@ -239,7 +239,7 @@ pub record Sound (network : Network) (e : LinePlace) (report : Report) : Type 0 
   pub octets : IsTrue (are_octets network exchange.x exchange.sync exchange.request)
 
 -- the first of the last six conditions that fails
-abbrev pub journeys_reason : Network → LinePlace → Report → Exchange → Option Journey → Option Journey → Option Why
+abbrev pub journeys_reason : Network → LinePlace → Report → Exchange → Option LineJourney → Option LineJourney → Option Why
 journeys_reason network e report x (Some sync) (Some request) =
     if not (are_paired network x sync request) then Some OtherNumber
     else if not (is_of_master network (site e) e report x sync) then Some OtherMaster
@@ -255,7 +255,7 @@ journeys_reason network e report x None request = Some BrokenJourney
 abbrev pub exchange_reason : Network → LinePlace → Report → Option Exchange → Option Why
 exchange_reason network e report None = Some NoSuchLine
 exchange_reason network e report (Some x) =
-    journeys_reason network e report x (unbroken network e draws_sync x.sync) (unbroken network e is_request x.arrival)
+    journeys_reason network e report x (unbroken network e draws_sync x.sync_arrival) (unbroken network e is_request x.request_arrival)
 
 -- why a report line isn't sound, or nothing where it is
 abbrev pub reason : Network → LinePlace → Report → Option Why
