@@ -15,7 +15,7 @@ ghost use Rattle.exchange_check.specs.Inner.Judged.{fraction_by, fits_by, bracke
 ghost use Rattle.exchange_check.specs.Inner.Judged.{found_reason, reason_by};
 ghost use Rattle.exchange_check.specs.Inner.Machine.{facts_of, sites_of, stamps_of};
 
-use crate::facts::{Fact, Found, LONGEST, Site, FoundJourney};
+use crate::facts::{Fact, Found, FoundJourney, LONGEST, Site};
 use crate::kept::Kept;
 use crate::octets::{Port, master_at, slave_at};
 use network_model::{Event, Name, Nodes, Report};
@@ -126,7 +126,8 @@ fn fraction_sent(origin: &Fact) -> u16
 fn fits(journey: &FoundJourney) -> bool
     ensures { result ≡ fits_by journey.now }
 {
-    u128::from(fraction_sent(&journey.origin)) + u128::from(journey.kept.residence) < u128::from(LONGEST)
+    u128::from(fraction_sent(&journey.origin)) + u128::from(journey.kept.residence)
+        < u128::from(LONGEST)
 }
 
 /// The units of a moment, as a signed number.
@@ -150,7 +151,11 @@ fn bracket(arrival: &Fact, journey: &FoundJourney) -> i128
     ensures value { result ≡ bracket_by arrival.now journey.now }
     ensures within { IsBracket result }
 {
-    elapsed(arrival.reading, journey.origin.reading, journey.kept.residence)
+    elapsed(
+        arrival.reading,
+        journey.origin.reading,
+        journey.kept.residence,
+    )
 }
 
 /// Whether two numbers are one.
@@ -354,7 +359,7 @@ impl Kept {
     fn found_journey_at(&self, copy: u64) -> Option<FoundJourney>
         ensures { result ≡ found_journey_at (facts_of self.now) copy }
     {
-        let journey = self.kept_at(copy)?;
+        let kept = self.kept_journey_at(copy)?;
         let origin = *self.at(kept.origin)?;
         Some(FoundJourney { kept, origin })
     }
@@ -368,7 +373,9 @@ impl Kept {
             return None;
         }
         match self.found_journey_at(copy) {
-            Some(journey) if journey.origin.event.draws_sync() && self.stays.once(copy) => Some(journey),
+            Some(journey) if journey.origin.event.draws_sync() && self.stays.once(copy) => Some(
+                journey,
+            ),
             _ => None,
         }
     }
@@ -382,7 +389,9 @@ impl Kept {
             return None;
         }
         match self.found_journey_at(copy) {
-            Some(journey) if journey.origin.event.is_request() && self.stays.once(copy) => Some(journey),
+            Some(journey) if journey.origin.event.is_request() && self.stays.once(copy) => Some(
+                journey,
+            ),
             _ => None,
         }
     }

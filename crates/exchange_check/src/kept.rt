@@ -18,7 +18,7 @@ ghost use Rattle.ptp_units.specs.Sequence.{of_count};
 ghost use Rattle.event_codec.specs.Profile.{contents_of};
 ghost use Rattle.trace_model.specs.Record.{is_reading};
 
-use crate::facts::{Fact, Known, LONGEST, Site, KeptJourney};
+use crate::facts::{Fact, KeptJourney, Known, LONGEST, Site};
 use crate::good::{completes, counts, is_made};
 use crate::octets::{Port, delay_resp, is_written, master_at, resided, sent, slave_at};
 use crate::refusal::CheckFault;

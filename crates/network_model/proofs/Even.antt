@@ -207,23 +207,23 @@ same_journey run entered copy q there is =
 -- the crossing by which a copy came
 crossed : (end from : Place) (copy : ℕ) (journey : Journey) → timed_copy end.event ≡ Some copy → journey_of end.earlier copy ≡ Some journey → place_at end.earlier copy ≡ Some from
     → crossing_to end ≡ Some (crossing from end)
-crossed end from copy journey copy_is message_after there =
+crossed end from copy journey copy_is journey_is there =
     ap (option_and_then (λ (copy : ℕ). option_and_then (λ (journey : Journey). option_map (λ made. crossing made end) (place_at end.earlier copy)) (journey_of end.earlier copy))) copy_is
-    ∙ ap (option_and_then (λ (journey : Journey). option_map (λ made. crossing made end) (place_at end.earlier copy))) message_after
+    ∙ ap (option_and_then (λ (journey : Journey). option_map (λ made. crossing made end) (place_at end.earlier copy))) journey_is
     ∙ ap (option_map (λ made. crossing made end)) there
 
 -- each crossing of the path of a copy is one of the run
 pub path_in : (network : Network) (run : Run) → IsRun network run → (origin : Place) (stays : List Stay) (end : Place) (copy : ℕ) → IsIn run end → timed_copy end.event ≡ Some copy
     → journey_of end.earlier copy ≡ Some (record { origin = origin; stays = stays }) → AreCrossings run (crossings_of origin stays end)
-path_in network run accepted origin [] end copy there copy_is message_after = by (maker_of end.earlier copy (record { origin = origin; stays = [] }) message_after)
+path_in network run accepted origin [] end copy there copy_is journey_is = by (maker_of end.earlier copy (record { origin = origin; stays = [] }) journey_is)
   where
     by : IsMaker end.earlier copy (record { origin = origin; stays = [] }) → AreCrossings run (crossing origin end ∷ [])
     by (Begins p at stays is) =
-        (record { there = there; is = crossed end origin copy (record { origin = origin; stays = [] }) copy_is message_after (at ∙ ap (λ (o : Place). Some o) (sym is)) }, tt)
+        (record { there = there; is = crossed end origin copy (record { origin = origin; stays = [] }) copy_is journey_is (at ∙ ap (λ (o : Place). Some o) (sym is)) }, tt)
     by (Leaves p entered c before at stays is inside c_is known) = cc
-path_in network run accepted origin (stay ∷ stays) end copy there copy_is message_after =
-    by (maker_of end.earlier copy (record { origin = origin; stays = stay ∷ stays }) message_after)
-    (λ end copy there copy_is message_after. path_in network run accepted origin stays end copy there copy_is message_after)
+path_in network run accepted origin (stay ∷ stays) end copy there copy_is journey_is =
+    by (maker_of end.earlier copy (record { origin = origin; stays = stay ∷ stays }) journey_is)
+    (λ end copy there copy_is journey_is. path_in network run accepted origin stays end copy there copy_is journey_is)
   where
     by : IsMaker end.earlier copy (record { origin = origin; stays = stay ∷ stays })
         → ((end : Place) (copy : ℕ) → IsIn run end → timed_copy end.event ≡ Some copy → journey_of end.earlier copy ≡ Some (record { origin = origin; stays = stays })
@@ -244,7 +244,7 @@ path_in network run accepted origin (stay ∷ stays) end copy there copy_is mess
         sym (same_journey p.earlier entered c was.1.0 inside was.1.1) ∙ known ∙ ap (λ (j : Journey). Some j) whole in (
           record {
             there = there;
-            is = crossed end stay.left copy (record { origin = origin; stays = stay ∷ stays }) copy_is message_after (at ∙ ap (λ (o : Place). Some o) (sym left_is));
+            is = crossed end stay.left copy (record { origin = origin; stays = stay ∷ stays }) copy_is journey_is (at ∙ ap (λ (o : Place). Some o) (sym left_is));
           },
           subst (λ (o : Place). AreCrossings run (crossings_of origin stays o)) (sym entered_is) (rest entered c entered_in was.0 known_there),
         )

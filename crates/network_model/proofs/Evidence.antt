@@ -108,7 +108,7 @@ has_sync network port slave run p c report slave_is tag follow shown = record {
     moment = shown.moment;
     there = ap (place_at run) tag ∙ shown.there;
     event = shown.event;
-    message_after = shown.of_master.made;
+    journey_is = shown.of_master.made;
   };
   kind = subst (λ (n : NodeName). IsOfKind run slave n report.follow_tag shown.of_master.journey.origin) (sym shown.of_master.site)
       (subst (λ (o : Option ℕ). IsOfKind run slave shown.of_master.node o shown.of_master.journey.origin) (sym follow) shown.kind);
@@ -149,13 +149,13 @@ has_request network port slave run p c report request_tag response_tag shown =
         moment = shown.moment;
         there = IsIn-within run hears.hearing shown.made (IsIn-place_at run report.response_tag hears.hearing hears.there) made_in;
         event = shown.event;
-        message_after = shown.message_after;
+        journey_is = shown.journey_is;
       };
       drawn = shown.drawn;
       domain = shown.domain;
       small = record {
         message = shown.request;
-        arrived = sym (copy_of-message_after network shown.made.earlier shown.asked shown.journey shown.message_after) ∙ shown.request_is;
+        arrived = sym (copy_of-message_after network shown.made.earlier shown.asked shown.journey shown.journey_is) ∙ shown.request_is;
         small = shown.small;
       };
     }
@@ -215,7 +215,7 @@ one_answer : (run : Run) (p q : Place) (node other : NodeName) (j k : Journey) �
 one_answer run p q node other j k one first second =
     let events : Arrive node first.copy first.moment ≡ Arrive other second.copy second.moment = sym first.event ∙ ap (λ (o : Place). o.event) one ∙ second.event in
     let copies : first.copy ≡ second.copy = cc in
-    let journeys : Some j ≡ Some k = sym first.message_after ∙ ap (λ (o : Place). journey_of o.earlier first.copy) one ∙ ap (journey_of q.earlier) copies ∙ second.message_after in
+    let journeys : Some j ≡ Some k = sym first.journey_is ∙ ap (λ (o : Place). journey_of o.earlier first.copy) one ∙ ap (journey_of q.earlier) copies ∙ second.journey_is in
     (cc, cc)
 
 -- what there is evidence of is what was measured

@@ -56,7 +56,7 @@ pub record IsAnswer (network : Network) (port : PortSetup) (slave : NodeName) (r
   pub there : place_at run copy ≡ Some made
   pub event : made.event ≡ Arrive node asked moment
   pub answering_is : master_at network node ≡ Some answering
-  pub message_after : journey_of made.earlier asked ≡ Some journey
+  pub journey_is : journey_of made.earlier asked ≡ Some journey
   pub origin_there : IsIn made.earlier journey.origin
   pub drawn : is_at is_request slave journey.origin.event ≡ true
   pub origin_is : origin_of run copy ≡ Some journey.origin
@@ -96,7 +96,7 @@ answer_to_slave network port slave run copy m receive requesting apart slave_is 
       there = resp.there;
       event = resp.event;
       answering_is = resp.port_is;
-      message_after = req.made;
+      journey_is = req.made;
       origin_there = req.there;
       drawn = subst (λ (n : NodeName). is_at is_request n req.journey.origin.event ≡ true) one req.drawn;
       origin_is = origin_of-place_at run copy ∙ ap (option_and_then (λ (p : Place). origin_made p.event p.earlier (origin_of p.earlier))) resp.there
@@ -178,7 +178,7 @@ one_request reach fits network port slave slave_is run meet p there site call ma
         moment = answer.moment;
         there = IsIn-within run p answer.made there made_in;
         event = answer.event ∙ ap (λ (n : NodeName). Arrive n answer.asked answer.moment) master.0;
-        message_after = answer.message_after;
+        journey_is = answer.journey_is;
       };
       later_request = omega arith;
       later_response = omega arith;

@@ -113,7 +113,7 @@ module _ (reach : ℕ) (fits : reach ≤ 65536) (network : Network) (port : Port
         told = at.used.told;
         arrival = p;
         journey = drawn.journey;
-        arrives = record { copy = at.copy; moment = at.moment; there = tagged run p h.tag there at.tag_is; event = at.event; message_after = drawn.made };
+        arrives = record { copy = at.copy; moment = at.moment; there = tagged run p h.tag there at.tag_is; event = at.event; journey_is = drawn.made };
         departure = follow_up_of network run slave at.used.told.master held.p held.copy held.m follow.tag drawn.journey.origin (IsIn-within run p held.p there held.there) follow_tag
             held.event held.made (master.0 ∙ sym same.1) (sym one);
         later_sync = set_before network slave p h.m.header.source h.tag at.used.told at.tag_is;
@@ -160,7 +160,7 @@ module _ (reach : ℕ) (fits : reach ≤ 65536) (network : Network) (port : Port
           moment = held.moment;
           there = tagged run held.p sync.tag (IsIn-within run p held.p there held.there) sync_tag;
           event = held.event;
-          message_after = held.drawn.made;
+          journey_is = held.drawn.made;
         };
         departure = follow_up_of network run slave at.used.told.master p at.copy h.m h.tag held.drawn.journey.origin there at.tag_is at.event follow master.0 one;
         later_sync = subst (λ (s : Place). tag_of s < sync.tag) (sym same.0) (set_before network slave held.p held.m.header.source sync.tag held.used.told sync_tag);
@@ -188,7 +188,7 @@ module _ (reach : ℕ) (fits : reach ≤ 65536) (network : Network) (port : Port
         told = at.used.told;
         arrival = p;
         journey = drawn.journey;
-        arrives = record { copy = at.copy; moment = at.moment; there = tagged run p h.tag there at.tag_is; event = at.event; message_after = drawn.made };
+        arrives = record { copy = at.copy; moment = at.moment; there = tagged run p h.tag there at.tag_is; event = at.event; journey_is = drawn.made };
         departure = subst (λ (n : NodeName). is_at is_one_step_sync n drawn.journey.origin.event ≡ true) master.0 drawn.drawn;
         later_sync = set_before network slave p h.m.header.source h.tag at.used.told at.tag_is;
         later_follow = tt;

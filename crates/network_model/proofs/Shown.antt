@@ -84,7 +84,7 @@ pub record IsRequestShown (network : Network) (slave : NodeName) (run : Run) (p 
   pub request_is : copy_of network made.earlier asked ≡ Some request
   pub small : int_lt request.header.correction.0 too_big ≡ true
   pub journey : Journey
-  pub message_after : journey_of made.earlier asked ≡ Some journey
+  pub journey_is : journey_of made.earlier asked ≡ Some journey
   pub drawn : is_at is_request slave journey.origin.event ≡ true
   pub domain : ShareDomain network slave node
   pub under : present_master slave p.earlier ≡ Some node
@@ -305,7 +305,7 @@ request_shown network port slave slave_is run premise p there site call made c b
       small = small_request answer.request.header.correction.0 (fraction_of (reading answer.made))
           (subst (λ (c : _). int_lt c too_big ≡ true) answer.lessened at.used.small);
       journey = answer.journey;
-      message_after = answer.message_after;
+      journey_is = answer.journey_is;
       drawn = answer.drawn;
       domain = record {
         own = port;

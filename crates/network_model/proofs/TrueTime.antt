@@ -65,11 +65,11 @@ bracket_is : (network : Network) (run : Run) (arrival : Place) (journey : Journe
     → is_some (true_moment journey.origin.event) ≡ true → is_step journey.origin.event ≡ false → site_of journey.origin.event ≡ there
     → IsBracketOf arrival journey a
     → a ≡ time_on (crossings_of journey.origin journey.stays arrival) +ℤ (difference here run -ℤ difference there run)
-bracket_is network run arrival journey copy moment here there a accepted steady arrival_in event message_after timed steps site bracket =
+bracket_is network run arrival journey copy moment here there a accepted steady arrival_in event journey_is timed steps site bracket =
     let before : IsRun network arrival.earlier = IsRun-place_at network run (tag_of arrival) arrival accepted arrival_in in
-    let origin_in : IsIn run journey.origin = IsIn-within run arrival journey.origin arrival_in (IsIn-origin arrival.earlier copy journey message_after) in
+    let origin_in : IsIn run journey.origin = IsIn-within run arrival journey.origin arrival_in (IsIn-origin arrival.earlier copy journey journey_is) in
     let arrival_timed : is_some (true_moment arrival.event) ≡ true = ap (λ (e : Event). is_some (true_moment e)) event in
-    let stays = stays-within run arrival journey.stays arrival_in (stays_are network arrival.earlier copy journey before message_after) in
+    let stays = stays-within run arrival journey.stays arrival_in (stays_are network arrival.earlier copy journey before journey_is) in
     let path = path_is network run journey.origin journey.stays arrival accepted steady stays in
     let arrived = reading_is network run arrival here accepted steady arrival_in arrival_timed (ap is_step event) (ap site_of event) in
     let left = reading_is network run journey.origin there accepted steady origin_in timed steps site in
@@ -119,21 +119,21 @@ asymmetric network run answered report master accepted steady there sync request
     let kind : draws_sync sync.journey.origin.event ≡ true = at_kind draws_sync sync.master sync.journey.origin.event drawn in
     let asked : is_request request.journey.origin.event ≡ true = at_kind is_request slave request.journey.origin.event request.request.drawn in
     let a = bracket_is network run sync.arrival sync.journey arrives.copy arrives.moment slave master double.a accepted steady
-    (IsIn-place_at run report.sync_tag sync.arrival arrival_at) arrives.event arrives.message_after (sync_timed sync.journey.origin.event kind)
+    (IsIn-place_at run report.sync_tag sync.arrival arrival_at) arrives.event arrives.journey_is (sync_timed sync.journey.origin.event kind)
     (sync_steps_none sync.journey.origin.event kind) (at_site draws_sync sync.master sync.journey.origin.event drawn ∙ sync_master) double.of_sync in
     let b = bracket_is network run request.arrival request.journey back_arrives.copy back_arrives.moment master slave double.b accepted steady
     (IsIn-place_at run (tag_of request.arrival) request.arrival back_at)
-    (back_arrives.event ∙ ap (λ (n : NodeName). Arrive n back_arrives.copy back_arrives.moment) request_master) back_arrives.message_after
+    (back_arrives.event ∙ ap (λ (n : NodeName). Arrive n back_arrives.copy back_arrives.moment) request_master) back_arrives.journey_is
     (request_timed request.journey.origin.event asked) (request_steps_none request.journey.origin.event asked)
     (at_site is_request slave request.journey.origin.event request.request.drawn) double.of_request in
     record {
       there = crossings_of sync.journey.origin sync.journey.stays sync.arrival;
       back = crossings_of request.journey.origin request.journey.stays request.arrival;
-      sync = ap (option_and_then path_to) arrival_at ∙ path_of sync.arrival sync.journey arrives.copy (ap timed_copy arrives.event) arrives.message_after;
+      sync = ap (option_and_then path_to) arrival_at ∙ path_of sync.arrival sync.journey arrives.copy (ap timed_copy arrives.event) arrives.journey_is;
       request = ap (λ (o : Option Place). option_and_then path_to (option_and_then maker_heard o)) hearing_at
           ∙ ap (λ (o : Option ℕ). option_and_then path_to (option_and_then (place_at hears.hearing.earlier) o)) (ap heard_copy hears.event)
           ∙ ap (option_and_then path_to) hears.made_by
-          ∙ path_of request.arrival request.journey back_arrives.copy (ap timed_copy back_arrives.event) back_arrives.message_after;
+          ∙ path_of request.arrival request.journey back_arrives.copy (ap timed_copy back_arrives.event) back_arrives.journey_is;
       offset = double.offset
           ∙ offsets double.a double.b (time_on (crossings_of sync.journey.origin sync.journey.stays sync.arrival)) (time_on (crossings_of request.journey.origin request.journey.stays request.arrival))
           (difference slave run) (difference master run) a b;
@@ -144,9 +144,9 @@ asymmetric network run answered report master accepted steady there sync request
   where
     path_of : (p : Place) (journey : Journey) (copy : ℕ) → timed_copy p.event ≡ Some copy → journey_of p.earlier copy ≡ Some journey
         → path_to p ≡ Some (crossings_of journey.origin journey.stays p)
-    path_of p journey copy copy_is message_after =
+    path_of p journey copy copy_is journey_is =
         ap (option_and_then (λ (copy : ℕ). option_map (λ (journey : Journey). crossings_of journey.origin journey.stays p) (journey_of p.earlier copy))) copy_is
-        ∙ ap (option_map (λ (journey : Journey). crossings_of journey.origin journey.stays p)) message_after
+        ∙ ap (option_map (λ (journey : Journey). crossings_of journey.origin journey.stays p)) journey_is
 
     offsets : (a b x y s m : ℤ) → a ≡ x +ℤ (s -ℤ m) → b ≡ y +ℤ (m -ℤ s) → offset2 a b ≡ twice (s -ℤ m) +ℤ (x -ℤ y)
     offsets a b x y s m e f = omega (arith, ints)

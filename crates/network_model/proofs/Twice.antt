@@ -53,7 +53,7 @@ one_arrival run tag node p q j k first second =
     let one : p ≡ q = cc in
     let events : Arrive node first.copy first.moment ≡ Arrive node second.copy second.moment = sym first.event ∙ ap (λ (o : Place). o.event) one ∙ second.event in
     let copies : first.copy ≡ second.copy = cc in
-    let journeys : Some j ≡ Some k = sym first.message_after ∙ ap (λ (o : Place). journey_of o.earlier first.copy) one ∙ ap (journey_of q.earlier) copies ∙ second.message_after in
+    let journeys : Some j ≡ Some k = sym first.journey_is ∙ ap (λ (o : Place). journey_of o.earlier first.copy) one ∙ ap (journey_of q.earlier) copies ∙ second.journey_is in
     (one, cc)
 
 pub one_hearing : (run : Run) (tag : ℕ) (node : NodeName) (p q : Place) → HearsOf run tag node p → HearsOf run tag node q → p ≡ q
@@ -134,7 +134,7 @@ module _ (network : Network) (port : PortSetup) (slave : NodeName) (slave_is : s
         t1 = reading held.made.origin;
         there = there;
         timed = ap (λ (e : Event). is_some (true_moment e)) at.event;
-        arrives = record { copy = at.copy; moment = at.moment; there = tagged run p h.tag there at.tag_is; event = at.event; message_after = drawn.made };
+        arrives = record { copy = at.copy; moment = at.moment; there = tagged run p h.tag there at.tag_is; event = at.event; journey_is = drawn.made };
         departs = record {
           made = held.made.made;
           node = held.made.node;
@@ -177,7 +177,7 @@ module _ (network : Network) (port : PortSetup) (slave : NodeName) (slave_is : s
           moment = held.moment;
           there = tagged run held.p sync.tag (IsIn-within run p held.p there held.there) (ap (λ (s : SyncValue). s.tag) value);
           event = held.event;
-          message_after = held.drawn.made;
+          journey_is = held.drawn.made;
         };
         departs = record {
           made = follow.made;
@@ -206,7 +206,7 @@ module _ (network : Network) (port : PortSetup) (slave : NodeName) (slave_is : s
         t1 = t1;
         there = there;
         timed = ap (λ (e : Event). is_some (true_moment e)) at.event;
-        arrives = record { copy = at.copy; moment = at.moment; there = tagged run p h.tag there at.tag_is; event = at.event; message_after = drawn.made };
+        arrives = record { copy = at.copy; moment = at.moment; there = tagged run p h.tag there at.tag_is; event = at.event; journey_is = drawn.made };
         departs = refl;
         is = of_parts h.t2 (reading p) h.origin (stamp_of t1) (pos 0) (pos 0) h.m.header.correction.0 (with_residence (pos (fraction_of t1)) (residence drawn.journey))
             at.t2_is (sync_parts (sym h.body ∙ ap (λ (m : Contents). m.body) drawn.is)) refl correction
@@ -240,7 +240,7 @@ pub record IsTimedRequest (run : Run) (slave : NodeName) (c : DelayCompletion) :
   pub moment : ℕ
   pub there : IsIn run arrival
   pub event : arrival.event ≡ Arrive node asked moment
-  pub message_after : journey_of arrival.earlier asked ≡ Some journey
+  pub journey_is : journey_of arrival.earlier asked ≡ Some journey
   pub requested : place_at run c.request_tag ≡ Some left
   pub hears : HearsOf run c.response_tag slave arrival
   pub is : c.bracket ≡ (pos (reading arrival) -ℤ pos (reading left)) -ℤ pos (residence journey)
@@ -271,7 +271,7 @@ timed_request network port slave slave_is run premise p there site call made c b
       moment = answer.moment;
       there = IsIn-within run p answer.made there made_in;
       event = answer.event;
-      message_after = answer.message_after;
+      journey_is = answer.journey_is;
       requested = subst (λ (t : ℕ). place_at run t ≡ Some held.u) (sym request_tag) (IsIn-within run p held.u there held.there);
       hears = record {
         hearing = p;
@@ -320,14 +320,14 @@ each_twice network answered report premise reports sync request =
     let departure = departure_is run slave sync.master made.sync.follow_tag sync.journey.origin a.t1 learns departs in
     let sync_origin_in : IsIn run sync.journey.origin =
     IsIn-within run sync.arrival sync.journey.origin (IsIn-place_at run made.sync.sync_tag sync.arrival arrives.there)
-    (IsIn-origin sync.arrival.earlier arrives.copy sync.journey arrives.message_after) in
+    (IsIn-origin sync.arrival.earlier arrives.copy sync.journey arrives.journey_is) in
     let requested : place_at run made.delay.request_tag ≡ Some request.journey.origin =
     subst (λ (r : Report). place_at run r.request_tag ≡ Some request.journey.origin) made.is request.request.requested in
     let hears : HearsOf run made.delay.response_tag slave request.arrival = subst (λ (r : Report). HearsOf run r.response_tag slave request.arrival) made.is request.request.hears in
     let answer : b.arrival ≡ request.arrival = one_hearing run made.delay.response_tag slave b.arrival request.arrival b.hears hears in
     let left : Some b.left ≡ Some request.journey.origin = sym b.requested ∙ requested in
     let left_is : b.left ≡ request.journey.origin = cc in
-    let journeys = request_journey run b.arrival request.arrival b.node request.master b.asked b.moment b.journey request.journey answer b.event b.message_after request.request.arrives in
+    let journeys = request_journey run b.arrival request.arrival b.node request.master b.asked b.moment b.journey request.journey answer b.event b.journey_is request.request.arrives in
     record {
       a = made.sync.bracket;
       b = made.delay.bracket;
@@ -359,8 +359,8 @@ each_twice network answered report premise reports sync request =
   where
     request_journey : (run : Run) (p q : Place) (node master : NodeName) (asked moment : ℕ) (j k : Journey) → p ≡ q → p.event ≡ Arrive node asked moment
         → journey_of p.earlier asked ≡ Some j → Arrives run (tag_of q) master q k → j ≡ k
-    request_journey run p q node master asked moment j k one event message_after arrives =
+    request_journey run p q node master asked moment j k one event journey_is arrives =
         let events : Arrive node asked moment ≡ Arrive master arrives.copy arrives.moment = sym event ∙ ap (λ (o : Place). o.event) one ∙ arrives.event in
         let copies : asked ≡ arrives.copy = cc in
-        let journeys : Some j ≡ Some k = sym message_after ∙ ap (λ (o : Place). journey_of o.earlier asked) one ∙ ap (journey_of q.earlier) copies ∙ arrives.message_after in
+        let journeys : Some j ≡ Some k = sym journey_is ∙ ap (λ (o : Place). journey_of o.earlier asked) one ∙ ap (journey_of q.earlier) copies ∙ arrives.journey_is in
         cc

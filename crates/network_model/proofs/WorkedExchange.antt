@@ -147,7 +147,7 @@ of_one_sync = record {
   journey = sync_journey;
   present = present_master;
   sync = record {
-    arrives = record { copy = 4; moment = at 1 3000 0; there = refl; event = refl; message_after = refl };
+    arrives = record { copy = 4; moment = at 1 3000 0; there = refl; event = refl; journey_is = refl };
     departure = record {
       drawn = refl;
       follow = place (Follow m) (after 6);
@@ -168,7 +168,7 @@ of_one_request = record {
     requested = refl;
     drawn = refl;
     hears = record { hearing = place (Hear s 11) (after 13); copy = 11; there = refl; event = refl; made_by = refl };
-    arrives = record { copy = 10; moment = at 2 4500 16384; there = refl; event = refl; message_after = refl };
+    arrives = record { copy = 10; moment = at 2 4500 16384; there = refl; event = refl; journey_is = refl };
   };
 }
 

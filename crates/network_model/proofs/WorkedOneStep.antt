@@ -86,7 +86,7 @@ of_one_sync = record {
     later = record { sync = omega arith; follow = tt; request = omega arith; response = omega arith };
   };
   sync = record {
-    arrives = record { copy = 4; moment = at 1 3000 0; there = refl; event = refl; message_after = refl };
+    arrives = record { copy = 4; moment = at 1 3000 0; there = refl; event = refl; journey_is = refl };
     departure = refl;
   };
 }
@@ -155,7 +155,7 @@ evidence = record {
   sync = record {
     arrival = arrival;
     journey = journey;
-    arrives = record { copy = 4; moment = at 1 3000 0; there = refl; event = refl; message_after = refl };
+    arrives = record { copy = 4; moment = at 1 3000 0; there = refl; event = refl; journey_is = refl };
     kind = refl;
     domain = one_domain;
     small = record { message = one_step 0 131088384; arrived = refl; small = refl };
@@ -168,7 +168,7 @@ evidence = record {
     arrival = request_arrival;
     journey = request_journey;
     hears = record { hearing = place (Hear s 9) (after 11); copy = 9; there = refl; event = refl; made_by = refl };
-    arrives = record { copy = 8; moment = at 2 4500 16384; there = refl; event = refl; message_after = refl };
+    arrives = record { copy = 8; moment = at 2 4500 16384; there = refl; event = refl; journey_is = refl };
     drawn = refl;
     domain = one_domain;
     small = record {

@@ -18,7 +18,7 @@ pub record Arrives (run : Run) (tag : ℕ) (node : NodeName) (arrival : Place) (
   pub moment : ℕ
   pub there : place_at run tag ≡ Some arrival
   pub event : arrival.event ≡ Arrive node copy moment
-  pub message_after : journey_of arrival.earlier copy ≡ Some journey
+  pub journey_is : journey_of arrival.earlier copy ≡ Some journey
 
 -- the event of this tag is the hearing at a node of the copy that an event made
 pub record HearsOf (run : Run) (tag : ℕ) (node : NodeName) (made : Place) : Type 0 where

@@ -236,12 +236,12 @@ module _ (network : Network) (answered : Place) (e : LinePlace) (report : Report
       ap (λ (v : Event). is_some (true_moment v)) or.request.arrives.event in
       let sync_path = followed network answered e tells draws_sync os.arrival sync.e os.journey os.sync.arrives.copy
       sync.tells sync_in (ap heard_copy os.sync.arrives.event) sync_timed_at
-      os.sync.arrives.message_after sync_kind (sync_timed os.journey.origin.event sync_kind) in
+      os.sync.arrives.journey_is sync_kind (sync_timed os.journey.origin.event sync_kind) in
       let request_path = followed network answered e tells is_request or.arrival answer.e or.journey
       or.request.arrives.copy answer.tells arrival_in (ap heard_copy or.request.arrives.event)
-      arrival_timed or.request.arrives.message_after request_kind (request_timed or.journey.origin.event request_kind) in
+      arrival_timed or.request.arrives.journey_is request_kind (request_timed or.journey.origin.event request_kind) in
       let sync_origin_in = IsIn-within run os.arrival os.journey.origin sync_in
-      (IsIn-origin os.arrival.earlier os.sync.arrives.copy os.journey os.sync.arrives.message_after) in
+      (IsIn-origin os.arrival.earlier os.sync.arrives.copy os.journey os.sync.arrives.journey_is) in
       let request_origin_in = IsIn-place_at run report.request_tag or.journey.origin or.request.requested in
       let x : Exchange = record { sync_arrival = sync.e; follow = follow.found; request = request.e; request_arrival = answer.e } in
       let lines : exchange_of network slave e report ≡ Some x =

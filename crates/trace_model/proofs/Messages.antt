@@ -81,7 +81,7 @@ record IsResponse (network : Network) (node : NodeName) (copy at : ℕ) (earlier
   response : Contents
   is_made : copy_made network (Arrive node copy at) earlier (copy_of network earlier) ≡ Some response
   journey : made.Journey
-  message_after : made.journey_of earlier copy ≡ Some journey
+  journey_is : made.journey_of earlier copy ≡ Some journey
 
 responds : (network : Network) (node : NodeName) (copy at : ℕ) (earlier : Run)
     → outcome_of network earlier (Arrive node copy at) ≡ Ok outcomes.Made → IsResponse network node copy at earlier
@@ -119,7 +119,7 @@ responds network node copy at earlier is =
           ∙ ap (λ (t : ℕ). result_ok (answer master.port.config (Ok message.0) t)) read_is
           ∙ ap result_ok master.is;
       journey = drawn.journey;
-      message_after = drawn.made;
+      journey_is = drawn.made;
     }
 
 -- a line that tells of a message tells of nothing else
@@ -184,7 +184,7 @@ each_message_is_written network p e tells is = by p.event refl
         let r = responds network node copy at p.earlier (outcome_as (Arrive node copy at) same) in
         arrival_written network node copy at p e r.response r.journey same tells
         (subst (λ (v : Event). copy_made network v p.earlier (copy_of network p.earlier) ≡ Some r.response)
-        (sym same) r.is_made) r.message_after
+        (sym same) r.is_made) r.journey_is
     by (Enter node copy at) same =
         absurd (never (is_clock network node) (is_entered e.line.out) (alone e.line.out made).entered
         (good_as (Enter node copy at) same))

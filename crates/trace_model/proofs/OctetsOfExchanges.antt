@@ -262,7 +262,7 @@ exchange_parts network slave e report x is = by (is_report_in_place network e re
     parts (Some s) (Some f) (Some r) None is = cc
     parts (Some s) (Some f) (Some r) (Some a) is =
         let same : (record { sync_arrival = s; follow = f; request = r; request_arrival = a }) ≡ x = cc in
-        (ap (λ (y : Exchange). Some y.follow) same, ap (λ (y : Exchange). Some y.arrival) same)
+        (ap (λ (y : Exchange). Some y.follow) same, ap (λ (y : Exchange). Some y.request_arrival) same)
 
     by : (placed : Bool) → (if placed
         then of_lines (sync_line network (lines_to e) slave report)

@@ -84,7 +84,9 @@ found_journey_at facts copy = option_and_then
 
 abbrev pub found_journey_from : Facts → Once → (Event → Bool) → (limit copy : ℕ) → Option FoundJourney
 found_journey_from facts once kind limit copy =
-    if nat_lt copy limit then where_passes (λ journey. kind journey.origin.event && once copy) (found_journey_at facts copy) else None
+    if nat_lt copy limit
+    then where_passes (λ journey. kind journey.origin.event && once copy) (found_journey_at facts copy)
+    else None
 
 -- the journey of the copy that arrives at a line, where it begins at a line of this kind and no stay was ended twice
 abbrev pub found_journey_to : Facts → Once → (Event → Bool) → Fact → Option FoundJourney
