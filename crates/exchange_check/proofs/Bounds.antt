@@ -54,4 +54,4 @@ chain_parts network lines (Some s) (Some f) None r x h = absurd (none-some x h)
 chain_parts network lines (Some s) (Some f) (Some u) None x h = absurd (none-some x h)
 chain_parts network lines (Some s) (Some f) (Some u) (Some r) x h =
     let same = same_Some _ x h in
-    (ap (λ (y : Exchange). Some y.sync) same, ap (λ (y : Exchange). Some y.arrival) same)
+    (ap (λ (y : Exchange). Some y.sync_arrival) same, ap (λ (y : Exchange). Some y.request_arrival) same)

@@ -23,14 +23,14 @@ use Rattle.exchange_check.proofs.Messages.{origin_in}
 module _ (network : Network) where
   abbrev pub found_of : Exchange → Found
   found_of x = record {
-    sync = fact_of network x.sync_arrival;
+    sync_arrival = fact_of network x.sync_arrival;
     follow = option_map (fact_of network) x.follow;
     request = fact_of network x.request;
-    arrival = fact_of network x.request_arrival;
+    request_arrival = fact_of network x.request_arrival;
   }
 
   abbrev pub found_journey_of : LineJourney → FoundJourney
-  found_journey_of j = record { journey = kept_journey_of network j; origin = fact_of network j.origin }
+  found_journey_of j = record { kept = kept_journey_of network j; origin = fact_of network j.origin }
 
   -- a test of what is kept that is the same test of the line
   if_passes : (b : Bool) (e : LinePlace)
@@ -146,17 +146,17 @@ module _ (network : Network) where
 
     found_journey_of_origin : (o : Option LineJourney)
         → ((j : LineJourney) → o ≡ Some j → line_at network lines (line_number j.origin) ≡ Some j.origin)
-        → option_and_then (λ kept_journey. option_map (λ origin. record { journey = kept_journey; origin = origin })
+        → option_and_then (λ kept_journey. option_map (λ origin. record { kept = kept_journey; origin = origin })
         (facts kept_journey.origin)) (option_map (kept_journey_of network) o) ≡ option_map found_journey_of o
     found_journey_of_origin None known = refl
     found_journey_of_origin (Some j) known =
         ap (λ (o : Option LinePlace). option_map
-        (λ (origin : Fact). let w : FoundJourney = record { journey = kept_journey_of network j; origin = origin } in w)
+        (λ (origin : Fact). let w : FoundJourney = record { kept = kept_journey_of network j; origin = origin } in w)
         (option_map (fact_of network) o)) (known j refl)
 
     pub found_journey_is : (n : ℕ) → found_journey_at facts n ≡ option_map found_journey_of (line_journey_of network lines n)
     found_journey_is n =
         ap (λ (o : Option KeptJourney). option_and_then
-        (λ kept_journey. option_map (λ origin. record { journey = kept_journey; origin = origin }) (facts kept_journey.origin)) o)
+        (λ kept_journey. option_map (λ origin. record { kept = kept_journey; origin = origin }) (facts kept_journey.origin)) o)
         (kept_journey_at-is network lines n)
         ∙ found_journey_of_origin (line_journey_of network lines n) (origin_in network lines n)

@@ -199,7 +199,7 @@ module _ (network : Network) (line : TraceLine) (earlier : Lines) where
 
     found_are : (x : Option Exchange)
         → ((y : Exchange) → x ≡ Some y
-        → (line_number y.sync ≤ length earlier) × (line_number y.arrival ≤ length earlier))
+        → (line_number y.sync_arrival ≤ length earlier) × (line_number y.request_arrival ≤ length earlier))
         → found_reason network facts once (site_at network earlier slave) slave report
         (option_map (found_of network) x) ≡ exchange_reason network e report x
     found_are None within = refl
@@ -237,16 +237,16 @@ module _ (network : Network) (line : TraceLine) (earlier : Lines) where
         ∙ if_found network (line ∷ earlier) (here && learned) all_lines
 
     either_within : (b : Bool) (y : Exchange) → cond b all_lines None ≡ Some y
-        → (line_number y.sync ≤ length earlier) × (line_number y.arrival ≤ length earlier)
+        → (line_number y.sync_arrival ≤ length earlier) × (line_number y.request_arrival ≤ length earlier)
     either_within true y h =
         let parts = chain_parts network (line ∷ earlier) (sync_line network (line ∷ earlier) slave report)
         (follow_lines network (line ∷ earlier) slave report.follow_tag)
         (line_of network (line ∷ earlier) is_request slave report.request_tag)
         (arrival_line network (line ∷ earlier) slave report.response_tag) y h in
-        let sync : line_number y.sync < length (line ∷ earlier) =
-        sync_within network (line ∷ earlier) slave report y.sync parts.0 in
-        let arrival : line_number y.arrival < length (line ∷ earlier) =
-        arrival_within network (line ∷ earlier) slave report.response_tag y.arrival parts.1 in
+        let sync : line_number y.sync_arrival < length (line ∷ earlier) =
+        sync_within network (line ∷ earlier) slave report y.sync_arrival parts.0 in
+        let arrival : line_number y.request_arrival < length (line ∷ earlier) =
+        arrival_within network (line ∷ earlier) slave report.response_tag y.request_arrival parts.1 in
         (grind (arith, sync), grind (arith, arrival))
     either_within false y h = absurd (none-some y h)
 

@@ -33,7 +33,7 @@ use Rattle.exchange_check.proofs.Noted.{site_at}
 abbrev pub kept_journey_of : Network → LineJourney → KeptJourney
 kept_journey_of network journey = record {
   origin = line_number journey.origin;
-  line_residence = min (line_residence journey) longest;
+  residence = min (line_residence journey) longest;
   reads_right = journey_reads_right network journey;
   writes_right = journey_writes_right network journey;
 }
@@ -155,7 +155,7 @@ begun_is : (network : Network) (e : LinePlace)
     → written_journey (writes_right network e) (begun_by (known_of network e)) ≡ kept_journey_of network (line_begun e)
 begun_is network e = λ i. record {
   origin = line_number e;
-  line_residence = 0;
+  residence = 0;
   reads_right = sym (and_true (reads_right network e)) i;
   writes_right = sym (and_true (writes_right network e)) i;
 }
@@ -176,7 +176,7 @@ stayed_is : (network : Network) (e entered : LinePlace) (j : LineJourney)
     ≡ kept_journey_of network (with_stay e entered j)
 stayed_is network e entered j = λ i. record {
   origin = line_number j.origin;
-  line_residence = residence_more e entered j i;
+  residence = residence_more e entered j i;
   reads_right = and_turned (reads_right network j.origin) (list_all (stay_reads_right network) j.stays)
       (stay_reads_right network (record { entered = entered; left = e })) i;
   writes_right = and_turned (writes_right network j.origin)

@@ -87,11 +87,11 @@ pub(crate) struct FoundJourney {
 #[derive(Clone, Copy, Debug)]
 pub(crate) struct Found {
     /// The Sync's arrival at the slave.
-    pub(crate) sync: Fact,
+    pub(crate) sync_arrival: Fact,
     /// The line that sent the Follow_Up, of a two-step Sync.
     pub(crate) follow: Option<Fact>,
     /// The line that sent the Delay_Req.
     pub(crate) request: Fact,
     /// The Delay_Req's arrival at a master, which sent the Delay_Resp.
-    pub(crate) arrival: Fact,
+    pub(crate) request_arrival: Fact,
 }

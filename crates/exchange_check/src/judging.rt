@@ -97,7 +97,7 @@ fn is_of_master(
 {
     let master = sync.origin.event.node();
     is_told(&at.set_master, &master, report)
-        && found.arrival.event.node() == master
+        && found.request_arrival.event.node() == master
         && is_domain(&slave_at(nodes, slave), &master_at(nodes, &master))
 }
 
@@ -105,9 +105,9 @@ fn is_of_master(
 fn are_readings(found: &Found, sync: &FoundJourney, request: &FoundJourney) -> bool
     ensures { result ≡ readings_by found.now sync.now request.now }
 {
-    found.sync.reads_right
+    found.sync_arrival.reads_right
         && sync.kept.reads_right
-        && found.arrival.reads_right
+        && found.request_arrival.reads_right
         && request.kept.reads_right
 }
 
@@ -178,8 +178,8 @@ fn are_of_brackets(offset: i128, path: i128, a: i128, b: i128) -> bool
 fn are_results(report: &Report, found: &Found, sync: &FoundJourney, request: &FoundJourney) -> bool
     ensures { result ≡ results_by report.now found.now sync.now request.now }
 {
-    let a = bracket(&found.sync, sync);
-    let b = bracket(&found.arrival, request);
+    let a = bracket(&found.sync_arrival, sync);
+    let b = bracket(&found.request_arrival, request);
     are_of_brackets(report.offset2, report.path2, a, b)
 }
 
@@ -191,7 +191,10 @@ fn are_octets(found: &Found, sync: &FoundJourney, request: &FoundJourney) -> boo
         Some(follow) => follow.writes_right,
         None => true,
     };
-    sync.kept.writes_right && follow && request.kept.writes_right && found.arrival.writes_right
+    sync.kept.writes_right
+        && follow
+        && request.kept.writes_right
+        && found.request_arrival.writes_right
 }
 
 /// The first condition on an exchange and its journeys that fails.
@@ -348,10 +351,10 @@ impl Kept {
             return None;
         }
         Some(Found {
-            sync: self.sync(slave, report)?,
+            sync_arrival: self.sync(slave, report)?,
             follow: self.follows(slave, report.follow_tag)?,
             request: self.request_at(slave, report.request_tag)?,
-            arrival: self.arrival(slave, report.response_tag)?,
+            request_arrival: self.arrival(slave, report.response_tag)?,
         })
     }
 
@@ -410,10 +413,10 @@ impl Kept {
         let Some(found) = found else {
             return Some(Why::NoSuchLine);
         };
-        let Some(sync) = self.sync_journey(&found.sync) else {
+        let Some(sync) = self.sync_journey(&found.sync_arrival) else {
             return Some(Why::BrokenJourney);
         };
-        let Some(request) = self.request_journey(&found.arrival) else {
+        let Some(request) = self.request_journey(&found.request_arrival) else {
             return Some(Why::BrokenJourney);
         };
         let at = self.site(slave);

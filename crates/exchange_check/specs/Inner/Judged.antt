@@ -69,7 +69,7 @@ found_by facts stamps slave number report =
     then option_and_then (λ sync.
     option_and_then (λ follow.
     option_and_then (λ request.
-    option_map (λ arrival. record { sync = sync; follow = follow; request = request; arrival = arrival })
+    option_map (λ arrival. record { sync_arrival = sync; follow = follow; request = request; request_arrival = arrival })
     (arrival_by facts slave report.response_tag))
     (line_of_by facts is_request slave report.request_tag))
     (follows_by facts slave report.follow_tag))
@@ -107,12 +107,12 @@ is_told set master report = option_map_or (λ told. is_named told.0 master && ar
 abbrev pub of_master_by : Network → Site → NodeName → Report → Found → (sync : FoundJourney) → Bool
 of_master_by network site slave report found sync =
     is_told site.set_master (site_of sync.origin.event) report
-    && is_named (site_of found.arrival.event) (site_of sync.origin.event)
+    && is_named (site_of found.request_arrival.event) (site_of sync.origin.event)
     && is_domain (slave_at network slave) (master_at network (site_of sync.origin.event))
 
 abbrev pub readings_by : Found → (sync request : FoundJourney) → Bool
 readings_by found sync request =
-    found.sync.reads_right && sync.kept.reads_right && found.arrival.reads_right && request.kept.reads_right
+    found.sync_arrival.reads_right && sync.kept.reads_right && found.request_arrival.reads_right && request.kept.reads_right
 
 abbrev pub fraction_by : Fact → ℕ
 fraction_by fact = if is_one_step_sync fact.event then fraction_of fact.reading else 0
@@ -125,13 +125,13 @@ bracket_by arrival journey = (pos arrival.reading -ℤ pos journey.origin.readin
 
 abbrev pub results_by : Report → Found → (sync request : FoundJourney) → Bool
 results_by report found sync request =
-    int_eq report.offset2 (offset2 (bracket_by found.sync sync) (bracket_by found.arrival request))
-    && int_eq report.path2 (path2 (bracket_by found.sync sync) (bracket_by found.arrival request))
+    int_eq report.offset2 (offset2 (bracket_by found.sync_arrival sync) (bracket_by found.request_arrival request))
+    && int_eq report.path2 (path2 (bracket_by found.sync_arrival sync) (bracket_by found.request_arrival request))
 
 abbrev pub octets_by : Found → (sync request : FoundJourney) → Bool
 octets_by found sync request =
     sync.kept.writes_right && option_map_or (λ follow. follow.writes_right) found.follow true
-    && request.kept.writes_right && found.arrival.writes_right
+    && request.kept.writes_right && found.request_arrival.writes_right
 
 abbrev pub journeys_reason_by : Network → Site → NodeName → Report → Found → (sync request : FoundJourney) → Option Why
 journeys_reason_by network site slave report found sync request =
@@ -153,8 +153,8 @@ abbrev pub found_reason : Network → Facts → Once → Site → NodeName → R
 found_reason network facts once site slave report None = Some NoSuchLine
 found_reason network facts once site slave report (Some found) =
     both_journeys network site slave report found
-    (found_journey_to facts once draws_sync found.sync)
-    (found_journey_to facts once is_request found.arrival)
+    (found_journey_to facts once draws_sync found.sync_arrival)
+    (found_journey_to facts once is_request found.request_arrival)
 
 -- why a report at a line that tells of something done isn't sound, or nothing where it is
 abbrev pub fact_reason : Network → Facts → Once → Stamps → Sites → Fact → Report → Option Why
