@@ -1,4 +1,4 @@
-ghost use Rattle.std.specs.Prelude.{◌≡◌};
+ghost use Rattle.std.specs.Prelude.{◌≡◌, []};
 ghost use Rattle.event_codec.specs.Layout.{type_of, fields_length};
 ghost use Rattle.event_codec.specs.Packet.{Packet};
 ghost use Rattle.event_codec.specs.Profile.{header_of, contents_of};
@@ -6,8 +6,8 @@ ghost use Rattle.event_codec.specs.Profile.{header_of, contents_of};
 use crate::encoding::encode;
 use crate::message::{Body, Header, Message};
 use crate::nibble::Nibble;
-use crate::port::PortConfig;
-use ptp_units::{Interval, Seq};
+use crate::port::{PortConfig, PortIdentity};
+use ptp_units::{Interval, Seq, Timestamp};
 
 impl PortConfig {
     /// The header of a message that a port of this configuration writes: sdoId 0, version 2.1,
@@ -66,6 +66,38 @@ impl Written {
 }
 
 impl Header {
+    /// The octets of the Sync that has this header, and no suffix.
+    pub fn sync(self, origin: Timestamp) -> [u8; 44]
+        ensures { Packet (record { header = self; body = Body.Sync origin; suffix = [] }) result }
+    {
+        self.with(Body::Sync { origin }).octets()
+    }
+
+    /// The octets of the Delay_Req that has this header, and no suffix.
+    pub fn delay_req(self, origin: Timestamp) -> [u8; 44]
+        ensures { Packet (record { header = self; body = Body.DelayReq origin; suffix = [] }) result }
+    {
+        self.with(Body::DelayReq { origin }).octets()
+    }
+
+    /// The octets of the Follow_Up that has this header, and no suffix.
+    pub fn follow_up(self, precise: Timestamp) -> [u8; 44]
+        ensures { Packet (record { header = self; body = Body.FollowUp precise; suffix = [] }) result }
+    {
+        self.with(Body::FollowUp { precise }).octets()
+    }
+
+    /// The octets of the Delay_Resp that has this header, and no suffix.
+    pub fn delay_resp(self, receive: Timestamp, requesting: PortIdentity) -> [u8; 54]
+        ensures { Packet (record { header = self; body = Body.DelayResp receive requesting; suffix = [] }) result }
+    {
+        let body = Body::DelayResp {
+            receive,
+            requesting,
+        };
+        self.with(body).octets()
+    }
+
     /// The message with this header and this body.
     pub fn with(self, body: Body) -> Written
         ensures { result ≡ record { header = self; body = body } }

@@ -1,6 +1,6 @@
 //! What a slave answers, call by call.
 
-use event_codec::{Body, DecodeRefusal, Header, PortConfig, PortIdentity};
+use event_codec::{DecodeRefusal, Header, PortConfig, PortIdentity};
 use pairing::ListTable;
 use ptp_units::{Interval, ScaledTime, Seq, TOO_BIG, Timestamp};
 use slave_port::{
@@ -98,20 +98,7 @@ fn header(correction: i64, number: u16) -> Header {
 }
 
 fn sync(header: Header) -> [u8; 44] {
-    let origin = Timestamp::default();
-    header.with(Body::Sync { origin }).octets()
-}
-
-fn follow_up(header: Header, precise: Timestamp) -> [u8; 44] {
-    header.with(Body::FollowUp { precise }).octets()
-}
-
-fn delay_resp(header: Header, receive: Timestamp, requesting: PortIdentity) -> [u8; 54] {
-    let body = Body::DelayResp {
-        receive,
-        requesting,
-    };
-    header.with(body).octets()
+    header.sync(Timestamp::default())
 }
 
 /// The Sync of the master of this number.
@@ -126,12 +113,12 @@ fn one_step_sync(correction: i64, number: u16) -> [u8; 44] {
 
 /// The Follow_Up of the master of this number.
 fn plain_follow_up(number: u16) -> [u8; 44] {
-    follow_up(header(0, number), Timestamp::default())
+    header(0, number).follow_up(Timestamp::default())
 }
 
 /// The master's Delay_Resp to the slave of this number.
 fn plain_delay_resp(number: u16) -> [u8; 54] {
-    delay_resp(header(0, number), Timestamp::default(), SLAVE)
+    header(0, number).delay_resp(Timestamp::default(), SLAVE)
 }
 
 fn timestamp(rt: &impl Abort, seconds: u64, nanoseconds: u32) -> Timestamp {
@@ -155,8 +142,8 @@ fn a_whole_exchange_is_reported(rt: HostRuntime) {
     let mut slave = slave_of(Some(MASTER));
     let held = slave.sync(&FORWARDED_SYNC, moment(&rt, 1, 4_000, 0), 5);
     assert_eq!(rt; held, Heard::Held);
-    let precise = follow_up(header(0, 0), timestamp(&rt, 1, 0));
-    assert_eq!(rt; slave.general(&precise, 7), Heard::Completed);
+    let follow_up = header(0, 0).follow_up(timestamp(&rt, 1, 0));
+    assert_eq!(rt; slave.general(&follow_up, 7), Heard::Completed);
     let (octets, number) = slave.next_request(8);
     assert_eq!(rt; octets, DELAY_REQ);
     assert_eq!(rt; number, Seq(0));
@@ -164,7 +151,7 @@ fn a_whole_exchange_is_reported(rt: HostRuntime) {
         slave.request_left(number, moment(&rt, 2, 1_000, 0)),
         Ok(())
     );
-    let response = delay_resp(header(229_376_000, 0), timestamp(&rt, 2, 4_500), SLAVE);
+    let response = header(229_376_000, 0).delay_resp(timestamp(&rt, 2, 4_500), SLAVE);
     let report = Report {
         offset2: 131_072_000,
         path2: 131_072_000,
@@ -175,7 +162,7 @@ fn a_whole_exchange_is_reported(rt: HostRuntime) {
     };
     assert_eq!(rt; slave.general(&response, 13), Heard::Report(report));
     // The Delay_Req went twice; its second journey took another time.
-    let response = delay_resp(header(557_056_000, 0), timestamp(&rt, 2, 9_700), SLAVE);
+    let response = header(557_056_000, 0).delay_resp(timestamp(&rt, 2, 9_700), SLAVE);
     let report = Report {
         offset2: 117_964_800,
         path2: 144_179_200,
@@ -188,18 +175,18 @@ fn a_whole_exchange_is_reported(rt: HostRuntime) {
         follow_tag: Some(18),
         ..report
     };
-    assert_eq!(rt; slave.general(&precise, 18), Heard::Report(report));
+    assert_eq!(rt; slave.general(&follow_up, 18), Heard::Report(report));
 }
 
 #[test]
 fn results_may_be_odd_and_negative(rt: HostRuntime) {
     let mut slave = slave_of(Some(MASTER));
     slave.sync(&FORWARDED_SYNC, moment(&rt, 1, 3_000, 0), 5);
-    slave.general(&follow_up(header(0, 0), timestamp(&rt, 1, 0)), 7);
+    slave.general(&header(0, 0).follow_up(timestamp(&rt, 1, 0)), 7);
     let (_, number) = slave.next_request(8);
     let left = slave.request_left(number, moment(&rt, 1, 999_999_999, 65_535));
     assert_eq!(rt; left, Ok(()));
-    let response = delay_resp(header(229_376_000, 0), timestamp(&rt, 2, 4_500), SLAVE);
+    let response = header(229_376_000, 0).delay_resp(timestamp(&rt, 2, 4_500), SLAVE);
     let report = Report {
         offset2: -1,
         path2: 131_072_001,
@@ -359,7 +346,7 @@ fn a_one_step_sync_is_reported(rt: HostRuntime) {
     let (_, number) = slave.next_request(6);
     let left = slave.request_left(number, moment(&rt, 2, 1_000, 0));
     assert_eq!(rt; left, Ok(()));
-    let response = delay_resp(header(229_376_000, 0), timestamp(&rt, 2, 4_500), SLAVE);
+    let response = header(229_376_000, 0).delay_resp(timestamp(&rt, 2, 4_500), SLAVE);
     let report = Report {
         offset2: 131_055_616,
         path2: 131_055_616,
@@ -419,7 +406,7 @@ fn a_request_that_left_again_has_the_later_time(rt: HostRuntime) {
     assert_eq!(rt; slave.request_left(number, moment(&rt, 2, 0, 0)), Ok(()));
     slave.sync(&plain_sync(0), ScaledTime::default(), 2);
     slave.general(&plain_follow_up(0), 3);
-    let response = delay_resp(header(0, 0), timestamp(&rt, 2, 1), SLAVE);
+    let response = header(0, 0).delay_resp(timestamp(&rt, 2, 1), SLAVE);
     let report = Report {
         offset2: -65_536,
         path2: 65_536,
@@ -572,10 +559,10 @@ fn too_big_header() -> Header {
 fn reasons_of_the_general_port_in_order(rt: HostRuntime) {
     let stamp = Timestamp::default();
     let sync = sync(header_in_other_domain());
-    let other_domain = follow_up(header_in_other_domain(), stamp);
-    let too_big = follow_up(too_big_header(), stamp);
-    let both = delay_resp(too_big_header(), stamp, MASTER);
-    let other_requester = delay_resp(header(0, 0), stamp, MASTER);
+    let other_domain = header_in_other_domain().follow_up(stamp);
+    let too_big = too_big_header().follow_up(stamp);
+    let both = too_big_header().delay_resp(stamp, MASTER);
+    let other_requester = header(0, 0).delay_resp(stamp, MASTER);
     let unknown = plain_delay_resp(0);
     assert_eq!(rt; on_general_port(None, &sync), Some(502));
     assert_eq!(rt; on_general_port(None, &other_domain), Some(503));
@@ -595,7 +582,7 @@ fn too_big_comes_before_not_newer(rt: HostRuntime) {
         slave.sync(&one_step_sync(0, 1), arrival, 1),
         Heard::Completed
     );
-    let too_big = follow_up(too_big_header(), Timestamp::default());
+    let too_big = too_big_header().follow_up(Timestamp::default());
     assert_eq!(rt; code(slave.general(&too_big, 2)), Some(507));
     assert_eq!(rt;
         slave.general(&plain_follow_up(0), 3),
