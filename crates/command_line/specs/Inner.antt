@@ -1,2 +1,3 @@
--- What the functions inside this crate promise one another. No contract of a public call rests on it, so nobody has to believe it.
+-- What serves functions inside this crate, views, invariants and proofs alone. No contract of a public call rests on it, so
+-- nobody has to believe it.
 pub mod Clap

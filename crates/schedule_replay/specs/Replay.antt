@@ -1,4 +1,4 @@
--- What `replay` writes, as a function of the schedule that it reads.
+-- What `replay` writes, by the schedule that it reads.
 use Rattle.std.specs.Prelude.{◌≡◌, ℕ, List, [], ◌∷◌, ◌++◌, length, take, if◌then◌else◌, is_none, Option, None, Result}
 use Rattle.std.specs.Prelude.{⊤, Ok}
 use Rattle.network_model.specs.declared.event.Event.{Event}

@@ -1,4 +1,5 @@
-//! Schedules and datagrams as lines of text: what is written is a stated function of what is read.
+//! What `ptpx` does: datagrams are shown, schedules replayed, transcripts checked, and `command` is the
+//! whole program over its arguments.
 #![tactic(auto)]
 
 mod checking;

@@ -1,4 +1,5 @@
-//! Lines of text, from any reader: within limits, and with all that is read and written counted.
+//! Lines of text, from any reader: one loop that takes them in turn, whatever is done with each, within
+//! limits, by devices that count their failures and what they gave.
 #![tactic(auto)]
 
 mod counted;

@@ -83,7 +83,7 @@ sent network e = option_and_then
     (λ port. message_sent port.config (event_of e) (sequence network port e) (reading e))
     (drawing_port network (event_of e))
 
--- the message at the end of a journey: as it was sent, with the line_residence of the journey added to its correction
+-- the message at the end of a journey: as it was sent, with the residence of the journey added to its correction
 abbrev pub sent_after : Network → LineJourney → Option Contents
 sent_after network journey = option_map (λ m. resided m (line_residence journey)) (sent network journey.origin)
 

@@ -184,7 +184,7 @@ are_readings network x sync request =
     reads_right network x.sync_arrival && journey_reads_right network sync
     && reads_right network x.request_arrival && journey_reads_right network request
 
--- 707: the line_residence fits the correctionField
+-- 707: the residence fits the correctionField
 
 -- the fraction of a nanosecond that a message is sent with in its correctionField: only a one-step Sync is
 abbrev pub fraction_sent : LinePlace → ℕ
@@ -195,7 +195,7 @@ fits journey = nat_lt (fraction_sent journey.origin + line_residence journey) (2
 
 -- 706: the two results
 
--- what a clock read at the arrival, less what another read at the departure, less the line_residence
+-- what a clock read at the arrival, less what another read at the departure, less the residence
 abbrev pub bracket : (arrival : LinePlace) → LineJourney → ℤ
 bracket arrival journey = (pos (reading arrival) -ℤ pos (reading journey.origin)) -ℤ pos (line_residence journey)
 

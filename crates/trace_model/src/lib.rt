@@ -1,5 +1,5 @@
 //! The lines of a transcript: what was recorded of each event of an exchange, by whomever. Its
-//! definitions say which report lines are sound, and which lines tell what happened in a world.
+//! definitions say which report lines are sound, and which lines tell what happened in a run.
 #![tactic(auto)]
 
 pub mod laws;

@@ -39,9 +39,9 @@ pub struct TraceLine {
 }
 
 impl TraceLine {
-    /// The line that tells what became of an event of a world: its reading and its outcome, and
-    /// where it made a message, the octets that the world has under its tag, none where it has
-    /// none. It takes no memory.
+    /// The line that tells what became of an event of a run: its reading and its outcome, and where
+    /// it sent a message, the octets of that copy, as a world has them, none where it has none. It
+    /// takes no memory.
     pub fn of<C: CopyOctets>(event: &Event, stepped: &Stepped, world: &C) -> TraceLine
         ensures { TellsAnswer (C.network world.now) (C.run world.now) event.now stepped.now result }
     {
