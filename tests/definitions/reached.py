@@ -5,6 +5,8 @@ A definition is reached where a clause of a public function or of a public trait
 what a public conversion gives names it, or where a definition that is reached names it. Views and invariants don't count:
 no caller sees them. docs/DEFINITIONS.md has a section for each crate, and has to name there, in backquotes, each definition
 of that crate that is reached, and no other. What isn't reached has to stand in specs/Inner, and nothing else may.
+
+'list' lists the definitions that are reached, 'rests NAME ..' those that the definitions of these names rest on.
 """
 
 import re
@@ -116,9 +118,9 @@ def named_by_clauses(definitions):
             yield from resolved(text, names, files, None)
 
 
-def reached():
-    definitions = read_specs()
-    waiting = list(named_by_clauses(definitions))
+def rests_on(definitions, start):
+    """The definitions that these rest on, themselves included."""
+    waiting = list(start)
     found = set()
     while waiting:
         key = waiting.pop()
@@ -126,7 +128,12 @@ def reached():
             continue
         found.add(key)
         waiting.extend(resolved(*definitions[key]))
-    return definitions, found
+    return found
+
+
+def reached():
+    definitions = read_specs()
+    return definitions, rests_on(definitions, named_by_clauses(definitions))
 
 
 def sections():
@@ -144,6 +151,11 @@ def sections():
 
 
 def main():
+    if sys.argv[1:2] == ["rests"]:
+        definitions = read_specs()
+        for crate, file, name in sorted(rests_on(definitions, [key for key in definitions if key[2] in sys.argv[2:]])):
+            print(crate, file, name)
+        return 0
     definitions, found = reached()
     if sys.argv[1:] == ["list"]:
         for crate, file, name in sorted(found):
