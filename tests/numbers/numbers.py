@@ -4,7 +4,7 @@
 The code's texts are those of the types whose `code` answers numbers: the attribute `error` of each variant, and of FaultKind, which
 shows its number alone, the words beside it. In docs/NUMBERS.md each number has one row, in the order in which the types try
 them. In the help a number stands in front of its text, which may go on in the lines below; what is said of 806 there is each
-subcommand's own, and 807 is followed by the refusals of a network.
+subcommand's own, and 807 is followed by the refusals of a network. It has to say each number but those that calls alone answer.
 """
 
 import re
@@ -19,6 +19,8 @@ WORDS = re.compile(r'FaultKind::(\w+)(?:\(\w+\))? => (?:\{\s*)?(?:f\.write_str\(
 ROW = re.compile(r"^\| (\d{3}) \| (.*) \|$", re.M)
 SAID = re.compile(r"^ +(?:refused )?\(?(\d{3})\)?(?: type \d+)? +(\S.*(?:\n {7,}(?!refused|\(?\d{3}\)? |sync |ignored)\S.*)*)", re.M)
 OWN = {806, 807}
+# What calls of the crates answer, and no subcommand.
+OF_CALLS = {101, 102, 103, 104, 211, 212, 301, 302, 305, 401, 501, 609, 709}
 
 
 def texts_of_code():
@@ -60,6 +62,7 @@ def main():
     helped = list(texts_of_help())
     wrong += [f"help says of {n}: {text}\n  and the code: {code.get(n)}"
               for n, text in helped if n not in OWN and not is_same(text, code.get(n, ""))]
+    wrong += [f"help doesn't say {n}: {code[n]}" for n in sorted(code.keys() - OF_CALLS - {n for n, _ in helped})]
     for line in wrong:
         print(line)
     print(f"{len(page)} numbers, of which help says {len({n for n, _ in helped})}")
