@@ -1,5 +1,6 @@
 -- Moments, and the timestamp and fraction that name each of them (IEEE 1588-2019, 5.3.3 and 13.3.2.9).
-use Rattle.std.specs.Prelude.{ℕ, ◌+◌, ◌*◌, ◌/◌, ◌%◌, ◌^◌, ◌<◌, ℤ, pos, negsuc, nat_lt, if◌then◌else◌, Option, Some, None}
+use Rattle.std.specs.Prelude.{ℕ, ◌+◌, ◌*◌, ◌/◌, ◌%◌, ◌^◌, ◌<◌, ℤ, pos, negsuc, nat_lt, if◌then◌else◌}
+use Rattle.std.specs.Prelude.{Option, Some, None}
 
 -- seconds, and nanoseconds past the second
 pub record Stamp : Type 0 where

@@ -1,5 +1,5 @@
 -- Sequence numbers: 16 bits of a count that has no end (IEEE 1588-2019, 7.3.7).
-use Rattle.std.specs.Prelude.{ℕ, ◌+◌, ◌-◌, ◌%◌, ◌≤◌}
+use Rattle.std.specs.Prelude.{ℕ, ◌+◌, ◌-◌, ◌%◌, Bool, ◌&&◌, nat_le}
 
 -- the sequenceId of the number of this count
 abbrev pub of_count : ℕ → ℕ
@@ -13,5 +13,5 @@ abbrev pub ahead : ℕ → ℕ → ℕ
 ahead number other = (number + 65536 - other) % 65536
 
 -- less than half a turn ahead, and not equal
-abbrev pub IsNewer : ℕ → ℕ → Type 0
-IsNewer number other = (1 ≤ ahead number other) × (ahead number other ≤ 32767)
+abbrev pub is_newer : ℕ → ℕ → Bool
+is_newer number other = nat_le 1 (ahead number other) && nat_le (ahead number other) 32767

@@ -1,9 +1,9 @@
 //! Laws of the definitions, each the contract of a function that does nothing: a caller that needs
 //! the law in its proof calls it.
 
-ghost use Rattle.std.specs.Prelude.{◌≡◌, ◌+◌, ◌*◌, ◌^◌, ◌<◌, ◌↔◌, ℕ};
+ghost use Rattle.std.specs.Prelude.{◌≡◌, ◌+◌, ◌*◌, ◌^◌, ◌<◌, ◌↔◌, ℕ, IsTrue};
 ghost use Rattle.ptp_units.specs.Moment.{Stamp, IsStamp, bound, moment, stamp_of, fraction_of};
-ghost use Rattle.ptp_units.specs.Sequence.{of_count, IsNewer};
+ghost use Rattle.ptp_units.specs.Sequence.{of_count, is_newer};
 
 /// A timestamp and a fraction of a nanosecond name exactly one moment, and each moment is named by
 /// exactly one such pair.
@@ -26,5 +26,5 @@ pub fn same_number()
 /// Of two numbers less than half a turn apart, the sequenceIds tell which is the greater.
 pub fn newer_number()
     ensures { (m n : ℕ) → m < n + 32768 → n < m + 32768
-        → (IsNewer (of_count m) (of_count n) ↔ (n < m)) }
+        → (IsTrue (is_newer (of_count m) (of_count n)) ↔ (n < m)) }
 {}

@@ -1,10 +1,10 @@
 -- Which messages a slave port uses, what as, and the first reason for which it can't use another.
-use Rattle.std.specs.Prelude.{ℕ, ◌/◌, ◌%◌, Bool, true, false, not, ◌&&◌, List, [], ◌∷◌, ◌++◌, slice_index, ◌==◌, nat_le}
+use Rattle.std.specs.Prelude.{ℕ, ◌/◌, ◌%◌, Bool, true, false, not, ◌&&◌, List, [], ◌∷◌, ◌++◌, slice_index, ◌==◌}
 use Rattle.std.specs.Prelude.{int_lt, is_none, option_and_then, if◌then◌else◌, Option, Some, None, Result, Ok, Err}
 use Rattle.std.specs.Result.{result_ok, result_err}
 use Rattle.ptp_units.specs.Interval.{too_big}
 use Rattle.ptp_units.specs.Moment.{Stamp}
-use Rattle.ptp_units.specs.Sequence.{ahead}
+use Rattle.ptp_units.specs.Sequence.{is_newer}
 use Rattle.event_codec.specs.declared.message.Header.{Header}
 use Rattle.event_codec.specs.declared.message.Body.{Body}
 use Rattle.event_codec.specs.declared.message.Body.TheVariants as bodies
@@ -47,10 +47,6 @@ is_too_big header = not (int_lt header.correction.0 too_big)
 abbrev pub is_other : Option PortIdentity → PortIdentity → Bool
 is_other None source = true
 is_other (Some master) source = not (is_same_port source master)
-
--- less than half a turn ahead (7.3.7)
-abbrev pub is_newer : ℕ → ℕ → Bool
-is_newer number other = nat_le 1 (ahead number other) && nat_le (ahead number other) 32767
 
 -- another number than the last one, and not newer
 abbrev pub is_not_newer : (last : Option ℕ) → ℕ → Bool
