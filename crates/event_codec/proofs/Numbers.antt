@@ -1,8 +1,8 @@
 -- Numbers in the front of a list, and numbers as octets.
-use Rattle.std.proofs.Common.{◌≡◌, ℕ, zero, suc, ◌+◌, ◌%◌, ◌/◌, ◌^◌, ◌<◌, ◌≤◌, List, [], ◌∷◌, length, take, drop, get_or, refl, ap, ◌∙◌, arith}
-use Rattle.std.specs.Int.{w16, w32, w64, to_be_bytes, from_be_bytes}
+use Rattle.std.proofs.Common.{◌≡◌, ℕ, zero, suc, ◌+◌, ◌^◌, ◌<◌, ◌≤◌, List, [], ◌∷◌, length, take, drop, get_or, refl, ap, ◌∙◌, arith}
+use Rattle.std.specs.Int.{w16, w64, to_be_bytes, from_be_bytes}
 use Rattle.std.proofs.lemmas.List.{get_or-take, drop_more, drop_all}
-use Rattle.std.proofs.lemmas.Nat.{from_be_bytes-to_be_bytes_2, from_be_bytes-to_be_bytes_4, from_be_bytes-to_be_bytes_8}
+use Rattle.std.proofs.lemmas.Nat.{from_be_bytes-to_be_bytes_2, from_be_bytes-to_be_bytes_8}
 use Rattle.event_codec.specs.Layout.{number}
 
 pub number-take : (b : List ℕ) (n i count : ℕ) → i + count ≤ n → number (take n b) i count ≡ number b i count
@@ -24,12 +24,6 @@ cells_all b i (suc count) e = drop_more b i 0 (omega arith) ∙ ap (λ (x : List
 
 two : (x y : ℕ) → number (x ∷ y ∷ []) 0 2 ≡ from_be_bytes w16 (x ∷ y ∷ [])
 two x y = omega arith
-
-four : (x y z w : ℕ) → number (x ∷ y ∷ z ∷ w ∷ []) 0 4 ≡ from_be_bytes w32 (x ∷ y ∷ z ∷ w ∷ [])
-four x y z w = omega arith
-
-six : (c d e f g h : ℕ) → number (c ∷ d ∷ e ∷ f ∷ g ∷ h ∷ []) 0 6 ≡ from_be_bytes w64 (0 ∷ 0 ∷ c ∷ d ∷ e ∷ f ∷ g ∷ h ∷ [])
-six c d e f g h = omega arith
 
 eight : (a b c d e f g h : ℕ) → number (a ∷ b ∷ c ∷ d ∷ e ∷ f ∷ g ∷ h ∷ []) 0 8 ≡ from_be_bytes w64 (a ∷ b ∷ c ∷ d ∷ e ∷ f ∷ g ∷ h ∷ [])
 eight a b c d e f g h = omega arith

@@ -2,7 +2,7 @@
 use Rattle.std.specs.Prelude.{ℕ, ℤ, List, [], ◌∷◌}
 use Rattle.event_codec.specs.declared.message.Header.{Header}
 use Rattle.event_codec.specs.declared.port.PortConfig.{PortConfig}
-use Rattle.event_codec.specs.declared.profile.Written.{Written}
+use Rattle.event_codec.specs.declared.profile.PortMessage.{PortMessage}
 use Rattle.event_codec.specs.Packet.{Contents}
 
 -- sdoId 0, version 2.1, messageTypeSpecific 0, and domain and identity of the port
@@ -23,5 +23,5 @@ header_of config flags correction number control log = record {
 }
 
 -- a message that has no suffix
-abbrev pub contents_of : Written → Contents
+abbrev pub contents_of : PortMessage → Contents
 contents_of message = record { header = message.header; body = message.body; suffix = [] }

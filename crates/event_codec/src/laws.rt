@@ -13,8 +13,7 @@ use crate::message::Message;
 use crate::port::PortIdentity;
 use crate::refusal::{DecodeRefusal, EncodeRefusal};
 
-/// Decodes what it encoded into the front of the buffer: the same message, whatever octets follow it
-/// there.
+/// Decodes what it encoded into the front of the buffer: the same message, whatever octets follow it there.
 pub fn decode_of_encode<'b>(
     message: &Message<'_>,
     buffer: &'b mut [u8],

@@ -11,6 +11,9 @@ pub(crate) const VERSION: u8 = 2;
 /// flagField with the twoStepFlag alone (IEEE 1588-2019, 13.3.2.8).
 pub const TWO_STEP: [u8; 2] = [0x02, 0x00];
 
+/// flagField without a flag.
+pub const NO_FLAGS: [u8; 2] = [0x00, 0x00];
+
 /// The fields that all messages have in common, but for messageType, versionPTP and messageLength
 /// (IEEE 1588-2019, 13.3).
 #[derive(Clone, Copy, Debug, PartialEq, Eq)]

@@ -1,6 +1,6 @@
 ghost use Rattle.std.specs.Prelude.{◌≡◌, []};
 ghost use Rattle.event_codec.specs.Layout.{type_of, fields_length};
-ghost use Rattle.event_codec.specs.Packet.{Packet};
+ghost use Rattle.event_codec.specs.Packet.{Packet, contents};
 ghost use Rattle.event_codec.specs.Profile.{header_of, contents_of};
 
 use crate::encoding::encode;
@@ -40,26 +40,32 @@ impl PortConfig {
 
 /// A message without suffix, as this profile's ports write them.
 #[derive(Clone, Copy, Debug, PartialEq, Eq)]
-pub struct Written {
+pub struct PortMessage {
     /// The fields that all messages have.
     pub header: Header,
     /// The fields of the message's own type.
     pub body: Body,
 }
 
-impl Written {
+impl PortMessage {
+    /// The same as a message with a suffix of no octets.
+    pub fn message(&self) -> Message<'static>
+        ensures { contents result ≡ contents_of self.now }
+    {
+        Message {
+            header: self.header,
+            body: self.body,
+            suffix: &[],
+        }
+    }
+
     /// Its octets: N is 54 for a Delay_Resp, and 44 for the other types.
     pub fn octets<const N: usize>(self) -> [u8; N]
         requires { fields_length (type_of self.body) ≡ N }
         ensures { Packet (contents_of self) result }
     {
         let mut octets = [0; N];
-        let message = Message {
-            header: self.header,
-            body: self.body,
-            suffix: &[],
-        };
-        let written = encode(&message, &mut octets);
+        let written = encode(&self.message(), &mut octets);
         prove!(written.is_ok());
         octets
     }
@@ -70,21 +76,21 @@ impl Header {
     pub fn sync(self, origin: Timestamp) -> [u8; 44]
         ensures { Packet (record { header = self; body = Body.Sync origin; suffix = [] }) result }
     {
-        self.with(Body::Sync { origin }).octets()
+        self.with_body(Body::Sync { origin }).octets()
     }
 
     /// The octets of the Delay_Req that has this header, and no suffix.
     pub fn delay_req(self, origin: Timestamp) -> [u8; 44]
         ensures { Packet (record { header = self; body = Body.DelayReq origin; suffix = [] }) result }
     {
-        self.with(Body::DelayReq { origin }).octets()
+        self.with_body(Body::DelayReq { origin }).octets()
     }
 
     /// The octets of the Follow_Up that has this header, and no suffix.
     pub fn follow_up(self, precise: Timestamp) -> [u8; 44]
         ensures { Packet (record { header = self; body = Body.FollowUp precise; suffix = [] }) result }
     {
-        self.with(Body::FollowUp { precise }).octets()
+        self.with_body(Body::FollowUp { precise }).octets()
     }
 
     /// The octets of the Delay_Resp that has this header, and no suffix.
@@ -95,13 +101,13 @@ impl Header {
             receive,
             requesting,
         };
-        self.with(body).octets()
+        self.with_body(body).octets()
     }
 
     /// The message with this header and this body.
-    pub fn with(self, body: Body) -> Written
+    pub fn with_body(self, body: Body) -> PortMessage
         ensures { result ≡ record { header = self; body = body } }
     {
-        Written { header: self, body }
+        PortMessage { header: self, body }
     }
 }

@@ -5,15 +5,16 @@ ghost use Rattle.std.specs.Prelude.{◌==◌, Some, None, OnOk, OnErr, ◌<◌, 
 ghost use Rattle.std.specs.BTreeMap.{get};
 ghost use Rattle.std.specs.Ordering.{nat_cmp};
 ghost use Rattle.exchange_check.specs.Inner.Machine.{accepted_count};
-ghost use Rattle.exchange_check.specs.Inner.Machine.{Machine, IsKept, start, judged, after_line, sites_told, leaves_told};
-ghost use Rattle.exchange_check.specs.Inner.Machine.{stamps_told, facts_of, sites_of, stamps_of};
+ghost use Rattle.exchange_check.specs.Inner.Machine.{Machine, IsKept, start, judged, after_line, sites_told};
+ghost use Rattle.exchange_check.specs.Inner.Machine.{leaves_told, stamps_told, facts_of, sites_of, stamps_of};
 ghost use Rattle.exchange_check.specs.Inner.Stays.{stay_of, once_in, StaysAfter};
 ghost use Rattle.network_model.specs.Kinds.{spent_transit};
 ghost use Rattle.std.specs.Option.{option_map_or};
 ghost use Rattle.exchange_check.specs.Inner.Kept.{moved, moved_at, stamped, sites_after, leaves_after, stamps_after};
-ghost use Rattle.exchange_check.specs.Inner.Kept.{site_in, kept_journey_at, copy_entered_by, stayed, begun_by, kept_journey_by};
-ghost use Rattle.exchange_check.specs.Inner.Kept.{message_after_by, followed_by, answered_by, message_by, known_by, number_by};
-ghost use Rattle.exchange_check.specs.Inner.Kept.{fact_known, fact_by, kept_journey_left, written_journey, port_setup};
+ghost use Rattle.exchange_check.specs.Inner.Kept.{site_in, kept_journey_at, copy_entered_by, stayed, begun_by};
+ghost use Rattle.exchange_check.specs.Inner.Kept.{kept_journey_by, message_after_by, followed_by, answered_by};
+ghost use Rattle.exchange_check.specs.Inner.Kept.{message_by, known_by, number_by, fact_known, fact_by};
+ghost use Rattle.exchange_check.specs.Inner.Kept.{kept_journey_left, written_journey, port_setup};
 ghost use Rattle.ptp_units.specs.Sequence.{of_count};
 ghost use Rattle.event_codec.specs.Profile.{contents_of};
 ghost use Rattle.trace_model.specs.Record.{is_reading};
@@ -23,7 +24,7 @@ use crate::good::{completes, counts, is_made};
 use crate::octets::{Port, delay_resp, is_written, master_at, resided, sent, slave_at};
 use crate::refusal::CheckFault;
 use crate::stays::Stays;
-use event_codec::Written;
+use event_codec::PortMessage;
 use master_port::follow_up;
 use network_model::{Event, Name, Nodes};
 use ptp_units::{ScaledTime, Seq};
@@ -77,8 +78,7 @@ fn drawn(port: Option<Port>, count: Seq) -> Seq
     }
 }
 
-/// The copy that entered at a line, where that is a line of this clock and the copy was made below
-/// it.
+/// The copy that entered at a line, where that is a line of this clock and the copy was made below it.
 fn copy_entered(clock: &Name, entered: &Fact) -> Option<u64>
     ensures { result ≡ copy_entered_by clock.now entered.now }
 {
@@ -209,7 +209,7 @@ impl Kept {
     }
 
     /// The message at the end of a journey.
-    fn message_after(&self, nodes: &Nodes, journey: &KeptJourney) -> Option<Written>
+    fn message_after(&self, nodes: &Nodes, journey: &KeptJourney) -> Option<PortMessage>
         ensures value { option_map contents_of result ≡ message_after_by nodes.now (facts_of self.now) journey.now }
         ensures sign { IfSome result (λ m. pos 0 ≤ℤ m.header.correction.0) }
     {
@@ -219,7 +219,7 @@ impl Kept {
     }
 
     /// The Follow_Up of the Sync line of this number.
-    fn followed(&self, port: &Port, last: Option<u64>) -> Option<Written>
+    fn followed(&self, port: &Port, last: Option<u64>) -> Option<PortMessage>
         ensures { option_map contents_of result ≡ followed_by (facts_of self.now) (port_setup port.now) last }
     {
         let sync = self.at(last?)?;
@@ -233,7 +233,7 @@ impl Kept {
         port: &Port,
         now: ScaledTime,
         journey: Option<KeptJourney>,
-    ) -> Option<Written>
+    ) -> Option<PortMessage>
         ensures { option_map contents_of result
             ≡ answered_by nodes.now (facts_of self.now) (port_setup port.now) now journey }
     {
@@ -248,7 +248,7 @@ impl Kept {
         known: &Known,
         journey: Option<KeptJourney>,
         event: &Event,
-    ) -> Option<Written>
+    ) -> Option<PortMessage>
         ensures { option_map contents_of result ≡ message_by nodes.now (facts_of self.now) known.now journey event.now }
     {
         match event {
@@ -297,8 +297,7 @@ impl Kept {
         Some(self.told(nodes, line, &self.known(nodes, line, number)))
     }
 
-    /// The copy that entered at the stay which a Leave line ends, where the journey of the copy that left
-    /// is known.
+    /// The copy that entered at the stay which a Leave line ends, where the journey of the copy that left is known.
     fn entered(&self, fact: &Fact, transit: u64, number: u64) -> Option<u64>
         ensures stay { spent_transit fact.now.event ≡ Some transit
             → option_map (λ copy. (transit, copy)) result ≡ stay_of (facts_of self.now) number fact.now }

@@ -10,7 +10,7 @@ ghost use Rattle.network_model.specs.Truth.{master_at, slave_at};
 ghost use Rattle.exchange_check.specs.Inner.Kept.{sent_by, port_setup};
 ghost use Rattle.trace_model.specs.Octets.{is_packet, is_written, drawing_port, message_sent};
 
-use event_codec::{Header, Message, PortConfig, Written, encode};
+use event_codec::{Header, Message, PortConfig, PortMessage, encode};
 use master_port::{one_step_sync, sync};
 use network_model::{Event, Name, NodeKind, Nodes};
 use ptp_units::{ScaledTime, Seq};
@@ -56,7 +56,12 @@ pub(crate) fn drawing_port(nodes: &Nodes, event: &Event) -> Option<Port>
 }
 
 /// The message that a port sends at an event, under this number and at this reading.
-fn message_sent(config: &PortConfig, event: &Event, number: Seq, now: ScaledTime) -> Option<Written>
+fn message_sent(
+    config: &PortConfig,
+    event: &Event,
+    number: Seq,
+    now: ScaledTime,
+) -> Option<PortMessage>
     ensures value { option_map contents_of result ≡ message_sent config.now event.now number.0 now }
     ensures sign { IfSome result (λ m. pos 0 ≤ℤ m.header.correction.0) }
 {
@@ -69,7 +74,12 @@ fn message_sent(config: &PortConfig, event: &Event, number: Seq, now: ScaledTime
 }
 
 /// The message that an event sends, under this number and at this reading.
-pub(crate) fn sent(nodes: &Nodes, event: &Event, number: Seq, now: ScaledTime) -> Option<Written>
+pub(crate) fn sent(
+    nodes: &Nodes,
+    event: &Event,
+    number: Seq,
+    now: ScaledTime,
+) -> Option<PortMessage>
     ensures value { option_map contents_of result ≡ sent_by nodes.now event.now number.0 now }
     ensures sign { IfSome result (λ m. pos 0 ≤ℤ m.header.correction.0) }
 {
@@ -78,18 +88,22 @@ pub(crate) fn sent(nodes: &Nodes, event: &Event, number: Seq, now: ScaledTime) -
 }
 
 /// A message with a residence added to its correction.
-pub(crate) fn resided(message: &Written, time: u64) -> Written
+pub(crate) fn resided(message: &PortMessage, time: u64) -> PortMessage
     requires { pos 0 ≤ℤ message.now.header.correction.0 }
     ensures value { contents_of result ≡ resided (contents_of message.now) time }
     ensures sign { pos 0 ≤ℤ result.header.correction.0 }
 {
     let mut header = message.header;
     header.correction = header.correction.plus_residence(u128::from(time));
-    header.with(message.body)
+    header.with_body(message.body)
 }
 
 /// The Delay_Resp to a Delay_Req that arrived at t4.
-pub(crate) fn delay_resp(config: &PortConfig, request: &Header, t4: ScaledTime) -> Option<Written>
+pub(crate) fn delay_resp(
+    config: &PortConfig,
+    request: &Header,
+    t4: ScaledTime,
+) -> Option<PortMessage>
     requires { pos 0 ≤ℤ request.now.correction.0 }
     ensures { option_map contents_of result ≡ Some (delay_resp config.now request.now t4) }
 {
@@ -112,21 +126,14 @@ fn is_packet(message: &Message<'_>, octets: &[u8]) -> bool
 }
 
 /// Whether a line made this message.
-pub(crate) fn is_written(message: &Option<Written>, out: &TraceOut) -> bool
+pub(crate) fn is_written(message: &Option<PortMessage>, out: &TraceOut) -> bool
     ensures { result ≡ is_written (option_map contents_of message.now) out.now }
 {
     let Some(message) = message else {
         return false;
     };
     match out {
-        TraceOut::Made(octets) => {
-            let message = Message {
-                header: message.header,
-                body: message.body,
-                suffix: &[],
-            };
-            is_packet(&message, octets.as_slice())
-        }
+        TraceOut::Made(octets) => is_packet(&message.message(), octets.as_slice()),
         _ => false,
     }
 }

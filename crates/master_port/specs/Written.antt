@@ -21,7 +21,7 @@ sync config number = record {
   suffix = [];
 }
 
--- the one-step Sync of this number, which leaves at the moment t1: its timestamp has no fraction, its correction has
+-- the one-step Sync of this number, which leaves at the moment t1: the fraction of t1 stands in the correction
 abbrev pub one_step_sync : PortConfig → (number t1 : ℕ) → Contents
 one_step_sync config number t1 = record {
   header = header_of config (0 ∷ 0 ∷ []) (pos (fraction_of t1)) number 0 config.log;
@@ -29,8 +29,7 @@ one_step_sync config number t1 = record {
   suffix = [];
 }
 
--- the Follow_Up of the Sync of this number, which left at the moment t1: its timestamp has no fraction, its correction
--- has
+-- the Follow_Up of the Sync of this number, which left at the moment t1: the fraction of t1 stands in the correction
 abbrev pub follow_up : PortConfig → ℕ → ℕ → Contents
 follow_up config number t1 = record {
   header = header_of config (0 ∷ 0 ∷ []) (pos (fraction_of t1)) number 2 config.log;
@@ -38,8 +37,7 @@ follow_up config number t1 = record {
   suffix = [];
 }
 
--- the Delay_Resp to a Delay_Req with this header that arrived at the moment t4: the fraction of t4 is taken off the
--- correction
+-- the Delay_Resp to a Delay_Req with this header that arrived at the moment t4: the correction is less its fraction
 abbrev pub delay_resp : PortConfig → Header → ℕ → Contents
 delay_resp config request t4 = record {
   header = header_of config (0 ∷ 0 ∷ [])
@@ -49,15 +47,15 @@ delay_resp config request t4 = record {
 }
 
 -- the same, where its correction is in range
-abbrev pub responded : PortConfig → Header → ℕ → Result Contents MasterRefusal
-responded config request t4 =
+abbrev pub delay_resp_in_range : PortConfig → Header → ℕ → Result Contents MasterRefusal
+delay_resp_in_range config request t4 =
     if int_lt (less_fraction request.correction.0 (fraction_of t4)) least then Err CorrectionTooLow
     else Ok (delay_resp config request t4)
 
 -- the answer to a Delay_Req with this header: it has to be of the master's domain
 abbrev pub answer_to_request : PortConfig → Header → ℕ → Result Contents MasterRefusal
 answer_to_request config request t4 =
-    if request.domain == config.domain then responded config request t4 else Err OtherDomain
+    if request.domain == config.domain then delay_resp_in_range config request t4 else Err OtherDomain
 
 -- the answer to a message with this body and header
 abbrev pub answer_to : PortConfig → Body → Header → ℕ → Result Contents MasterRefusal

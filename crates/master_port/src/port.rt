@@ -25,7 +25,11 @@ impl Model for MasterPort {
 
     ghost Value = { Port };
 
-    ghost view = { λ p. record { config = p.config; next = p.next.0; waiting = option_map (λ number. number.0) p.waiting } };
+    ghost view = { λ p. record {
+      config = p.config;
+      next = p.next.0;
+      waiting = option_map (λ number. number.0) p.waiting;
+    } };
 }
 
 impl MasterPort {
@@ -90,8 +94,7 @@ impl MasterPort {
         Ok(follow_up(&self.config, number, t1).octets())
     }
 
-    /// The Delay_Resp to a Delay_Req that arrived at t4. Refused with the first of 302 to 305 that
-    /// applies.
+    /// The Delay_Resp to a Delay_Req that arrived at t4. Refused with the first of 302 to 305 that applies.
     #[tactic(auto, using(crate::proofs::Reading::answer_as_read))]
     pub fn delay_req(&self, octets: &[u8], t4: ScaledTime) -> Result<[u8; 54], MasterRefusal>
         // What the octets say decides.

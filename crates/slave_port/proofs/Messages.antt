@@ -19,7 +19,7 @@ use Rattle.slave_port.specs.Completion.{SyncCompletion, DelayCompletion, pair, a
 use Rattle.slave_port.specs.Kept.{criteria, usable, held_syncs, held_follows}
 use Rattle.slave_port.specs.Answer.{request_reason, ignored, completed}
 use Rattle.slave_port.specs.StandsFor.{Last, Port, StandsFor}
-use Rattle.slave_port.specs.Inner.Changes.{criteria_of, renewed, and_completed, with_sync_completion, unless, responded, taken, taken_or_ignored, sync_heard, general_heard}
+use Rattle.slave_port.specs.Inner.Changes.{criteria_of, renewed, and_completed, with_sync_completion, unless, with_response_to, taken, taken_or_ignored, sync_heard, general_heard}
 use Rattle.slave_port.proofs.Received.{received, received_of, unanswerable_by, IsAnswered, same_criteria, stands-event, stands-general, IsAnswered-used, IsAnswered-ignored}
 
 module _ (port : Port) where
@@ -39,7 +39,7 @@ module _ (port : Port) where
 
   -- what a Delay_Resp does, by the request of its number
   responding : (number : ℕ) (response : ResponseValue) (request : Option RequestValue)
-      → responded response request port
+      → with_response_to response request port
       ≡ unless (request_reason request)
       (received (Some (entry number (DelayResp response))) None (option_and_then (answered response) request) port) port
   responding number response None = refl
@@ -48,7 +48,7 @@ module _ (port : Port) where
       left_at : Option ℕ → Option RequestValue
       left_at t3 = Some (record { t3 = t3; tag = request.tag })
 
-      at : (t3 : Option ℕ) → responded response (left_at t3) port
+      at : (t3 : Option ℕ) → with_response_to response (left_at t3) port
           ≡ unless (request_reason (left_at t3))
           (received (Some (entry number (DelayResp response))) None (option_and_then (answered response) (left_at t3)) port) port
       at None = refl
@@ -86,7 +86,7 @@ module _ (setup : Setup) (history : List Call) (port : Port) (stands : StandsFor
       (ap (newest number) stands.syncs.latest)
       ∙ followed port number follow (option_map completes (newest number (held_syncs setup history)))
   taken-received number (DelayResp response) =
-      ap (λ request. responded response request port) (ap (newest number) stands.requests)
+      ap (λ request. with_response_to response request port) (ap (newest number) stands.requests)
       ∙ responding port number response (newest number (held_requests setup history))
 
   taken-ignored : (number : ℕ) (used : Used) (reason : Reason)

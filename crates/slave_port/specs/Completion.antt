@@ -1,5 +1,4 @@
--- Completions: of a Sync, by the Follow_Up of its number or by itself, and of a request by the Delay_Resp of its
--- number.
+-- Completions: of a Sync by the Follow_Up of its number or by itself, of a request by the Delay_Resp of its number.
 use Rattle.std.specs.Prelude.{ℕ, ℤ, pos, List, option_map, Option, Some, None}
 use Rattle.ptp_units.specs.Exchange.{sync_bracket, delay_bracket}
 use Rattle.pairing.specs.Marked.{Entry, first_value as newest}
@@ -7,8 +6,7 @@ use Rattle.slave_port.specs.declared.used.Used.{Used}
 use Rattle.slave_port.specs.declared.used.Used.TheVariants.{TwoStepSync, OneStepSync, FollowUp, DelayResp}
 use Rattle.slave_port.specs.Values.{SyncValue, OneStepValue, FollowValue, ResponseValue, RequestValue}
 
--- the Sync's half of a report: its sequenceId, its bracket, and the tags of the Sync and of its Follow_Up, if it has
--- one
+-- the Sync's half of a report: its sequenceId, its bracket, and the tags of the Sync and of its Follow_Up, if any
 pub record SyncCompletion : Type 0 where
   pub number : ℕ
   pub bracket : ℤ

@@ -23,11 +23,21 @@ impl Model for SyncCompletion {
 
     ghost Value = { SyncCompletion };
 
-    ghost view = { λ c. record { number = c.number.0; bracket = c.bracket; sync_tag = c.sync_tag; follow_tag = c.follow_tag } };
+    ghost view = { λ c. record {
+      number = c.number.0;
+      bracket = c.bracket;
+      sync_tag = c.sync_tag;
+      follow_tag = c.follow_tag;
+    } };
 
     ghost invariant = { λ c. IsBracket c.bracket };
 
-    ghost inverse = { λ c. record { number = record { 0 = c.number }; bracket = c.bracket; sync_tag = c.sync_tag; follow_tag = c.follow_tag } };
+    ghost inverse = { λ c. record {
+      number = record { 0 = c.number };
+      bracket = c.bracket;
+      sync_tag = c.sync_tag;
+      follow_tag = c.follow_tag;
+    } };
 }
 
 /// A Delay_Resp with its request.
@@ -132,8 +142,7 @@ pub(crate) fn alone(number: Seq, sync: OneStepSync) -> SyncCompletion
     }
 }
 
-/// The completion of a request by a Delay_Resp of its number, or None where it isn't known when the
-/// request left.
+/// The completion of a request by a Delay_Resp of its number, or None where it isn't known when the request left.
 pub(crate) fn answered(response: Response, request: HeldRequest) -> Option<DelayCompletion>
     ensures { result ≡ answered response request }
 {

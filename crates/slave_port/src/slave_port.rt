@@ -8,8 +8,8 @@ ghost use Rattle.slave_port.specs.History.{RequestLeft, Event, General};
 ghost use Rattle.slave_port.specs.Requests.{is_held};
 ghost use Rattle.slave_port.specs.Written.{delay_req};
 ghost use Rattle.slave_port.specs.StandsFor.{StandsFor, StandsAfter, IsAnswer};
-ghost use Rattle.slave_port.specs.Inner.Changes.{criteria_of, with_sync, with_follow, with_sync_completion, with_response};
-ghost use Rattle.slave_port.specs.Inner.Changes.{and_completed, taken, sync_heard, general_heard};
+ghost use Rattle.slave_port.specs.Inner.Changes.{criteria_of, with_sync, with_follow, with_sync_completion};
+ghost use Rattle.slave_port.specs.Inner.Changes.{with_response, and_completed, taken, sync_heard, general_heard};
 
 use crate::completion::{DelayCompletion, Last, SyncCompletion, alone, answered, pair, report_of};
 use crate::heard::Heard;
@@ -150,7 +150,9 @@ where
     }
 
     /// A message arrived on the event port at `t2`. A two-step Sync of the present master is held, and
-    /// completes with the newest held Follow_Up of its number; a one-step Sync completes by itself.
+    /// completes with the newest held Follow_Up of its number; a one-step Sync completes by itself. All else
+    /// is ignored, for the first reason that applies, and changes nothing: a message of another type for 502,
+    /// whoever sent it.
     pub fn sync(&mut self, octets: &[u8], t2: ScaledTime, tag: u64) -> Heard
         ensures answer { (said : Reading) → IsReading octets.now said → IsAnswer (Event said t2 tag) self.old result }
         ensures stands { (said : Reading) → IsReading octets.now said
@@ -165,6 +167,7 @@ where
 
     /// A message arrived on the general port. A Follow_Up of the present master is held, and completes
     /// the newest held Sync of its number. A Delay_Resp completes the newest request held under its number.
+    /// All else is ignored, for the first reason that applies, and changes nothing.
     pub fn general(&mut self, octets: &[u8], tag: u64) -> Heard
         ensures answer { (said : Reading) → IsReading octets.now said → IsAnswer (General said tag) self.old result }
         ensures stands { (said : Reading) → IsReading octets.now said

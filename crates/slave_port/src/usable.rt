@@ -28,7 +28,11 @@ impl Model for Criteria {
 
     ghost Value = { CriteriaValue };
 
-    ghost view = { λ c. record { config = c.config; master = c.master; last = option_map (λ number. number.0) c.last } };
+    ghost view = { λ c. record {
+      config = c.config;
+      master = c.master;
+      last = option_map (λ number. number.0) c.last;
+    } };
 }
 
 fn is_two_step(header: &Header) -> bool
@@ -44,8 +48,7 @@ fn is_not_newer(last: Option<Seq>, number: Seq) -> bool
     last.is_some_and(|last| number != last && !number.newer_than(last))
 }
 
-/// The correction, in units, of a message that passes the tests of all messages, beside that of their
-/// type.
+/// The correction, in units, of a message that passes the tests of all messages, beside that of their type.
 fn tested(criteria: &Criteria, header: &Header) -> Result<i64, Reason>
     ensures reason { result_err result ≡ first_reason (common_tests criteria.now header.now) }
     ensures correction { IfOk result (λ correction. correction ≡ header.now.correction.0) }

@@ -62,7 +62,8 @@ impl Transit {
         reading: ScaledTime,
     ) -> Result<Interval, ClockRefusal>
         ensures { MatchResult result
-            (λ correction. (forwarded (Ok (contents message.now)) self.now reading ≡ Ok (with_correction (contents message.now) correction))
+            (λ correction. (forwarded (Ok (contents message.now)) self.now reading
+            ≡ Ok (with_correction (contents message.now) correction))
             × (correction.0 ≡ with_residence message.now.header.correction.0 (reading - self.now)))
             (λ refusal. forwarded (Ok (contents message.now)) self.now reading ≡ Err refusal) }
     {

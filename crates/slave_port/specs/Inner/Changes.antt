@@ -90,15 +90,15 @@ unless None used port = used
 unless (Some reason) used port = (port, answers.Ignored reason)
 
 -- a Delay_Resp completes this request, if there is one that can be completed
-abbrev pub responded : ResponseValue → Option RequestValue → Port → Port × Heard
-responded response request port = unless
+abbrev pub with_response_to : ResponseValue → Option RequestValue → Port → Port × Heard
+with_response_to response request port = unless
     (request_reason request)
     (and_completed (record port { last_delay = renewed (option_and_then (answered response) request) port.last_delay }))
     port
 
 -- a Delay_Resp completes with the newest request of its number
 abbrev pub with_response : Entry ResponseValue → Port → Port × Heard
-with_response response port = responded response.value (find response.number port.requests) port
+with_response response port = with_response_to response.value (find response.number port.requests) port
 
 -- a message is used
 abbrev pub taken : (number : ℕ) → Used → Port → Port × Heard

@@ -1,18 +1,16 @@
-use Rattle.std.proofs.Common.{◌≡◌, ℕ, ◌<◌, ◌≤◌, true, false, Result, Ok, Err, Some, None, refl, arith, lit≤, ltb, List, [], length, take, drop, subst, rules, replicate}
+use Rattle.std.proofs.Common.{◌≡◌, ℕ, ◌<◌, ◌≤◌, true, false, Result, Ok, Err, Some, None, refl, ap, ◌∙◌, arith, lit≤, ltb, List, length, take, drop, subst, rules, replicate}
 use Rattle.std.specs.Prelude.{MatchResult, IfOk}
 use Rattle.std.specs.Result.{is_ok}
 use Rattle.std.proofs.lemmas.Bool.{le-ltb, lt-ltb}
 use Rattle.std.proofs.lemmas.List.{length-replicate, length-take-le, take_all}
-use Rattle.event_codec.specs.declared.message.Header.{Header}
-use Rattle.event_codec.specs.declared.message.Body.{Body}
 use Rattle.event_codec.specs.declared.message_type.MessageType.{MessageType}
 use Rattle.event_codec.specs.declared.message_type.MessageType.TheVariants.{Sync, DelayReq, FollowUp, DelayResp}
 use Rattle.event_codec.specs.declared.refusal.EncodeRefusal.{EncodeRefusal}
 use Rattle.event_codec.specs.Layout.{type_of, fields_length}
-use Rattle.event_codec.specs.Packet.{Contents, Packet}
+use Rattle.event_codec.specs.Packet.{Contents, Packet, contents}
 use Rattle.event_codec.specs.Refusal.{message_length}
 use Rattle.event_codec.specs.EncodeRefusal.{encode_refusal}
-use Rattle.event_codec.proofs.profile.Written.octets.Goals as goal
+use Rattle.event_codec.proofs.profile.PortMessage.octets.Goals as goal
 
 fields_few : (kind : MessageType) → fields_length kind ≤ 54
 fields_few Sync = lit≤ tt
@@ -38,22 +36,23 @@ Packet-whole m (Ok n) old new ok same room h =
     subst (Packet m) all h.1
 Packet-whole m (Err e) old new ok same room h = absurd cc
 
--- a message without suffix
-abbrev bare : Header → Body → Contents
-bare header body = record { header = header; body = body; suffix = [] }
-
 pub prove-unreachable-requires : goal.prove-unreachable-requires
 prove-unreachable-requires g c =
     let few : fields_length (type_of c.args.self.body) ≤ 54 = fields_few (type_of c.args.self.body) in
     let zeros : List ℕ = replicate g.row.N 0 in
     let room : length zeros ≡ g.row.N = length-replicate {A = ℕ} g.row.N 0 in
-    let exact : message_length (bare c.args.self.header c.args.self.body) ≡ length zeros = omega arith in
+    let exact : message_length (contents c.message.result) ≡ length zeros = ap message_length c.message.ensures ∙ omega arith in
     let short : length zeros < 65536 = omega arith in
-    let ok : is_ok c.encode-written.result ≡ true = fits (bare c.args.self.header c.args.self.body) (length zeros) c.encode-written.result exact short c.encode-written.ensures.refused in
+    let ok : is_ok c.encode-written.result ≡ true =
+    fits (contents c.message.result) (length zeros) c.encode-written.result exact short c.encode-written.ensures.refused in
     absurd cc
 
 pub returns : goal.returns
 returns g c =
     let zeros : List ℕ = replicate g.row.N 0 in
     let room : length zeros ≡ g.row.N = length-replicate {A = ℕ} g.row.N 0 in
-    Packet-whole (bare c.args.self.header c.args.self.body) c.encode-written.result zeros c.encode-written.new.buffer (search rules) (search rules) (omega arith) c.encode-written.ensures.written
+    let fields : fields_length (type_of (contents c.message.result).body) ≡ length zeros =
+    ap (λ (m : Contents). fields_length (type_of m.body)) c.message.ensures ∙ omega arith in
+    subst (λ m. Packet m c.encode-written.new.buffer) c.message.ensures
+    (Packet-whole (contents c.message.result) c.encode-written.result zeros c.encode-written.new.buffer (search rules) (search rules) fields
+    c.encode-written.ensures.written)
