@@ -7,8 +7,8 @@ use Rattle.std.proofs.lemmas.Option.{same_Some}
 use Rattle.event_codec.specs.Packet.{Contents}
 use Rattle.master_port.specs.Written.{follow_up, delay_resp}
 use Rattle.network_model.specs.declared.event.Event.{Event}
-use Rattle.network_model.specs.declared.event.Event.TheVariants.{Sync, SyncOne, Follow, Enter, Leave, Arrive, Hear}
-use Rattle.network_model.specs.declared.event.Event.TheVariants.{Request, Stamped, Tick, SetMaster, StepClock}
+use Rattle.network_model.specs.declared.event.Event.TheVariants.{Sync, SyncOne, Follow, Leave, Arrive}
+use Rattle.network_model.specs.declared.event.Event.TheVariants.{Request}
 use Rattle.network_model.specs.Network.{Network, NodeName, PortSetup}
 use Rattle.network_model.specs.Kinds.{is_sync}
 use Rattle.network_model.specs.Truth.{master_at}
@@ -38,17 +38,7 @@ sync_port : (network : Network) (event : Event) (node : NodeName) (port : PortSe
     → master_at network node ≡ Some port → drawing_port network event ≡ Some port
 sync_port network (Sync at_node at) node port h there =
     ap (master_at network) ((bytes_eq-Decides at_node node).0 h) ∙ there
-sync_port network (SyncOne at_node at) node port h there = grind arith
-sync_port network (Follow at_node) node port h there = grind arith
-sync_port network (Enter at_node copy at) node port h there = grind arith
-sync_port network (Leave at_node transit at) node port h there = grind arith
-sync_port network (Arrive at_node copy at) node port h there = grind arith
-sync_port network (Hear at_node copy) node port h there = grind arith
-sync_port network (Request at_node at) node port h there = grind arith
-sync_port network (Stamped at_node) node port h there = grind arith
-sync_port network (Tick at_node) node port h there = grind arith
-sync_port network (SetMaster at_node master) node port h there = grind arith
-sync_port network (StepClock at_node diff) node port h there = grind arith
+sync_port network _ node port h there = grind arith
 
 module _ (network : Network) (e : LinePlace) where
   abbrev facts : Facts
@@ -155,15 +145,10 @@ module _ (network : Network) (e : LinePlace) where
       (λ port. followed_by facts port (option_map line_number (last_line network is_sync name e.earlier)))
       (master_at network node)) (sym (ap site_of same))
       ∙ follow_at node (master_at network node) refl
-  message_is (Enter node copy at) same = refl
   message_is (Leave node transit at) same = left_message node transit at
   message_is (Arrive node copy at) same = answer_at copy (master_at network node)
-  message_is (Hear node copy) same = refl
   message_is (Request node at) same = sent_at (Request node at) same
-  message_is (Stamped node) same = refl
-  message_is (Tick node) same = refl
-  message_is (SetMaster node master) same = refl
-  message_is (StepClock node diff) same = refl
+  message_is _ same = refl
 
   -- what is kept of a line
   pub fact_is : fact_known network facts e.line (known_of network e)

@@ -7,8 +7,8 @@ use Rattle.std.proofs.lemmas.Bool.{eqb-true}
 use Rattle.std.proofs.lemmas.Bool.Decides.{nat_tests}
 use Rattle.std.proofs.lemmas.Option.{same_Some, none-some}
 use Rattle.network_model.specs.declared.event.Event.{Event}
-use Rattle.network_model.specs.declared.event.Event.TheVariants.{Sync, SyncOne, Follow, Enter, Leave, Arrive, Hear}
-use Rattle.network_model.specs.declared.event.Event.TheVariants.{Request, Stamped, Tick, SetMaster, StepClock}
+use Rattle.network_model.specs.declared.event.Event.TheVariants.{Sync, SyncOne, Leave}
+use Rattle.network_model.specs.declared.event.Event.TheVariants.{Request}
 use Rattle.network_model.specs.Network.{Network, NodeName, is_named}
 use Rattle.network_model.specs.Run.{Run}
 use Rattle.network_model.specs.Kinds.{entered_copy, spends, spent_transit}
@@ -198,18 +198,11 @@ module _ (network : Network) (facts : Facts) (leaves : Leaves) (run : Run)
         → IsFollowed (length earlier) j
     made_followed (Sync node at) j same h = begun_followed j (sym (ap spent_transit same)) h
     made_followed (SyncOne node at) j same h = begun_followed j (sym (ap spent_transit same)) h
-    made_followed (Follow node) j same h = nothing_followed j h
-    made_followed (Enter node copy at) j same h = nothing_followed j h
     made_followed (Leave node transit at) j same h =
         left_followed (has_journey_with (Leave node transit at) j same h) node transit (line_at network earlier transit) j
         (sym (ap spent_transit same)) refl h
-    made_followed (Arrive node copy at) j same h = nothing_followed j h
-    made_followed (Hear node copy) j same h = nothing_followed j h
     made_followed (Request node at) j same h = begun_followed j (sym (ap spent_transit same)) h
-    made_followed (Stamped node) j same h = nothing_followed j h
-    made_followed (Tick node) j same h = nothing_followed j h
-    made_followed (SetMaster node master) j same h = nothing_followed j h
-    made_followed (StepClock node diff) j same h = nothing_followed j h
+    made_followed _ j same h = nothing_followed j h
 
   either_followed : (line : TraceLine) (earlier : Lines) (n : ℕ) (j : LineJourney) (here counted : Bool)
       → eqb (length earlier) n ≡ here → counts network line ≡ counted → Keeps (line ∷ earlier)

@@ -15,8 +15,8 @@ use Rattle.event_codec.specs.declared.port.PortConfig.{PortConfig}
 use Rattle.master_port.specs.Written.{sync, one_step_sync}
 use Rattle.slave_port.specs.Written.{delay_req}
 use Rattle.network_model.specs.declared.event.Event.{Event}
-use Rattle.network_model.specs.declared.event.Event.TheVariants.{Sync, SyncOne, Follow, Enter, Leave, Arrive, Hear}
-use Rattle.network_model.specs.declared.event.Event.TheVariants.{Request, Stamped, Tick, SetMaster, StepClock}
+use Rattle.network_model.specs.declared.event.Event.TheVariants.{Sync, SyncOne, Leave}
+use Rattle.network_model.specs.declared.event.Event.TheVariants.{Request}
 use Rattle.network_model.specs.Network.{Network, NodeName, PortSetup}
 use Rattle.exchange_check.specs.declared.facts.Fact.{Fact}
 use Rattle.exchange_check.specs.declared.facts.KeptJourney.{KeptJourney}
@@ -69,16 +69,9 @@ module _ (network : Network) (line : TraceLine) (earlier : Lines) (counted : cou
       → IsIn network (line ∷ earlier) j
   made_in (Sync node at) j h = begun_in j h
   made_in (SyncOne node at) j h = begun_in j h
-  made_in (Follow node) j h = nothing_in j h
-  made_in (Enter node copy at) j h = nothing_in j h
   made_in (Leave node transit at) j h = left_in node (line_at network earlier transit) j h
-  made_in (Arrive node copy at) j h = nothing_in j h
-  made_in (Hear node copy) j h = nothing_in j h
   made_in (Request node at) j h = begun_in j h
-  made_in (Stamped node) j h = nothing_in j h
-  made_in (Tick node) j h = nothing_in j h
-  made_in (SetMaster node master) j h = nothing_in j h
-  made_in (StepClock node diff) j h = nothing_in j h
+  made_in _ j h = nothing_in j h
 
 either_in : (network : Network) (line : TraceLine) (earlier : Lines) (n : ℕ) (j : LineJourney) (here counted : Bool)
     → counts network line ≡ counted
@@ -128,16 +121,8 @@ sent_time : (config : PortConfig) (event : Event) (number now x y : ℕ) → min
 sent_time config (Sync node at) number now x y h = ap Some (time_is (sync config number) 0 x y refl h)
 sent_time config (SyncOne node at) number now x y h =
     ap Some (time_is (one_step_sync config number now) (fraction_of now) x y refl h)
-sent_time config (Follow node) number now x y h = refl
-sent_time config (Enter node copy at) number now x y h = refl
-sent_time config (Leave node transit at) number now x y h = refl
-sent_time config (Arrive node copy at) number now x y h = refl
-sent_time config (Hear node copy) number now x y h = refl
 sent_time config (Request node at) number now x y h = ap Some (time_is (delay_req config number) 0 x y refl h)
-sent_time config (Stamped node) number now x y h = refl
-sent_time config (Tick node) number now x y h = refl
-sent_time config (SetMaster node master) number now x y h = refl
-sent_time config (StepClock node diff) number now x y h = refl
+sent_time config _ number now x y h = refl
 
 sent_time_at : (event : Event) (now : ℕ) (numbers : PortSetup → ℕ) (x y : ℕ) → min x longest ≡ min y longest
     → (o : Option PortSetup)

@@ -6,8 +6,8 @@ use Rattle.std.proofs.lemmas.List.Sums.{sum_by-cons}
 use Rattle.std.specs.Option.{option_or, option_map_or}
 use Rattle.ptp_units.specs.Sequence.{of_count, next}
 use Rattle.network_model.specs.declared.event.Event.{Event}
-use Rattle.network_model.specs.declared.event.Event.TheVariants.{Sync, SyncOne, Follow, Enter, Leave, Arrive, Hear}
-use Rattle.network_model.specs.declared.event.Event.TheVariants.{Request, Stamped, Tick, SetMaster, StepClock}
+use Rattle.network_model.specs.declared.event.Event.TheVariants.{Sync, SyncOne}
+use Rattle.network_model.specs.declared.event.Event.TheVariants.{Request, SetMaster, StepClock}
 use Rattle.network_model.specs.Network.{Network, NodeName, is_named}
 use Rattle.network_model.specs.Run.{Run, site_of}
 use Rattle.network_model.specs.Kinds.{is_at, is_sync, draws_sync, is_request, is_stamped}
@@ -70,7 +70,6 @@ moved_is (Sync node at) true n d s r ls lr set =
       last_request = lr;
       set_master = set;
     }
-moved_is (Sync node at) false n d s r ls lr set = refl
 moved_is (SyncOne node at) true n d s r ls lr set =
     λ i. record {
       difference = d;
@@ -80,17 +79,6 @@ moved_is (SyncOne node at) true n d s r ls lr set =
       last_request = lr;
       set_master = set;
     }
-moved_is (SyncOne node at) false n d s r ls lr set = refl
-moved_is (Follow node) true n d s r ls lr set = refl
-moved_is (Follow node) false n d s r ls lr set = refl
-moved_is (Enter node copy at) true n d s r ls lr set = refl
-moved_is (Enter node copy at) false n d s r ls lr set = refl
-moved_is (Leave node transit at) true n d s r ls lr set = refl
-moved_is (Leave node transit at) false n d s r ls lr set = refl
-moved_is (Arrive node copy at) true n d s r ls lr set = refl
-moved_is (Arrive node copy at) false n d s r ls lr set = refl
-moved_is (Hear node copy) true n d s r ls lr set = refl
-moved_is (Hear node copy) false n d s r ls lr set = refl
 moved_is (Request node at) true n d s r ls lr set =
     λ i. record {
       difference = d;
@@ -101,29 +89,17 @@ moved_is (Request node at) true n d s r ls lr set =
       set_master = set;
     }
 moved_is (Request node at) false n d s r ls lr set = refl
-moved_is (Stamped node) true n d s r ls lr set = refl
-moved_is (Stamped node) false n d s r ls lr set = refl
-moved_is (Tick node) true n d s r ls lr set = refl
-moved_is (Tick node) false n d s r ls lr set = refl
-moved_is (SetMaster node master) true n d s r ls lr set = refl
-moved_is (SetMaster node master) false n d s r ls lr set = refl
-moved_is (StepClock node diff) true n d s r ls lr set = refl
-moved_is (StepClock node diff) false n d s r ls lr set = refl
+moved_is _ true n d s r ls lr set = refl
+moved_is _ false n d s r ls lr set = refl
 
 sites_after_is : (event : Event) (n : ℕ) (sites : Sites) (name : NodeName)
     → sites_after event n sites name ≡ cond (is_named (site_of event) name) (moved event n (sites name)) (sites name)
 sites_after_is (Sync node at) n sites name = refl
 sites_after_is (SyncOne node at) n sites name = refl
-sites_after_is (Follow node) n sites name = sym (cond_same (is_named node name) (sites name))
-sites_after_is (Enter node copy at) n sites name = sym (cond_same (is_named node name) (sites name))
-sites_after_is (Leave node transit at) n sites name = sym (cond_same (is_named node name) (sites name))
-sites_after_is (Arrive node copy at) n sites name = sym (cond_same (is_named node name) (sites name))
-sites_after_is (Hear node copy) n sites name = sym (cond_same (is_named node name) (sites name))
 sites_after_is (Request node at) n sites name = refl
-sites_after_is (Stamped node) n sites name = sym (cond_same (is_named node name) (sites name))
-sites_after_is (Tick node) n sites name = sym (cond_same (is_named node name) (sites name))
 sites_after_is (SetMaster node master) n sites name = refl
 sites_after_is (StepClock node diff) n sites name = refl
+sites_after_is event n sites name = sym (cond_same (is_named (site_of event) name) (sites name))
 
 number_if : (b : Bool) (e : LinePlace) (o : Option LinePlace)
     → option_map line_number (cond b (Some e) o) ≡ cond b (Some (line_number e)) (option_map line_number o)

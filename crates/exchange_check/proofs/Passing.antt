@@ -6,8 +6,7 @@ use Rattle.std.specs.Prelude.{option_and_then, is_some}
 use Rattle.std.specs.BTreeMap.{get}
 use Rattle.std.specs.Ordering.{nat_cmp}
 use Rattle.network_model.specs.declared.event.Event.{Event}
-use Rattle.network_model.specs.declared.event.Event.TheVariants.{Sync, SyncOne, Follow, Enter, Leave, Arrive, Hear}
-use Rattle.network_model.specs.declared.event.Event.TheVariants.{Request, Stamped, Tick, SetMaster, StepClock}
+use Rattle.network_model.specs.declared.event.Event.TheVariants.{Leave}
 use Rattle.network_model.specs.Kinds.{spent_transit}
 use Rattle.exchange_check.specs.declared.facts.Fact.{Fact}
 use Rattle.exchange_check.specs.declared.stays.Stays.{Stays}
@@ -18,18 +17,8 @@ use Rattle.exchange_check.proofs.CopyStates.{one_more}
 -- an event that is no Leave event ends no stay
 pub others_pass : (event : Event) → ((node : _) (transit : ℕ) (at : _) → event ≡ Leave node transit at → ⊥)
     → spent_transit event ≡ None
-others_pass (Sync node at) h = refl
-others_pass (SyncOne node at) h = refl
-others_pass (Follow node) h = refl
-others_pass (Enter node copy at) h = refl
 others_pass (Leave node transit at) h = absurd (h node transit at refl)
-others_pass (Arrive node copy at) h = refl
-others_pass (Hear node copy) h = refl
-others_pass (Request node at) h = refl
-others_pass (Stamped node) h = refl
-others_pass (Tick node) h = refl
-others_pass (SetMaster node master) h = refl
-others_pass (StepClock node diff) h = refl
+others_pass _ h = refl
 
 -- a copy of a line that ends no stay has none
 pub none_made : (facts : Facts) (number : ℕ) (fact : Fact) → spent_transit fact.event ≡ None

@@ -7,8 +7,8 @@ use Rattle.std.specs.List.{list_all}
 use Rattle.std.proofs.lemmas.List.Sums.{sum_by-cons}
 use Rattle.ptp_units.specs.Sequence.{of_count}
 use Rattle.network_model.specs.declared.event.Event.{Event}
-use Rattle.network_model.specs.declared.event.Event.TheVariants.{Sync, SyncOne, Follow, Enter, Leave, Arrive, Hear}
-use Rattle.network_model.specs.declared.event.Event.TheVariants.{Request, Stamped, Tick, SetMaster, StepClock}
+use Rattle.network_model.specs.declared.event.Event.TheVariants.{Sync, SyncOne, Leave}
+use Rattle.network_model.specs.declared.event.Event.TheVariants.{Request}
 use Rattle.network_model.specs.Network.{Network, NodeName, PortSetup}
 use Rattle.network_model.specs.Run.{place, site_of}
 use Rattle.network_model.specs.Kinds.{is_at, is_sync, draws_sync, is_request}
@@ -87,18 +87,10 @@ number_is network earlier (Sync node at) =
 number_is network earlier (SyncOne node at) =
     λ i. option_map_or (λ (port : PortSetup). sum_count port.first
     (count_by (is_at draws_sync node) (events network earlier)) i) (master_at network node) 0
-number_is network earlier (Follow node) = refl
-number_is network earlier (Enter node copy at) = refl
-number_is network earlier (Leave node transit at) = refl
-number_is network earlier (Arrive node copy at) = refl
-number_is network earlier (Hear node copy) = refl
 number_is network earlier (Request node at) =
     λ i. option_map_or (λ (port : PortSetup). sum_count port.first
     (count_by (is_at is_request node) (events network earlier)) i) (slave_at network node) 0
-number_is network earlier (Stamped node) = refl
-number_is network earlier (Tick node) = refl
-number_is network earlier (SetMaster node master) = refl
-number_is network earlier (StepClock node diff) = refl
+number_is network earlier _ = refl
 
 pub known_is : (network : Network) (line : TraceLine) (earlier : Lines)
     → known_by network (site_at network earlier) line (length earlier) ≡ known_of network (line_place line earlier)
@@ -218,13 +210,6 @@ module _ (network : Network) (e : LinePlace) where
       ≡ option_map (kept_journey_of network) (line_journey_made network event e (line_journey_of network e.earlier))
   kept_journey_is (Sync node at) = ap Some (begun_is network e)
   kept_journey_is (SyncOne node at) = ap Some (begun_is network e)
-  kept_journey_is (Follow node) = refl
-  kept_journey_is (Enter node copy at) = refl
   kept_journey_is (Leave node transit at) = after_entered node (line_at network e.earlier transit)
-  kept_journey_is (Arrive node copy at) = refl
-  kept_journey_is (Hear node copy) = refl
   kept_journey_is (Request node at) = ap Some (begun_is network e)
-  kept_journey_is (Stamped node) = refl
-  kept_journey_is (Tick node) = refl
-  kept_journey_is (SetMaster node master) = refl
-  kept_journey_is (StepClock node diff) = refl
+  kept_journey_is _ = refl

@@ -86,8 +86,7 @@ fn may_arrive(nodes: &Nodes, node: &Name, out: &TraceOut) -> bool
         || is_slave(nodes, node) && is_heard(out)
 }
 
-/// Whether a line is good: its nodes are of the kinds that the event is for, and it may have come
-/// out so.
+/// Whether a line is good: its nodes are of the kinds that the event is for, and it may have come out so.
 fn is_good(nodes: &Nodes, event: &Event, out: &TraceOut) -> bool
     ensures { result ≡ is_good nodes.now event.now out.now }
 {

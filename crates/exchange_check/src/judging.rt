@@ -1,17 +1,19 @@
-//! How a report is judged by what is kept.
+//! How a report is judged by what is kept: in `Inner.Judged` each `x_by` is `x`, `x_line` or `are_x` of
+//! `trace_model`'s `Sound`, as `proofs/Exchanges` and `proofs/Standing` show.
 
 ghost use Rattle.std.specs.Prelude.{◌≡◌, ◌+◌, ◌<◌, ◌-ℤ◌, ◌&&◌, pos, option_map};
 ghost use Rattle.std.specs.Ordering.{int_eq};
 ghost use Rattle.ptp_units.specs.Exchange.{IsBracket, offset2, path2};
 ghost use Rattle.ptp_units.specs.Moment.{bound};
-ghost use Rattle.network_model.specs.Kinds.{draws_sync, is_request, is_arrival, is_hearing};
+ghost use Rattle.network_model.specs.Kinds.{is_at};
 ghost use Rattle.trace_model.specs.Sound.{is_of_line, is_domain, are_later};
 ghost use Rattle.exchange_check.specs.Inner.Kept.{port_setup};
 ghost use Rattle.exchange_check.specs.Inner.Stays.{once_in};
 ghost use Rattle.exchange_check.specs.Inner.Judged.{line_of_by, sender_by, sync_by, follow_by, follows_by, arrival_by};
-ghost use Rattle.exchange_check.specs.Inner.Judged.{completion_by, is_here, is_stamped_by, found_by, found_journey_at, found_journey_to};
-ghost use Rattle.exchange_check.specs.Inner.Judged.{is_followed_by, paired_by, is_told, of_master_by, readings_by};
-ghost use Rattle.exchange_check.specs.Inner.Judged.{fraction_by, fits_by, bracket_by, results_by, octets_by, journeys_reason_by};
+ghost use Rattle.exchange_check.specs.Inner.Judged.{completion_by, is_of_kind, is_stamped_by, found_by};
+ghost use Rattle.exchange_check.specs.Inner.Judged.{found_journey_at, found_journey_to, is_followed_by, paired_by};
+ghost use Rattle.exchange_check.specs.Inner.Judged.{is_told, of_master_by, readings_by, fraction_by, fits_by};
+ghost use Rattle.exchange_check.specs.Inner.Judged.{bracket_by, results_by, octets_by, journeys_reason_by};
 ghost use Rattle.exchange_check.specs.Inner.Judged.{found_reason, reason_by};
 ghost use Rattle.exchange_check.specs.Inner.Machine.{facts_of, sites_of, stamps_of};
 
@@ -230,40 +232,43 @@ fn journeys_reason_by(
     None
 }
 
-/// Whether an event is of the wanted kind and at this node.
-fn is_here(wanted: bool, event: &Event, slave: &Name) -> bool
-    ensures { result ≡ is_here wanted event.now slave.now }
-{
-    wanted && event.node() == *slave
+/// A kind of event that a line has to tell of.
+#[derive(Clone, Copy)]
+pub(crate) enum LineKind {
+    DrawsSync,
+    Request,
+    Arrival,
+    Hearing,
+}
+
+impl LineKind {
+    /// Whether an event is of this kind.
+    fn is_of(self, event: &Event) -> bool
+        ensures { result ≡ is_of_kind self event.now }
+    {
+        match self {
+            LineKind::DrawsSync => event.draws_sync(),
+            LineKind::Request => event.is_request(),
+            LineKind::Arrival => event.is_arrival(),
+            LineKind::Hearing => event.is_hearing(),
+        }
+    }
+
+    /// Whether an event is of this kind, and at this node.
+    fn is_at(self, node: &Name, event: &Event) -> bool
+        ensures { result ≡ is_at (is_of_kind self) node.now event.now }
+    {
+        self.is_of(event) && event.node() == *node
+    }
 }
 
 impl Kept {
-    /// The arrival of this number at a slave.
-    fn arrival_at(&self, slave: &Name, number: u64) -> Option<Fact>
-        ensures { result ≡ line_of_by (facts_of self.now) is_arrival slave.now number }
+    /// The line of this number, where its event is of this kind and at a slave.
+    fn line(&self, kind: LineKind, slave: &Name, number: u64) -> Option<Fact>
+        ensures { result ≡ line_of_by (facts_of self.now) (is_of_kind kind) slave.now number }
     {
         match self.at(number) {
-            Some(fact) if is_here(fact.event.is_arrival(), &fact.event, slave) => Some(*fact),
-            _ => None,
-        }
-    }
-
-    /// The hearing of this number at a slave.
-    fn hearing_at(&self, slave: &Name, number: u64) -> Option<Fact>
-        ensures { result ≡ line_of_by (facts_of self.now) is_hearing slave.now number }
-    {
-        match self.at(number) {
-            Some(fact) if is_here(fact.event.is_hearing(), &fact.event, slave) => Some(*fact),
-            _ => None,
-        }
-    }
-
-    /// The request of this number at a slave.
-    fn request_at(&self, slave: &Name, number: u64) -> Option<Fact>
-        ensures { result ≡ line_of_by (facts_of self.now) is_request slave.now number }
-    {
-        match self.at(number) {
-            Some(fact) if is_here(fact.event.is_request(), &fact.event, slave) => Some(*fact),
+            Some(fact) if kind.is_at(slave, &fact.event) => Some(*fact),
             _ => None,
         }
     }
@@ -284,7 +289,7 @@ impl Kept {
     fn sync(&self, slave: &Name, report: &Report) -> Option<Fact>
         ensures { result ≡ sync_by (facts_of self.now) slave.now report.now }
     {
-        match self.arrival_at(slave, report.sync_tag) {
+        match self.line(LineKind::Arrival, slave, report.sync_tag) {
             Some(fact) if report.follow_tag.is_some() || fact.completes => Some(fact),
             _ => None,
         }
@@ -294,7 +299,7 @@ impl Kept {
     fn follow(&self, slave: &Name, hearing: u64) -> Option<Fact>
         ensures { result ≡ follow_by (facts_of self.now) slave.now hearing }
     {
-        match self.sender(&self.hearing_at(slave, hearing)?) {
+        match self.sender(&self.line(LineKind::Hearing, slave, hearing)?) {
             Some(fact) if fact.event.is_follow() => Some(fact),
             _ => None,
         }
@@ -314,7 +319,7 @@ impl Kept {
     fn completion_at(&self, slave: &Name, hearing: u64) -> Option<Fact>
         ensures { result ≡ completion_by (facts_of self.now) slave.now hearing }
     {
-        match self.hearing_at(slave, hearing) {
+        match self.line(LineKind::Hearing, slave, hearing) {
             Some(fact) if fact.completes => Some(fact),
             _ => None,
         }
@@ -353,7 +358,7 @@ impl Kept {
         Some(Found {
             sync_arrival: self.sync(slave, report)?,
             follow: self.follows(slave, report.follow_tag)?,
-            request: self.request_at(slave, report.request_tag)?,
+            request: self.line(LineKind::Request, slave, report.request_tag)?,
             request_arrival: self.arrival(slave, report.response_tag)?,
         })
     }
@@ -367,32 +372,16 @@ impl Kept {
         Some(FoundJourney { kept, origin })
     }
 
-    /// The journey of a Sync that arrives at a line.
-    fn sync_journey(&self, arrival: &Fact) -> Option<FoundJourney>
-        ensures { result ≡ found_journey_to (facts_of self.now) (once_in self.now.stays) draws_sync arrival.now }
+    /// The journey of the copy that arrives at a line, where it begins at an event of this kind.
+    fn journey_to(&self, kind: LineKind, arrival: &Fact) -> Option<FoundJourney>
+        ensures { result ≡ found_journey_to (facts_of self.now) (once_in self.now.stays) (is_of_kind kind) arrival.now }
     {
         let copy = arrival.event.heard_copy()?;
         if copy >= arrival.line {
             return None;
         }
         match self.found_journey_at(copy) {
-            Some(journey) if journey.origin.event.draws_sync() && self.stays.once(copy) => Some(
-                journey,
-            ),
-            _ => None,
-        }
-    }
-
-    /// The journey of a Delay_Req that arrives at a line.
-    fn request_journey(&self, arrival: &Fact) -> Option<FoundJourney>
-        ensures { result ≡ found_journey_to (facts_of self.now) (once_in self.now.stays) is_request arrival.now }
-    {
-        let copy = arrival.event.heard_copy()?;
-        if copy >= arrival.line {
-            return None;
-        }
-        match self.found_journey_at(copy) {
-            Some(journey) if journey.origin.event.is_request() && self.stays.once(copy) => Some(
+            Some(journey) if kind.is_of(&journey.origin.event) && self.stays.once(copy) => Some(
                 journey,
             ),
             _ => None,
@@ -413,10 +402,10 @@ impl Kept {
         let Some(found) = found else {
             return Some(Why::NoSuchLine);
         };
-        let Some(sync) = self.sync_journey(&found.sync_arrival) else {
+        let Some(sync) = self.journey_to(LineKind::DrawsSync, &found.sync_arrival) else {
             return Some(Why::BrokenJourney);
         };
-        let Some(request) = self.request_journey(&found.request_arrival) else {
+        let Some(request) = self.journey_to(LineKind::Request, &found.request_arrival) else {
             return Some(Why::BrokenJourney);
         };
         let at = self.site(slave);

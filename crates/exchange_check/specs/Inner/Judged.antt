@@ -1,5 +1,6 @@
 -- How the checker judges a report by what it keeps. Its own functions cite these; what its callers are told is said
--- by the lines alone.
+-- by the lines alone. A definition `x_by` is `x`, `x_line` or `are_x` of trace_model's `Sound` by what is kept, as
+-- proofs/Exchanges shows of the lines of a report and proofs/Standing of all that is asked of them.
 use Rattle.std.specs.Prelude.{ℕ, ◌+◌, ℤ, pos, ◌-ℤ◌, Bool, true, false, ◌&&◌, ◌||◌, not, nat_lt, ◌==◌, is_some}
 use Rattle.std.specs.Prelude.{if◌then◌else◌, Option, Some, None, option_map, option_and_then}
 use Rattle.std.specs.Option.{option_map_or}
@@ -17,6 +18,8 @@ use Rattle.exchange_check.specs.declared.facts.Fact.{Fact}
 use Rattle.exchange_check.specs.declared.facts.Found.{Found}
 use Rattle.exchange_check.specs.declared.facts.Site.{Site}
 use Rattle.exchange_check.specs.declared.facts.FoundJourney.{FoundJourney}
+use Rattle.exchange_check.specs.declared.judging.LineKind.{LineKind}
+use Rattle.exchange_check.specs.declared.judging.LineKind.TheVariants.{DrawsSync, Request, Arrival, Hearing}
 use Rattle.trace_model.specs.declared.verdict.Why.{Why}
 use Rattle.trace_model.specs.declared.verdict.Why.TheVariants.{NoSuchLine, OtherNumber, OtherMaster, BrokenJourney}
 use Rattle.trace_model.specs.declared.verdict.Why.TheVariants.{WrongReading, WrongValue, TooBig, Bytes}
@@ -24,9 +27,12 @@ use Rattle.trace_model.specs.Sound.{where_passes, below, are_later, is_domain, i
 use Rattle.exchange_check.specs.Inner.Kept.{Facts, Stamps, Sites, kept_journey_at, longest}
 use Rattle.exchange_check.specs.Inner.Stays.{Once}
 
--- an event of a wanted kind, where it is at this node
-abbrev pub is_here : Bool → Event → NodeName → Bool
-is_here wanted event node = wanted && is_named (site_of event) node
+-- the events of a kind that a line has to tell of
+abbrev pub is_of_kind : LineKind → Event → Bool
+is_of_kind DrawsSync = draws_sync
+is_of_kind Request = is_request
+is_of_kind Arrival = is_arrival
+is_of_kind Hearing = is_hearing
 
 -- the line of this number, where it is of this kind and at this node
 abbrev pub line_of_by : Facts → (Event → Bool) → NodeName → ℕ → Option Fact
@@ -69,7 +75,8 @@ found_by facts stamps slave number report =
     then option_and_then (λ sync.
     option_and_then (λ follow.
     option_and_then (λ request.
-    option_map (λ arrival. record { sync_arrival = sync; follow = follow; request = request; request_arrival = arrival })
+    option_map (λ arrival.
+    record { sync_arrival = sync; follow = follow; request = request; request_arrival = arrival })
     (arrival_by facts slave report.response_tag))
     (line_of_by facts is_request slave report.request_tag))
     (follows_by facts slave report.follow_tag))
@@ -112,7 +119,8 @@ of_master_by network site slave report found sync =
 
 abbrev pub readings_by : Found → (sync request : FoundJourney) → Bool
 readings_by found sync request =
-    found.sync_arrival.reads_right && sync.kept.reads_right && found.request_arrival.reads_right && request.kept.reads_right
+    found.sync_arrival.reads_right && sync.kept.reads_right
+    && found.request_arrival.reads_right && request.kept.reads_right
 
 abbrev pub fraction_by : Fact → ℕ
 fraction_by fact = if is_one_step_sync fact.event then fraction_of fact.reading else 0
@@ -143,7 +151,8 @@ journeys_reason_by network site slave report found sync request =
     else if not (octets_by found sync request) then Some Bytes
     else None
 
-abbrev pub both_journeys : Network → Site → NodeName → Report → Found → Option FoundJourney → Option FoundJourney → Option Why
+abbrev pub both_journeys : Network → Site → NodeName → Report → Found → (sync request : Option FoundJourney)
+    → Option Why
 both_journeys network site slave report found None request = Some BrokenJourney
 both_journeys network site slave report found (Some sync) None = Some BrokenJourney
 both_journeys network site slave report found (Some sync) (Some request) =

@@ -1,5 +1,6 @@
 -- What the checker keeps of lines, so that it searches for nothing. Its own functions cite these; what its callers
--- are told is said by the lines alone.
+-- are told is said by the lines alone. A definition `x_by` says by what is kept what trace_model's `Record`, `Journey`
+-- and `Octets` say by the lines, as proofs/Told, proofs/Messages and proofs/FactLines show.
 use Rattle.std.specs.Prelude.{ℕ, ◌+◌, ◌-◌, ◌^◌, ℤ, pos, ◌+ℤ◌, Bool, true, false, ◌&&◌, not, List, min, nat_lt}
 use Rattle.std.specs.Prelude.{slice_get, unwrap_or, ◌==◌, is_some, if◌then◌else◌, Option, Some, None, option_map}
 use Rattle.std.specs.Prelude.{option_and_then}
@@ -11,8 +12,8 @@ use Rattle.event_codec.specs.Packet.{Contents}
 use Rattle.master_port.specs.Written.{follow_up, delay_resp}
 use Rattle.transparent_clock.specs.Forwarding.{resided}
 use Rattle.network_model.specs.declared.event.Event.{Event}
-use Rattle.network_model.specs.declared.event.Event.TheVariants.{Sync, SyncOne, Follow, Enter, Leave, Arrive, Hear}
-use Rattle.network_model.specs.declared.event.Event.TheVariants.{Request, Stamped, Tick, SetMaster, StepClock}
+use Rattle.network_model.specs.declared.event.Event.TheVariants.{Sync, SyncOne, Follow, Leave, Arrive}
+use Rattle.network_model.specs.declared.event.Event.TheVariants.{Request, SetMaster, StepClock}
 use Rattle.network_model.specs.Network.{Network, NodeName, PortSetup, is_named}
 use Rattle.network_model.specs.Run.{site_of, true_moment}
 use Rattle.network_model.specs.Kinds.{entered_copy, spent_transit, is_stamped}
@@ -53,17 +54,9 @@ number_by network sites (Sync node at) =
     option_map_or (λ port. of_count (port.first + (sites node).syncs.0)) (master_at network node) 0
 number_by network sites (SyncOne node at) =
     option_map_or (λ port. of_count (port.first + (sites node).syncs.0)) (master_at network node) 0
-number_by network sites (Follow node) = 0
-number_by network sites (Enter node copy at) = 0
-number_by network sites (Leave node transit at) = 0
-number_by network sites (Arrive node copy at) = 0
-number_by network sites (Hear node copy) = 0
 number_by network sites (Request node at) =
     option_map_or (λ port. of_count (port.first + (sites node).requests.0)) (slave_at network node) 0
-number_by network sites (Stamped node) = 0
-number_by network sites (Tick node) = 0
-number_by network sites (SetMaster node master) = 0
-number_by network sites (StepClock node diff) = 0
+number_by network sites _ = 0
 
 -- what the clock shows at an event
 abbrev pub shown_by : Site → Event → Option ℤ
@@ -100,7 +93,8 @@ stayed known entered before = record {
 
 abbrev pub left_by : Facts → NodeName → Known → Fact → Option KeptJourney
 left_by facts clock known entered =
-    option_and_then (λ copy. option_map (stayed known entered) (kept_journey_at facts copy)) (copy_entered_by clock entered)
+    option_and_then (λ copy. option_map (stayed known entered) (kept_journey_at facts copy))
+    (copy_entered_by clock entered)
 
 -- the journey of a copy that leaves a clock by a stay that began at the line of this number
 abbrev pub kept_journey_left : Facts → NodeName → ℕ → Known → Option KeptJourney
@@ -114,16 +108,9 @@ begun_by known = record { origin = known.line; residence = 0; reads_right = know
 abbrev pub kept_journey_by : Facts → Known → Event → Option KeptJourney
 kept_journey_by facts known (Sync node at) = Some (begun_by known)
 kept_journey_by facts known (SyncOne node at) = Some (begun_by known)
-kept_journey_by facts known (Follow node) = None
-kept_journey_by facts known (Enter node copy at) = None
 kept_journey_by facts known (Leave node transit at) = kept_journey_left facts node transit known
-kept_journey_by facts known (Arrive node copy at) = None
-kept_journey_by facts known (Hear node copy) = None
 kept_journey_by facts known (Request node at) = Some (begun_by known)
-kept_journey_by facts known (Stamped node) = None
-kept_journey_by facts known (Tick node) = None
-kept_journey_by facts known (SetMaster node master) = None
-kept_journey_by facts known (StepClock node diff) = None
+kept_journey_by facts known _ = None
 
 -- the message that an event sends
 abbrev pub sent_by : Network → Event → (number now : ℕ) → Option Contents
@@ -153,18 +140,14 @@ message_by network facts known journey (SyncOne node at) =
     sent_by network (SyncOne node at) known.number.0 known.reading
 message_by network facts known journey (Follow node) =
     option_and_then (λ port. followed_by facts port known.last_sync) (master_at network node)
-message_by network facts known journey (Enter node copy at) = None
-message_by network facts known journey (Leave node transit at) = option_and_then (message_after_by network facts) journey
+message_by network facts known journey (Leave node transit at) =
+    option_and_then (message_after_by network facts) journey
 message_by network facts known journey (Arrive node copy at) =
     option_and_then (λ port. answered_by network facts port known.reading (kept_journey_at facts copy))
     (master_at network node)
-message_by network facts known journey (Hear node copy) = None
 message_by network facts known journey (Request node at) =
     sent_by network (Request node at) known.number.0 known.reading
-message_by network facts known journey (Stamped node) = None
-message_by network facts known journey (Tick node) = None
-message_by network facts known journey (SetMaster node master) = None
-message_by network facts known journey (StepClock node diff) = None
+message_by network facts known journey _ = None
 
 -- a journey with the line's own octets
 abbrev pub written_journey : Bool → KeptJourney → KeptJourney
@@ -205,16 +188,10 @@ fact_by network facts sites line n =
 abbrev pub moved : Event → ℕ → Site → Site
 moved (Sync node at) n site = record site { syncs = record { 0 = next site.syncs.0 }; last_sync = Some n }
 moved (SyncOne node at) n site = record site { syncs = record { 0 = next site.syncs.0 } }
-moved (Follow node) n site = site
-moved (Enter node copy at) n site = site
-moved (Leave node transit at) n site = site
-moved (Arrive node copy at) n site = site
-moved (Hear node copy) n site = site
 moved (Request node at) n site = record site { requests = record { 0 = next site.requests.0 }; last_request = Some n }
-moved (Stamped node) n site = site
-moved (Tick node) n site = site
 moved (SetMaster node master) n site = record site { set_master = Some (master, n) }
 moved (StepClock node diff) n site = record site { difference = diff }
+moved _ n site = site
 
 -- a node of which no line told anything
 abbrev pub new_site : Site
@@ -239,16 +216,10 @@ moved_at event n sites name = if is_named (site_of event) name then moved event 
 abbrev pub sites_after : Event → ℕ → Sites → Sites
 sites_after (Sync node at) n sites = moved_at (Sync node at) n sites
 sites_after (SyncOne node at) n sites = moved_at (SyncOne node at) n sites
-sites_after (Follow node) n sites = sites
-sites_after (Enter node copy at) n sites = sites
-sites_after (Leave node transit at) n sites = sites
-sites_after (Arrive node copy at) n sites = sites
-sites_after (Hear node copy) n sites = sites
 sites_after (Request node at) n sites = moved_at (Request node at) n sites
-sites_after (Stamped node) n sites = sites
-sites_after (Tick node) n sites = sites
 sites_after (SetMaster node master) n sites = moved_at (SetMaster node master) n sites
 sites_after (StepClock node diff) n sites = moved_at (StepClock node diff) n sites
+sites_after _ n sites = sites
 
 -- whether the stay that began at each line was ended again after it was ended
 abbrev pub Leaves : Type 0
