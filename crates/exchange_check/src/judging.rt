@@ -5,7 +5,6 @@ ghost use Rattle.std.specs.Prelude.{◌≡◌, ◌+◌, ◌<◌, ◌-ℤ◌, ◌
 ghost use Rattle.std.specs.Ordering.{int_eq};
 ghost use Rattle.ptp_units.specs.Exchange.{IsBracket, offset2, path2};
 ghost use Rattle.ptp_units.specs.Moment.{bound};
-ghost use Rattle.network_model.specs.Kinds.{is_at};
 ghost use Rattle.trace_model.specs.Sound.{is_of_line, is_domain, are_later};
 ghost use Rattle.exchange_check.specs.Inner.Kept.{port_setup};
 ghost use Rattle.exchange_check.specs.Inner.Stays.{once_in};
@@ -253,13 +252,6 @@ impl LineKind {
             LineKind::Hearing => event.is_hearing(),
         }
     }
-
-    /// Whether an event is of this kind, and at this node.
-    fn is_at(self, node: &Name, event: &Event) -> bool
-        ensures { result ≡ is_at (is_of_kind self) node.now event.now }
-    {
-        self.is_of(event) && event.node() == *node
-    }
 }
 
 impl Kept {
@@ -268,7 +260,7 @@ impl Kept {
         ensures { result ≡ line_of_by (facts_of self.now) (is_of_kind kind) slave.now number }
     {
         match self.at(number) {
-            Some(fact) if kind.is_at(slave, &fact.event) => Some(*fact),
+            Some(fact) if kind.is_of(&fact.event) && fact.event.node() == *slave => Some(*fact),
             _ => None,
         }
     }
@@ -380,11 +372,11 @@ impl Kept {
         if copy >= arrival.line {
             return None;
         }
-        match self.found_journey_at(copy) {
-            Some(journey) if kind.is_of(&journey.origin.event) && self.stays.once(copy) => Some(
-                journey,
-            ),
-            _ => None,
+        let journey = self.found_journey_at(copy)?;
+        if kind.is_of(&journey.origin.event) && self.stays.once(copy) {
+            Some(journey)
+        } else {
+            None
         }
     }
 
