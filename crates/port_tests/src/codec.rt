@@ -128,11 +128,7 @@ fn exchange(precise: Timestamp, receive: Timestamp) -> [(&'static [u8], Header, 
 #[test]
 fn reads_an_exchange(rt: HostRuntime) -> Result<(), Fail> {
     for (octets, header, body) in exchange(Timestamp::new(1, 0)?, Timestamp::new(2, 4_500)?) {
-        let message = Message {
-            header,
-            body,
-            suffix: &[],
-        };
+        let message = header.with_body(body).message();
         assert!(rt; decode(octets) == Ok((message, octets.len())));
     }
     Ok(())
@@ -142,11 +138,7 @@ fn reads_an_exchange(rt: HostRuntime) -> Result<(), Fail> {
 fn writes_an_exchange(rt: HostRuntime) -> Result<(), Fail> {
     for (octets, header, body) in exchange(Timestamp::new(1, 0)?, Timestamp::new(2, 4_500)?) {
         let mut buffer = [0xee; 60];
-        let message = Message {
-            header,
-            body,
-            suffix: &[],
-        };
+        let message = header.with_body(body).message();
         assert_eq!(rt; encode(&message, &mut buffer), Ok(octets.len()));
         assert_eq!(rt; buffer.get(..octets.len()), Some(octets));
         assert!(rt; buffer.iter().skip(octets.len()).all(|octet| *octet == 0xee));
