@@ -8,7 +8,7 @@ use Rattle.std.specs.Ordering.{nat_cmp}
 use Rattle.network_model.specs.declared.event.Event.{Event}
 use Rattle.network_model.specs.declared.event.Event.TheVariants.{Sync, SyncOne, Follow, Enter, Leave, Arrive, Hear}
 use Rattle.network_model.specs.declared.event.Event.TheVariants.{Request, Stamped, Tick, SetMaster, StepClock}
-use Rattle.network_model.specs.Kinds.{spent_transit}
+use Rattle.network_model.specs.Kinds.{named_transit}
 use Rattle.exchange_check.specs.declared.facts.Fact.{Fact}
 use Rattle.exchange_check.specs.declared.stays.Stays.{Stays}
 use Rattle.exchange_check.specs.Inner.Kept.{Facts, Leaves, leaves_after, left_again}
@@ -17,7 +17,7 @@ use Rattle.exchange_check.proofs.CopyStates.{one_more}
 
 -- an event that is no Leave event ends no stay
 pub others_pass : (event : Event) → ((node : _) (transit : ℕ) (at : _) → event ≡ Leave node transit at → ⊥)
-    → spent_transit event ≡ None
+    → named_transit event ≡ None
 others_pass (Sync node at) h = refl
 others_pass (SyncOne node at) h = refl
 others_pass (Follow node) h = refl
@@ -32,7 +32,7 @@ others_pass (SetMaster node master) h = refl
 others_pass (StepClock node diff) h = refl
 
 -- a copy of a line that ends no stay has none
-pub none_made : (facts : Facts) (number : ℕ) (fact : Fact) → spent_transit fact.event ≡ None
+pub none_made : (facts : Facts) (number : ℕ) (fact : Fact) → named_transit fact.event ≡ None
     → stay_of facts number fact ≡ None
 none_made facts number fact h =
     (λ i. cond (is_some fact.journey) (option_and_then (stay_below facts number) (h i)) None)
@@ -44,7 +44,7 @@ none_made facts number fact h =
 
 -- what is kept of stays is the same after a line that ends none
 pub stays_pass : (kept : Stays) (facts : Facts) (number : ℕ) (fact : Fact) (stays : LastStays) (leaves : Leaves)
-    → spent_transit fact.event ≡ None → AreStays kept stays leaves number
+    → named_transit fact.event ≡ None → AreStays kept stays leaves number
     → AreStays kept (with_stay number (stay_of facts number fact) stays) (leaves_after fact.event leaves) (number + 1)
 stays_pass kept facts number fact stays leaves p h =
     transport (λ i. AreStays kept (with_stay number (sym (none_made facts number fact p) i) stays)

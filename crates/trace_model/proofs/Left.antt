@@ -1,4 +1,4 @@
--- What a Leave event that was accepted ends: the stay that an Enter event at its own clock began. Where its copy
+-- The stay that a Leave event leaves once it is accepted: an Enter event at its own clock began it. Where its copy
 -- goes on with a journey, it made a message.
 use Rattle.std.proofs.Common.{◌≡◌, ◌∙◌, ℕ, ◌<◌, ◌≤◌, Bool, true, false, length, Option, Some, None, Ok, Err}
 use Rattle.std.proofs.Common.{Result, refl, sym, ap, inl, inr, option_map, option_and_then, if◌then◌else◌}
@@ -17,7 +17,7 @@ use Rattle.network_model.specs.declared.stepped.Outcome.{Outcome}
 use Rattle.network_model.specs.declared.stepped.Outcome.TheVariants as outcomes
 use Rattle.network_model.specs.Network.{Network, NodeName, is_named}
 use Rattle.network_model.specs.Run.{Run, Place, place, place_at, site_of}
-use Rattle.network_model.specs.Kinds.{entered_copy, spends}
+use Rattle.network_model.specs.Kinds.{entered_copy, is_leave_of}
 use Rattle.network_model.specs.Clock.{reading, reading_of}
 use Rattle.network_model.specs.Journey.{Journey, residence, journey_made, journey_of}
 use Rattle.network_model.specs.Truth.{drawn, message_after, copy_made, copy_of}
@@ -29,7 +29,7 @@ use Rattle.network_model.proofs.Journeys.{continued, same_origin}
 use Rattle.network_model.proofs.MessagesAfter.{copy_of-message_after}
 use Rattle.network_model.proofs.Leaving.{copy_made-forwarded, copy_of-ahead, copy_of-since}
 
--- the stay that a Leave event ends, and what came of it
+-- the stay that a Leave event leaves, and what came of it
 pub record IsLeft (network : Network) (earlier : Run) (node : NodeName) (transit at : ℕ)
     (outcome : Outcome) : Type 0 where
   pub entered : Place
@@ -46,7 +46,7 @@ opened_at : (node : NodeName) (earlier : Run) (transit : ℕ) (p found : Place)
     → open_transit node earlier transit p ≡ Some found → (p ≡ found) × (site_of p.event ≡ node)
 opened_at node earlier transit p found opened =
     by (is_some (entered_copy p.event)) (is_named (site_of p.event) node) refl
-    (not (list_any (spends transit) earlier)) opened
+    (not (list_any (is_leave_of transit) earlier)) opened
   where
     by : (copy named : Bool) → is_named (site_of p.event) node ≡ named → (fresh : Bool)
         → (if copy && named && fresh then Some p else None) ≡ Some found

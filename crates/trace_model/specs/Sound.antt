@@ -121,7 +121,7 @@ journey_to network lines kind e =
     where_passes (λ journey. kind (event_of journey.origin))
     (option_and_then (below (line_journey_of network lines) (line_number e)) (heard_copy (event_of e)))
 
--- the same, where no stay was ended twice by the events of these lines
+-- the same, where no stay was left twice by the events of these lines
 abbrev pub unbroken : Network → LinePlace → (Event → Bool) → LinePlace → Option LineJourney
 unbroken network e kind arrival =
     where_passes (left_once (events network e.earlier)) (journey_to network (lines_to e) kind arrival)

@@ -5,7 +5,7 @@ use Rattle.std.specs.Prelude.{Option, Some, None, option_map, option_and_then, R
 use Rattle.std.specs.BTreeMap.{get}
 use Rattle.std.specs.Ordering.{nat_cmp}
 use Rattle.std.specs.Option.{option_map_or}
-use Rattle.network_model.specs.Kinds.{entered_copy, spent_transit}
+use Rattle.network_model.specs.Kinds.{entered_copy, named_transit}
 use Rattle.trace_model.specs.Sound.{where_passes, below}
 use Rattle.exchange_check.specs.declared.facts.Fact.{Fact}
 use Rattle.exchange_check.specs.declared.refusal.CheckFault.{CheckFault}
@@ -27,7 +27,7 @@ stay_below facts limit transit = option_and_then
 -- the last stay of the copy that a line made
 abbrev pub stay_of : Facts → (number : ℕ) → Fact → Option (ℕ × ℕ)
 stay_of facts number fact =
-    if is_some fact.journey then option_and_then (stay_below facts number) (spent_transit fact.event) else None
+    if is_some fact.journey then option_and_then (stay_below facts number) (named_transit fact.event) else None
 
 -- that of the copy of each number
 abbrev pub last_stays : Facts → LastStays
