@@ -1,7 +1,6 @@
 -- What a copy becomes that leaves a clock: the copy that a Leave event makes is what the clock forwards of the one that entered.
-use Rattle.std.proofs.Common.{◌≡◌, ◌∙◌, ℕ, ℤ, ◌+◌, ◌-◌, ◌≤◌, ◌<◌, Bool, true, false, [], ◌∷◌, length, Option, Some, None, Ok, Err, Result, IsOk, IsSome, refl, sym, ap, subst, option_map, option_and_then, if◌then◌else◌, nat_lt, arith}
-use Rattle.std.specs.Prelude.{◌==◌, int_lt, ok_or}
-use Rattle.std.specs.List.{list_any}
+use Rattle.std.proofs.Common.{◌≡◌, ◌∙◌, ℕ, ℤ, ◌+◌, ◌-◌, ◌≤◌, Bool, true, false, [], ◌∷◌, length, Option, Some, None, Ok, Err, refl, sym, ap, subst, option_map, option_and_then, if◌then◌else◌, nat_lt, arith}
+use Rattle.std.specs.Prelude.{◌==◌, int_lt}
 use Rattle.std.specs.Result.{result_ok}
 use Rattle.std.proofs.lemmas.Bool.{eq-eqb}
 use Rattle.std.proofs.lemmas.Bool.Decides.{nat_tests}
@@ -24,12 +23,9 @@ use Rattle.transparent_clock.specs.declared.refusal.ClockRefusal.TheVariants.{Ne
 use Rattle.transparent_clock.specs.Forwarding.{is_event, resided, forwarded}
 use Rattle.network_model.specs.declared.event.Event.{Event}
 use Rattle.network_model.specs.declared.event.Event.TheVariants.{Sync, SyncOne, Follow, Leave, Arrive, Request}
-use Rattle.network_model.specs.declared.refusal.WorldRefusal.{WorldRefusal}
-use Rattle.network_model.specs.declared.refusal.WorldRefusal.TheVariants.{NoTransit}
-use Rattle.network_model.specs.declared.stepped.Outcome.{Outcome}
 use Rattle.network_model.specs.Network.{Network, NodeName, PortSetup}
 use Rattle.network_model.specs.Run.{Run, Place, place, place_at}
-use Rattle.network_model.specs.Kinds.{entered_copy, is_leave_of}
+use Rattle.network_model.specs.Kinds.{entered_copy}
 use Rattle.network_model.specs.Clock.{reading}
 use Rattle.network_model.specs.Numbering.{number_of, waiting_sync}
 use Rattle.network_model.specs.Journey.{Journey, Stay, stay_length, residence, goes_on, left_from, journey_made, journey_of}
