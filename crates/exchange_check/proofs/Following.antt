@@ -26,7 +26,7 @@ use Rattle.exchange_check.proofs.Told.{fact_of, kept_journey_of}
 use Rattle.trace_model.specs.Sound.{where_passes}
 use Rattle.trace_model.proofs.Lines.{line_at-bound, line_at-number, line_at-later, line_at-here, events_more}
 
--- how often a stay was ended, as it is kept
+-- how often a stay was left, as it is kept
 abbrev ended : ℕ → Option Bool
 ended zero = None
 ended (suc zero) = Some false
@@ -68,7 +68,7 @@ ended_once zero = refl
 ended_once (suc zero) = refl
 ended_once (suc (suc n)) = grind (arith, nat_tests)
 
--- a stay is kept as ended once where one line alone ended it
+-- a stay is kept as left once where one line alone left it
 pub once_is : (network : Network) (lines : Lines) (stay : ℕ)
     → is_once (leaves_at network lines stay) ≡ eqb (count_by (is_leave_of stay) (events network lines)) 1
 once_is network lines stay =
@@ -222,7 +222,7 @@ module _ (network : Network) (facts : Facts) (leaves : Leaves) (run : Run)
   either_followed line earlier n j true false p c keeps before h = absurd (none-some j h)
   either_followed line earlier n j false counted p c keeps before h = before n j h
 
-  -- following the stays finds whether each was ended once
+  -- following the stays finds whether each was left once
   pub followed_is : (lines : Lines) (n : ℕ) (j : LineJourney) → Keeps lines → line_journey_of network lines n ≡ Some j
       → (count : ℕ) → n < count → once_by (last_stays facts) leaves count n ≡ left_once run j
   followed_is [] n j keeps h = absurd (none-some j h)

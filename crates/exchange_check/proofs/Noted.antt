@@ -218,7 +218,7 @@ sites-line network line earlier fact false h same = λ i name. sym (site_more ne
 sites-line network line earlier fact true h same =
     λ i name. site_line network line earlier (events network earlier) fact.event name refl same h i
 
--- what lines say of each stay: whether it was ended again
+-- what lines say of each stay: whether it was left again
 abbrev pub leaves_at : Network → Lines → Leaves
 leaves_at network [] = λ stay. None
 leaves_at network (line ∷ earlier) =

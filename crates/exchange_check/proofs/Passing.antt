@@ -1,4 +1,4 @@
--- Lines that end no stay.
+-- Lines that leave no stay.
 use Rattle.std.proofs.Common.{◌≡◌, ◌∙◌, ℕ, ◌+◌, Bool, true, false, cond, Option, None, refl, sym}
 use Rattle.std.proofs.Math.Path.{transport}
 use Rattle.std.specs.Option.{option_map_or}
@@ -15,7 +15,7 @@ use Rattle.exchange_check.specs.Inner.Kept.{Facts, Leaves, leaves_after, left_ag
 use Rattle.exchange_check.specs.Inner.Stays.{LastStays, stay_below, stay_of, with_stay, state_in, AreStays}
 use Rattle.exchange_check.proofs.CopyStates.{one_more}
 
--- an event that is no Leave event ends no stay
+-- an event that is no Leave event leaves no stay
 pub others_pass : (event : Event) → ((node : _) (transit : ℕ) (at : _) → event ≡ Leave node transit at → ⊥)
     → named_transit event ≡ None
 others_pass (Sync node at) h = refl
@@ -31,7 +31,7 @@ others_pass (Tick node) h = refl
 others_pass (SetMaster node master) h = refl
 others_pass (StepClock node diff) h = refl
 
--- a copy of a line that ends no stay has none
+-- a copy of a line that leaves no stay has none
 pub none_made : (facts : Facts) (number : ℕ) (fact : Fact) → named_transit fact.event ≡ None
     → stay_of facts number fact ≡ None
 none_made facts number fact h =
@@ -42,7 +42,7 @@ none_made facts number fact h =
     either true = refl
     either false = refl
 
--- what is kept of stays is the same after a line that ends none
+-- what is kept of stays is the same after a line that leaves none
 pub stays_pass : (kept : Stays) (facts : Facts) (number : ℕ) (fact : Fact) (stays : LastStays) (leaves : Leaves)
     → named_transit fact.event ≡ None → AreStays kept stays leaves number
     → AreStays kept (with_stay number (stay_of facts number fact) stays) (leaves_after fact.event leaves) (number + 1)

@@ -297,7 +297,7 @@ impl Kept {
         Some(self.told(nodes, line, &self.known(nodes, line, number)))
     }
 
-    /// The copy that entered at the stay which a Leave line ends, where the journey of the copy that left
+    /// The copy that entered at the stay which a Leave line leaves, where the journey of the copy that left
     /// is known.
     fn entered(&self, fact: &Fact, transit: u64, number: u64) -> Option<u64>
         ensures stay { named_transit fact.now.event ≡ Some transit

@@ -250,7 +250,7 @@ sites_after (Tick node) n sites = sites
 sites_after (SetMaster node master) n sites = moved_at (SetMaster node master) n sites
 sites_after (StepClock node diff) n sites = moved_at (StepClock node diff) n sites
 
--- whether the stay that began at each line was ended again after it was ended
+-- whether the stay that began at each line was left again after it was left
 abbrev pub Leaves : Type 0
 Leaves = ℕ → Option Bool
 

@@ -63,7 +63,7 @@ octets_at entries tag = option_and_then (λ entry. octets_in entry.left) (slice_
 abbrev pub stay_at : List Entry → ℕ → Option ℕ
 stay_at entries tag = option_and_then (λ entry. stay_in entry.left) (slice_get entries tag)
 
--- a stay ends
+-- what is kept of an event once its stay was left
 abbrev pub ended : Left → Left
 ended (Copy octets) = Copy octets
 ended (Stay transit) = Nothing
@@ -83,7 +83,7 @@ entering p = if is_some (entered_copy p.event) then Some p else None
 abbrev pub open_stay : Run → ℕ → Option Place
 open_stay run tag = if list_any (is_leave_of tag) run then None else option_and_then entering (place_at run tag)
 
--- entries that keep a run: its events, the octets of its copies, and the stays in clocks that haven't ended
+-- entries that keep a run: its events, the octets of its copies, and the stays in clocks that no Leave event has left
 pub record Keeps (network : Network) (run : Run) (entries : List Entry) : Type 0 where
   pub accepted : IsRun network run
   pub count : length run ≡ length entries

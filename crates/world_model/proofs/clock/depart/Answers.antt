@@ -1,5 +1,5 @@
 use Rattle.std.proofs.Common.{◌∙◌, sym}
-use Rattle.world_model.proofs.Ended.{left_stay-none}
+use Rattle.world_model.proofs.LeftStays.{left_stay-none}
 use Rattle.world_model.proofs.clock.depart.Goals as goal
 
 pub returns-in-None-clause-kept : goal.returns-in-None-clause-kept

@@ -1,5 +1,5 @@
 use Rattle.std.proofs.Common.{sym}
-use Rattle.world_model.proofs.Ended.{set-left_stay, past-left_stay, past-stay}
+use Rattle.world_model.proofs.LeftStays.{set-left_stay, past-left_stay, past-stay}
 use Rattle.world_model.proofs.clock.take_out.Goals as goal
 
 pub returns-then-index-entries-clause-stay : goal.returns-then-index-entries-clause-stay

@@ -1,4 +1,4 @@
--- Entries of which a stay ends.
+-- Entries once a stay was left.
 use Rattle.std.proofs.Common.{◌≡◌, ℕ, zero, suc, ◌<◌, ◌≤◌, List, [], ◌∷◌, length, slice_set, slice_index_or, None, option_and_then, refl, ap, arith}
 use Rattle.std.proofs.lemmas.Option.{slice_get_past}
 use Rattle.world_model.specs.declared.entry.Entry.{Entry}
