@@ -18,6 +18,7 @@ pub mod Accepted
 pub mod Short
 pub mod MessagesAfter
 pub mod Leaving
+pub mod Left
 pub mod LeftOnce
 pub mod Worked
 pub mod WorkedExchange

@@ -17,6 +17,7 @@ use Rattle.network_model.proofs.Sequences.{count-yes, count-more}
 use Rattle.network_model.proofs.Journeys.{continued}
 use Rattle.network_model.proofs.LeftOnce.{each_stay_left_once}
 use Rattle.network_model.proofs.Paths.{IsStay, AreStays, gone_on}
+use Rattle.network_model.proofs.Left.{left_made}
 use Rattle.trace_model.specs.Line.{Lines, counts}
 use Rattle.trace_model.specs.Record.{LinePlace, line_number, events, reading, reads_right}
 use Rattle.trace_model.specs.Sound.{stay_reads_right}
@@ -25,7 +26,6 @@ use Rattle.trace_model.specs.Faithful.{took_effect, TellsPlace, TellsStay, Tells
 use Rattle.trace_model.proofs.Found.{event_told, same_number, line_counts}
 use Rattle.trace_model.proofs.Lines.{events_more}
 use Rattle.trace_model.proofs.Recorded.{count_at_most, each_event_is_recorded}
-use Rattle.trace_model.proofs.Left.{left_made}
 use Rattle.network_model.specs.declared.stepped.Outcome.TheVariants as outcomes
 use Rattle.network_model.specs.Clock as clocks
 use Rattle.network_model.specs.Journey as made
