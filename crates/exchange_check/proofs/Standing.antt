@@ -182,7 +182,8 @@ module _ (network : Network) (line : TraceLine) (earlier : Lines) where
 
     abbrev with_exchange : Option Exchange → Option Why
     with_exchange x = needs NoSuchLine x (λ x.
-        with_journeys x (unbroken network e draws_sync x.sync_arrival) (unbroken network e is_request x.request_arrival))
+        with_journeys x (unbroken network e draws_sync x.sync_arrival)
+        (unbroken network e is_request x.request_arrival))
 
     journeys_are_found : (x : Exchange) (s r : Option LineJourney)
         → both_journeys network (site_at network earlier slave) slave report (found_of network x)

@@ -1,4 +1,5 @@
--- What a copy becomes that leaves a clock: the copy that a Leave event makes is what the clock forwards of the one that entered.
+-- What a copy becomes that leaves a clock: the copy that a Leave event makes is what the clock forwards of the one that
+-- entered.
 use Rattle.std.proofs.Common.{◌≡◌, ◌∙◌, ℕ, ℤ, ◌+◌, ◌-◌, ◌≤◌, Bool, true, false, [], ◌∷◌, length, Option, Some, None, Ok, Err, refl, sym, ap, subst, option_map, option_and_then, if◌then◌else◌, nat_lt, arith}
 use Rattle.std.specs.Prelude.{◌==◌, int_lt}
 use Rattle.std.specs.Result.{result_ok}

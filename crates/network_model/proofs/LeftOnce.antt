@@ -1,5 +1,5 @@
--- No stay in a clock is left twice: a Leave event is accepted only where an earlier event began its stay, and no event before
--- it has left it.
+-- No stay in a clock is left twice: a Leave event is accepted only where an earlier event began its stay, and no event
+-- before it has left it.
 use Rattle.std.proofs.Common.{◌≡◌, ◌∙◌, ℕ, ◌+◌, ◌≤◌, ◌<◌, Bool, true, false, ◌||◌, [], ◌∷◌, length, cond, IsOk, refl, sym, subst, arith}
 use Rattle.std.specs.Prelude.{count_by}
 use Rattle.std.specs.List.{list_any}

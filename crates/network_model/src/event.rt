@@ -1,8 +1,8 @@
 ghost use Rattle.std.specs.Prelude.{◌≡◌};
 ghost use Rattle.network_model.specs.Run.{site_of, true_moment};
 ghost use Rattle.network_model.specs.Kinds.{is_one_step_sync, draws_sync, is_follow, is_request, is_arrival};
-ghost use Rattle.network_model.specs.Kinds.{is_hearing};
-ghost use Rattle.network_model.specs.Kinds.{named_copy, entered_copy, heard_copy, named_transit, named_master, named_difference};
+ghost use Rattle.network_model.specs.Kinds.{is_hearing, named_copy, entered_copy, heard_copy};
+ghost use Rattle.network_model.specs.Kinds.{named_transit, named_master, named_difference};
 
 use crate::name::Name;
 use ptp_units::ScaledTime;

@@ -2,7 +2,8 @@
 -- numbers: the Sync's arrival, the hearing of the Follow_Up (none for a one-step Sync), the request, the hearing of
 -- the Delay_Resp.
 use Rattle.std.specs.Prelude.{◌≡◌, ℕ, ◌+◌, ◌-◌, ◌^◌, ℤ, pos, ◌-ℤ◌, Bool, true, false, ◌&&◌, ◌||◌, not, List, [], ◌∷◌}
-use Rattle.std.specs.Prelude.{nat_lt, ◌==◌, is_some, IsTrue, if◌then◌else◌, Option, Some, None, option_map, option_and_then}
+use Rattle.std.specs.Prelude.{nat_lt, ◌==◌, is_some, IsTrue, if◌then◌else◌, Option, Some, None}
+use Rattle.std.specs.Prelude.{option_map, option_and_then}
 use Rattle.std.specs.List.{list_all}
 use Rattle.std.specs.Option.{option_map_or}
 use Rattle.std.specs.Ordering.{int_eq}
@@ -217,8 +218,7 @@ are_octets network x sync request =
     journey_writes_right network sync && option_map_or (writes_right network) x.follow true
     && journey_writes_right network request && writes_right network x.request_arrival
 
--- the conditions of a sound line that don't speak of octets: its lines, its two journeys, one Sync and one
--- Delay_Req, the present master, the readings, what fits, and the two results
+-- the conditions of a sound line that don't speak of octets, each but 708: 701, 704, 702, 703, 705, 707, 706
 pub record HasExchange (network : Network) (e : LinePlace) (report : Report) : Type 0 where
   pub x : Exchange
   pub sync : LineJourney

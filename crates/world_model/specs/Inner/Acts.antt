@@ -22,7 +22,8 @@ use Rattle.world_model.specs.declared.entry.Happened.{Happened}
 use Rattle.world_model.specs.declared.station.Master.{Master}
 use Rattle.world_model.specs.declared.station.Slave.{Slave}
 use Rattle.world_model.specs.declared.station.Station.{Station}
-use Rattle.world_model.specs.Inner.Stands.{octets_in, stay_in, entering, event_at, stay_at, left_stay, Keeps, MasterStands}
+use Rattle.world_model.specs.Inner.Stands.{octets_in, stay_in, entering, event_at, stay_at, left_stay, Keeps}
+use Rattle.world_model.specs.Inner.Stands.{MasterStands}
 use Rattle.world_model.specs.Inner.Stands.{SlaveStands, Stands}
 
 -- room for one more entry, or why there is none
