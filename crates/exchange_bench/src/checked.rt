@@ -131,8 +131,8 @@ impl Forged {
     }
 }
 
-/// So many lines of a tree of copies, in which each stay is ended twice: copies enter and leave, two
-/// from each copy, of which one goes on, and then the stays are ended again, the last ones first.
+/// So many lines of a tree of copies, in which each stay is left twice: copies enter and leave, two
+/// from each copy, of which one goes on, and then the stays are left again, the last ones first.
 pub fn broken_tree(alloc: Global, lines: u64) -> Option<Verdict> {
     let names = Names::new()?;
     let checker = Checker::new(alloc, Nodes::new(alloc, &nodes_of(&names)).ok()?).ok()?;

@@ -4,7 +4,7 @@
 //! and sought there, `list16`, `ring16`, `list256` or `ring256`; or exchanges through two clocks, of
 //! so many events, in a `world`, which then tells its memory, or by calls of the `ports`; or so many
 //! lines that a checker is fed, of whole exchanges, `checked`, which then tells the memory, of one
-//! `journey` that is reported again and again, or of a `tree` of copies whose stays are ended twice.
+//! `journey` that is reported again and again, or of a `tree` of copies whose stays are left twice.
 #![tactic(auto)]
 
 mod checked;

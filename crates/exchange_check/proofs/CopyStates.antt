@@ -1,4 +1,4 @@
--- What is kept of copies, after one more copy and after a stay was ended again.
+-- What is kept of copies, after one more copy and after a stay was left again.
 use Rattle.std.proofs.Common.{◌≡◌, ◌∙◌, ℕ, ◌+◌, ◌<◌, ◌≤◌, Bool, true, false, ◌&&◌, cond, eqb, List, []}
 use Rattle.std.proofs.Common.{◌∷◌, Option, Some, None, ◌⊎◌, inl, inr, refl, sym, ap, subst, arith}
 use Rattle.std.specs.Prelude.{is_some, option_map, IfSome}
@@ -382,7 +382,7 @@ module _ (states after : CopyStates) (firsts : Firsts) (stays : LastStays) (leav
             ∙ sym (λ i. once i && (ap (λ (b : CopyState). b.once) at_p ∙ alive) i)
         by false e = (grown-old m e).0 ∙ h.once m ∙ grown-whole m (stays m) refl
 
-    -- the copy grew from one that no stay was ended twice of
+    -- the copy grew from one that no stay was left twice of
     pub grown : AreCopyStates after firsts more leaves (n + 1)
     grown = record {
       ordered = record {
@@ -465,7 +465,7 @@ module _ (states after : CopyStates) (firsts : Firsts) (stays : LastStays) (leav
             (others p (less-apart p n below)))
         by false e = ap (λ (b : CopyState). b.once) (others m e) ∙ h.once m ∙ marked-whole m (stays m) refl
 
-    -- the copy's journey has a stay that was ended twice
+    -- the copy's journey has a stay that was left twice
     pub marked : AreCopyStates after firsts more leaves (n + 1)
     marked = record {
       ordered = record {

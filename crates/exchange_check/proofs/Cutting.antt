@@ -1,4 +1,4 @@
--- A stay is ended again: every copy that grew from the first copy which left it is marked.
+-- A stay is left again: every copy that grew from the first copy which left it is marked.
 use Rattle.std.proofs.Common.{◌≡◌, ◌∙◌, ℕ, ◌+◌, ◌<◌, ◌≤◌, Bool, true, false, ◌&&◌, not, cond, eqb, List}
 use Rattle.std.proofs.Common.{[], ◌∷◌, Option, Some, None, ◌⊎◌, inl, inr, refl, sym, ap, subst, arith}
 use Rattle.std.specs.Prelude.{is_some}
@@ -10,7 +10,7 @@ use Rattle.exchange_check.specs.Inner.Stays.{LastStays, is_once, CopyStates, IsS
 use Rattle.exchange_check.specs.Inner.Stays.{nexts, Firsts, IsOrdered, is_whole, AreCopyStates}
 use Rattle.exchange_check.proofs.Stretches.{weaker, no_run, ends_nowhere, before_run, not_itself, shrunk_run}
 
--- a copy's stay was ended again: it isn't whole any more, and what grew from it, as far as the order leads from it
+-- a copy's stay was left again: it isn't whole any more, and what grew from it, as far as the order leads from it
 -- to deeper copies, is still to be looked at
 pub record IsCutting (states : CopyStates) (firsts : Firsts) (stays : LastStays) (leaves : Leaves)
     (number cut : ℕ) : Type 0 where
@@ -35,7 +35,7 @@ lower-whole states after leaves fewer None h = h
 lower-whole states after leaves fewer (Some s) h =
     lower (is_once (leaves s.0)) (states s.1).once (after s.1).once h (fewer s.1)
 
--- the stay is ended again, and its first Leave line is known
+-- the stay is left again, and its first Leave line is known
 module _ (states : CopyStates) (firsts : Firsts) (stays : LastStays) (leaves : Leaves) (number transit f : ℕ)
     (h : AreCopyStates states firsts stays leaves number) (first : firsts transit ≡ Some f) where
   abbrev again : Leaves

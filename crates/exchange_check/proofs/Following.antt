@@ -11,7 +11,7 @@ use Rattle.network_model.specs.declared.event.Event.TheVariants.{Sync, SyncOne, 
 use Rattle.network_model.specs.declared.event.Event.TheVariants.{Request}
 use Rattle.network_model.specs.Network.{Network, NodeName, is_named}
 use Rattle.network_model.specs.Run.{Run}
-use Rattle.network_model.specs.Kinds.{entered_copy, spends, spent_transit}
+use Rattle.network_model.specs.Kinds.{entered_copy, is_leave_of, named_transit}
 use Rattle.exchange_check.specs.declared.facts.Fact.{Fact}
 use Rattle.trace_model.specs.declared.line.TraceLine.{TraceLine}
 use Rattle.trace_model.specs.Line.{Lines, counts}
@@ -26,7 +26,7 @@ use Rattle.exchange_check.proofs.Told.{fact_of, kept_journey_of}
 use Rattle.trace_model.specs.Sound.{where_passes}
 use Rattle.trace_model.proofs.Lines.{line_at-bound, line_at-number, line_at-later, line_at-here, events_more}
 
--- how often a stay was ended, as it is kept
+-- how often a stay was left, as it is kept
 abbrev ended : ℕ → Option Bool
 ended zero = None
 ended (suc zero) = Some false
@@ -46,19 +46,19 @@ leaves_more None leaves n stay h = h
 leaves_more (Some transit) leaves n stay h = ended_more (eqb transit stay) n (leaves stay) h
 
 either_ended : (network : Network) (line : TraceLine) (earlier : Lines) (stay : ℕ) (b : Bool) → counts network line ≡ b
-    → leaves_at network earlier stay ≡ ended (count_by (spends stay) (events network earlier))
+    → leaves_at network earlier stay ≡ ended (count_by (is_leave_of stay) (events network earlier))
     → cond b (leaves_after line.event (leaves_at network earlier)) (leaves_at network earlier) stay
-    ≡ ended (count_by (spends stay) (events network (line ∷ earlier)))
+    ≡ ended (count_by (is_leave_of stay) (events network (line ∷ earlier)))
 either_ended network line earlier stay true c h =
-    leaves_more (spent_transit line.event) (leaves_at network earlier)
-    (count_by (spends stay) (events network earlier)) stay h
-    ∙ sym (ap ended (ap (count_by (spends stay)) (events_more network line earlier true c)
-    ∙ count_more (spends stay) line.event (events network earlier)))
+    leaves_more (named_transit line.event) (leaves_at network earlier)
+    (count_by (is_leave_of stay) (events network earlier)) stay h
+    ∙ sym (ap ended (ap (count_by (is_leave_of stay)) (events_more network line earlier true c)
+    ∙ count_more (is_leave_of stay) line.event (events network earlier)))
 either_ended network line earlier stay false c h =
-    h ∙ sym (ap (λ (r : Run). ended (count_by (spends stay) r)) (events_more network line earlier false c))
+    h ∙ sym (ap (λ (r : Run). ended (count_by (is_leave_of stay) r)) (events_more network line earlier false c))
 
 leaves_are : (network : Network) (lines : Lines) (stay : ℕ)
-    → leaves_at network lines stay ≡ ended (count_by (spends stay) (events network lines))
+    → leaves_at network lines stay ≡ ended (count_by (is_leave_of stay) (events network lines))
 leaves_are network [] stay = refl
 leaves_are network (line ∷ earlier) stay =
     either_ended network line earlier stay (counts network line) refl (leaves_are network earlier stay)
@@ -68,11 +68,11 @@ ended_once zero = refl
 ended_once (suc zero) = refl
 ended_once (suc (suc n)) = grind (arith, nat_tests)
 
--- a stay is kept as ended once where one line alone ended it
+-- a stay is kept as left once where one line alone left it
 pub once_is : (network : Network) (lines : Lines) (stay : ℕ)
-    → is_once (leaves_at network lines stay) ≡ eqb (count_by (spends stay) (events network lines)) 1
+    → is_once (leaves_at network lines stay) ≡ eqb (count_by (is_leave_of stay) (events network lines)) 1
 once_is network lines stay =
-    ap is_once (leaves_are network lines stay) ∙ ended_once (count_by (spends stay) (events network lines))
+    ap is_once (leaves_are network lines stay) ∙ ended_once (count_by (is_leave_of stay) (events network lines))
 
 copy_is : (named : Bool) (made limit c : ℕ) → cond (named && nat_lt made limit) (Some made) None ≡ Some c
     → (made ≡ c) × (c < limit)
@@ -88,7 +88,7 @@ entered_is node entered (Some made) c same h =
     let p = copy_is (is_named (site entered) node) made (line_number entered) c h in (same ∙ ap Some p.0, p.1)
 
 module _ (network : Network) (facts : Facts) (leaves : Leaves) (run : Run)
-    (ends : (stay : ℕ) → is_once (leaves stay) ≡ eqb (count_by (spends stay) run) 1) where
+    (ends : (stay : ℕ) → is_once (leaves stay) ≡ eqb (count_by (is_leave_of stay) run) 1) where
   abbrev Keeps : Lines → Type 0
   Keeps lines = (n : ℕ) (e : LinePlace) → line_at network lines n ≡ Some e → facts n ≡ Some (fact_of network e)
 
@@ -99,7 +99,7 @@ module _ (network : Network) (facts : Facts) (leaves : Leaves) (run : Run)
   below_found copy transit h = grind (arith, nat_tests)
 
   stay_found : (copy transit c : ℕ) (fact en : Fact) → facts copy ≡ Some fact → is_some fact.journey ≡ true
-      → spent_transit fact.event ≡ Some transit → transit < copy → facts transit ≡ Some en
+      → named_transit fact.event ≡ Some transit → transit < copy → facts transit ≡ Some en
       → entered_copy en.event ≡ Some c → c < copy → last_stays facts copy ≡ Some (transit, c)
   stay_found copy transit c fact en a has_journey b in_transit d f in_copy =
       ap (λ (o : Option Fact). option_and_then (stay_of facts copy) o) a
@@ -110,7 +110,7 @@ module _ (network : Network) (facts : Facts) (leaves : Leaves) (run : Run)
       ∙ ap (λ (o : Option ℕ). option_map (λ k. (transit, k)) (where_passes (λ k. nat_lt k copy) o)) f
       ∙ (λ i. option_map (λ k. (transit, k)) (cond (below_found copy c in_copy i) (Some c) None))
 
-  no_stay : (copy : ℕ) (fact : Fact) → facts copy ≡ Some fact → spent_transit fact.event ≡ None
+  no_stay : (copy : ℕ) (fact : Fact) → facts copy ≡ Some fact → named_transit fact.event ≡ None
       → last_stays facts copy ≡ None
   no_stay copy fact a b = ap (λ (o : Option Fact). option_and_then (stay_of facts copy) o) a
       ∙ none_made facts copy fact b
@@ -118,7 +118,7 @@ module _ (network : Network) (facts : Facts) (leaves : Leaves) (run : Run)
   follow_one : (copy transit c : ℕ) (rest : Bool) → last_stays facts copy ≡ Some (transit, c) → c < copy
       → ((count : ℕ) → c < count → once_by (last_stays facts) leaves count c ≡ rest)
       → (count : ℕ) → copy < count
-      → once_by (last_stays facts) leaves count copy ≡ (eqb (count_by (spends transit) run) 1 && rest)
+      → once_by (last_stays facts) leaves count copy ≡ (eqb (count_by (is_leave_of transit) run) 1 && rest)
   follow_one copy transit c rest found below known zero within = absurd (omega arith)
   follow_one copy transit c rest found below known (suc n) within =
       let fits : c < n = omega arith in
@@ -138,7 +138,7 @@ module _ (network : Network) (facts : Facts) (leaves : Leaves) (run : Run)
     at_line : facts (length earlier) ≡ Some (fact_of network (line_place line earlier))
     at_line = keeps (length earlier) (line_place line earlier) (line_at-here network line earlier counted)
 
-    begun_followed : (j : LineJourney) → spent_transit line.event ≡ None → Some (line_begun (line_place line earlier)) ≡ Some j
+    begun_followed : (j : LineJourney) → named_transit line.event ≡ None → Some (line_begun (line_place line earlier)) ≡ Some j
         → IsFollowed (length earlier) j
     begun_followed j none h =
         let P : LineJourney → Type 0 = λ x. IsFollowed (length earlier) x in
@@ -156,7 +156,7 @@ module _ (network : Network) (facts : Facts) (leaves : Leaves) (run : Run)
         same) ∙ h)
 
     stay_followed : HasJourney → (transit : ℕ) (entered : LinePlace) (c : ℕ) (o : Option LineJourney) (j : LineJourney)
-        → spent_transit line.event ≡ Some transit → line_at network earlier transit ≡ Some entered
+        → named_transit line.event ≡ Some transit → line_at network earlier transit ≡ Some entered
         → (entered_copy (event_of entered) ≡ Some c) × (c < line_number entered) → line_journey_of network earlier c ≡ o
         → option_map (with_stay (line_place line earlier) entered) o ≡ Some j → IsFollowed (length earlier) j
     stay_followed has_journey transit entered c None j spent there copied journey h = grind arith
@@ -170,10 +170,10 @@ module _ (network : Network) (facts : Facts) (leaves : Leaves) (run : Run)
         let P : LineJourney → Type 0 = λ x. IsFollowed (length earlier) x in
         subst P (same_Some _ _ h) (λ count within. follow_one (length earlier) transit c (left_once run k) found below
         (before c k journey) count within
-        ∙ (λ i. eqb (count_by (spends (sym number i)) run) 1 && left_once run k))
+        ∙ (λ i. eqb (count_by (is_leave_of (sym number i)) run) 1 && left_once run k))
 
     copy_followed : HasJourney → (node : NodeName) (transit : ℕ) (entered : LinePlace) (o : Option ℕ) (j : LineJourney)
-        → spent_transit line.event ≡ Some transit → line_at network earlier transit ≡ Some entered
+        → named_transit line.event ≡ Some transit → line_at network earlier transit ≡ Some entered
         → copy_entered node entered ≡ o
         → option_and_then (λ copy. option_map (with_stay (line_place line earlier) entered)
         (line_journey_of network earlier copy)) o ≡ Some j → IsFollowed (length earlier) j
@@ -183,7 +183,7 @@ module _ (network : Network) (facts : Facts) (leaves : Leaves) (run : Run)
         (entered_is node entered (entered_copy (event_of entered)) c refl copied) refl h
 
     left_followed : HasJourney → (node : NodeName) (transit : ℕ) (o : Option LinePlace) (j : LineJourney)
-        → spent_transit line.event ≡ Some transit → line_at network earlier transit ≡ o
+        → named_transit line.event ≡ Some transit → line_at network earlier transit ≡ o
         → option_and_then (line_left_from node (line_place line earlier) (line_journey_of network earlier)) o ≡ Some j
         → IsFollowed (length earlier) j
     left_followed has_journey node transit None j spent there h = grind arith
@@ -196,12 +196,12 @@ module _ (network : Network) (facts : Facts) (leaves : Leaves) (run : Run)
     made_followed : (event : Event) (j : LineJourney) → event ≡ line.event
         → line_journey_made network event (line_place line earlier) (line_journey_of network earlier) ≡ Some j
         → IsFollowed (length earlier) j
-    made_followed (Sync node at) j same h = begun_followed j (sym (ap spent_transit same)) h
-    made_followed (SyncOne node at) j same h = begun_followed j (sym (ap spent_transit same)) h
+    made_followed (Sync node at) j same h = begun_followed j (sym (ap named_transit same)) h
+    made_followed (SyncOne node at) j same h = begun_followed j (sym (ap named_transit same)) h
     made_followed (Leave node transit at) j same h =
         left_followed (has_journey_with (Leave node transit at) j same h) node transit (line_at network earlier transit) j
-        (sym (ap spent_transit same)) refl h
-    made_followed (Request node at) j same h = begun_followed j (sym (ap spent_transit same)) h
+        (sym (ap named_transit same)) refl h
+    made_followed (Request node at) j same h = begun_followed j (sym (ap named_transit same)) h
     made_followed _ j same h = nothing_followed j h
 
   either_followed : (line : TraceLine) (earlier : Lines) (n : ℕ) (j : LineJourney) (here counted : Bool)
@@ -215,7 +215,7 @@ module _ (network : Network) (facts : Facts) (leaves : Leaves) (run : Run)
   either_followed line earlier n j true false p c keeps before h = absurd (none-some j h)
   either_followed line earlier n j false counted p c keeps before h = before n j h
 
-  -- following the stays finds whether each was ended once
+  -- following the stays finds whether each was left once
   pub followed_is : (lines : Lines) (n : ℕ) (j : LineJourney) → Keeps lines → line_journey_of network lines n ≡ Some j
       → (count : ℕ) → n < count → once_by (last_stays facts) leaves count n ≡ left_once run j
   followed_is [] n j keeps h = absurd (none-some j h)

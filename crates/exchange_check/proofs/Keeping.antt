@@ -19,7 +19,7 @@ use Rattle.exchange_check.specs.declared.stays.Stays.{Stays}
 use Rattle.exchange_check.specs.Inner.Stays.{LastStays, stay_below, stay_of, last_stays, with_stay, is_once}
 use Rattle.exchange_check.specs.Inner.Stays.{once_by, Once, once_of, state_in, is_whole, AreStays, once_in}
 use Rattle.exchange_check.specs.Inner.Judged.{reason_by}
-use Rattle.network_model.specs.Kinds.{entered_copy, spent_transit}
+use Rattle.network_model.specs.Kinds.{entered_copy, named_transit}
 use Rattle.trace_model.specs.Sound.{where_passes}
 use Rattle.std.proofs.lemmas.Bool.{eqb-true, eq-eqb, ltb-true}
 use Rattle.exchange_check.specs.Inner.Machine.{accepted_count, Machine, IsKept, facts_of, sites_of, stamps_of, with_fact}
@@ -100,7 +100,7 @@ module _ (facts : Facts) (count : ℕ) (fact : Option Fact) (none : (n : ℕ) �
 
   same_stay : (n : ℕ) (x : Fact) → n < count → stay_of now n x ≡ stay_of facts n x
   same_stay n x h = λ i. cond (is_some x.journey)
-      (option_and_then (λ transit. same_below n transit h i) (spent_transit x.event)) None
+      (option_and_then (λ transit. same_below n transit h i) (named_transit x.event)) None
 
   same_stays : (n : ℕ) (o : Option Fact) → n < count
       → option_and_then (stay_of now n) o ≡ option_and_then (stay_of facts n) o

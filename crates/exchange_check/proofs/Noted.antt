@@ -11,7 +11,7 @@ use Rattle.network_model.specs.declared.event.Event.TheVariants.{Request, SetMas
 use Rattle.network_model.specs.Network.{Network, NodeName, is_named}
 use Rattle.network_model.specs.Run.{Run, site_of}
 use Rattle.network_model.specs.Kinds.{is_at, is_sync, draws_sync, is_request, is_stamped}
-use Rattle.network_model.specs.Kinds.{is_set_master, named_master, step_of}
+use Rattle.network_model.specs.Kinds.{is_set_master, named_master, named_difference}
 use Rattle.network_model.specs.Clock.{difference}
 use Rattle.exchange_check.specs.declared.facts.Fact.{Fact}
 use Rattle.exchange_check.specs.declared.facts.Site.{Site}
@@ -57,7 +57,7 @@ counted n = omega arith
 -- a node after an event of it, or of another node
 moved_is : (event : Event) (named : Bool) (n : ℕ) (d : ℤ) (s r : ℕ) (ls lr : Option ℕ) (set : Option (NodeName × ℕ))
     → cond named (moved event n (site_made d s r ls lr set)) (site_made d s r ls lr set)
-    ≡ site_made (cond named (unwrap_or (step_of event) d) d) (cond (draws_sync event && named) (suc s) s)
+    ≡ site_made (cond named (unwrap_or (named_difference event) d) d) (cond (draws_sync event && named) (suc s) s)
     (cond (is_request event && named) (suc r) r)
     (cond (is_sync event && named) (Some n) ls) (cond (is_request event && named) (Some n) lr)
     (cond (is_set_master event && named) (told_master event n) set)
@@ -194,7 +194,7 @@ sites-line network line earlier fact false h same = λ i name. sym (site_more ne
 sites-line network line earlier fact true h same =
     λ i name. site_line network line earlier (events network earlier) fact.event name refl same h i
 
--- what lines say of each stay: whether it was ended again
+-- what lines say of each stay: whether it was left again
 abbrev pub leaves_at : Network → Lines → Leaves
 leaves_at network [] = λ stay. None
 leaves_at network (line ∷ earlier) =

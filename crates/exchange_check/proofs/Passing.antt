@@ -1,4 +1,4 @@
--- Lines that end no stay.
+-- Lines that leave no stay.
 use Rattle.std.proofs.Common.{◌≡◌, ◌∙◌, ℕ, ◌+◌, Bool, true, false, cond, Option, None, refl, sym}
 use Rattle.std.proofs.Math.Path.{transport}
 use Rattle.std.specs.Option.{option_map_or}
@@ -7,21 +7,21 @@ use Rattle.std.specs.BTreeMap.{get}
 use Rattle.std.specs.Ordering.{nat_cmp}
 use Rattle.network_model.specs.declared.event.Event.{Event}
 use Rattle.network_model.specs.declared.event.Event.TheVariants.{Leave}
-use Rattle.network_model.specs.Kinds.{spent_transit}
+use Rattle.network_model.specs.Kinds.{named_transit}
 use Rattle.exchange_check.specs.declared.facts.Fact.{Fact}
 use Rattle.exchange_check.specs.declared.stays.Stays.{Stays}
 use Rattle.exchange_check.specs.Inner.Kept.{Facts, Leaves, leaves_after, left_again}
 use Rattle.exchange_check.specs.Inner.Stays.{LastStays, stay_below, stay_of, with_stay, state_in, AreStays}
 use Rattle.exchange_check.proofs.CopyStates.{one_more}
 
--- an event that is no Leave event ends no stay
+-- an event that is no Leave event leaves no stay
 pub others_pass : (event : Event) → ((node : _) (transit : ℕ) (at : _) → event ≡ Leave node transit at → ⊥)
-    → spent_transit event ≡ None
+    → named_transit event ≡ None
 others_pass (Leave node transit at) h = absurd (h node transit at refl)
 others_pass _ h = refl
 
--- a copy of a line that ends no stay has none
-pub none_made : (facts : Facts) (number : ℕ) (fact : Fact) → spent_transit fact.event ≡ None
+-- a copy of a line that leaves no stay has none
+pub none_made : (facts : Facts) (number : ℕ) (fact : Fact) → named_transit fact.event ≡ None
     → stay_of facts number fact ≡ None
 none_made facts number fact h =
     (λ i. cond (is_some fact.journey) (option_and_then (stay_below facts number) (h i)) None)
@@ -31,9 +31,9 @@ none_made facts number fact h =
     either true = refl
     either false = refl
 
--- what is kept of stays is the same after a line that ends none
+-- what is kept of stays is the same after a line that leaves none
 pub stays_pass : (kept : Stays) (facts : Facts) (number : ℕ) (fact : Fact) (stays : LastStays) (leaves : Leaves)
-    → spent_transit fact.event ≡ None → AreStays kept stays leaves number
+    → named_transit fact.event ≡ None → AreStays kept stays leaves number
     → AreStays kept (with_stay number (stay_of facts number fact) stays) (leaves_after fact.event leaves) (number + 1)
 stays_pass kept facts number fact stays leaves p h =
     transport (λ i. AreStays kept (with_stay number (sym (none_made facts number fact p) i) stays)

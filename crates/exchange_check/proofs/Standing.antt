@@ -15,8 +15,8 @@ use Rattle.network_model.specs.Kinds.{is_sync, draws_sync, is_request, is_set_ma
 use Rattle.network_model.specs.Truth.{master_at, slave_at}
 use Rattle.trace_model.specs.declared.line.TraceLine.{TraceLine}
 use Rattle.trace_model.specs.declared.verdict.Why.{Why}
-use Rattle.trace_model.specs.declared.verdict.Why.TheVariants.{OtherNumber, OtherMaster, WrongReading}
-use Rattle.trace_model.specs.declared.verdict.Why.TheVariants.{WrongValue, TooBig, Bytes}
+use Rattle.trace_model.specs.declared.verdict.Why.TheVariants.{NoSuchLine, OtherNumber, OtherMaster, BrokenJourney}
+use Rattle.trace_model.specs.declared.verdict.Why.TheVariants.{WrongReading, WrongValue, TooBig, Bytes}
 use Rattle.trace_model.specs.Line.{Lines, counts}
 use Rattle.trace_model.specs.Record.{LinePlace, line_place, line_number, event_of, site, events, last_line, reading}
 use Rattle.trace_model.specs.Octets.{writes_right}
@@ -24,7 +24,7 @@ use Rattle.trace_model.specs.Journey.{LineJourney, line_journey_of, line_residen
 use Rattle.trace_model.specs.Sound.{journey_writes_right, where_passes, below, Exchange, line_of, sync_line}
 use Rattle.trace_model.specs.Sound.{follow_lines, arrival_line, is_of_line, is_stamped_between, unbroken, is_followed}
 use Rattle.trace_model.specs.Sound.{are_paired, are_later, is_domain, is_of_master, are_readings, fraction_sent, fits}
-use Rattle.trace_model.specs.Sound.{bracket, are_results, are_octets, journeys_reason, exchange_reason, reason}
+use Rattle.trace_model.specs.Sound.{bracket, are_results, are_octets, needs, reason}
 use Rattle.exchange_check.specs.Inner.Kept.{Facts, longest}
 use Rattle.exchange_check.specs.Inner.Judged.{found_by, found_journey_at, found_journey_from, found_journey_to, paired_by, is_told, of_master_by, fits_by}
 use Rattle.exchange_check.specs.Inner.Judged.{bracket_by, results_by, octets_by, both_journeys, found_reason, reason_by}
@@ -174,9 +174,20 @@ module _ (network : Network) (line : TraceLine) (earlier : Lines) where
         let b = bracket_is x.request_arrival r both.1 in
         λ i. int_eq report.offset2 (offset2 (a i) (b i)) && int_eq report.path2 (path2 (a i) (b i))
 
+    -- the reason after the lines of an exchange were found, and its journeys
+    abbrev with_journeys : Exchange → (s r : Option LineJourney) → Option Why
+    with_journeys x s r = needs BrokenJourney s (λ s. needs BrokenJourney r (λ r.
+        first_of (are_paired network x s r) (is_of_master network slave e report x s) (are_readings network x s r)
+        (fits s && fits r) (are_results report x s r) (are_octets network x s r)))
+
+    abbrev with_exchange : Option Exchange → Option Why
+    with_exchange x = needs NoSuchLine x (λ x.
+        with_journeys x (unbroken network e draws_sync x.sync_arrival)
+        (unbroken network e is_request x.request_arrival))
+
     journeys_are_found : (x : Exchange) (s r : Option LineJourney)
         → both_journeys network (site_at network earlier slave) slave report (found_of network x)
-        (option_map (found_journey_of network) s) (option_map (found_journey_of network) r) ≡ journeys_reason network e report x s r
+        (option_map (found_journey_of network) s) (option_map (found_journey_of network) r) ≡ with_journeys x s r
     journeys_are_found x None r = refl
     journeys_are_found x (Some s) None = refl
     journeys_are_found x (Some s) (Some r) = same_first
@@ -201,7 +212,7 @@ module _ (network : Network) (line : TraceLine) (earlier : Lines) where
         → ((y : Exchange) → x ≡ Some y
         → (line_number y.sync_arrival ≤ length earlier) × (line_number y.request_arrival ≤ length earlier))
         → found_reason network facts once (site_at network earlier slave) slave report
-        (option_map (found_of network) x) ≡ exchange_reason network e report x
+        (option_map (found_of network) x) ≡ with_exchange x
     found_are None within = refl
     found_are (Some x) within =
         let fits = within x refl in
@@ -256,8 +267,8 @@ module _ (network : Network) (line : TraceLine) (earlier : Lines) where
     reason_is true h =
         ap (found_reason network facts once (site_at network earlier slave) slave report) found_is
         ∙ found_are (cond (here && learned) all_lines None) (either_within (here && learned))
-        ∙ sym (λ i. exchange_reason network e report (cond (h i && here && learned) all_lines None))
-    reason_is false h = sym (λ i. exchange_reason network e report (cond (h i && here && learned) all_lines None))
+        ∙ sym (λ i. with_exchange (cond (h i && here && learned) all_lines None))
+    reason_is false h = sym (λ i. with_exchange (cond (h i && here && learned) all_lines None))
 
   judged_is : (v : Verdict) → judged network facts once (stamps_at network earlier) (site_at network earlier)
       (cond (counts network line) (Some (fact_of network e)) None) line.out (length earlier) v

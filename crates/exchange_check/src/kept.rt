@@ -8,7 +8,7 @@ ghost use Rattle.exchange_check.specs.Inner.Machine.{accepted_count};
 ghost use Rattle.exchange_check.specs.Inner.Machine.{Machine, IsKept, start, judged, after_line, sites_told};
 ghost use Rattle.exchange_check.specs.Inner.Machine.{leaves_told, stamps_told, facts_of, sites_of, stamps_of};
 ghost use Rattle.exchange_check.specs.Inner.Stays.{stay_of, once_in, StaysAfter};
-ghost use Rattle.network_model.specs.Kinds.{spent_transit};
+ghost use Rattle.network_model.specs.Kinds.{named_transit};
 ghost use Rattle.std.specs.Option.{option_map_or};
 ghost use Rattle.exchange_check.specs.Inner.Kept.{moved, moved_at, stamped, sites_after, leaves_after, stamps_after};
 ghost use Rattle.exchange_check.specs.Inner.Kept.{site_in, kept_journey_at, copy_entered_by, stayed, begun_by};
@@ -297,9 +297,10 @@ impl Kept {
         Some(self.told(nodes, line, &self.known(nodes, line, number)))
     }
 
-    /// The copy that entered at the stay which a Leave line ends, where the journey of the copy that left is known.
+    /// The copy that entered at the stay which a Leave line leaves, where the journey of the copy that left
+    /// is known.
     fn entered(&self, fact: &Fact, transit: u64, number: u64) -> Option<u64>
-        ensures stay { spent_transit fact.now.event ≡ Some transit
+        ensures stay { named_transit fact.now.event ≡ Some transit
             → option_map (λ copy. (transit, copy)) result ≡ stay_of (facts_of self.now) number fact.now }
         ensures below { IfSome result (λ copy. copy < number) }
     {

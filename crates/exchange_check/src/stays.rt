@@ -1,9 +1,9 @@
-//! The stays of copies in clocks, and the copies with a stay that was ended twice: these are marked.
+//! The stays of copies in clocks, and the copies with a stay that was left twice: these are marked.
 //!
 //! The copies of a message make a tree: a copy grew from the one that entered the clock which it
 //! left. They stand in an order, each linked to the next: after a copy comes all that grew from it,
 //! each deeper than it, up to the first that isn't deeper. A new copy is put right after the one that
-//! it grew from. When a stay is ended again, what grew from the copy that left after it first follows
+//! it grew from. When a stay is left again, what grew from the copy that left after it first follows
 //! that copy in the order: it is marked and taken out.
 
 ghost use Rattle.std.specs.Prelude.{◌≡◌, ℕ, ◌<◌, ◌+◌, true, false, IfSome, Some};
@@ -21,7 +21,7 @@ use std::collections::BTreeMap;
 /// What is kept of a copy of an event message.
 #[derive(Clone, Copy, Debug)]
 pub(crate) struct CopyState {
-    /// Whether each stay of its journey was ended once.
+    /// Whether each stay of its journey was left once.
     pub(crate) once: bool,
     /// How many stays its journey has; 0 also where it was marked when it left.
     pub(crate) depth: u64,
@@ -81,7 +81,7 @@ impl Stays {
         }
     }
 
-    /// Whether each stay of a copy's journey was ended once.
+    /// Whether each stay of a copy's journey was left once.
     pub(crate) fn once(&self, copy: u64) -> bool
         ensures { result ≡ once_in self.now copy }
     {
@@ -113,7 +113,7 @@ impl Stays {
         Ok(())
     }
 
-    /// A stay was ended again: marks the copy that left after it first and all that grew from it, and
+    /// A stay was left again: marks the copy that left after it first and all that grew from it, and
     /// takes these out of the order. That copy stays in it, so over all calls each copy is taken out
     /// once at most.
     fn cut(&mut self, first: u64)
@@ -159,7 +159,7 @@ impl Stays {
         }
     }
 
-    /// Puts the copy of this number, which left its clock after a stay that no other line ended,
+    /// Puts the copy of this number, which left its clock after a stay that no other line left,
     /// after the copy that entered there, or marks it where that one is marked.
     fn grow(&mut self, from: u64, number: u64)
         requires room { number < length self.old.states.items }

@@ -1,5 +1,5 @@
--- How a slave knows when its request left: a Stamped event told it, with the request as the last one, which was held.
--- A Delay_Resp completes such a request alone, so the event is part of a report's evidence.
+-- How a slave knows when its request departed: a Stamped event told it, with the request as the last one, which was
+-- held. A Delay_Resp completes such a request alone, so the event is part of a report's evidence.
 use Rattle.std.proofs.Common.{◌≡◌, ◌∙◌, ℕ, zero, suc, ◌+◌, Bool, true, false, List, [], ◌∷◌, take, Option, Some, None, Ok, IsOk, refl, sym, ap, subst, arith, option_map, option_and_then, if◌then◌else◌}
 use Rattle.std.specs.Prelude.{count_by, nat_eq, find, is_some, ok_or}
 use Rattle.std.proofs.lemmas.Bool.{eq-eqb}

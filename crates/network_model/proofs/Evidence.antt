@@ -1,6 +1,6 @@
 -- Each report of an accepted run has its evidence: the order of its tags, that its messages were used, how the slave learnt
 -- when the request left, the journeys of the Sync and the Delay_Req, one domain, and corrections that aren't too big.
--- A measurement is of the same messages, and no stay in a clock is spent twice.
+-- A measurement is of the same messages, and no stay in a clock is left twice.
 use Rattle.std.proofs.Common.{◌≡◌, ◌∙◌, ℕ, ◌+◌, ◌≤◌, List, ◌∷◌, length, Option, Some, None, refl, sym, ap, subst, arith, inl, inr, false, option_and_then}
 use Rattle.std.specs.Prelude.{◌⊎◌, count_by, IfSome}
 use Rattle.slave_port.specs.declared.heard.Heard.TheVariants as answers
@@ -30,7 +30,7 @@ use Rattle.network_model.proofs.Masters.{last_set_master-since}
 use Rattle.network_model.proofs.Requests.{waiting_request-is}
 use Rattle.network_model.proofs.Answers.{answered_by}
 use Rattle.network_model.proofs.Reports.{made_of}
-use Rattle.network_model.proofs.Spent.{spent_once}
+use Rattle.network_model.proofs.LeftOnce.{each_stay_left_once}
 use Rattle.network_model.proofs.Twice.{one_arrival, one_hearing}
 use Rattle.network_model.proofs.TrueTime.{origin_drawn}
 use Rattle.network_model.proofs.Completing.{report_completes, sync_last, delay_last}
@@ -255,4 +255,4 @@ shown_of network run slave report sync request measured =
 
 -- what every accepted run shows
 pub shows_evidence : ShowsEvidence
-shows_evidence = record { reports = each_has_evidence; measurements = evidence_is_measured; transits = spent_once }
+shows_evidence = record { reports = each_has_evidence; measurements = evidence_is_measured; stays = each_stay_left_once }

@@ -1,13 +1,23 @@
 -- The premises under which each report is exact.
+use Rattle.slave_port.specs.declared.heard.Report.{Report}
 use Rattle.network_model.specs.declared.event.Event.{Event}
 use Rattle.std.proofs.Common.{◌∷◌}
 use Rattle.network_model.specs.Network.{Network}
-use Rattle.network_model.specs.Run.{Run, until}
+use Rattle.network_model.specs.Run.{Run, Place, until, site_of}
 use Rattle.network_model.specs.Premises.{Premise, exact_limits, IsAcceptedRun, IsFreshAndTicked, IsWithinTurn}
-use Rattle.network_model.specs.Inner.Exactness.{EachReportIsExact}
+use Rattle.network_model.specs.Reported.{Reports}
+use Rattle.network_model.specs.Exact.{IsMeasurement}
 use Rattle.network_model.proofs.Pairing.{fresh_ticked_shorter, within_turn_shorter}
 use Rattle.network_model.proofs.Reports.{each_of_one_sync, each_of_one_request, each_of_one_sync-one_turn, each_of_one_request-one_turn}
 use Rattle.network_model.proofs.Twice.{each_twice}
+
+-- Each report is exact: of one Sync and one Delay_Req, those that its tags name, and twice the standard's two results
+-- by what the clocks showed when these messages left and arrived, and by how long they stayed in clocks.
+abbrev pub EachReportIsExact : Premise → Type 0
+EachReportIsExact premise =
+    (network : Network) (answered : Place) (report : Report)
+    → premise network (until answered) → Reports network answered report
+    → IsMeasurement (until answered) (site_of answered.event) report
 
 -- what is said of each premise: it is of accepted runs and of all that they begin with, and their reports are exact
 pub record IsExact (premise : Premise) : Type 0 where

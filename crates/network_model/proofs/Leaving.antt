@@ -1,8 +1,9 @@
--- What a copy becomes that leaves a clock: the copy that a Leave event makes is what the clock makes of the one that entered.
-use Rattle.std.proofs.Common.{◌≡◌, ◌∙◌, ℕ, ℤ, ◌+◌, ◌-◌, ◌≤◌, ◌<◌, Bool, true, false, [], ◌∷◌, length, Option, Some, None, Ok, Err, Result, IsOk, IsSome, refl, sym, ap, subst, option_map, option_and_then, if◌then◌else◌, nat_lt, arith}
-use Rattle.std.specs.Prelude.{◌==◌, int_lt, ok_or}
-use Rattle.std.specs.List.{list_any}
+-- What a copy becomes that leaves a clock: the copy that a Leave event makes is what the clock forwards of the one that
+-- entered.
+use Rattle.std.proofs.Common.{◌≡◌, ◌∙◌, ℕ, ℤ, ◌+◌, ◌-◌, ◌≤◌, Bool, true, false, [], ◌∷◌, length, Option, Some, None, Ok, Err, refl, sym, ap, subst, option_map, option_and_then, if◌then◌else◌, nat_lt, arith}
+use Rattle.std.specs.Prelude.{◌==◌, int_lt}
 use Rattle.std.specs.Result.{result_ok}
+use Rattle.std.proofs.lemmas.Bool.{eq-eqb}
 use Rattle.std.proofs.lemmas.Bool.Decides.{nat_tests}
 use Rattle.std.proofs.lemmas.Int.{ints}
 use Rattle.std.proofs.lemmas.List.Sums.{sum_by-cons}
@@ -23,17 +24,15 @@ use Rattle.transparent_clock.specs.declared.refusal.ClockRefusal.TheVariants.{Ne
 use Rattle.transparent_clock.specs.Forwarding.{is_event, resided, forwarded}
 use Rattle.network_model.specs.declared.event.Event.{Event}
 use Rattle.network_model.specs.declared.event.Event.TheVariants.{Sync, SyncOne, Follow, Leave, Arrive, Request}
-use Rattle.network_model.specs.declared.refusal.WorldRefusal.{WorldRefusal}
-use Rattle.network_model.specs.declared.refusal.WorldRefusal.TheVariants.{NoTransit}
-use Rattle.network_model.specs.declared.stepped.Outcome.{Outcome}
 use Rattle.network_model.specs.Network.{Network, NodeName, PortSetup}
 use Rattle.network_model.specs.Run.{Run, Place, place, place_at}
-use Rattle.network_model.specs.Kinds.{entered_copy, spends}
+use Rattle.network_model.specs.Kinds.{entered_copy}
 use Rattle.network_model.specs.Clock.{reading}
 use Rattle.network_model.specs.Numbering.{number_of, waiting_sync}
 use Rattle.network_model.specs.Journey.{Journey, Stay, stay_length, residence, goes_on, left_from, journey_made, journey_of}
 use Rattle.network_model.specs.Truth.{drawn, message_after, followed, responded, copy_made, copy_of, master_at, slave_at}
-use Rattle.network_model.specs.Outcome.{◌>>=◌, node_as, clock_of, open_transit, copy_in, reads, left_outcome, outcome_of, IsRun}
+use Rattle.network_model.specs.Outcome.{EachLeaveForwards}
+use Rattle.slave_port.proofs.Options.{some_step}
 use Rattle.network_model.proofs.MessagesAfter.{copy_of-message_after}
 
 -- two stays add up, and too big stays too big
@@ -176,34 +175,6 @@ copy_made-forwarded network run node copy transit at entered m is there takes =
     ∙ ap (λ o. option_and_then (message_after network) (option_and_then (λ c. option_and_then (goes_on left entered) (journey_of run c)) o)) takes
     ∙ goes_on-forwarded network run copy m is left entered (journey_of run copy) refl
 
-leave_at : (clock : Result (Unit {0}) WorldRefusal) (entered : Option Place) (stay : Place → Option Place)
-    → (rest : Place → Result Outcome WorldRefusal)
-    → IsOk (clock >>= (λ c. ok_or (option_and_then stay entered) NoTransit >>= rest)) → IsSome entered
-leave_at (Err refusal) entered stay rest accepted = cc
-leave_at (Ok c) None stay rest accepted = cc
-leave_at (Ok c) (Some p) stay rest accepted = refl
-
-there_before : (run : Run) (tag : ℕ) → IsSome (place_at run tag) → tag < length run
-there_before [] tag there = cc
-there_before (event ∷ earlier) tag there = grind (arith, nat_tests, there_before earlier tag)
-
--- a Leave event that is accepted spends a transit of an earlier event
-pub leave_before : (network : Network) (earlier : Run) (node : NodeName) (transit at : ℕ)
-    → IsOk (outcome_of network earlier (Leave node transit at)) → transit < length earlier
-leave_before network earlier node transit at accepted =
-    there_before earlier transit (leave_at (node_as clock_of network node) (place_at earlier transit) (open_transit node earlier transit)
-    (λ entered. ok_or (copy_in network entered) NoTransit >>= (λ m. reads (Leave node transit at) earlier >>= (λ now. Ok (left_outcome (forwarded (Ok m) (reading entered) now)))))
-    accepted)
-
--- no event of a run spends a transit whose tag it hasn't reached
-pub unspent : (network : Network) (run : Run) (tag : ℕ) → IsRun network run → length run ≤ tag → list_any (spends tag) run ≡ false
-unspent network [] tag accepted ahead = refl
-unspent network (Leave node transit at ∷ earlier) tag accepted ahead =
-    let before = unspent network earlier tag accepted.1 (omega arith) in
-    let there = leave_before network earlier node transit at accepted.0 in
-    grind (arith, nat_tests)
-unspent network (_ ∷ earlier) tag accepted ahead = unspent network earlier tag accepted.1 (omega arith)
-
 pub copy_of-ahead : (network : Network) (run : Run) (tag : ℕ) → length run ≤ tag → copy_of network run tag ≡ None
 copy_of-ahead network [] tag ahead = refl
 copy_of-ahead network (event ∷ earlier) tag ahead = grind (arith, nat_tests, copy_of-ahead network earlier tag)
@@ -225,3 +196,12 @@ copy_of-since network (event ∷ earlier) tag p copy m there is = at (length ear
         let same : place event earlier ≡ p = cc in
         copy_of-later network event earlier copy m (subst (λ (o : Place). copy_of network o.earlier copy ≡ Some m) (sym same) is)
     at false there before = copy_of-later network event earlier copy m (before there is)
+
+-- a Leave event makes what the clock forwards of the copy that its Enter event took in
+pub each_leave_forwards : EachLeaveForwards
+each_leave_forwards network earlier node transit at entered m there inside =
+    let took = some_step (copy_of network entered.earlier) (entered_copy entered.event) inside in
+    ap (λ (b : Bool). if b then copy_made network (Leave node transit at) earlier (copy_of network earlier)
+    else copy_of network earlier (length earlier)) (eq-eqb (length earlier) (length earlier) refl)
+    ∙ copy_made-forwarded network earlier node took.0 transit at entered m
+    (copy_of-since network earlier transit entered took.0 m there took.2) there took.1

@@ -18,7 +18,8 @@ pub mod Accepted
 pub mod Short
 pub mod MessagesAfter
 pub mod Leaving
-pub mod Spent
+pub mod Left
+pub mod LeftOnce
 pub mod Worked
 pub mod WorkedExchange
 pub mod WorkedOctets

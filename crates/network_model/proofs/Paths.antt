@@ -12,7 +12,7 @@ use Rattle.network_model.specs.declared.event.Event.TheVariants.{Sync, SyncOne, 
 use Rattle.network_model.specs.declared.refusal.WorldRefusal.TheVariants.{NoTransit}
 use Rattle.network_model.specs.Network.{Network, NodeName, is_named}
 use Rattle.network_model.specs.Run.{Run, Place, place, place_at, tag_of, IsIn, site_of, true_moment}
-use Rattle.network_model.specs.Kinds.{entered_copy, spends, is_step}
+use Rattle.network_model.specs.Kinds.{entered_copy, is_leave_of, is_step}
 use Rattle.network_model.specs.Clock.{difference, reading}
 use Rattle.network_model.specs.Journey.{Journey, Stay, stay_length, begun, goes_on, journey_made, journey_of}
 use Rattle.network_model.specs.Outcome.{◌>>=◌, node_as, clock_of, reads, open_transit, copy_in, left_outcome, outcome_of, IsRun}
@@ -77,7 +77,7 @@ left_where network node transit at earlier entered accepted there =
     >>= (λ m. reads (Leave node transit at) earlier >>= (λ now. Ok (left_outcome (forwarded (Ok m) (reading entered) now))))) clock.2 in
     let opened : option_and_then (open_transit node earlier transit) (place_at earlier transit) ≡ Some found.0 =
     ok_some (option_and_then (open_transit node earlier transit) (place_at earlier transit)) NoTransit {x = found.0} found.1 in
-    by (is_some (entered_copy entered.event)) (is_named (site_of entered.event) node) refl (not (list_any (spends transit) earlier))
+    by (is_some (entered_copy entered.event)) (is_named (site_of entered.event) node) refl (not (list_any (is_leave_of transit) earlier))
     (sym (ap (option_and_then (open_transit node earlier transit)) there) ∙ opened)
   where
     by : (copy named : Bool) → is_named (site_of entered.event) node ≡ named → (fresh : Bool) {found : Place} → (if copy && named && fresh then Some entered else None) ≡ Some found

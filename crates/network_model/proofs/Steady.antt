@@ -7,7 +7,7 @@ use Rattle.std.proofs.lemmas.Bool.{and_parts}
 use Rattle.network_model.specs.declared.event.Event.{Event}
 use Rattle.network_model.specs.Network.{Network, NodeName, is_named}
 use Rattle.network_model.specs.Run.{Run, Place, place, place_at, tag_of, IsIn, site_of, true_moment}
-use Rattle.network_model.specs.Kinds.{step_of, is_step}
+use Rattle.network_model.specs.Kinds.{named_difference, is_step}
 use Rattle.network_model.specs.Clock.{difference, clock_shows, reading}
 use Rattle.network_model.specs.Outcome.{IsRun}
 use Rattle.network_model.specs.Level.{moment_at, is_steady, IsSteady}
@@ -15,10 +15,10 @@ use Rattle.network_model.proofs.Readings.{shown_reading}
 
 -- an event that steps no clock leaves all differences
 pub unstepped : (node : NodeName) (event : Event) (earlier : Run) → is_step event ≡ false → difference node (event ∷ earlier) ≡ difference node earlier
-unstepped node event earlier none = by (step_of event) refl (is_named (site_of event) node)
+unstepped node event earlier none = by (named_difference event) refl (is_named (site_of event) node)
   where
-    by : (step : Option ℤ) → step_of event ≡ step → (named : Bool)
-        → (if named then unwrap_or (step_of event) (difference node earlier) else difference node earlier) ≡ difference node earlier
+    by : (step : Option ℤ) → named_difference event ≡ step → (named : Bool)
+        → (if named then unwrap_or (named_difference event) (difference node earlier) else difference node earlier) ≡ difference node earlier
     by None e true = ap (λ (s : Option ℤ). unwrap_or s (difference node earlier)) e
     by (Some d) e true = let stepped : is_step event ≡ true = ap is_some e in cc
     by step e false = refl

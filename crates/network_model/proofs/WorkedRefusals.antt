@@ -23,9 +23,9 @@ refused_by_a_clock = refl
 stays_for_no_time : copy_of small_network (reverse clock_set_back) 5 ≡ Some (sync m_config 0)
 stays_for_no_time = refl
 
--- a refused departure has spent its stay, and its tag is no copy
-stay_is_spent : outcome_of small_network (reverse clock_set_back) (Leave t 1 (at 1 0 0)) ≡ Err NoTransit
-stay_is_spent = refl
+-- a message that a clock refuses has left its stay, and the tag is no copy
+stay_was_left : outcome_of small_network (reverse clock_set_back) (Leave t 1 (at 1 0 0)) ≡ Err NoTransit
+stay_was_left = refl
 
 refused_departure_makes_no_copy : outcome_of small_network (reverse clock_set_back) (Arrive s 3 (at 2 0 0)) ≡ Err NoCopy
 refused_departure_makes_no_copy = refl

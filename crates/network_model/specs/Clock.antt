@@ -3,13 +3,13 @@ use Rattle.std.specs.Prelude.{ℕ, ℤ, pos, ◌+ℤ◌, [], ◌∷◌, if◌the
 use Rattle.ptp_units.specs.Moment.{moment_of}
 use Rattle.network_model.specs.Network.{NodeName, is_named}
 use Rattle.network_model.specs.Run.{Run, Place, site_of, true_moment}
-use Rattle.network_model.specs.Kinds.{step_of}
+use Rattle.network_model.specs.Kinds.{named_difference}
 
 -- how far a node's clock is ahead of the true time, after these events; 0 where it was never stepped
 abbrev pub difference : NodeName → Run → ℤ
 difference node [] = pos 0
 difference node (event ∷ earlier) =
-    if is_named (site_of event) node then unwrap_or (step_of event) (difference node earlier)
+    if is_named (site_of event) node then unwrap_or (named_difference event) (difference node earlier)
     else difference node earlier
 
 -- what a node's clock shows at a true moment

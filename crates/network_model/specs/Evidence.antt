@@ -13,7 +13,7 @@ use Rattle.network_model.specs.declared.stepped.Outcome.{Outcome}
 use Rattle.network_model.specs.declared.stepped.Outcome.TheVariants as outcomes
 use Rattle.network_model.specs.Network.{Network, NodeName, PortSetup}
 use Rattle.network_model.specs.Run.{Run, Place, IsIn, place_at, tag_of, until, site_of, events_after}
-use Rattle.network_model.specs.Kinds.{is_at, is_sync, is_one_step_sync, is_request, spends}
+use Rattle.network_model.specs.Kinds.{is_at, is_sync, is_one_step_sync, is_request, is_leave_of}
 use Rattle.network_model.specs.Journey.{Journey}
 use Rattle.network_model.specs.Truth.{master_at, slave_at, message_after}
 use Rattle.network_model.specs.Outcome.{outcome_of, IsRun}
@@ -161,13 +161,13 @@ EvidenceIsOfMeasurements =
     → (measured : IsMeasurement run slave report)
     → AreOfOne sync request measured
 
--- No stay in a clock ends twice: no two events of a run spend one transit.
-abbrev pub EachTransitIsSpentOnce : Type 0
-EachTransitIsSpentOnce =
-    (network : Network) (run : Run) (transit : ℕ) → IsRun network run → count_by (spends transit) run ≤ 1
+-- No stay in a clock is left twice: no two events of a run leave one stay.
+abbrev pub EachStayIsLeftOnce : Type 0
+EachStayIsLeftOnce =
+    (network : Network) (run : Run) (transit : ℕ) → IsRun network run → count_by (is_leave_of transit) run ≤ 1
 
 -- What every accepted run shows.
 pub record ShowsEvidence : Type 0 where
   pub reports : EachReportHasEvidence IsAcceptedRun
   pub measurements : EvidenceIsOfMeasurements
-  pub transits : EachTransitIsSpentOnce
+  pub stays : EachStayIsLeftOnce

@@ -2,4 +2,3 @@
 -- nobody has to believe it.
 pub mod Index
 pub mod Padding
-pub mod Exactness

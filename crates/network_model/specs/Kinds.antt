@@ -51,12 +51,12 @@ abbrev pub is_set_master : Event → Bool
 is_set_master event = is_some (named_master event)
 
 -- the difference that an event sets, where it steps a clock
-abbrev pub step_of : Event → Option ℤ
-step_of event = (parts event).difference
+abbrev pub named_difference : Event → Option ℤ
+named_difference event = (parts event).difference
 
 -- a clock is stepped
 abbrev pub is_step : Event → Bool
-is_step event = is_some (step_of event)
+is_step event = is_some (named_difference event)
 
 -- a copy of an event message arrives at a master or at a slave
 abbrev pub is_arrival : Event → Bool
@@ -89,13 +89,13 @@ timed_copy (Enter node copy at) = Some copy
 timed_copy (Arrive node copy at) = Some copy
 timed_copy _ = None
 
--- the stay in a clock that an event spends
-abbrev pub spent_transit : Event → Option ℕ
-spent_transit event = (parts event).transit
+-- the stay in a clock that an event leaves, by the tag of the event by which the message entered
+abbrev pub named_transit : Event → Option ℕ
+named_transit event = (parts event).transit
 
--- an event spends this stay
-abbrev pub spends : ℕ → Event → Bool
-spends transit event = option_map_or (λ spent. spent == transit) (spent_transit event) false
+-- an event leaves this stay
+abbrev pub is_leave_of : ℕ → Event → Bool
+is_leave_of transit event = option_map_or (λ named. named == transit) (named_transit event) false
 
 -- the event is of this kind, and at this node
 abbrev pub is_at : (Event → Bool) → NodeName → Event → Bool

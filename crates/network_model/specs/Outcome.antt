@@ -2,6 +2,7 @@
 use Rattle.std.specs.Prelude.{◌≡◌, ℕ, not, ◌&&◌, [], ◌∷◌, length, nat_lt, is_some, if◌then◌else◌, Option, Some, None}
 use Rattle.std.specs.Prelude.{Ok, Err, Result, IsOk, unsigned_abs, ok_or, option_and_then}
 use Rattle.std.specs.List.{list_any}
+use Rattle.std.specs.Result.{result_ok}
 use Rattle.ptp_units.specs.Moment.{bound}
 use Rattle.event_codec.specs.Packet.{Contents}
 use Rattle.master_port.specs.declared.refusal.MasterRefusal.{MasterRefusal}
@@ -29,7 +30,7 @@ use Rattle.network_model.specs.declared.refusal.WorldRefusal.TheVariants.{NoNode
 use Rattle.network_model.specs.declared.refusal.WorldRefusal.TheVariants.{ReadingOutOfRange, NothingWaiting}
 use Rattle.network_model.specs.Network.{Network, NodeName, PortSetup, kind_of, master_port, slave_port, is_named}
 use Rattle.network_model.specs.Run.{Run, Place, place, place_at, site_of}
-use Rattle.network_model.specs.Kinds.{entered_copy, spends}
+use Rattle.network_model.specs.Kinds.{entered_copy, is_leave_of}
 use Rattle.network_model.specs.Clock.{reading, reading_of}
 use Rattle.network_model.specs.Numbering.{waiting_sync, waiting_request}
 use Rattle.network_model.specs.Truth.{copy_of}
@@ -63,11 +64,11 @@ port_of kinds.Clock = None
 abbrev pub reads : Event → Run → Result ℕ WorldRefusal
 reads event earlier = ok_or (reading_of (place event earlier)) ReadingOutOfRange
 
--- the Enter event of this transit, where it was at this node and no Leave event spent the transit
+-- the Enter event of this transit, where it was at this node and no Leave event has left its stay
 abbrev pub open_transit : NodeName → Run → ℕ → Place → Option Place
 open_transit node earlier transit entered =
     if is_some (entered_copy entered.event) && is_named (site_of entered.event) node
-    && not (list_any (spends transit) earlier)
+    && not (list_any (is_leave_of transit) earlier)
     then Some entered
     else None
 
@@ -169,3 +170,12 @@ pub record IsStepped (network : Network) (earlier : Run) (event : Event) (steppe
   pub tag : stepped.tag ≡ length earlier
   pub reading : stepped.reading ≡ reading_of (place event earlier)
   pub outcome : outcome_of network earlier event ≡ Ok stepped.outcome
+
+-- A Leave event makes what a transparent clock forwards of the copy that its Enter event took in, by the readings at
+-- both, and no copy where the clock refuses it: the copies of `copy_made`, by journeys, are those that clocks write.
+abbrev pub EachLeaveForwards : Type 0
+EachLeaveForwards =
+    (network : Network) (earlier : Run) (node : NodeName) (transit at : ℕ) (entered : Place) (m : Contents)
+    → place_at earlier transit ≡ Some entered → copy_in network entered ≡ Some m
+    → copy_of network (Leave node transit at ∷ earlier) (length earlier)
+    ≡ result_ok (forwarded (Ok m) (reading entered) (reading (place (Leave node transit at) earlier)))

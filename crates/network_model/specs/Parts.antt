@@ -6,7 +6,7 @@ use Rattle.network_model.specs.declared.event.Event.TheVariants.{Request, Stampe
 use Rattle.network_model.specs.Network.{NodeName}
 
 -- the node at which an event happens, and what else it names: its true moment, the copy that it takes, the stay that it
--- ends, the master that it tells, the difference that it sets
+-- leaves, the master that it tells, the difference that it sets
 pub record Parts : Type 0 where
   pub node : NodeName
   pub moment : Option ℕ

@@ -50,7 +50,8 @@ followed port waiting = follow_up port.config (of_count (number_of port waiting)
 abbrev pub responded : PortSetup → ℕ → Contents → Option Contents
 responded port t4 request = result_ok (answer port.config (Ok request) t4)
 
--- the message of the copy that an event makes, from those of earlier copies
+-- the message of the copy that an event makes, from those of earlier copies; for a Leave event it is the one that a
+-- clock writes, by `EachLeaveForwards`
 abbrev pub copy_made : Network → Event → Run → (ℕ → Option Contents) → Option Contents
 copy_made network (Sync node at) earlier copies = drawn network (Sync node at) earlier
 copy_made network (SyncOne node at) earlier copies = drawn network (SyncOne node at) earlier

@@ -1,8 +1,8 @@
 ghost use Rattle.std.specs.Prelude.{◌≡◌};
 ghost use Rattle.network_model.specs.Run.{site_of, true_moment};
 ghost use Rattle.network_model.specs.Kinds.{is_one_step_sync, draws_sync, is_follow, is_request, is_arrival};
-ghost use Rattle.network_model.specs.Kinds.{is_hearing};
-ghost use Rattle.network_model.specs.Kinds.{named_copy, entered_copy, heard_copy, spent_transit, named_master, step_of};
+ghost use Rattle.network_model.specs.Kinds.{is_hearing, named_copy, entered_copy, heard_copy};
+ghost use Rattle.network_model.specs.Kinds.{named_transit, named_master, named_difference};
 
 use crate::name::Name;
 use ptp_units::ScaledTime;
@@ -137,7 +137,7 @@ impl Event {
     }
 
     /// The copy that it takes, by its tag: one that enters a clock, arrives at a port or is heard.
-    pub fn copy(&self) -> Option<u64>
+    pub fn named_copy(&self) -> Option<u64>
         ensures { result ≡ named_copy self.now }
     {
         match self {
@@ -168,9 +168,9 @@ impl Event {
         }
     }
 
-    /// The stay in a clock that it ends, by the tag of the event by which the message entered.
-    pub fn transit(&self) -> Option<u64>
-        ensures { result ≡ spent_transit self.now }
+    /// The stay in a clock that it leaves, by the tag of the event by which the message entered.
+    pub fn named_transit(&self) -> Option<u64>
+        ensures { result ≡ named_transit self.now }
     {
         match self {
             Event::Leave { transit, .. } => Some(*transit),
@@ -179,7 +179,7 @@ impl Event {
     }
 
     /// The master that a slave is told.
-    pub fn master(&self) -> Option<Name>
+    pub fn named_master(&self) -> Option<Name>
         ensures { result ≡ named_master self.now }
     {
         match self {
@@ -189,8 +189,8 @@ impl Event {
     }
 
     /// The difference that it sets, in units of 2^-16 ns.
-    pub fn difference(&self) -> Option<i128>
-        ensures { result ≡ step_of self.now }
+    pub fn named_difference(&self) -> Option<i128>
+        ensures { result ≡ named_difference self.now }
     {
         match self {
             Event::StepClock { diff, .. } => Some(*diff),

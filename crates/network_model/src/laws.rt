@@ -4,6 +4,7 @@
 ghost use Rattle.network_model.specs.Evidence.{ShowsEvidence};
 ghost use Rattle.network_model.specs.Headline.{Headline, HeadlineWithinOneTurn};
 ghost use Rattle.network_model.specs.Order.{ReportsDontGoBack};
+ghost use Rattle.network_model.specs.Outcome.{EachLeaveForwards};
 ghost use Rattle.network_model.specs.Pairs.{NoPairIsMissed};
 ghost use Rattle.network_model.specs.TrueTime.{TellsTrueTime};
 
@@ -51,8 +52,15 @@ pub fn reports_dont_go_back()
 /// Sync that arrived was drawn by the slave's present master, which is of the slave's domain, and the
 /// Follow_Up, if the report has one, is of the same master. The Delay_Resp answers a Delay_Req of the slave
 /// that arrived there. The corrections of the Sync and the Delay_Req, at the end of their journeys, aren't
-/// too big. Where a report was measured, the measurement is of these messages. No stay in a clock ends
+/// too big. Where a report was measured, the measurement is of these messages. No stay in a clock is left
 /// twice.
 pub fn runs_show_evidence()
     ensures { ShowsEvidence }
+{}
+
+/// The copy that a Leave event makes is what a transparent clock forwards of the copy that entered, by the
+/// clock's readings, and there is none where the clock refuses it. So the definitions of runs, which add
+/// up the residence of a whole journey, have the messages that clocks write.
+pub fn each_leave_forwards()
+    ensures { EachLeaveForwards }
 {}

@@ -2,20 +2,20 @@
 //! and how its ports and clocks answer each.
 #![tactic(auto)]
 
+mod copy_octets;
 mod event;
 pub mod laws;
 mod name;
 mod node;
 mod nodes;
-mod octets;
 mod refusal;
 mod stepped;
 
+pub use copy_octets::CopyOctets;
 pub use event::Event;
 pub use name::Name;
 pub use node::{NodeKind, NodeSpec};
 pub use nodes::Nodes;
-pub use octets::CopyOctets;
 pub use refusal::{RunStop, WorldRefusal};
 pub use slave_port::{Heard, Reason, Report};
 pub use stepped::{Outcome, Stepped};

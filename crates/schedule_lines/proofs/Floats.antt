@@ -8,7 +8,7 @@ use Rattle.serde_json.specs.Data.{Data, string, Members, no_members, member, put
 use Rattle.serde_json.specs.Written.{has_float, members_have_float}
 use Rattle.slave_port.specs.declared.heard.Report.{Report}
 use Rattle.network_model.specs.Run.{true_moment}
-use Rattle.network_model.specs.Kinds.{named_master, step_of, spent_transit, named_copy}
+use Rattle.network_model.specs.Kinds.{named_master, named_difference, named_transit, named_copy}
 use Rattle.trace_model.specs.declared.line.TraceLine.{TraceLine}
 use Rattle.schedule_lines.proofs.Keys.{Field, members_of, line_fields}
 use Rattle.schedule_lines.specs.Written.{whole, moment_data, difference_data, octets_data, follow_data, tags_data}
@@ -62,7 +62,7 @@ float-event_data n line = float-members_of (line_fields n line) (
   (
     none-map whole (named_copy line.event) (λ _. refl),
     (
-      none-map difference_data (step_of line.event) (λ _. refl),
+      none-map difference_data (named_difference line.event) (λ _. refl),
       (
         refl,
         (
@@ -70,7 +70,7 @@ float-event_data n line = float-members_of (line_fields n line) (
           (
             refl,
             (
-              none-map whole (spent_transit line.event) (λ _. refl),
+              none-map whole (named_transit line.event) (λ _. refl),
               (
                 none-map whole (out_code line.out) (λ _. refl),
                 (

@@ -2,7 +2,7 @@
 use Rattle.std.proofs.Common.{ℕ, List, [], ◌∷◌, codes, Option, Some, option_map}
 use Rattle.serde_json.specs.Data.{Data, string, Members, no_members}
 use Rattle.network_model.specs.Run.{site_of, true_moment}
-use Rattle.network_model.specs.Kinds.{named_master, step_of, spent_transit, named_copy}
+use Rattle.network_model.specs.Kinds.{named_master, named_difference, named_transit, named_copy}
 use Rattle.network_model.specs.declared.event.Event.{Event}
 use Rattle.trace_model.specs.declared.line.TraceLine.{TraceLine}
 use Rattle.schedule_lines.specs.Written.{whole, moment_data, difference_data, octets_data, tags_data, with_some}
@@ -23,11 +23,11 @@ abbrev pub event_fields : Event → List Field → List Field
 event_fields event rest =
     (codes "at", option_map moment_data (true_moment event))
     ∷ (codes "copy", option_map whole (named_copy event))
-    ∷ (codes "diff", option_map difference_data (step_of event))
+    ∷ (codes "diff", option_map difference_data (named_difference event))
     ∷ (codes "ev", Some (string (event_text event)))
     ∷ (codes "master", option_map string (named_master event))
     ∷ (codes "node", Some (string (site_of event)))
-    ∷ (codes "transit", option_map whole (spent_transit event))
+    ∷ (codes "transit", option_map whole (named_transit event))
     ∷ rest
 
 -- the keys beside them in a transcript

@@ -16,7 +16,7 @@ use Rattle.ptp_units.specs.Moment.{bound, stamp_of, fraction_of}
 use Rattle.slave_port.specs.declared.heard.Report.{Report}
 use Rattle.network_model.specs.Name.{IsName, is_name_octet}
 use Rattle.network_model.specs.Run.{true_moment}
-use Rattle.network_model.specs.Kinds.{named_master, step_of, spent_transit, named_copy}
+use Rattle.network_model.specs.Kinds.{named_master, named_difference, named_transit, named_copy}
 use Rattle.network_model.specs.declared.event.Event.{Event}
 use Rattle.network_model.specs.declared.event.Event.TheVariants.{StepClock}
 use Rattle.network_model.specs.declared.node.NodeKind.{NodeKind}
@@ -145,11 +145,11 @@ fields_shown n line h tagged =
     let short = report_out line.out h.out in
     pair (field_shown moment_data (true_moment e) (λ time. time < bound) shown_moment h.event.moment)
     (pair (field_shown whole (named_copy e) IsTag shown_whole tagged.copy)
-    (pair (field_shown difference_data (step_of e) IsShort shown_difference h.event.step)
+    (pair (field_shown difference_data (named_difference e) IsShort shown_difference h.event.step)
     (pair (shown_string _ (fits_event e) (omega arith))
     (pair (field_shown string (named_master e) IsName shown_name h.event.master)
     (pair (shown_name _ h.event.node)
-    (pair (field_shown whole (spent_transit e) IsTag shown_whole tagged.transit)
+    (pair (field_shown whole (named_transit e) IsTag shown_whole tagged.transit)
     (pair (field_shown whole (out_code line.out) (λ code. code < 65536) shown_code (code_out line.out h.out))
     (pair (field_shown octets_data (made_octets line.out) AreOctets (λ octets are. shown_octets octets are.0 are.1) (octets_out line.out h.out))
     (pair (shown_whole n tagged.number)

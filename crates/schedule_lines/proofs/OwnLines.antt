@@ -7,7 +7,7 @@ use Rattle.slave_port.specs.declared.heard.Report.{Report}
 use Rattle.event_codec.specs.declared.port.PortConfig.{PortConfig}
 use Rattle.ptp_units.specs.declared.sequence.Seq.{Seq}
 use Rattle.network_model.specs.Run.{true_moment}
-use Rattle.network_model.specs.Kinds.{named_master, step_of, spent_transit, named_copy}
+use Rattle.network_model.specs.Kinds.{named_master, named_difference, named_transit, named_copy}
 use Rattle.network_model.specs.declared.event.Event.{Event}
 use Rattle.network_model.specs.declared.node.NodeKind.{NodeKind}
 use Rattle.network_model.specs.declared.node.NodeSpec.{NodeSpec}
@@ -79,11 +79,11 @@ then_field P f reads key d each_one = then_also (λ _. Has key d) P f (field rea
 record HasEvent (d : Data) (event : Event) : Type 0 where
   at : HasFor (true_moment event) (codes "at") d
   copy : HasFor (named_copy event) (codes "copy") d
-  diff : HasFor (step_of event) (codes "diff") d
+  diff : HasFor (named_difference event) (codes "diff") d
   ev : Has (codes "ev") d
   master : HasFor (named_master event) (codes "master") d
   node : Has (codes "node") d
-  transit : HasFor (spent_transit event) (codes "transit") d
+  transit : HasFor (named_transit event) (codes "transit") d
 
 has_event_at : (kind : EventKind) (node : List ℕ) (d : Data) → Has (codes "ev") d → Has (codes "node") d → IfSome (event_at kind node d) (HasEvent d)
 has_event_at Sync node d e n = with_field (HasEvent d) (events.Sync node) moment_in (codes "at") d
@@ -134,14 +134,14 @@ event_has_fields d event rest h others = (
   (
     for_mapped _ (named_copy event) (codes "copy") d h.copy,
     (
-      for_mapped _ (step_of event) (codes "diff") d h.diff,
+      for_mapped _ (named_difference event) (codes "diff") d h.diff,
       (
         λ _. h.ev,
         (
           for_mapped _ (named_master event) (codes "master") d h.master,
           (
             λ _. h.node,
-            (for_mapped _ (spent_transit event) (codes "transit") d h.transit, others),
+            (for_mapped _ (named_transit event) (codes "transit") d h.transit, others),
           ),
         ),
       ),

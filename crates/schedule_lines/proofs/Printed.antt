@@ -14,7 +14,7 @@ use Rattle.ptp_units.specs.Moment.{bound}
 use Rattle.slave_port.specs.declared.heard.Report.{Report}
 use Rattle.network_model.specs.declared.node.NodeKind.{NodeKind}
 use Rattle.network_model.specs.Run.{true_moment}
-use Rattle.network_model.specs.Kinds.{named_master, step_of, spent_transit, named_copy}
+use Rattle.network_model.specs.Kinds.{named_master, named_difference, named_transit, named_copy}
 use Rattle.trace_model.specs.declared.line.TraceLine.{TraceLine}
 use Rattle.schedule_lines.proofs.Keys.{Field, members_of, line_fields}
 use Rattle.schedule_lines.proofs.Compact.{IsReadable, AreReadableFields, read_object, text_readable, whole_readable}
@@ -69,7 +69,7 @@ fields_readable n line h tagged =
       (
         field_readable whole (named_copy e) IsTag whole_readable tagged.copy,
         (
-          field_readable difference_data (step_of e) (λ _. Unit {0}) (λ z _. text_readable _) (always (step_of e)),
+          field_readable difference_data (named_difference e) (λ _. Unit {0}) (λ z _. text_readable _) (always (named_difference e)),
           (
             text_readable _,
             (
@@ -77,7 +77,7 @@ fields_readable n line h tagged =
               (
                 text_readable _,
                 (
-                  field_readable whole (spent_transit e) IsTag whole_readable tagged.transit,
+                  field_readable whole (named_transit e) IsTag whole_readable tagged.transit,
                   (
                     field_readable whole (out_code line.out) (λ code. code < 65536) small_readable (code_out line.out h.out),
                     (

@@ -12,7 +12,7 @@ use Rattle.network_model.specs.declared.event.Event.TheVariants.{Sync, SyncOne, 
 use Rattle.network_model.specs.declared.event.Event.TheVariants.{Request, Stamped, Tick, SetMaster, StepClock}
 use Rattle.network_model.specs.Name.{IsName}
 use Rattle.network_model.specs.Run.{site_of, true_moment}
-use Rattle.network_model.specs.Kinds.{named_master, step_of, spent_transit, named_copy}
+use Rattle.network_model.specs.Kinds.{named_master, named_difference, named_transit, named_copy}
 use Rattle.trace_model.specs.declared.line.TraceLine.{TraceLine}
 use Rattle.trace_model.specs.declared.line.TraceOut.{TraceOut}
 use Rattle.schedule_lines.specs.Json.{field, has_keys, moment_in, name_in, whole_in, whole_below, octets_in}
@@ -35,8 +35,8 @@ use Rattle.schedule_lines.specs.declared.reading.schedule.Line.TheVariants as sc
 -- ---- an event, from its keys
 
 event_back : (event : Event) (d : Data) → field as_str (codes "ev") d ≡ Some (event_text event) → node_in d ≡ Some (site_of event)
-    → at_in d ≡ true_moment event → copy_in d ≡ named_copy event → field whole_in (codes "transit") d ≡ spent_transit event
-    → field name_in (codes "master") d ≡ named_master event → field difference_in (codes "diff") d ≡ step_of event → event_in d ≡ Some event
+    → at_in d ≡ true_moment event → copy_in d ≡ named_copy event → field whole_in (codes "transit") d ≡ named_transit event
+    → field name_in (codes "master") d ≡ named_master event → field difference_in (codes "diff") d ≡ named_difference event → event_in d ≡ Some event
 event_back (Sync node at) d ev site moment copy transit master diff = rw (ev, site, moment)
 event_back (SyncOne node at) d ev site moment copy transit master diff = rw (ev, site, moment)
 event_back (Follow node) d ev site moment copy transit master diff = rw (ev, site)
@@ -87,8 +87,8 @@ line_back n line d ev recorded number keys = rw (recorded, number, keys, ev)
 -- ---- the number of its keys
 
 event_counted : (event : Event)
-    → one_if (option_map moment_data (true_moment event)) + one_if (option_map whole (named_copy event)) + one_if (option_map difference_data (step_of event))
-    + one_if (option_map string (named_master event)) + one_if (option_map whole (spent_transit event)) + 2 ≡ event_keys event
+    → one_if (option_map moment_data (true_moment event)) + one_if (option_map whole (named_copy event)) + one_if (option_map difference_data (named_difference event))
+    + one_if (option_map string (named_master event)) + one_if (option_map whole (named_transit event)) + 2 ≡ event_keys event
 event_counted (StepClock node size) = refl
 event_counted _ = refl
 
@@ -192,9 +192,9 @@ read_event event rest h others =
     (told fs (codes "node") name_in string (Some (site_of event)) IsName refl name_back h.node)
     (told fs (codes "at") moment_in moment_data (true_moment event) (λ time. time < bound) (ap (option_or (option_map moment_data (true_moment event))) others.at) moment_back h.moment)
     (told fs (codes "copy") whole_in whole (named_copy event) (λ _. Unit {0}) (ap (option_or (option_map whole (named_copy event))) others.copy) (λ _ _. refl) (always (named_copy event)))
-    (told fs (codes "transit") whole_in whole (spent_transit event) (λ _. Unit {0}) (ap (option_or (option_map whole (spent_transit event))) others.transit) (λ _ _. refl) (always (spent_transit event)))
+    (told fs (codes "transit") whole_in whole (named_transit event) (λ _. Unit {0}) (ap (option_or (option_map whole (named_transit event))) others.transit) (λ _ _. refl) (always (named_transit event)))
     (told fs (codes "master") name_in string (named_master event) IsName (ap (option_or (option_map string (named_master event))) others.master) name_back h.master)
-    (told fs (codes "diff") difference_in difference_data (step_of event) IsShort (ap (option_or (option_map difference_data (step_of event))) others.diff) difference_back h.step)
+    (told fs (codes "diff") difference_in difference_data (named_difference event) IsShort (ap (option_or (option_map difference_data (named_difference event))) others.diff) difference_back h.step)
 
 read_report : (n : ℕ) (line : TraceLine) → IsRecorded line → report_in (event_data n line) ≡ out_report line.out
 read_report n line h =

@@ -14,7 +14,7 @@ use Rattle.network_model.specs.declared.refusal.WorldRefusal.{WorldRefusal}
 use Rattle.network_model.specs.declared.refusal.WorldRefusal.TheVariants.{NoCopy, NoTransit}
 use Rattle.network_model.specs.Network.{Network, slave_port}
 use Rattle.network_model.specs.Run.{Run, place, place_at, site_of}
-use Rattle.network_model.specs.Kinds.{spent_transit, named_copy}
+use Rattle.network_model.specs.Kinds.{named_transit, named_copy}
 use Rattle.network_model.specs.Truth.{copy_of}
 use Rattle.network_model.specs.Outcome.{◌>>=◌, node_as, clock_of, port_of, open_transit, outcome_of}
 use Rattle.network_model.specs.Premises.{IsAcceptedRun}
@@ -64,7 +64,7 @@ copy_named network (Hear node copy) earlier accepted =
     (λ m is _. copy_below network earlier copy m (ok_some (copy_of network earlier copy) NoCopy is)))
 copy_named network _ earlier accepted = tt
 
-transit_named : (network : Network) (event : Event) (earlier : Run) → IsOk (outcome_of network earlier event) → IfSome (spent_transit event) (λ transit. transit < length earlier)
+transit_named : (network : Network) (event : Event) (earlier : Run) → IsOk (outcome_of network earlier event) → IfSome (named_transit event) (λ transit. transit < length earlier)
 transit_named network (Leave node transit at) earlier accepted =
     let found = option_and_then (open_transit node earlier transit) (place_at earlier transit) in
     under (node_as clock_of network node) _ (transit < length earlier) accepted
@@ -131,8 +131,8 @@ tagged_line network event earlier line accepted measured small told = record {
   number = small;
   copy = subst (λ (v : Event). IfSome (named_copy v) IsTag) (sym told.told.event)
       (below_tag (named_copy event) (length earlier) small (copy_named network event earlier accepted.accepted.0));
-  transit = subst (λ (v : Event). IfSome (spent_transit v) IsTag) (sym told.told.event)
-      (below_tag (spent_transit event) (length earlier) small (transit_named network event earlier accepted.accepted.0));
+  transit = subst (λ (v : Event). IfSome (named_transit v) IsTag) (sym told.told.event)
+      (below_tag (named_transit event) (length earlier) small (transit_named network event earlier accepted.accepted.0));
   report = tagged_out (copy_of network (event ∷ earlier) told.stepped.tag) told.stepped.outcome line.out
       (λ report is.
       let reports : Reports network (place event earlier) report = told.answered.outcome ∙ ap Ok is in

@@ -8,7 +8,7 @@ use Rattle.serde_json.specs.Find.{get, as_str}
 use Rattle.event_codec.specs.declared.port.PortConfig.{PortConfig}
 use Rattle.ptp_units.specs.declared.sequence.Seq.{Seq}
 use Rattle.network_model.specs.Run.{true_moment}
-use Rattle.network_model.specs.Kinds.{named_copy, named_master, step_of, spent_transit}
+use Rattle.network_model.specs.Kinds.{named_copy, named_master, named_difference, named_transit}
 use Rattle.network_model.specs.declared.event.Event.{Event}
 use Rattle.network_model.specs.declared.node.NodeKind.{NodeKind}
 use Rattle.network_model.specs.declared.node.NodeSpec.{NodeSpec}
@@ -80,8 +80,8 @@ one_if (Some x) = 1
 -- how many keys an event has: `ev`, `node`, and one for each thing that it names
 abbrev pub event_keys : Event → ℕ
 event_keys event =
-    one_if (true_moment event) + one_if (named_copy event) + one_if (step_of event)
-    + one_if (named_master event) + one_if (spent_transit event) + 2
+    one_if (true_moment event) + one_if (named_copy event) + one_if (named_difference event)
+    + one_if (named_master event) + one_if (named_transit event) + 2
 
 -- the event that an object with key `ev` is, with just its keys
 abbrev pub scheduled_in : Data → Option Event

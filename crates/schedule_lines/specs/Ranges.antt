@@ -5,7 +5,7 @@ use Rattle.event_codec.specs.declared.port.PortConfig.{PortConfig}
 use Rattle.ptp_units.specs.Moment.{bound}
 use Rattle.network_model.specs.Name.{IsName}
 use Rattle.network_model.specs.Run.{site_of, true_moment, Run}
-use Rattle.network_model.specs.Kinds.{named_copy, named_master, step_of, spent_transit}
+use Rattle.network_model.specs.Kinds.{named_copy, named_master, named_difference, named_transit}
 use Rattle.network_model.specs.declared.event.Event.{Event}
 use Rattle.network_model.specs.declared.node.NodeKind.{NodeKind}
 use Rattle.network_model.specs.declared.node.NodeSpec.{NodeSpec}
@@ -38,7 +38,7 @@ pub record IsEvent (event : Event) : Type 0 where
   pub node : IsName (site_of event)
   pub master : IfSome (named_master event) IsName
   pub moment : IfSome (true_moment event) (λ time. time < bound)
-  pub step : IfSome (step_of event) IsShort
+  pub step : IfSome (named_difference event) IsShort
 
 -- an outcome whose values are within their ranges
 abbrev pub IsOut : TraceOut → Type 0
@@ -118,7 +118,7 @@ pub record HasTags (report : Report) : Type 0 where
 pub record IsTagged (n : ℕ) (line : TraceLine) : Type 0 where
   pub number : IsTag n
   pub copy : IfSome (named_copy line.event) IsTag
-  pub transit : IfSome (spent_transit line.event) IsTag
+  pub transit : IfSome (named_transit line.event) IsTag
   pub report : IfSome (out_report line.out) HasTags
 
 -- the compact text of a node's line is read as its value

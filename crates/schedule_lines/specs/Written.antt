@@ -16,7 +16,7 @@ use Rattle.network_model.specs.declared.event.Event.TheVariants.{Request, Stampe
 use Rattle.network_model.specs.declared.node.NodeKind.{NodeKind}
 use Rattle.network_model.specs.declared.node.NodeSpec.{NodeSpec}
 use Rattle.network_model.specs.Run.{site_of, true_moment}
-use Rattle.network_model.specs.Kinds.{named_copy, named_master, step_of, spent_transit}
+use Rattle.network_model.specs.Kinds.{named_copy, named_master, named_difference, named_transit}
 use Rattle.trace_model.specs.declared.line.TraceLine.{TraceLine}
 use Rattle.trace_model.specs.declared.line.TraceOut.{TraceOut}
 use Rattle.network_model.specs.declared.node.NodeKind.TheVariants as kinds
@@ -83,11 +83,11 @@ abbrev pub with_event : Event → Members → Members
 with_event event members =
     with_some (codes "at") (option_map moment_data (true_moment event))
     (with_some (codes "copy") (option_map whole (named_copy event))
-    (with_some (codes "diff") (option_map difference_data (step_of event))
+    (with_some (codes "diff") (option_map difference_data (named_difference event))
     (with_some (codes "ev") (Some (string (event_text event)))
     (with_some (codes "master") (option_map string (named_master event))
     (with_some (codes "node") (Some (string (site_of event)))
-    (with_some (codes "transit") (option_map whole (spent_transit event)) members))))))
+    (with_some (codes "transit") (option_map whole (named_transit event)) members))))))
 
 -- the value of an event's line in a schedule
 abbrev pub scheduled_data : Event → Data

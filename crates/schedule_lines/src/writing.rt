@@ -81,14 +81,14 @@ fn put_event(
 ) -> Result<(), AllocError>
     ensures { OnOk result (members_view members.new.entries ≡ with_event event.now (members_view members.old.entries)) }
 {
-    put_whole(members, alloc, "transit", event.transit())?;
+    put_whole(members, alloc, "transit", event.named_transit())?;
     put_text(members, alloc, "node", event.node().text())?;
-    if let Some(master) = event.master() {
+    if let Some(master) = event.named_master() {
         put_text(members, alloc, "master", master.text())?;
     }
     put_text(members, alloc, "ev", event_text(event))?;
-    put_difference(members, alloc, "diff", event.difference())?;
-    put_whole(members, alloc, "copy", event.copy())?;
+    put_difference(members, alloc, "diff", event.named_difference())?;
+    put_whole(members, alloc, "copy", event.named_copy())?;
     put_moment(members, alloc, "at", event.true_moment())
 }
 

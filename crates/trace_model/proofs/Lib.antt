@@ -5,7 +5,6 @@ pub mod Lines
 pub mod Found
 pub mod Recorded
 pub mod Last
-pub mod Left
 pub mod MessagesAfter
 pub mod Stays
 pub mod Soundness

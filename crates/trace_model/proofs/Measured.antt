@@ -36,7 +36,7 @@ use Rattle.trace_model.specs.Told.{TellsRun}
 use Rattle.trace_model.specs.Faithful.{TellsPlace, TellsJourney}
 use Rattle.trace_model.proofs.Found.{same_event, same_number}
 use Rattle.trace_model.proofs.MessagesAfter.{accepted_told, each_journey_is_told}
-use Rattle.trace_model.proofs.Stays.{reading_told, stays_told, stays_spent, stays_once}
+use Rattle.trace_model.proofs.Stays.{reading_told, stays_told, stays_were_left, stays_once}
 use Rattle.trace_model.proofs.Exchanges.{passes, found_below}
 use Rattle.network_model.specs.Clock as clocks
 use Rattle.network_model.specs.Journey as made
@@ -101,10 +101,10 @@ followed network answered e tells kind arrival arrived journey copy tells_arriva
     let lines = each_journey_is_told network run (lines_to e) copy journey told
     (journey_within run arrival copy journey there is) in
     let are = stays_are network arrival.earlier copy journey before is in
-    let spent = stays_spent network arrival.earlier copy journey before is in
+    let left = stays_were_left network arrival.earlier copy journey before is in
     let once = stays_once network answered.earlier e.earlier arrival.earlier journey.stays lines.by_lines.stays
     tells.before accepted.1
-    (inside answered arrival there) are spent lines.tells.stays in
+    (inside answered arrival there) are left lines.tells.stays in
     let begins : kind (event_of lines.by_lines.origin) ≡ true =
     ap kind (same_event network journey.origin lines.by_lines.origin lines.tells.origin) ∙ kind_is in
     let origin_in = IsIn-origin arrival.earlier copy journey is in

@@ -15,6 +15,7 @@ use Rattle.network_model.proofs.Places.{accepted-place_at}
 use Rattle.network_model.proofs.Sites.{named-self}
 use Rattle.network_model.proofs.Journeys.{continued, same_origin}
 use Rattle.network_model.proofs.Paths.{gone_on}
+use Rattle.network_model.proofs.Left.{left_parts, made_before, left_made}
 use Rattle.trace_model.specs.declared.line.TraceLine.{TraceLine}
 use Rattle.trace_model.specs.Line.{Lines, counts}
 use Rattle.trace_model.specs.Record.{LinePlace, line_place, event_of, site, line_number}
@@ -25,7 +26,6 @@ use Rattle.trace_model.proofs.Certain.{is_certain, certain_takes}
 use Rattle.trace_model.proofs.Found.{same_length, event_told, same_event, same_number, line_counts}
 use Rattle.trace_model.proofs.Found.{each_event_has_its_line}
 use Rattle.trace_model.proofs.Recorded.{certain_counts}
-use Rattle.trace_model.proofs.Left.{left_parts, made_before, left_made}
 use Rattle.network_model.specs.Journey as made
 use Rattle.trace_model.specs.Journey as lined
 

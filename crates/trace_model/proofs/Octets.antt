@@ -36,6 +36,7 @@ use Rattle.network_model.proofs.Readings.{sync_timed}
 use Rattle.network_model.proofs.MessagesAfter.{copy_of-message_after}
 use Rattle.network_model.proofs.Copies.{answered as answers_request}
 use Rattle.network_model.proofs.Leaving.{copy_made-forwarded, copy_of-since}
+use Rattle.network_model.proofs.Left.{left_parts}
 use Rattle.trace_model.specs.Record.{LinePlace, last_line, reading}
 use Rattle.trace_model.specs.Journey as lined
 use Rattle.trace_model.specs.Octets.{sent_after, follow_up_sent, answered, message_made, writes_right}
@@ -45,7 +46,6 @@ use Rattle.trace_model.proofs.Found.{same_event}
 use Rattle.trace_model.proofs.Recorded.{sequence_told}
 use Rattle.trace_model.proofs.Last.{last_at-waiting, last_at-is, last_told}
 use Rattle.trace_model.proofs.Certain.{sync_certain}
-use Rattle.trace_model.proofs.Left.{left_parts}
 use Rattle.trace_model.proofs.MessagesAfter.{accepted_told, made_told, each_journey_is_told}
 use Rattle.trace_model.proofs.Stays.{reading_told}
 use Rattle.trace_model.proofs.Written.{written, message_after_told}

@@ -10,7 +10,7 @@ use Rattle.network_model.specs.declared.event.Event.{Event}
 use Rattle.network_model.specs.declared.event.Event.TheVariants.{Sync, SyncOne, Request}
 use Rattle.network_model.specs.Network.{Network, NodeName, PortSetup, is_named}
 use Rattle.network_model.specs.Run.{Run, Place, place, until, site_of, true_moment}
-use Rattle.network_model.specs.Kinds.{draws_sync, is_request, is_step, step_of}
+use Rattle.network_model.specs.Kinds.{draws_sync, is_request, is_step, named_difference}
 use Rattle.network_model.specs.Clock.{difference, shown_at, reading_of, reading}
 use Rattle.network_model.specs.Numbering.{draws_with, number_of}
 use Rattle.network_model.specs.Outcome.{IsRun}
@@ -51,7 +51,7 @@ uncounted network event earlier line kind certain told other = by (kind event) r
 stepped_alike : (node : NodeName) (event : Event) (one other : Run) → difference node one ≡ difference node other
     → difference node (event ∷ one) ≡ difference node (event ∷ other)
 stepped_alike node event one other same =
-    ap (λ (d : ℤ). if is_named (site_of event) node then unwrap_or (step_of event) d else d) same
+    ap (λ (d : ℤ). if is_named (site_of event) node then unwrap_or (named_difference event) d else d) same
 
 pub difference_told : (network : Network) (node : NodeName) (run : Run) (lines : Lines) → TellsRun network run lines
     → difference node (events network lines) ≡ difference node run

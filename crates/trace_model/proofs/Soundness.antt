@@ -1,5 +1,5 @@
 -- A report line is sound exactly where there is no reason against it, and what verdicts say of that.
-use Rattle.std.proofs.Common.{◌≡◌, ◌∙◌, ℕ, ◌+◌, Bool, true, false, ◌&&◌, cond, not, [], ◌∷◌, ◌++◌, length}
+use Rattle.std.proofs.Common.{◌≡◌, ◌∙◌, ℕ, ◌+◌, Bool, true, false, ◌&&◌, cond, [], ◌∷◌, ◌++◌, length}
 use Rattle.std.proofs.Common.{Option, Some, None, option_map, is_some, refl, sym, ap, subst, arith}
 use Rattle.std.proofs.lemmas.Bool.{and_parts}
 use Rattle.std.proofs.lemmas.List.Sums.{sum_by-cons}
@@ -10,25 +10,30 @@ use Rattle.trace_model.specs.declared.line.TraceLine.{TraceLine}
 use Rattle.trace_model.specs.declared.verdict.Verdict.{Verdict}
 use Rattle.trace_model.specs.declared.verdict.Verdict.TheVariants.{Accepted, Refused}
 use Rattle.trace_model.specs.declared.verdict.Why.{Why}
-use Rattle.trace_model.specs.declared.verdict.Why.TheVariants.{OtherNumber, OtherMaster, WrongReading}
-use Rattle.trace_model.specs.declared.verdict.Why.TheVariants.{WrongValue, TooBig, Bytes}
+use Rattle.trace_model.specs.declared.verdict.Why.TheVariants.{NoSuchLine, OtherNumber, OtherMaster, BrokenJourney}
+use Rattle.trace_model.specs.declared.verdict.Why.TheVariants.{WrongReading, WrongValue, TooBig, Bytes}
 use Rattle.trace_model.specs.Line.{Lines}
 use Rattle.trace_model.specs.Record.{LinePlace, line_place, line_number, site}
-use Rattle.trace_model.specs.Journey.{LineJourney}
-use Rattle.trace_model.specs.Sound.{Exchange, Sound, exchange_of, unbroken, are_paired, is_of_master, are_readings}
-use Rattle.trace_model.specs.Sound.{fits, are_results, are_octets, journeys_reason, exchange_reason, reason}
+use Rattle.trace_model.specs.Sound.{Sound, exchange_of, unbroken, are_paired, is_of_master, are_readings}
+use Rattle.trace_model.specs.Sound.{fits, are_results, are_octets, needs, first_failing, reason}
 use Rattle.trace_model.specs.Verdict.{report_in, one_more, with_line, verdict}
 use Rattle.trace_model.specs.Soundness.{ReasonsMissNothing, ReportLine, AllSound, report_count}
 use Rattle.trace_model.specs.Soundness.{FirstUnsound, TellsSoundness, VerdictsTellSoundness}
 
--- the first of six tests that fails
-abbrev first_failing : (paired of_master readings fit results octets : Bool) → Option Why
-first_failing paired of_master readings fit results octets =
-    cond (not paired) (Some OtherNumber)
-    (cond (not of_master) (Some OtherMaster) (cond (not readings) (Some WrongReading)
-    (cond (not fit) (Some TooBig) (cond (not results) (Some WrongValue) (cond (not octets) (Some Bytes) None)))))
+-- with what was needed, the reason is the one that is found with it
+met : {X : Type 0} (why : Why) (o : Option X) (found : X → Option Why) (x : X) → o ≡ Some x → found x ≡ None
+    → needs why o found ≡ None
+met why o found x there none = ap (λ o. needs why o found) there ∙ none
 
-none_fails : (a b c d f g : Bool) → first_failing a b c d f g ≡ None
+-- without a reason, what was needed is there, and there is no reason with it
+all_met : {X : Type 0} (why : Why) (o : Option X) (found : X → Option Why) → needs why o found ≡ None
+    → (x : X) × (o ≡ Some x) × (found x ≡ None)
+all_met why None found none = cc
+all_met why (Some x) found none = (x, refl, none)
+
+-- without a reason, all six conditions hold that speak of both journeys
+none_fails : (a b c d f g : Bool) → first_failing ((OtherNumber, a) ∷ (OtherMaster, b) ∷ (WrongReading, c)
+    ∷ (TooBig, d) ∷ (WrongValue, f) ∷ (Bytes, g) ∷ []) ≡ None
     → (a ≡ true) × (b ≡ true) × (c ≡ true) × (d ≡ true) × (f ≡ true) × (g ≡ true)
 none_fails true true true true true true h = (refl, refl, refl, refl, refl, refl)
 none_fails true true true true true false h = cc
@@ -42,27 +47,31 @@ module _ (network : Network) (e : LinePlace) (report : Report) where
   sound_reason : Sound network e report → reason network e report ≡ None
   sound_reason s =
       let has = s.exchange in
-      ap (exchange_reason network e report) has.lines
-      ∙ (λ i. journeys_reason network e report has.x (has.sync_unbroken i) (has.request_unbroken i))
-      ∙ (λ i. first_failing (has.paired i) (has.of_master i) (has.readings i) (has.sync_fits i && has.request_fits i)
-      (has.results i) (s.octets i))
+      met NoSuchLine _ _ has.x has.lines (met BrokenJourney _ _ has.sync has.sync_unbroken
+      (met BrokenJourney _ _ has.request has.request_unbroken (λ i. first_failing (
+      (OtherNumber, has.paired i) ∷ (OtherMaster, has.of_master i) ∷ (WrongReading, has.readings i)
+      ∷ (TooBig, has.sync_fits i && has.request_fits i) ∷ (WrongValue, has.results i) ∷ (Bytes, s.octets i) ∷ []))))
 
-  journeys_sound : (x : Exchange) (sync request : Option LineJourney) → exchange_of network (site e) e report ≡ Some x
-      → unbroken network e draws_sync x.sync_arrival ≡ sync → unbroken network e is_request x.request_arrival ≡ request
-      → journeys_reason network e report x sync request ≡ None → Sound network e report
-  journeys_sound x (Some sync) (Some request) lines s r h =
+  reason_sound : reason network e report ≡ None → Sound network e report
+  reason_sound h =
+      let lines = all_met NoSuchLine (exchange_of network (site e) e report) _ h in
+      let x = lines.0 in
+      let sync_way = all_met BrokenJourney (unbroken network e draws_sync x.sync_arrival) _ lines.2 in
+      let request_way = all_met BrokenJourney (unbroken network e is_request x.request_arrival) _ sync_way.2 in
+      let sync = sync_way.0 in
+      let request = request_way.0 in
       let p = none_fails (are_paired network x sync request) (is_of_master network (site e) e report x sync)
-      (are_readings network x sync request)
-      (fits sync && fits request) (are_results report x sync request) (are_octets network x sync request) h in
+      (are_readings network x sync request) (fits sync && fits request) (are_results report x sync request)
+      (are_octets network x sync request) request_way.2 in
       let fit = and_parts (fits sync) (fits request) p.3 in
       record {
         exchange = record {
           x = x;
           sync = sync;
           request = request;
-          lines = lines;
-          sync_unbroken = s;
-          request_unbroken = r;
+          lines = lines.1;
+          sync_unbroken = sync_way.1;
+          request_unbroken = request_way.1;
           paired = p.0;
           of_master = p.1;
           readings = p.2;
@@ -72,16 +81,6 @@ module _ (network : Network) (e : LinePlace) (report : Report) where
         };
         octets = p.5;
       }
-  journeys_sound x (Some sync) None lines s r h = cc
-  journeys_sound x None request lines s r h = cc
-
-  exchange_sound : (o : Option Exchange) → exchange_of network (site e) e report ≡ o
-      → exchange_reason network e report o ≡ None → Sound network e report
-  exchange_sound None lines h = cc
-  exchange_sound (Some x) lines h = journeys_sound x _ _ lines refl refl h
-
-  reason_sound : reason network e report ≡ None → Sound network e report
-  reason_sound h = exchange_sound (exchange_of network (site e) e report) refl h
 
 pub reasons_miss_nothing : ReasonsMissNothing
 reasons_miss_nothing network e report = (reason_sound network e report, sound_reason network e report)

@@ -1,4 +1,4 @@
--- The stays of journeys, by lines: their readings, how long they were together, and that each was ended once.
+-- The stays of journeys, by lines: their readings, how long they were together, and that each was left once.
 use Rattle.std.proofs.Common.{◌≡◌, ◌∙◌, ℕ, ◌+◌, ◌-◌, ◌≤◌, Bool, true, false, not, List, [], ◌∷◌, length, Option, Some}
 use Rattle.std.proofs.Common.{Ok, IsOk, refl, sym, ap, subst, arith, if◌then◌else◌}
 use Rattle.std.specs.Prelude.{◌==◌, ◌&&◌, nat_lt, is_some, unwrap_or, count_by, sum_by}
@@ -9,14 +9,15 @@ use Rattle.network_model.specs.declared.event.Event.{Event}
 use Rattle.network_model.specs.declared.event.Event.TheVariants.{Sync, SyncOne, Leave, Request}
 use Rattle.network_model.specs.Network.{Network}
 use Rattle.network_model.specs.Run.{Run, Place, place, place_at, tag_of, until, IsIn, true_moment}
-use Rattle.network_model.specs.Kinds.{spends}
+use Rattle.network_model.specs.Kinds.{is_leave_of}
 use Rattle.network_model.specs.Outcome.{outcome_of, IsRun}
 use Rattle.network_model.proofs.Options.{ok_value}
 use Rattle.network_model.proofs.Places.{tag_of-place_at, accepted-place_at, IsRun-place_at}
 use Rattle.network_model.proofs.Sequences.{count-yes, count-more}
 use Rattle.network_model.proofs.Journeys.{continued}
-use Rattle.network_model.proofs.Spent.{spent_once}
+use Rattle.network_model.proofs.LeftOnce.{each_stay_left_once}
 use Rattle.network_model.proofs.Paths.{IsStay, AreStays, gone_on}
+use Rattle.network_model.proofs.Left.{left_made}
 use Rattle.trace_model.specs.Line.{Lines, counts}
 use Rattle.trace_model.specs.Record.{LinePlace, line_number, events, reading, reads_right}
 use Rattle.trace_model.specs.Sound.{stay_reads_right}
@@ -25,7 +26,6 @@ use Rattle.trace_model.specs.Faithful.{took_effect, TellsPlace, TellsStay, Tells
 use Rattle.trace_model.proofs.Found.{event_told, same_number, line_counts}
 use Rattle.trace_model.proofs.Lines.{events_more}
 use Rattle.trace_model.proofs.Recorded.{count_at_most, each_event_is_recorded}
-use Rattle.trace_model.proofs.Left.{left_made}
 use Rattle.network_model.specs.declared.stepped.Outcome.TheVariants as outcomes
 use Rattle.network_model.specs.Clock as clocks
 use Rattle.network_model.specs.Journey as made
@@ -45,55 +45,55 @@ reading_told network run p e accepted there tells timed =
     let recorded = each_event_is_recorded network p e (until_accepted network run p accepted there) tells timed in
     (ap (λ (r : Option ℕ). unwrap_or r 0) recorded.reading, recorded.right)
 
--- a stay was ended by an event that spent it and made a message
-pub record IsSpent (network : Network) (stay : made.Stay) : Type 0 where
-  pub spent : spends (tag_of stay.entered) stay.left.event ≡ true
+-- a stay was left by an event that made a message
+pub record WasLeft (network : Network) (stay : made.Stay) : Type 0 where
+  pub leaves : is_leave_of (tag_of stay.entered) stay.left.event ≡ true
   pub is_made : outcome_of network stay.left.earlier stay.left.event ≡ Ok outcomes.Made
 
-abbrev pub AreSpent : Network → List made.Stay → Type 0
-AreSpent network [] = Unit {0}
-AreSpent network (stay ∷ stays) = IsSpent network stay × AreSpent network stays
+abbrev pub WereLeft : Network → List made.Stay → Type 0
+WereLeft network [] = Unit {0}
+WereLeft network (stay ∷ stays) = WasLeft network stay × WereLeft network stays
 
-begun_spent : (network : Network) (event : Event) (earlier : Run) (journey : made.Journey)
-    → made.begun event earlier ≡ journey → AreSpent network journey.stays
-begun_spent network event earlier journey same = subst (λ (j : made.Journey). AreSpent network j.stays) same tt
+begun_left : (network : Network) (event : Event) (earlier : Run) (journey : made.Journey)
+    → made.begun event earlier ≡ journey → WereLeft network journey.stays
+begun_left network event earlier journey same = subst (λ (j : made.Journey). WereLeft network j.stays) same tt
 
-spent_by : (network : Network) (event : Event) (earlier : Run) (journey : made.Journey)
+left_by : (network : Network) (event : Event) (earlier : Run) (journey : made.Journey)
     → IsOk (outcome_of network earlier event)
     → made.journey_made event earlier (made.journey_of earlier) ≡ Some journey
-    → ((tag : ℕ) (j : made.Journey) → made.journey_of earlier tag ≡ Some j → AreSpent network j.stays)
-    → AreSpent network journey.stays
-spent_by network (Sync node at) earlier journey accepted is before =
-    begun_spent network (Sync node at) earlier journey cc
-spent_by network (SyncOne node at) earlier journey accepted is before =
-    begun_spent network (SyncOne node at) earlier journey cc
-spent_by network (Request node at) earlier journey accepted is before =
-    begun_spent network (Request node at) earlier journey cc
-spent_by network (Leave node transit at) earlier journey accepted is before =
+    → ((tag : ℕ) (j : made.Journey) → made.journey_of earlier tag ≡ Some j → WereLeft network j.stays)
+    → WereLeft network journey.stays
+left_by network (Sync node at) earlier journey accepted is before =
+    begun_left network (Sync node at) earlier journey cc
+left_by network (SyncOne node at) earlier journey accepted is before =
+    begun_left network (SyncOne node at) earlier journey cc
+left_by network (Request node at) earlier journey accepted is before =
+    begun_left network (Request node at) earlier journey cc
+left_by network (Leave node transit at) earlier journey accepted is before =
     let from = continued (place (Leave node transit at) earlier) earlier transit journey is in
     let on = gone_on (place (Leave node transit at) earlier) from.0 from.2 journey from.6 in
     let outcome = ok_value (outcome_of network earlier (Leave node transit at)) accepted in
     let is_made = left_made network earlier node transit at outcome.0 journey outcome.1 is in
-    let head : IsSpent network (record { entered = from.0; left = place (Leave node transit at) earlier }) =
+    let head : WasLeft network (record { entered = from.0; left = place (Leave node transit at) earlier }) =
     record {
-      spent = eq-eqb transit (tag_of from.0) (sym (tag_of-place_at earlier transit from.0 from.3));
+      leaves = eq-eqb transit (tag_of from.0) (sym (tag_of-place_at earlier transit from.0 from.3));
       is_made =
           outcome.1 ∙ ap Ok is_made;
     } in
-    subst (AreSpent network) (sym on.1) (head, before from.1 from.2 from.5)
-spent_by network _ earlier journey accepted is before = cc
+    subst (WereLeft network) (sym on.1) (head, before from.1 from.2 from.5)
+left_by network _ earlier journey accepted is before = cc
 
-pub stays_spent : (network : Network) (run : Run) (tag : ℕ) (journey : made.Journey) → IsRun network run
-    → made.journey_of run tag ≡ Some journey → AreSpent network journey.stays
-stays_spent network [] tag journey accepted is = cc
-stays_spent network (event ∷ earlier) tag journey accepted is =
-    at (length earlier == tag) is (λ t j known. stays_spent network earlier t j accepted.1 known)
+pub stays_were_left : (network : Network) (run : Run) (tag : ℕ) (journey : made.Journey) → IsRun network run
+    → made.journey_of run tag ≡ Some journey → WereLeft network journey.stays
+stays_were_left network [] tag journey accepted is = cc
+stays_were_left network (event ∷ earlier) tag journey accepted is =
+    at (length earlier == tag) is (λ t j known. stays_were_left network earlier t j accepted.1 known)
   where
     at : (same : Bool) → (if same then made.journey_made event earlier (made.journey_of earlier)
         else made.journey_of earlier tag) ≡ Some journey
-        → ((t : ℕ) (j : made.Journey) → made.journey_of earlier t ≡ Some j → AreSpent network j.stays)
-        → AreSpent network journey.stays
-    at true is before = spent_by network event earlier journey accepted.0 is before
+        → ((t : ℕ) (j : made.Journey) → made.journey_of earlier t ≡ Some j → WereLeft network j.stays)
+        → WereLeft network journey.stays
+    at true is before = left_by network event earlier journey accepted.0 is before
     at false is before = before tag journey is
 
 -- how long a message was in one clock, and that the readings are right
@@ -159,26 +159,26 @@ count_present network kind (event ∷ earlier) (line ∷ lines) tag p told there
         by false c = let list = ap (count_by kind) (events_more network line lines false c) in let some =
             before there in omega arith
 
--- each stay was ended once
+-- each stay was left once
 pub stays_once : (network : Network) (run : Run) (lines : Lines) (small : Run) (stays : List made.Stay)
     (others : List lined.LineStay) → TellsRun network run lines → IsRun network run
-    → ((q : Place) → IsIn small q → IsIn run q) → AreStays small stays → AreSpent network stays
+    → ((q : Place) → IsIn small q → IsIn run q) → AreStays small stays → WereLeft network stays
     → TellsStays network stays others
-    → list_all (λ stay. count_by (spends (line_number stay.entered)) (events network lines) == 1) others ≡ true
-stays_once network run lines small [] [] told accepted within are spent tells = refl
-stays_once network run lines small [] (l ∷ others) told accepted within are spent tells = absurd tells
-stays_once network run lines small (stay ∷ stays) [] told accepted within are spent tells = absurd tells
-stays_once network run lines small (stay ∷ stays) (l ∷ others) told accepted within are spent tells =
+    → list_all (λ stay. count_by (is_leave_of (line_number stay.entered)) (events network lines) == 1) others ≡ true
+stays_once network run lines small [] [] told accepted within are left tells = refl
+stays_once network run lines small [] (l ∷ others) told accepted within are left tells = absurd tells
+stays_once network run lines small (stay ∷ stays) [] told accepted within are left tells = absurd tells
+stays_once network run lines small (stay ∷ stays) (l ∷ others) told accepted within are left tells =
     let number : line_number l.entered ≡ tag_of stay.entered =
     same_number network stay.entered l.entered tells.0.entered in
-    let some = count_present network (spends (tag_of stay.entered)) run lines (tag_of stay.left) stay.left told
+    let some = count_present network (is_leave_of (tag_of stay.entered)) run lines (tag_of stay.left) stay.left told
     (within stay.left are.0.left_in)
-    (ap took_effect spent.0.is_made) spent.0.spent in
-    let most = count_at_most network (spends (tag_of stay.entered)) run lines told in
-    let once = spent_once network run (tag_of stay.entered) accepted in
-    let one : count_by (spends (tag_of stay.entered)) (events network lines) ≡ 1 = omega arith in
-    and_from (count_by (spends (line_number l.entered)) (events network lines) == 1)
-    (list_all (λ (stay : lined.LineStay). count_by (spends (line_number stay.entered)) (events network lines) == 1) others)
-    (eq-eqb (count_by (spends (line_number l.entered)) (events network lines)) 1
-    (ap (λ (n : ℕ). count_by (spends n) (events network lines)) number ∙ one))
-    (stays_once network run lines small stays others told accepted within are.1 spent.1 tells.1)
+    (ap took_effect left.0.is_made) left.0.leaves in
+    let most = count_at_most network (is_leave_of (tag_of stay.entered)) run lines told in
+    let once = each_stay_left_once network run (tag_of stay.entered) accepted in
+    let one : count_by (is_leave_of (tag_of stay.entered)) (events network lines) ≡ 1 = omega arith in
+    and_from (count_by (is_leave_of (line_number l.entered)) (events network lines) == 1)
+    (list_all (λ (stay : lined.LineStay). count_by (is_leave_of (line_number stay.entered)) (events network lines) == 1) others)
+    (eq-eqb (count_by (is_leave_of (line_number l.entered)) (events network lines)) 1
+    (ap (λ (n : ℕ). count_by (is_leave_of n) (events network lines)) number ∙ one))
+    (stays_once network run lines small stays others told accepted within are.1 left.1 tells.1)

@@ -7,7 +7,7 @@ use Rattle.network_model.specs.declared.event.Event.{Event}
 use Rattle.network_model.specs.declared.event.Event.TheVariants.{Sync, SyncOne, Leave, Request}
 use Rattle.network_model.specs.Network.{Network, NodeName, is_named}
 use Rattle.network_model.specs.Run.{Run}
-use Rattle.network_model.specs.Kinds.{entered_copy, spends}
+use Rattle.network_model.specs.Kinds.{entered_copy, is_leave_of}
 use Rattle.trace_model.specs.Line.{Lines, counts}
 use Rattle.trace_model.specs.Record.{LinePlace, line_place, line_number, event_of, site, line_at, reading}
 
@@ -67,6 +67,6 @@ line_journey_of network (line ∷ earlier) n =
     then line_journey_made network line.event (line_place line earlier) (line_journey_of network earlier) else None)
     else line_journey_of network earlier n
 
--- each stay of a journey was ended by one Leave line alone
+-- each stay of a journey was left by one Leave line alone
 abbrev pub left_once : Run → LineJourney → Bool
-left_once run journey = list_all (λ stay. count_by (spends (line_number stay.entered)) run == 1) journey.stays
+left_once run journey = list_all (λ stay. count_by (is_leave_of (line_number stay.entered)) run == 1) journey.stays

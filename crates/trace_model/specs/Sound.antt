@@ -1,8 +1,9 @@
 -- When a report line is sound: eight conditions, asked of lines of any origin. A report names four lines by their
 -- numbers: the Sync's arrival, the hearing of the Follow_Up (none for a one-step Sync), the request, the hearing of
 -- the Delay_Resp.
-use Rattle.std.specs.Prelude.{◌≡◌, ℕ, ◌+◌, ◌-◌, ◌^◌, ℤ, pos, ◌-ℤ◌, Bool, true, false, ◌&&◌, ◌||◌, not, ◌∷◌, nat_lt}
-use Rattle.std.specs.Prelude.{◌==◌, is_some, IsTrue, if◌then◌else◌, Option, Some, None, option_map, option_and_then}
+use Rattle.std.specs.Prelude.{◌≡◌, ℕ, ◌+◌, ◌-◌, ◌^◌, ℤ, pos, ◌-ℤ◌, Bool, true, false, ◌&&◌, ◌||◌, not, List, [], ◌∷◌}
+use Rattle.std.specs.Prelude.{nat_lt, ◌==◌, is_some, IsTrue, if◌then◌else◌, Option, Some, None}
+use Rattle.std.specs.Prelude.{option_map, option_and_then}
 use Rattle.std.specs.List.{list_all}
 use Rattle.std.specs.Option.{option_map_or}
 use Rattle.std.specs.Ordering.{int_eq}
@@ -121,7 +122,7 @@ journey_to network lines kind e =
     where_passes (λ journey. kind (event_of journey.origin))
     (option_and_then (below (line_journey_of network lines) (line_number e)) (heard_copy (event_of e)))
 
--- the same, where no stay was ended twice by the events of these lines
+-- the same, where no stay was left twice by the events of these lines
 abbrev pub unbroken : Network → LinePlace → (Event → Bool) → LinePlace → Option LineJourney
 unbroken network e kind arrival =
     where_passes (left_once (events network e.earlier)) (journey_to network (lines_to e) kind arrival)
@@ -217,8 +218,7 @@ are_octets network x sync request =
     journey_writes_right network sync && option_map_or (writes_right network) x.follow true
     && journey_writes_right network request && writes_right network x.request_arrival
 
--- the conditions of a sound line that don't speak of octets: its lines, its two journeys, one Sync and one
--- Delay_Req, the present master, the readings, what fits, and the two results
+-- the conditions of a sound line that don't speak of octets, each but 708: 701, 704, 702, 703, 705, 707, 706
 pub record HasExchange (network : Network) (e : LinePlace) (report : Report) : Type 0 where
   pub x : Exchange
   pub sync : LineJourney
@@ -238,25 +238,25 @@ pub record Sound (network : Network) (e : LinePlace) (report : Report) : Type 0 
   pub exchange : HasExchange network e report
   pub octets : IsTrue (are_octets network exchange.x exchange.sync exchange.request)
 
--- the first of the last six conditions that fails
-abbrev pub journeys_reason : Network → LinePlace → Report → Exchange → Option LineJourney → Option LineJourney → Option Why
-journeys_reason network e report x (Some sync) (Some request) =
-    if not (are_paired network x sync request) then Some OtherNumber
-    else if not (is_of_master network (site e) e report x sync) then Some OtherMaster
-    else if not (are_readings network x sync request) then Some WrongReading
-    else if not (fits sync && fits request) then Some TooBig
-    else if not (are_results report x sync request) then Some WrongValue
-    else if not (are_octets network x sync request) then Some Bytes
-    else None
-journeys_reason network e report x (Some sync) None = Some BrokenJourney
-journeys_reason network e report x None request = Some BrokenJourney
+-- this reason where something isn't there, and else the reason that is found with it
+abbrev pub needs : {X : Type 0} → Why → Option X → (X → Option Why) → Option Why
+needs why None found = Some why
+needs why (Some x) found = found x
 
--- the first condition that fails
-abbrev pub exchange_reason : Network → LinePlace → Report → Option Exchange → Option Why
-exchange_reason network e report None = Some NoSuchLine
-exchange_reason network e report (Some x) =
-    journeys_reason network e report x (unbroken network e draws_sync x.sync_arrival) (unbroken network e is_request x.request_arrival)
+-- the first of these reasons whose condition fails
+abbrev pub first_failing : List (Why × Bool) → Option Why
+first_failing [] = None
+first_failing ((why, holds) ∷ others) = if not holds then Some why else first_failing others
 
--- why a report line isn't sound, or nothing where it is
+-- why a report line isn't sound, or nothing where it is: the first that fails of 701, 704, 702, 703, 705, 707, 706, 708
 abbrev pub reason : Network → LinePlace → Report → Option Why
-reason network e report = exchange_reason network e report (exchange_of network (site e) e report)
+reason network e report =
+    needs NoSuchLine (exchange_of network (site e) e report) (λ x.
+    needs BrokenJourney (unbroken network e draws_sync x.sync_arrival) (λ sync.
+    needs BrokenJourney (unbroken network e is_request x.request_arrival) (λ request. first_failing (
+    (OtherNumber, are_paired network x sync request)
+    ∷ (OtherMaster, is_of_master network (site e) e report x sync)
+    ∷ (WrongReading, are_readings network x sync request)
+    ∷ (TooBig, fits sync && fits request)
+    ∷ (WrongValue, are_results report x sync request)
+    ∷ (Bytes, are_octets network x sync request) ∷ []))))

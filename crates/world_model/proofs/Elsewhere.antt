@@ -10,7 +10,7 @@ use Rattle.network_model.specs.declared.node.NodeKind.{NodeKind}
 use Rattle.network_model.specs.declared.node.NodeKind.TheVariants as kinds
 use Rattle.network_model.specs.Network.{Network, NodeName, PortSetup, is_named}
 use Rattle.network_model.specs.Run.{Run, Place, place, site_of}
-use Rattle.network_model.specs.Kinds.{is_at, is_sync, draws_sync, is_follow, is_request, is_stamped, step_of}
+use Rattle.network_model.specs.Kinds.{is_at, is_sync, draws_sync, is_follow, is_request, is_stamped, named_difference}
 use Rattle.network_model.specs.Clock.{difference}
 use Rattle.network_model.specs.Numbering.{draws_with, waiting_sync, waiting_request}
 use Rattle.network_model.specs.SlaveHistory.{slave_setup, call_made, history_of}
@@ -31,7 +31,7 @@ module _ (event : Event) (run : Run) (name : NodeName) (other : is_named (site_o
   not_at kind = ap (λ b. kind event && b) other ∙ and_false (kind event)
 
   difference-elsewhere : difference name (event ∷ run) ≡ difference name run
-  difference-elsewhere = ap (λ b. if b then unwrap_or (step_of event) (difference name run) else difference name run) other
+  difference-elsewhere = ap (λ b. if b then unwrap_or (named_difference event) (difference name run) else difference name run) other
 
   next_sync-elsewhere : (setup : PortSetup) → next_sync setup name (event ∷ run) ≡ next_sync setup name run
   next_sync-elsewhere setup =

@@ -8,16 +8,16 @@ use Rattle.network_model.specs.declared.event.Event.{Event}
 use Rattle.network_model.specs.declared.event.Event.TheVariants.{Leave}
 use Rattle.network_model.specs.Network.{Network}
 use Rattle.network_model.specs.Run.{Run, Place, place, place_at}
-use Rattle.network_model.specs.Kinds.{spends}
+use Rattle.network_model.specs.Kinds.{is_leave_of}
 use Rattle.network_model.specs.Clock.{reading}
 use Rattle.network_model.specs.Truth.{TellsTruth, copy_of, copy_made}
 use Rattle.network_model.specs.Outcome.{outcome_of, IsRun}
-use Rattle.network_model.proofs.Leaving.{leave_before, unspent}
+use Rattle.network_model.proofs.LeftOnce.{leave_before, not_left}
 use Rattle.world_model.specs.declared.entry.Entry.{Entry}
 use Rattle.world_model.specs.declared.entry.Left.{Left}
 use Rattle.world_model.specs.declared.entry.Left.TheVariants.{Copy, Stay, Nothing}
 use Rattle.world_model.specs.declared.entry.Happened.{Happened}
-use Rattle.world_model.specs.Inner.Stands.{run_of, octets_in, stay_in, event_at, octets_at, stay_at, ended, spent, entering, open_stay, Keeps}
+use Rattle.world_model.specs.Inner.Stands.{run_of, octets_in, stay_in, event_at, octets_at, stay_at, ended, left_stay, entering, open_stay, Keeps}
 use Rattle.world_model.specs.Inner.Acts.{Brings, entries_after}
 use Rattle.world_model.proofs.Own.{same_if}
 
@@ -50,68 +50,68 @@ get-push (y ∷ ys) x zero = sym (ap (λ b. if b then Some x else Some y) (not_s
 get-push (y ∷ ys) x (suc i) = get-push ys x i ∙ sym (ap (λ b. if b then Some x else slice_get ys i) (one_less (length ys) i))
 
 -- a stay that ends changes no event and no copy
-spent-length : (transit : ℕ) (entries : List Entry) → length (spent transit entries) ≡ length entries
-spent-length transit [] = refl
-spent-length zero (entry ∷ entries) = refl
-spent-length (suc transit) (entry ∷ entries) = ap suc (spent-length transit entries)
+left_stay-length : (transit : ℕ) (entries : List Entry) → length (left_stay transit entries) ≡ length entries
+left_stay-length transit [] = refl
+left_stay-length zero (entry ∷ entries) = refl
+left_stay-length (suc transit) (entry ∷ entries) = ap suc (left_stay-length transit entries)
 
-spent-events : (transit : ℕ) (entries : List Entry) → map (λ (e : Entry). e.event) (spent transit entries) ≡ map (λ (e : Entry). e.event) entries
-spent-events transit [] = refl
-spent-events zero (entry ∷ entries) = refl
-spent-events (suc transit) (entry ∷ entries) = ap (λ rest. entry.event ∷ rest) (spent-events transit entries)
+left_stay-events : (transit : ℕ) (entries : List Entry) → map (λ (e : Entry). e.event) (left_stay transit entries) ≡ map (λ (e : Entry). e.event) entries
+left_stay-events transit [] = refl
+left_stay-events zero (entry ∷ entries) = refl
+left_stay-events (suc transit) (entry ∷ entries) = ap (λ rest. entry.event ∷ rest) (left_stay-events transit entries)
 
-spent-event_at : (transit : ℕ) (entries : List Entry) (tag : ℕ) → event_at (spent transit entries) tag ≡ event_at entries tag
-spent-event_at transit [] tag = refl
-spent-event_at zero (entry ∷ entries) zero = refl
-spent-event_at zero (entry ∷ entries) (suc tag) = refl
-spent-event_at (suc transit) (entry ∷ entries) zero = refl
-spent-event_at (suc transit) (entry ∷ entries) (suc tag) = spent-event_at transit entries tag
+left_stay-event_at : (transit : ℕ) (entries : List Entry) (tag : ℕ) → event_at (left_stay transit entries) tag ≡ event_at entries tag
+left_stay-event_at transit [] tag = refl
+left_stay-event_at zero (entry ∷ entries) zero = refl
+left_stay-event_at zero (entry ∷ entries) (suc tag) = refl
+left_stay-event_at (suc transit) (entry ∷ entries) zero = refl
+left_stay-event_at (suc transit) (entry ∷ entries) (suc tag) = left_stay-event_at transit entries tag
 
 ended-octets : (left : Left) → octets_in (ended left) ≡ octets_in left
 ended-octets (Copy octets) = refl
 ended-octets (Stay transit) = refl
 ended-octets Nothing = refl
 
-spent-octets_at : (transit : ℕ) (entries : List Entry) (tag : ℕ) → octets_at (spent transit entries) tag ≡ octets_at entries tag
-spent-octets_at transit [] tag = refl
-spent-octets_at zero (entry ∷ entries) zero = ended-octets entry.left
-spent-octets_at zero (entry ∷ entries) (suc tag) = refl
-spent-octets_at (suc transit) (entry ∷ entries) zero = refl
-spent-octets_at (suc transit) (entry ∷ entries) (suc tag) = spent-octets_at transit entries tag
+left_stay-octets_at : (transit : ℕ) (entries : List Entry) (tag : ℕ) → octets_at (left_stay transit entries) tag ≡ octets_at entries tag
+left_stay-octets_at transit [] tag = refl
+left_stay-octets_at zero (entry ∷ entries) zero = ended-octets entry.left
+left_stay-octets_at zero (entry ∷ entries) (suc tag) = refl
+left_stay-octets_at (suc transit) (entry ∷ entries) zero = refl
+left_stay-octets_at (suc transit) (entry ∷ entries) (suc tag) = left_stay-octets_at transit entries tag
 
 ended-stay : (left : Left) → stay_in (ended left) ≡ None
 ended-stay (Copy octets) = refl
 ended-stay (Stay transit) = refl
 ended-stay Nothing = refl
 
-spent-stay_at : (transit : ℕ) (entries : List Entry) (tag : ℕ) → stay_at (spent transit entries) tag ≡ (if transit == tag then None else stay_at entries tag)
-spent-stay_at transit [] tag = sym (same_if (transit == tag) None)
-spent-stay_at zero (entry ∷ entries) zero = ended-stay entry.left
-spent-stay_at zero (entry ∷ entries) (suc tag) = sym (ap (λ b. if b then None else stay_at entries tag) (not_same 0 (suc tag) (omega arith)))
-spent-stay_at (suc transit) (entry ∷ entries) zero = sym (ap (λ b. if b then None else stay_in entry.left) (not_same (suc transit) 0 (omega arith)))
-spent-stay_at (suc transit) (entry ∷ entries) (suc tag) =
-    spent-stay_at transit entries tag ∙ sym (ap (λ b. if b then None else stay_at entries tag) (one_less transit tag))
+left_stay-stay_at : (transit : ℕ) (entries : List Entry) (tag : ℕ) → stay_at (left_stay transit entries) tag ≡ (if transit == tag then None else stay_at entries tag)
+left_stay-stay_at transit [] tag = sym (same_if (transit == tag) None)
+left_stay-stay_at zero (entry ∷ entries) zero = ended-stay entry.left
+left_stay-stay_at zero (entry ∷ entries) (suc tag) = sym (ap (λ b. if b then None else stay_at entries tag) (not_same 0 (suc tag) (omega arith)))
+left_stay-stay_at (suc transit) (entry ∷ entries) zero = sym (ap (λ b. if b then None else stay_in entry.left) (not_same (suc transit) 0 (omega arith)))
+left_stay-stay_at (suc transit) (entry ∷ entries) (suc tag) =
+    left_stay-stay_at transit entries tag ∙ sym (ap (λ b. if b then None else stay_at entries tag) (one_less transit tag))
 
 -- the same of the entries after an event
 pub after-length : (event : Event) (entries : List Entry) → length (entries_after event entries) ≡ length entries
-after-length (Leave node transit at) entries = spent-length transit entries
+after-length (Leave node transit at) entries = left_stay-length transit entries
 after-length _ entries = refl
 
 after-events : (event : Event) (entries : List Entry) → map (λ (e : Entry). e.event) (entries_after event entries) ≡ map (λ (e : Entry). e.event) entries
-after-events (Leave node transit at) entries = spent-events transit entries
+after-events (Leave node transit at) entries = left_stay-events transit entries
 after-events _ entries = refl
 
 after-event_at : (event : Event) (entries : List Entry) (tag : ℕ) → event_at (entries_after event entries) tag ≡ event_at entries tag
-after-event_at (Leave node transit at) entries tag = spent-event_at transit entries tag
+after-event_at (Leave node transit at) entries tag = left_stay-event_at transit entries tag
 after-event_at _ entries tag = refl
 
 after-octets_at : (event : Event) (entries : List Entry) (tag : ℕ) → octets_at (entries_after event entries) tag ≡ octets_at entries tag
-after-octets_at (Leave node transit at) entries tag = spent-octets_at transit entries tag
+after-octets_at (Leave node transit at) entries tag = left_stay-octets_at transit entries tag
 after-octets_at _ entries tag = refl
 
 after-stay_at : (event : Event) (entries : List Entry) (tag : ℕ)
-    → stay_at (entries_after event entries) tag ≡ (if spends tag event then None else stay_at entries tag)
-after-stay_at (Leave node transit at) entries tag = spent-stay_at transit entries tag
+    → stay_at (entries_after event entries) tag ≡ (if is_leave_of tag event then None else stay_at entries tag)
+after-stay_at (Leave node transit at) entries tag = left_stay-stay_at transit entries tag
 after-stay_at _ entries tag = refl
 
 -- an event comes in front of the run where its entry comes last
@@ -122,13 +122,13 @@ run_of-after event entries left =
     ∙ reverse-append (map (λ (e : Entry). e.event) (entries_after event entries)) (event ∷ [])
     ∙ ap (λ (events : List Event). event ∷ reverse events) (after-events event entries)
 
--- an accepted event spends no transit that isn't there
-not_spent : (network : Network) (run : Run) (event : Event) (tag : ℕ) → IsRun network (event ∷ run) → length run ≤ tag → spends tag event ≡ false
-not_spent network run (Leave node transit at) tag accepted late =
+-- an accepted event leaves no stay that isn't there
+not_left_by : (network : Network) (run : Run) (event : Event) (tag : ℕ) → IsRun network (event ∷ run) → length run ≤ tag → is_leave_of tag event ≡ false
+not_left_by network run (Leave node transit at) tag accepted late =
     let before : transit < length run = leave_before network run node transit at accepted.0 in grind (arith, nat_tests)
-not_spent network run _ tag accepted late = refl
+not_left_by network run _ tag accepted late = refl
 
--- the stay of an event, unless it was spent
+-- the stay of an event, unless it was left
 abbrev open_if : Bool → Option Place → Option ℕ
 open_if b p = option_map reading (if b then None else option_and_then entering p)
 
@@ -165,23 +165,23 @@ module _ (network : Network) (run : Run) (event : Event) (entries : List Entry) 
       by_test true = brings.copy
       by_test false = subst (TellsTruth (copy_of network run tag)) (sym (after-octets_at event entries tag)) (keeps.copies tag)
 
-  none_spent : (tag : ℕ) → (length run == tag) ≡ true → (spends tag event || list_any (spends tag) run) ≡ false
-  none_spent tag same =
+  none_left : (tag : ℕ) → (length run == tag) ≡ true → (is_leave_of tag event || list_any (is_leave_of tag) run) ≡ false
+  none_left tag same =
       let e : length run ≡ tag = grind (arith, nat_tests) in
-      ap (λ b. b || list_any (spends tag) run) (not_spent network run event tag (accepted, keeps.accepted) (omega arith)) ∙ unspent network run tag keeps.accepted (omega arith)
+      ap (λ b. b || list_any (is_leave_of tag) run) (not_left_by network run event tag (accepted, keeps.accepted) (omega arith)) ∙ not_left network run tag keeps.accepted (omega arith)
 
   stays : (tag : ℕ) → stay_at (entries_after event entries ++ entry ∷ []) tag ≡ option_map reading (open_stay (event ∷ run) tag)
   stays tag = put (λ (e : Entry). stay_in e.left) tag ∙ by_test (length run == tag) refl
     where
-      kept : (b : Bool) → (if b then None else stay_at entries tag) ≡ open_if (b || list_any (spends tag) run) (place_at run tag)
+      kept : (b : Bool) → (if b then None else stay_at entries tag) ≡ open_if (b || list_any (is_leave_of tag) run) (place_at run tag)
       kept true = refl
       kept false = keeps.stays tag
 
       by_test : (b : Bool) → (length run == tag) ≡ b
           → option_and_then (λ (e : Entry). stay_in e.left) (if b then Some entry else slice_get (entries_after event entries) tag)
-          ≡ open_if (spends tag event || list_any (spends tag) run) (if b then Some (place event run) else place_at run tag)
-      by_test true same = brings.stay ∙ sym (ap (λ b. open_if b (Some (place event run))) (none_spent tag same))
-      by_test false same = after-stay_at event entries tag ∙ kept (spends tag event)
+          ≡ open_if (is_leave_of tag event || list_any (is_leave_of tag) run) (if b then Some (place event run) else place_at run tag)
+      by_test true same = brings.stay ∙ sym (ap (λ b. open_if b (Some (place event run))) (none_left tag same))
+      by_test false same = after-stay_at event entries tag ∙ kept (is_leave_of tag event)
 
   -- the entries keep the run after one more event
   pub Keeps-after : Keeps network (event ∷ run) (entries_after event entries ++ entry ∷ [])

@@ -20,7 +20,7 @@ use Rattle.network_model.specs.declared.stepped.Outcome.{Outcome}
 use Rattle.network_model.specs.declared.stepped.Outcome.TheVariants.{Made, Entered, Refused}
 use Rattle.network_model.specs.Network.{Network, NodeName, kind_of, is_named}
 use Rattle.network_model.specs.Run.{Run, Place, place_at, site_of}
-use Rattle.network_model.specs.Kinds.{entered_copy, spends}
+use Rattle.network_model.specs.Kinds.{entered_copy, is_leave_of}
 use Rattle.network_model.specs.Clock.{reading}
 use Rattle.network_model.specs.Truth.{TellsTruth, copy_of}
 use Rattle.network_model.specs.Outcome.{◌>>=◌, node_as, clock_of, reads, open_transit, copy_in, left_outcome, outcome_of}
@@ -81,7 +81,7 @@ pub record Inside (network : Network) (run : Run) (entries : List Entry) (clock 
   pub there : place_at run transit ≡ Some entered
   pub takes : entered_copy entered.event ≡ Some copy
   pub at_clock : is_named (site_of entered.event) clock ≡ true
-  pub unspent : list_any (spends transit) run ≡ false
+  pub not_left : list_any (is_leave_of transit) run ≡ false
   pub is : copy_of network run copy ≡ Some m
   pub before : copy_of network entered.earlier copy ≡ Some m
   pub stay : stay_at entries transit ≡ Some (reading entered)
@@ -103,7 +103,7 @@ entered_there network _ earlier copy takes accepted = absurd (cc)
 pub inside : (network : Network) (run : Run) (entries : List Entry) (clock : NodeName) (transit copy : ℕ)
     → Keeps network run entries → copy_inside entries clock transit ≡ Some copy → Inside network run entries clock transit copy
 inside network run entries clock transit copy keeps found =
-    by_cases (list_any (spends transit) run) (place_at run transit) refl refl
+    by_cases (list_any (is_leave_of transit) run) (place_at run transit) refl refl
     (sym (ap (λ o. option_and_then (λ (now : ℕ). option_and_then (copy_taken clock) (event_at entries transit)) o) (keeps.stays transit)
     ∙ ap (λ e. option_and_then (λ (now : ℕ). option_and_then (copy_taken clock) e) (option_map reading (open_stay run transit))) (keeps.events transit)) ∙ found)
   where
@@ -112,11 +112,11 @@ inside network run entries clock transit copy keeps found =
     by_named entered true named takes = (refl, takes)
     by_named entered false named takes = absurd (cc)
 
-    by_kind : (entered : Place) (enters : Bool) → list_any (spends transit) run ≡ false → place_at run transit ≡ Some entered → is_some (entered_copy entered.event) ≡ enters
+    by_kind : (entered : Place) (enters : Bool) → list_any (is_leave_of transit) run ≡ false → place_at run transit ≡ Some entered → is_some (entered_copy entered.event) ≡ enters
         → option_and_then (λ (now : ℕ). copy_taken clock entered.event) (option_map reading (if enters then Some entered else None)) ≡ Some copy
         → Inside network run entries clock transit copy
-    by_kind entered false unspent there kind takes = absurd (cc)
-    by_kind entered true unspent there kind takes =
+    by_kind entered false not_left there kind takes = absurd (cc)
+    by_kind entered true not_left there kind takes =
         let named = by_named entered (is_named (site_of entered.event) clock) refl takes in
         let before = entered_there network entered.event entered.earlier copy named.1 (accepted-place_at network run transit entered keeps.accepted there) in
         record {
@@ -125,21 +125,21 @@ inside network run entries clock transit copy keeps found =
           there = there;
           takes = named.1;
           at_clock = named.0;
-          unspent = unspent;
+          not_left = not_left;
           is = copy_of-since network run transit entered copy before.0 there before.1;
           before = before.1;
           stay = keeps.stays transit
-              ∙ ap (λ b. option_map reading (if b then None else option_and_then entering (place_at run transit))) unspent
+              ∙ ap (λ b. option_map reading (if b then None else option_and_then entering (place_at run transit))) not_left
               ∙ ap (λ o. option_map reading (option_and_then entering o)) there
               ∙ ap (λ b. option_map reading (if b then Some entered else None)) kind;
         }
 
-    by_cases : (b : Bool) (p : Option Place) → list_any (spends transit) run ≡ b → place_at run transit ≡ p
+    by_cases : (b : Bool) (p : Option Place) → list_any (is_leave_of transit) run ≡ b → place_at run transit ≡ p
         → option_and_then (λ (now : ℕ). option_and_then (copy_taken clock) (option_map (λ (q : Place). q.event) p)) (option_map reading (if b then None else option_and_then entering p)) ≡ Some copy
         → Inside network run entries clock transit copy
-    by_cases true p spent there takes = absurd (cc)
-    by_cases false None spent there takes = absurd (cc)
-    by_cases false (Some entered) spent there takes = by_kind entered (is_some (entered_copy entered.event)) spent there refl takes
+    by_cases true p was_left there takes = absurd (cc)
+    by_cases false None was_left there takes = absurd (cc)
+    by_cases false (Some entered) was_left there takes = by_kind entered (is_some (entered_copy entered.event)) was_left there refl takes
 
 -- the outcome of a message that leaves where its clock shows this
 abbrev leaves : Contents → ℕ → Result ℕ WorldRefusal → Result Outcome WorldRefusal
@@ -150,9 +150,9 @@ module _ (network : Network) (run : Run) (entries : List Entry) (clock : NodeNam
   is_open : option_and_then (open_transit clock run transit) (place_at run transit) ≡ Some in_clock.entered
   is_open =
       ap (option_and_then (open_transit clock run transit)) in_clock.there
-      ∙ ap (λ o. if is_some o && is_named (site_of in_clock.entered.event) clock && not (list_any (spends transit) run) then Some in_clock.entered else None) in_clock.takes
-      ∙ ap (λ b. if true && b && not (list_any (spends transit) run) then Some in_clock.entered else None) in_clock.at_clock
-      ∙ ap (λ b. if true && true && not b then Some in_clock.entered else None) in_clock.unspent
+      ∙ ap (λ o. if is_some o && is_named (site_of in_clock.entered.event) clock && not (list_any (is_leave_of transit) run) then Some in_clock.entered else None) in_clock.takes
+      ∙ ap (λ b. if true && b && not (list_any (is_leave_of transit) run) then Some in_clock.entered else None) in_clock.at_clock
+      ∙ ap (λ b. if true && true && not b then Some in_clock.entered else None) in_clock.not_left
 
   -- what the outcome of the Leave event rests on
   leave-outcome : outcome_of network run (Leave clock transit at)

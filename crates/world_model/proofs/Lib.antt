@@ -7,7 +7,7 @@ mod Lifting
 mod Slaves
 mod Readings
 mod Arrivals
-mod Ended
+mod LeftStays
 mod Leaves
 mod Happening
 mod InTurn

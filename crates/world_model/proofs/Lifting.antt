@@ -6,7 +6,7 @@ use Rattle.network_model.specs.declared.node.NodeKind.TheVariants as kinds
 use Rattle.network_model.specs.declared.refusal.WorldRefusal.{WorldRefusal}
 use Rattle.network_model.specs.Network.{Network, NodeName, PortSetup, kind_of, master_port, slave_port}
 use Rattle.network_model.specs.Run.{Run, site_of}
-use Rattle.network_model.specs.Kinds.{step_of}
+use Rattle.network_model.specs.Kinds.{named_difference}
 use Rattle.world_model.specs.declared.entry.Happened.{Happened}
 use Rattle.world_model.specs.declared.station.Master.{Master}
 use Rattle.world_model.specs.declared.station.Slave.{Slave}
@@ -70,7 +70,7 @@ weaker network run event room wider kept (Ok happened) answers = (
 )
 weaker network run event room wider kept (Err why) answers = (kept answers.0, answers.1)
 
-module _ (network : Network) (run : Run) (kind : NodeKind) (event : Event) (station : Station) (calm : step_of event ≡ None)
+module _ (network : Network) (run : Run) (kind : NodeKind) (event : Event) (station : Station) (calm : named_difference event ≡ None)
     (is_kind : kind_of network (site_of event) ≡ Some kind) (stands : Stands network run (site_of event) kind station)
     (room : Room) (result : Result Happened WorldRefusal) where
   -- the station with another port

@@ -12,7 +12,7 @@ use Rattle.network_model.specs.declared.refusal.WorldRefusal.{WorldRefusal}
 use Rattle.network_model.specs.declared.refusal.WorldRefusal.TheVariants.{NoNode, WrongKind}
 use Rattle.network_model.specs.Network.{Network, NodeName, PortSetup, kind_of, is_named}
 use Rattle.network_model.specs.Run.{Run, place, site_of}
-use Rattle.network_model.specs.Kinds.{step_of, draws_sync}
+use Rattle.network_model.specs.Kinds.{named_difference, draws_sync}
 use Rattle.network_model.specs.Clock.{difference, reading, reading_of}
 use Rattle.network_model.specs.Numbering.{draws_with}
 use Rattle.network_model.specs.SlaveHistory.{call_made, history_of}
@@ -25,7 +25,7 @@ same_if true x = refl
 same_if false x = refl
 
 -- what doesn't step a clock leaves its difference
-pub difference-stays : (event : Event) (run : Run) → step_of event ≡ None → difference (site_of event) (event ∷ run) ≡ difference (site_of event) run
+pub difference-stays : (event : Event) (run : Run) → named_difference event ≡ None → difference (site_of event) (event ∷ run) ≡ difference (site_of event) run
 difference-stays event run none =
     ap (λ o. if is_named (site_of event) (site_of event) then unwrap_or o (difference (site_of event) run) else difference (site_of event) run) none
     ∙ same_if (is_named (site_of event) (site_of event)) (difference (site_of event) run)

@@ -3,7 +3,7 @@ ghost use Rattle.std.specs.Result.{result_ok};
 ghost use Rattle.event_codec.specs.Packet.{Contents, Packet};
 ghost use Rattle.transparent_clock.specs.Forwarding.{forwarded};
 ghost use Rattle.network_model.specs.Outcome.{left_outcome};
-ghost use Rattle.world_model.specs.Inner.Stands.{listed, stay_in, stay_at, ended, spent};
+ghost use Rattle.world_model.specs.Inner.Stands.{listed, stay_in, stay_at, ended, left_stay};
 ghost use Rattle.world_model.specs.Inner.Acts.{IsSent, Gives, Departs, copy_inside};
 
 use crate::entry::{Entry, Happened, Left, Octets};
@@ -44,7 +44,7 @@ fn end(left: &mut Left) -> Option<Transit>
 /// Takes a message out of a clock.
 fn take_out(entries: &mut [Entry], transit: u64) -> Option<Transit>
     ensures value { result ≡ stay_at entries.old transit }
-    ensures spent { entries.new ≡ spent transit entries.old }
+    ensures stay { entries.new ≡ left_stay transit entries.old }
 {
     let index = transit as usize;
     if index < entries.len() {
@@ -101,7 +101,7 @@ pub(crate) fn depart(
 ) -> Result<Happened, WorldRefusal>
     ensures departs { (m : Contents) (entered : ℕ) → Packet m (listed octets)
         → stay_at entries.old transit ≡ Some entered → Departs m entered shown room result }
-    ensures spent { OnOk result (entries.new ≡ spent transit entries.old) }
+    ensures stay { OnOk result (entries.new ≡ left_stay transit entries.old) }
     ensures kept { OnErr result (entries.new ≡ entries.old) }
 {
     let now = shown?;

@@ -2,7 +2,7 @@ ghost use Rattle.std.specs.Prelude.{◌≡◌, List, [], pos, ◌+ℤ◌, ok_or,
 ghost use Rattle.ptp_units.specs.Moment.{moment_of};
 ghost use Rattle.network_model.specs.Network.{Network, NodeName, IsNetwork};
 ghost use Rattle.world_model.specs.declared.entry.Entry.{Entry};
-ghost use Rattle.world_model.specs.Inner.Stands.{Stands, AllStand, spent};
+ghost use Rattle.world_model.specs.Inner.Stands.{Stands, AllStand, left_stay};
 ghost use Rattle.world_model.specs.Inner.Acts.{Acts, ActsIn, entries_after};
 
 use crate::clock::{copy_inside, depart};
@@ -192,7 +192,7 @@ impl Station {
         room: Room,
     ) -> Result<Happened, WorldRefusal>
         ensures acts { Acts (Event.Leave clock.now transit at) entries.old self.now self.now room result }
-        ensures spent { OnOk result (entries.new ≡ spent transit entries.old) }
+        ensures stay { OnOk result (entries.new ≡ left_stay transit entries.old) }
         ensures kept { OnErr result (entries.new ≡ entries.old) }
     {
         let Port::Clock = &self.port else {

@@ -95,7 +95,7 @@ found_journey_from facts once kind limit copy =
     then where_passes (λ journey. kind journey.origin.event && once copy) (found_journey_at facts copy)
     else None
 
--- the journey of the copy that arrives at a line, where it begins at a line of this kind and no stay was ended twice
+-- the journey of the copy that arrives at a line, where it begins at a line of this kind and no stay was left twice
 abbrev pub found_journey_to : Facts → Once → (Event → Bool) → Fact → Option FoundJourney
 found_journey_to facts once kind arrival =
     option_and_then (found_journey_from facts once kind arrival.line) (heard_copy arrival.event)

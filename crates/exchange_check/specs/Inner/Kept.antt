@@ -16,7 +16,7 @@ use Rattle.network_model.specs.declared.event.Event.TheVariants.{Sync, SyncOne, 
 use Rattle.network_model.specs.declared.event.Event.TheVariants.{Request, SetMaster, StepClock}
 use Rattle.network_model.specs.Network.{Network, NodeName, PortSetup, is_named}
 use Rattle.network_model.specs.Run.{site_of, true_moment}
-use Rattle.network_model.specs.Kinds.{entered_copy, spent_transit, is_stamped}
+use Rattle.network_model.specs.Kinds.{entered_copy, named_transit, is_stamped}
 use Rattle.network_model.specs.Truth.{master_at, slave_at}
 use Rattle.exchange_check.specs.declared.facts.Fact.{Fact}
 use Rattle.exchange_check.specs.declared.facts.Known.{Known}
@@ -221,7 +221,7 @@ sites_after (SetMaster node master) n sites = moved_at (SetMaster node master) n
 sites_after (StepClock node diff) n sites = moved_at (StepClock node diff) n sites
 sites_after _ n sites = sites
 
--- whether the stay that began at each line was ended again after it was ended
+-- whether the stay that began at each line was left again after it was left
 abbrev pub Leaves : Type 0
 Leaves = ℕ → Option Bool
 
@@ -231,7 +231,7 @@ left_again transit leaves stay = if transit == stay then Some (is_some (leaves s
 
 -- the same after one more event
 abbrev pub leaves_after : Event → Leaves → Leaves
-leaves_after event leaves = option_map_or (λ transit. left_again transit leaves) (spent_transit event) leaves
+leaves_after event leaves = option_map_or (λ transit. left_again transit leaves) (named_transit event) leaves
 
 -- the line at which the departure of the request of each number was learned
 abbrev pub Stamps : Type 0

@@ -1,11 +1,11 @@
--- The stays that journeys have, and which of them were ended twice.
+-- The stays that journeys have, and which of them were left twice.
 use Rattle.std.specs.Prelude.{◌≡◌, ℕ, zero, suc, ◌+◌, ◌<◌, ◌≤◌, Bool, true, false, ◌&&◌, not}
 use Rattle.std.specs.Prelude.{List, [], ◌∷◌, nat_lt, slice_get, unwrap_or, ◌==◌, is_some, if◌then◌else◌}
 use Rattle.std.specs.Prelude.{Option, Some, None, option_map, option_and_then, Result, MatchResult}
 use Rattle.std.specs.BTreeMap.{get}
 use Rattle.std.specs.Ordering.{nat_cmp}
 use Rattle.std.specs.Option.{option_map_or}
-use Rattle.network_model.specs.Kinds.{entered_copy, spent_transit}
+use Rattle.network_model.specs.Kinds.{entered_copy, named_transit}
 use Rattle.trace_model.specs.Sound.{where_passes, below}
 use Rattle.exchange_check.specs.declared.facts.Fact.{Fact}
 use Rattle.exchange_check.specs.declared.refusal.CheckFault.{CheckFault}
@@ -27,7 +27,7 @@ stay_below facts limit transit = option_and_then
 -- the last stay of the copy that a line made
 abbrev pub stay_of : Facts → (number : ℕ) → Fact → Option (ℕ × ℕ)
 stay_of facts number fact =
-    if is_some fact.journey then option_and_then (stay_below facts number) (spent_transit fact.event) else None
+    if is_some fact.journey then option_and_then (stay_below facts number) (named_transit fact.event) else None
 
 -- that of the copy of each number
 abbrev pub last_stays : Facts → LastStays
@@ -37,18 +37,18 @@ last_stays facts copy = option_and_then (stay_of facts copy) (facts copy)
 abbrev pub with_stay : ℕ → Option (ℕ × ℕ) → LastStays → LastStays
 with_stay number stay stays copy = if number == copy then stay else stays copy
 
--- a stay was ended, and not again
+-- a stay was left, and not again
 abbrev pub is_once : Option Bool → Bool
 is_once None = false
 is_once (Some again) = not again
 
--- whether each stay of a copy's journey was ended once, among so many last ones
+-- whether each stay of a copy's journey was left once, among so many last ones
 abbrev pub once_by : LastStays → Leaves → (count : ℕ) → (copy : ℕ) → Bool
 once_by stays leaves zero copy = true
 once_by stays leaves (suc count) copy =
     option_map_or (λ stay. is_once (leaves stay.0) && once_by stays leaves count stay.1) (stays copy) true
 
--- of the copy of each number: whether each stay of its journey was ended once
+-- of the copy of each number: whether each stay of its journey was left once
 abbrev pub Once : Type 0
 Once = ℕ → Bool
 
@@ -104,7 +104,7 @@ pub record IsOrdered (states : CopyStates) (firsts : Firsts) (stays : LastStays)
     (number : ℕ) : Type 0 where
   -- a copy grew from an older one
   pub within : (n transit copy : ℕ) → stays n ≡ Some (transit, copy) → (copy < n) × (n < number)
-  -- its last stay has a first Leave line, as each stay that was ended
+  -- its last stay has a first Leave line, as each stay that was left
   pub ended : (n transit copy : ℕ) → stays n ≡ Some (transit, copy) → is_some (firsts transit) ≡ true
   pub known : (transit : ℕ) → is_some (firsts transit) ≡ is_some (leaves transit)
   -- which is below the number, and names that stay
@@ -126,7 +126,7 @@ pub record IsOrdered (states : CopyStates) (firsts : Firsts) (stays : LastStays)
   pub one_before : (one other n : ℕ) → (states one).next ≡ Some n → (states other).next ≡ Some n → one ≡ other
   pub no_link_to_a_root : (n after : ℕ) → (states n).next ≡ Some after → 0 < (states after).depth
 
--- whether a copy's last stay was ended once, and those before it too
+-- whether a copy's last stay was left once, and those before it too
 abbrev pub is_whole : CopyStates → Leaves → Option (ℕ × ℕ) → Bool
 is_whole states leaves stay = option_map_or (λ s. is_once (leaves s.0) && (states s.1).once) stay true
 
@@ -141,7 +141,7 @@ abbrev pub AreStays : Stays → LastStays → Leaves → ℕ → Type 0
 AreStays kept stays leaves number =
     AreCopyStates (state_in kept.states.items) (get nat_cmp kept.firsts) stays leaves number
 
--- the line of this number gives its copy this last stay, if any, and changes which stays were ended; where memory is
+-- the line of this number gives its copy this last stay, if any, and changes which stays were left; where memory is
 -- refused, what is kept says the same as before
 abbrev pub StaysAfter : (old new : Stays) → ℕ → Option (ℕ × ℕ) → (Leaves → Leaves) → Result (Unit {0}) CheckFault
     → Type 0

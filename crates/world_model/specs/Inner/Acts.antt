@@ -22,7 +22,8 @@ use Rattle.world_model.specs.declared.entry.Happened.{Happened}
 use Rattle.world_model.specs.declared.station.Master.{Master}
 use Rattle.world_model.specs.declared.station.Slave.{Slave}
 use Rattle.world_model.specs.declared.station.Station.{Station}
-use Rattle.world_model.specs.Inner.Stands.{octets_in, stay_in, entering, event_at, stay_at, spent, Keeps, MasterStands}
+use Rattle.world_model.specs.Inner.Stands.{octets_in, stay_in, entering, event_at, stay_at, left_stay, Keeps}
+use Rattle.world_model.specs.Inner.Stands.{MasterStands}
 use Rattle.world_model.specs.Inner.Stands.{SlaveStands, Stands}
 
 -- room for one more entry, or why there is none
@@ -131,5 +132,5 @@ copy_inside entries clock tag =
 
 -- the entries after an event, before its own comes: a Leave event ends a stay
 abbrev pub entries_after : Event → List Entry → List Entry
-entries_after (Leave node transit at) entries = spent transit entries
+entries_after (Leave node transit at) entries = left_stay transit entries
 entries_after _ entries = entries

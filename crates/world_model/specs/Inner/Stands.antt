@@ -14,7 +14,7 @@ use Rattle.network_model.specs.Network.{Network, NodeName, IsNetwork, PortSetup}
 use Rattle.network_model.specs.Run.{Run, Place, place, place_at}
 use Rattle.network_model.specs.Clock.{difference, reading}
 use Rattle.network_model.specs.Numbering.{number_of, waiting_sync, waiting_request}
-use Rattle.network_model.specs.Kinds.{entered_copy, spends}
+use Rattle.network_model.specs.Kinds.{entered_copy, is_leave_of}
 use Rattle.network_model.specs.Truth.{TellsTruth, copy_of}
 use Rattle.network_model.specs.SlaveHistory.{slave_setup, history_of}
 use Rattle.network_model.specs.Outcome.{IsRun}
@@ -59,31 +59,31 @@ event_at entries tag = option_map (λ entry. entry.event) (slice_get entries tag
 abbrev pub octets_at : List Entry → ℕ → Option (List ℕ)
 octets_at entries tag = option_and_then (λ entry. octets_in entry.left) (slice_get entries tag)
 
--- the stay of this tag, which no Leave event has ended
+-- the stay of this tag, which no Leave event has left
 abbrev pub stay_at : List Entry → ℕ → Option ℕ
 stay_at entries tag = option_and_then (λ entry. stay_in entry.left) (slice_get entries tag)
 
--- a stay ends
+-- what is kept of an event once its stay was left
 abbrev pub ended : Left → Left
 ended (Copy octets) = Copy octets
 ended (Stay transit) = Nothing
 ended Nothing = Nothing
 
--- the entries after the stay of this tag has ended
-abbrev pub spent : ℕ → List Entry → List Entry
-spent tag [] = []
-spent zero (entry ∷ entries) = record { event = entry.event; left = ended entry.left } ∷ entries
-spent (suc tag) (entry ∷ entries) = entry ∷ spent tag entries
+-- the entries once the stay of this tag was left
+abbrev pub left_stay : ℕ → List Entry → List Entry
+left_stay tag [] = []
+left_stay zero (entry ∷ entries) = record { event = entry.event; left = ended entry.left } ∷ entries
+left_stay (suc tag) (entry ∷ entries) = entry ∷ left_stay tag entries
 
 -- the event, where it is an Enter event
 abbrev pub entering : Place → Option Place
 entering p = if is_some (entered_copy p.event) then Some p else None
 
--- the Enter event of this tag, where no Leave event has spent its transit
+-- the Enter event of this tag, where no Leave event has left it
 abbrev pub open_stay : Run → ℕ → Option Place
-open_stay run tag = if list_any (spends tag) run then None else option_and_then entering (place_at run tag)
+open_stay run tag = if list_any (is_leave_of tag) run then None else option_and_then entering (place_at run tag)
 
--- entries that keep a run: its events, the octets of its copies, and the stays in clocks that haven't ended
+-- entries that keep a run: its events, the octets of its copies, and the stays in clocks that no Leave event has left
 pub record Keeps (network : Network) (run : Run) (entries : List Entry) : Type 0 where
   pub accepted : IsRun network run
   pub count : length run ≡ length entries

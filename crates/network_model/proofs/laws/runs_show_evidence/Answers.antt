@@ -1,4 +1,4 @@
--- Reports have their evidence, and stays are spent once.
+-- Reports have their evidence, and stays are left once.
 use Rattle.network_model.proofs.Evidence.{shows_evidence}
 use Rattle.network_model.proofs.laws.runs_show_evidence.Goals as goal
 

@@ -1,6 +1,6 @@
 use Rattle.std.proofs.Common.{◌≡◌, Result, Ok, Err, None, inl, inr, ap}
 use Rattle.std.specs.Prelude.{MatchResult}
-use Rattle.network_model.specs.Kinds.{spent_transit}
+use Rattle.network_model.specs.Kinds.{named_transit}
 use Rattle.exchange_check.specs.declared.refusal.CheckFault.{CheckFault}
 use Rattle.exchange_check.specs.Inner.Machine.{facts_of}
 use Rattle.exchange_check.proofs.Passing.{others_pass, stays_pass}
@@ -15,7 +15,7 @@ pub returns-in-Stamped-clause-stays : goal.returns-in-Stamped-clause-stays
 returns-in-Stamped-clause-stays c stays leaves h =
     either_way _ _ (stays_pass c.args.self.now.stays
     (facts_of c.args.self.now) c.args.number c.args.fact.now stays leaves
-    (ap spent_transit c.in-Stamped.is) h) h c.stamp.result
+    (ap named_transit c.in-Stamped.is) h) h c.stamp.result
 
 pub returns-in_default-clause-stays : goal.returns-in_default-clause-stays
 returns-in_default-clause-stays c stays leaves h =
@@ -28,11 +28,11 @@ returns-in-Sync-clause-stays c stays leaves h =
     (facts_of c.args.self.now) c.args.number c.args.fact.now stays leaves none h) h
     c.move_site.result
   where
-    none : spent_transit c.args.fact.now.event ≡ None
+    none : named_transit c.args.fact.now.event ≡ None
     none = elim c.in-Sync.is [
-      | inl p ↦ ap spent_transit p.2
-      | inr (inl p) ↦ ap spent_transit p.2
-      | inr (inr (inl p)) ↦ ap spent_transit p.2
-      | inr (inr (inr (inl p))) ↦ ap spent_transit p.2
-      | inr (inr (inr (inr p))) ↦ ap spent_transit p.2
+      | inl p ↦ ap named_transit p.2
+      | inr (inl p) ↦ ap named_transit p.2
+      | inr (inr (inl p)) ↦ ap named_transit p.2
+      | inr (inr (inr (inl p))) ↦ ap named_transit p.2
+      | inr (inr (inr (inr p))) ↦ ap named_transit p.2
     ]

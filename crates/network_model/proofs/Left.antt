@@ -1,4 +1,4 @@
--- What a Leave event that was accepted ends: the stay that an Enter event at its own clock began. Where its copy
+-- The stay that a Leave event leaves once it is accepted: an Enter event at its own clock began it. Where its copy
 -- goes on with a journey, it made a message.
 use Rattle.std.proofs.Common.{◌≡◌, ◌∙◌, ℕ, ◌<◌, ◌≤◌, Bool, true, false, length, Option, Some, None, Ok, Err}
 use Rattle.std.proofs.Common.{Result, refl, sym, ap, inl, inr, option_map, option_and_then, if◌then◌else◌}
@@ -17,7 +17,7 @@ use Rattle.network_model.specs.declared.stepped.Outcome.{Outcome}
 use Rattle.network_model.specs.declared.stepped.Outcome.TheVariants as outcomes
 use Rattle.network_model.specs.Network.{Network, NodeName, is_named}
 use Rattle.network_model.specs.Run.{Run, Place, place, place_at, site_of}
-use Rattle.network_model.specs.Kinds.{entered_copy, spends}
+use Rattle.network_model.specs.Kinds.{entered_copy, is_leave_of}
 use Rattle.network_model.specs.Clock.{reading, reading_of}
 use Rattle.network_model.specs.Journey.{Journey, residence, journey_made, journey_of}
 use Rattle.network_model.specs.Truth.{drawn, message_after, copy_made, copy_of}
@@ -29,11 +29,12 @@ use Rattle.network_model.proofs.Journeys.{continued, same_origin}
 use Rattle.network_model.proofs.MessagesAfter.{copy_of-message_after}
 use Rattle.network_model.proofs.Leaving.{copy_made-forwarded, copy_of-ahead, copy_of-since}
 
--- the stay that a Leave event ends, and what came of it
+-- the stay that a Leave event leaves, and what came of it
 pub record IsLeft (network : Network) (earlier : Run) (node : NodeName) (transit at : ℕ)
     (outcome : Outcome) : Type 0 where
   pub entered : Place
   pub there : place_at earlier transit ≡ Some entered
+  pub first : list_any (is_leave_of transit) earlier ≡ false
   pub site : site_of entered.event ≡ node
   pub copy : ℕ
   pub takes : entered_copy entered.event ≡ Some copy
@@ -43,20 +44,20 @@ pub record IsLeft (network : Network) (earlier : Run) (node : NodeName) (transit
       (forwarded (Ok m) (reading entered) (reading (place (Leave node transit at) earlier)))
 
 opened_at : (node : NodeName) (earlier : Run) (transit : ℕ) (p found : Place)
-    → open_transit node earlier transit p ≡ Some found → (p ≡ found) × (site_of p.event ≡ node)
+    → open_transit node earlier transit p ≡ Some found
+    → (p ≡ found) × (site_of p.event ≡ node) × (list_any (is_leave_of transit) earlier ≡ false)
 opened_at node earlier transit p found opened =
     by (is_some (entered_copy p.event)) (is_named (site_of p.event) node) refl
-    (not (list_any (spends transit) earlier)) opened
+    (list_any (is_leave_of transit) earlier) opened
   where
-    by : (copy named : Bool) → is_named (site_of p.event) node ≡ named → (fresh : Bool)
-        → (if copy && named && fresh then Some p else None) ≡ Some found
-        → (p ≡ found) × (site_of p.event ≡ node)
-    by true true e true is = (cc, named-same (site_of p.event) node e)
-    by true true e false is = cc
-    by true false e true is = cc
-    by true false e false is = cc
-    by false true e fresh is = cc
-    by false false e fresh is = cc
+    by : (copy named : Bool) → is_named (site_of p.event) node ≡ named → (before : Bool)
+        → (if copy && named && not before then Some p else None) ≡ Some found
+        → (p ≡ found) × (site_of p.event ≡ node) × (before ≡ false)
+    by true true e false is = (cc, named-same (site_of p.event) node e, refl)
+    by true true e true is = cc
+    by true false e before is = cc
+    by false true e before is = cc
+    by false false e before is = cc
 
 pub left_parts : (network : Network) (earlier : Run) (node : NodeName) (transit at : ℕ) (outcome : Outcome)
     → outcome_of network earlier (Leave node transit at) ≡ Ok outcome
@@ -92,6 +93,7 @@ left_parts network earlier node transit at outcome is =
     record {
       entered = found.0;
       there = raw.1 ∙ ap (λ (p : Place). Some p) both.0;
+      first = both.2;
       site = ap (λ (p : Place). site_of p.event) (sym both.0) ∙ both.1;
       copy = copy.0;
       takes = copy.1;
