@@ -3,6 +3,8 @@ use Rattle.std.specs.Prelude.{ℕ, Bool, true, false, MatchResult, Result}
 use Rattle.text_lines.specs.declared.counted.Counted.{Counted}
 use Rattle.schedule_replay.specs.declared.fault.Fault.{Fault}
 use Rattle.schedule_replay.specs.declared.fault.FaultKind.{FaultKind}
+use Rattle.schedule_replay.specs.declared.fault.TaskFault.{TaskFault}
+use Rattle.schedule_replay.specs.declared.fault.TaskFault.TheVariants as tasks
 use Rattle.schedule_replay.specs.declared.fault.FaultKind.TheVariants.{Read, Write, LineTooLong, TooManyLines, Json, Field, World, Memory}
 use Rattle.network_model.specs.declared.refusal.WorldRefusal.{WorldRefusal}
 use Rattle.network_model.specs.declared.refusal.WorldRefusal.TheVariants as refusals
@@ -29,27 +31,28 @@ of_reading reading.Read = Read
 of_reading reading.LineTooLong = LineTooLong
 of_reading reading.TooManyLines = TooManyLines
 
+-- the fault by which a fault of a task is told
+abbrev pub of_task : TaskFault → FaultKind
+of_task tasks.Write = Write
+of_task tasks.Json = Json
+of_task tasks.Field = Field
+of_task (tasks.World why) = World why
+of_task tasks.Memory = Memory
+
 -- the fault by which it is told why lines were answered no further
-abbrev pub kind_of : Cause FaultKind → FaultKind
+abbrev pub kind_of : Cause TaskFault → FaultKind
 kind_of (Reading fault) = of_reading fault
-kind_of (Task kind) = kind
+kind_of (Task fault) = of_task fault
 
 -- whether this fault says that the writer failed
-abbrev pub is_of_writer : FaultKind → Bool
-is_of_writer Write = true
-is_of_writer kind = false
+abbrev pub is_write : TaskFault → Bool
+is_write tasks.Write = true
+is_write fault = false
 
 -- the fault by which the refusal of a network or of an event is told
-abbrev pub fault_of : WorldRefusal → FaultKind
-fault_of refusals.SameName = World refusals.SameName
-fault_of refusals.SameIdentity = World refusals.SameIdentity
-fault_of refusals.NoNode = World refusals.NoNode
-fault_of refusals.WrongKind = World refusals.WrongKind
-fault_of refusals.NoCopy = World refusals.NoCopy
-fault_of refusals.NoTransit = World refusals.NoTransit
-fault_of refusals.ReadingOutOfRange = World refusals.ReadingOutOfRange
-fault_of refusals.NothingWaiting = World refusals.NothingWaiting
-fault_of refusals.Memory = Memory
+abbrev pub fault_of : WorldRefusal → TaskFault
+fault_of refusals.Memory = tasks.Memory
+fault_of why = tasks.World why
 
 -- which of the two devices failed where this is answered
 abbrev pub FailedAs : {R W : Type 0} → FaultKind → (input input' : Counted R) (output output' : Counted W) → Type 0
