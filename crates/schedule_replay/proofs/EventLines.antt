@@ -15,7 +15,6 @@ use Rattle.trace_model.specs.Told.{TellsAnswer}
 use Rattle.schedule_lines.specs.Written.{event_data, line_text}
 use Rattle.schedule_replay.specs.declared.fault.TaskFault.{TaskFault}
 use Rattle.schedule_replay.specs.declared.fault.TaskFault.TheVariants as tasks
-use Rattle.schedule_replay.specs.Fault.{fault_of}
 use Rattle.schedule_replay.specs.Replay.{IsEventLine}
 use Rattle.schedule_replay.specs.Inner.Stage.{LeavesUnwritten}
 use Rattle.schedule_replay.specs.Inner.Replaying.{WritesNone, StopsEvent}

@@ -10,7 +10,7 @@ use Rattle.network_model.specs.Clash.{first_clash}
 use Rattle.schedule_lines.specs.Written.{node_data, line_text}
 use Rattle.schedule_replay.specs.declared.fault.TaskFault.{TaskFault}
 use Rattle.schedule_replay.specs.declared.fault.TaskFault.TheVariants as tasks
-use Rattle.schedule_replay.specs.Fault.{fault_of}
+use Rattle.schedule_replay.specs.Inner.Fault.{fault_of}
 use Rattle.schedule_replay.specs.Schedule.{FaultsAtEnd}
 use Rattle.schedule_replay.specs.Replay.{nodes_text, NodesGoOut}
 use Rattle.text_lines.specs.Task.{WentOut}

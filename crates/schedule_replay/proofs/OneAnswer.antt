@@ -208,29 +208,29 @@ out_of_place : (s : Recorded) (entry : TranscriptLine) → IsOutOfPlace s.lines 
 out_of_place s (recorded.Node node) out = begun s.lines out
 out_of_place s (recorded.Event number line) out = misplaced s number out
 
-the_mistake : (s : Recorded) (line : List ℕ) (kind : TaskFault) → (IsDevices kind → ⊥) → FaultsInTranscript kind s.nodes s.lines line → record_fault s (recorded_in line) ≡ Some kind
-the_mistake s line Write sure mistake = absurd mistake
-the_mistake s line Memory sure mistake = absurd (sure tt)
-the_mistake s line Json sure mistake = ap (record_fault s) mistake
-the_mistake s line Field sure (inl error) = ap (record_fault s) error
-the_mistake s line Field sure (inr (entry, is, out)) = ap (record_fault s) is ∙ out_of_place s entry out
-the_mistake s line (World why) sure (first, is, none, clash) = ap (record_fault s) is ∙ clashes s why none clash
+the_record_fault : (s : Recorded) (line : List ℕ) (kind : TaskFault) → (IsDevices kind → ⊥) → FaultsInTranscript kind s.nodes s.lines line → record_fault s (recorded_in line) ≡ Some kind
+the_record_fault s line Write sure faults = absurd faults
+the_record_fault s line Memory sure faults = absurd (sure tt)
+the_record_fault s line Json sure faults = ap (record_fault s) faults
+the_record_fault s line Field sure (inl error) = ap (record_fault s) error
+the_record_fault s line Field sure (inr (entry, is, out)) = ap (record_fault s) is ∙ out_of_place s entry out
+the_record_fault s line (World why) sure (first, is, none, clash) = ap (record_fault s) is ∙ clashes s why none clash
 
-no_mistake : (s later : Recorded) (entry : TranscriptLine) → checks.Follows entry s later → record_fault s (Ok entry) ≡ None
-no_mistake s later (recorded.Node node) (first, is) = ap where_begun first
-no_mistake s later (recorded.Event number line) (place, network, is) =
+no_record_fault : (s later : Recorded) (entry : TranscriptLine) → checks.Follows entry s later → record_fault s (Ok entry) ≡ None
+no_record_fault s later (recorded.Node node) (first, is) = ap where_begun first
+no_record_fault s later (recorded.Event number line) (place, network, is) =
     ap (at_place s) place ∙ rw (eq-eqb (length s.lines) (length s.lines) refl) (ap (option_map World) network)
 
 one_recorded : (s one other : Recorded) (entry : TranscriptLine) → checks.Follows entry s one → checks.Follows entry s other → other ≡ one
 one_recorded s one other (recorded.Node node) h k = k.1 ∙ sym h.1
 one_recorded s one other (recorded.Event number line) h k = k.2 ∙ sym h.2
 
-mistaken_nodes : (kind : TaskFault) (s : Recorded) → (IsDevices kind → ⊥) → FaultsAtTranscriptEnd kind s.nodes s.lines → Some kind ≡ option_map World (first_clash s.nodes)
-mistaken_nodes (World why) s sure mistake = sym (ap (option_map World) mistake.1)
-mistaken_nodes Write s sure mistake = absurd (sure tt)
-mistaken_nodes Memory s sure mistake = absurd (sure tt)
-mistaken_nodes Json s sure mistake = absurd mistake
-mistaken_nodes Field s sure mistake = absurd mistake
+clash_at_transcript_end : (kind : TaskFault) (s : Recorded) → (IsDevices kind → ⊥) → FaultsAtTranscriptEnd kind s.nodes s.lines → Some kind ≡ option_map World (first_clash s.nodes)
+clash_at_transcript_end (World why) s sure faults = sym (ap (option_map World) faults.1)
+clash_at_transcript_end Write s sure faults = absurd (sure tt)
+clash_at_transcript_end Memory s sure faults = absurd (sure tt)
+clash_at_transcript_end Json s sure faults = absurd faults
+clash_at_transcript_end Field s sure faults = absurd faults
 
 pub check_course : HasOneCourse check_rules IsDevices
 check_course = record {
@@ -238,16 +238,16 @@ check_course = record {
       let same : entry' ≡ entry = cc (is, is') in
       (one_recorded s one other entry follows (subst (λ (e : TranscriptLine). checks.Follows e s other) same follows'), none' ∙ sym none);
   no_fault = λ line s later text text' kind sure (entry, is, follows, nothing) stops.
-      let none = ap (record_fault s) is ∙ no_mistake s later entry follows in
-      let some = the_mistake s line kind sure stops.0 in
+      let none = ap (record_fault s) is ∙ no_record_fault s later entry follows in
+      let some = the_record_fault s line kind sure stops.0 in
       absurd (cc (none, some));
   one_fault = λ line s text text' one other sure sure' h k.
-      (same_fault (record_fault s (recorded_in line)) one other (the_mistake s line one sure h.0) (the_mistake s line other sure' k.0), k.1 ∙ sym h.1);
+      (same_fault (record_fault s (recorded_in line)) one other (the_record_fault s line one sure h.0) (the_record_fault s line other sure' k.0), k.1 ∙ sym h.1);
   one_end = λ lines s text text' one other h k.
       let same = k.1 ∙ sym h.1 in (same, k.2 ∙ ap verdict_text same ∙ sym h.2);
-  no_fault_at_end = λ lines s text text' answer kind sure ends stops. no_clash kind s.nodes (mistaken_nodes kind s sure stops.0) ends.0;
+  no_fault_at_end = λ lines s text text' answer kind sure ends stops. no_clash kind s.nodes (clash_at_transcript_end kind s sure stops.0) ends.0;
   one_fault_at_end = λ s text text' one other sure sure' h k.
-      (same_fault (option_map World (first_clash s.nodes)) one other (sym (mistaken_nodes one s sure h.0)) (sym (mistaken_nodes other s sure' k.0)), k.1 ∙ sym h.1);
+      (same_fault (option_map World (first_clash s.nodes)) one other (sym (clash_at_transcript_end one s sure h.0)) (sym (clash_at_transcript_end other s sure' k.0)), k.1 ∙ sym h.1);
   writer = of_writer;
 }
 

@@ -161,7 +161,7 @@ impl From<AllocError> for TaskFault {
 }
 
 impl From<WorldRefusal> for TaskFault {
-    ghost use Rattle.schedule_replay.specs.Fault.{fault_of};
+    ghost use Rattle.schedule_replay.specs.Inner.Fault.{fault_of};
 
     ghost from_gives = { λ why fault. fault ≡ fault_of why };
 
