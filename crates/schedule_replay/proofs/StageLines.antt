@@ -38,33 +38,42 @@ nothing fault nodes (event ∷ earlier) none = refl
 no_memory : (state : State) (line : List ℕ) (at : Option (List ℕ)) → Stops Memory state line at at
 no_memory state line at = ([], (tt, nothing Memory state.network state.run (0, refl)), Appends-nil at)
 
-ill_formed : (state : State) (line : List ℕ) (at : Option (List ℕ)) → FaultsIn Field state.network state.run line → Stops Field state line at at
+ill_formed : (state : State) (line : List ℕ) (at : Option (List ℕ)) → FaultsIn Field state.network state.run line
+    → Stops Field state line at at
 ill_formed state line at fault = ([], (fault, nothing Field state.network state.run refl), Appends-nil at)
 
 -- a line that couldn't be read as a node or an event
-pub unread_entry : (fault : TaskFault) (state : State) (line : List ℕ) (at : Option (List ℕ)) → (fault ≡ Memory) ⊎ IsOwnFault entry_in fault line
+pub unread_entry : (fault : TaskFault) (state : State) (line : List ℕ) (at : Option (List ℕ))
+    → (fault ≡ Memory) ⊎ IsOwnFault entry_in fault line
     → Stops fault state line at at
-unread_entry fault state line at (inl memory) = subst (λ f. Stops f state line at at) (sym memory) (no_memory state line at)
+unread_entry fault state line at (inl memory) =
+    subst (λ f. Stops f state line at at) (sym memory) (no_memory state line at)
 unread_entry fault state line at (inr (inl json, is)) =
-    subst (λ f. Stops f state line at at) (sym json) ([], (is ∙ ap Err json, nothing Json state.network state.run refl), Appends-nil at)
+    subst (λ f. Stops f state line at at) (sym json)
+    ([], (is ∙ ap Err json, nothing Json state.network state.run refl), Appends-nil at)
 unread_entry fault state line at (inr (inr field, is)) =
     subst (λ f. Stops f state line at at) (sym field) (ill_formed state line at (inl (is ∙ ap Err field)))
 
 -- a node that wasn't taken
 pub untaken_node : (fault : TaskFault) (state : State) (line : List ℕ) (node : NodeSpec) (at : Option (List ℕ))
-    → entry_in line ≡ Ok (entries.Node node) → (fault ≡ Memory) ⊎ ((fault ≡ Field) × (state.run ≢ [])) → Stops fault state line at at
-untaken_node fault state line node at is (inl memory) = subst (λ f. Stops f state line at at) (sym memory) (no_memory state line at)
+    → entry_in line ≡ Ok (entries.Node node) → (fault ≡ Memory) ⊎ ((fault ≡ Field) × (state.run ≢ []))
+    → Stops fault state line at at
+untaken_node fault state line node at is (inl memory) =
+    subst (λ f. Stops f state line at at) (sym memory) (no_memory state line at)
 untaken_node fault state line node at is (inr (field, begun)) =
     subst (λ f. Stops f state line at at) (sym field) (ill_formed state line at (inr (node, is, begun)))
 
 -- ---- an event
 
 -- an event before which no world could begin
-pub no_world : (fault : TaskFault) (nodes : Network) (event : Event) (before after : Option (List ℕ)) → Unbegun fault nodes before after
+pub no_world : (fault : TaskFault) (nodes : Network) (event : Event) (before after : Option (List ℕ))
+    → Unbegun fault nodes before after
     → StopsAt fault (new_state nodes) (entries.Event event) before after
-no_world fault nodes event before after (faults, (written, out, went)) = λ line is. (written, (go fault faults line is, out), went)
+no_world fault nodes event before after (faults, (written, out, went)) =
+    λ line is. (written, (go fault faults line is, out), went)
   where
-    go : (fault : TaskFault) → FaultsAtEnd fault nodes → (line : List ℕ) → entry_in line ≡ Ok (entries.Event event) → FaultsIn fault nodes [] line
+    go : (fault : TaskFault) → FaultsAtEnd fault nodes → (line : List ℕ) → entry_in line ≡ Ok (entries.Event event)
+        → FaultsIn fault nodes [] line
     go (World why) clash line is = (event, is, rw clash refl)
     go Write network line is = (event, is, network, λ begun. absurd (begun refl))
     go Memory faults line is = tt
@@ -72,7 +81,8 @@ no_world fault nodes event before after (faults, (written, out, went)) = λ line
     go Field faults line is = absurd faults
 
 -- a world that began at the first event
-pub begun_world : (world : State) (stage : Stage State) (nodes : Network) (before now : Option (List ℕ)) → state_of stage ≡ new_state nodes
+pub begun_world : (world : State) (stage : Stage State) (nodes : Network) (before now : Option (List ℕ))
+    → state_of stage ≡ new_state nodes
     → (world ≡ new_state nodes) × (first_clash nodes ≡ None) × Appends before now (nodes_text nodes)
     → (world ≡ state_of stage) × (first_clash world.network ≡ None) × Appends before now (owed world.network world.run)
 begun_world world stage nodes before now is (new, network, out) =
@@ -87,7 +97,8 @@ nodes_went_out : (nodes : Network) (run : Run) → GoesOut Memory nodes run (owe
 nodes_went_out nodes [] = (length nodes, sym (ap nodes_text (take_all (length nodes) nodes (le_refl _))))
 nodes_went_out nodes (event ∷ earlier) = refl
 
-refused_after : (why : WorldRefusal) (nodes : Network) (run : Run) → first_clash nodes ≡ None → GoesOut (World why) nodes run (owed nodes run)
+refused_after : (why : WorldRefusal) (nodes : Network) (run : Run) → first_clash nodes ≡ None
+    → GoesOut (World why) nodes run (owed nodes run)
 refused_after why nodes [] network = rw network refl
 refused_after why nodes (event ∷ earlier) network = refl
 
@@ -96,7 +107,8 @@ unknown_after nodes [] = tt
 unknown_after nodes (event ∷ earlier) = refl
 
 -- an event that didn't happen, or whose line wasn't written
-pub stopped : (fault : TaskFault) (state : State) (event : Event) (before now after : Option (List ℕ)) → first_clash state.network ≡ None
+pub stopped : (fault : TaskFault) (state : State) (event : Event) (before now after : Option (List ℕ))
+    → first_clash state.network ≡ None
     → Appends before now (owed state.network state.run) → StopsEvent fault state event → WritesNone fault now after
     → StopsAt fault state (entries.Event event) before after
 stopped (World why) state event before now after network appended stops none = λ line is. (
@@ -106,16 +118,21 @@ stopped (World why) state event before now after network appended stops none = �
 )
 stopped Write state event before now after network appended stops none = λ line is.
     (owed state.network state.run, ((event, is, network, λ _. stops), unknown_after state.network state.run), tt)
-stopped Memory state event before now after network appended stops none = λ line is.
-    (owed state.network state.run, (tt, nodes_went_out state.network state.run), Appends-kept before now after _ appended none)
+stopped Memory state event before now after network appended stops none = λ line is. (
+  owed state.network state.run,
+  (tt, nodes_went_out state.network state.run),
+  Appends-kept before now after _ appended none,
+)
 stopped Json state event before now after network appended stops none = absurd none
 stopped Field state event before now after network appended stops none = absurd none
 
 -- an event that happened, where what was owed is written
-pub happened : (world later : State) (event : Event) (before now out : Option (List ℕ)) → first_clash world.network ≡ None
+pub happened : (world later : State) (event : Event) (before now out : Option (List ℕ))
+    → first_clash world.network ≡ None
     → Appends before now (owed world.network world.run) → (later ≡ after event world)
     → (text : List ℕ) × IsEventLine world.network world.run event text × Appends now out text
-    → (written : List ℕ) × IsReplaying (Events later) × Follows (entries.Event event) world later written × Appends before out written
+    → (written : List ℕ) × IsReplaying (Events later) × Follows (entries.Event event) world later written
+    × Appends before out written
 happened world later event before now out network appended later_is (text, is_line, more) = (
   owed world.network world.run ++ text,
   rw later_is ((λ none. absurd cc), network),
@@ -124,13 +141,16 @@ happened world later event before now out network appended later_is (text, is_li
 )
 
 -- what comes of an event in a world, where what was owed is written
-pub event_done : {A : Type 0} (r : Result A TaskFault) (world later : State) (event : Event) (before now out : Option (List ℕ))
+pub event_done : {A : Type 0} (r : Result A TaskFault) (world later : State) (event : Event)
+    (before now out : Option (List ℕ))
     → first_clash world.network ≡ None → Appends before now (owed world.network world.run)
     → MatchResult r
-    (λ _. (later ≡ after event world) × ((text : List ℕ) × IsEventLine world.network world.run event text × Appends now out text))
+    (λ _. (later ≡ after event world) × ((text : List ℕ) × IsEventLine world.network world.run event text
+    × Appends now out text))
     (λ fault. StopsEvent fault world event × WritesNone fault now out)
     → MatchResult r
-    (λ _. (written : List ℕ) × IsReplaying (Events later) × Follows (entries.Event event) world later written × Appends before out written)
+    (λ _. (written : List ℕ) × IsReplaying (Events later) × Follows (entries.Event event) world later written
+    × Appends before out written)
     (λ fault. StopsAt fault world (entries.Event event) before out)
 event_done (Ok x) world later event before now out network appended (later_is, line) =
     happened world later event before now out network appended later_is line
@@ -140,9 +160,11 @@ event_done (Err fault) world later event before now out network appended (stops,
 -- ---- a line
 
 -- what comes of a line: the schedule is so far then, or it stops
-abbrev pub IsTaken : {A : Type 0} → Result A TaskFault → Stage State → State → List ℕ → Option (List ℕ) → Option (List ℕ) → Type 0
+abbrev pub IsTaken : {A : Type 0} → Result A TaskFault → Stage State → State → List ℕ → Option (List ℕ)
+    → Option (List ℕ) → Type 0
 IsTaken r later state line before after = MatchResult r
-    (λ _. (x : State) × (written : List ℕ) × ((state_of later ≡ x) × IsReplaying later) × replay_rules.Takes line state x written
+    (λ _. (x : State) × (written : List ℕ) × ((state_of later ≡ x) × IsReplaying later)
+    × replay_rules.Takes line state x written
     × Appends before after written)
     (λ fault. Stops fault state line before after)
 
@@ -159,21 +181,26 @@ after_event : (stage : Stage State) → IsReplaying stage → nodes_in stage ≡
 after_event (Nodes nodes) stands none = absurd cc
 after_event (Events world) stands none = stands.0
 
-pub node_taken : {A : Type 0} (r : Result A TaskFault) (stage later : Stage State) (state : State) (line : List ℕ) (node : NodeSpec) (at : Option (List ℕ))
+pub node_taken : {A : Type 0} (r : Result A TaskFault) (stage later : Stage State) (state : State) (line : List ℕ)
+    (node : NodeSpec) (at : Option (List ℕ))
     → entry_in line ≡ Ok (entries.Node node) → (state_of stage ≡ state) × IsReplaying stage
-    → MatchResult r (λ _. HasOneMore node stage later) (λ fault. (fault ≡ Memory) ⊎ ((fault ≡ Field) × (nodes_in stage ≡ None)))
+    → MatchResult r (λ _. HasOneMore node stage later)
+    (λ fault. (fault ≡ Memory) ⊎ ((fault ≡ Field) × (nodes_in stage ≡ None)))
     → IsTaken r later state line at at
 node_taken (Ok x) stage later state line node at is (same, stands) more =
     let (begun, follows) = pushed stage later node more in
     (state_of later, [], (refl, begun), (entries.Node node, is, rw same at follows), Appends-nil at)
-node_taken (Err fault) stage later state line node at is (same, stands) (inl memory) = untaken_node fault state line node at is (inl memory)
+node_taken (Err fault) stage later state line node at is (same, stands) (inl memory) =
+    untaken_node fault state line node at is (inl memory)
 node_taken (Err fault) stage later state line node at is (same, stands) (inr (field, none)) =
     untaken_node fault state line node at is (inr (field, rw same at (after_event stage stands none)))
 
-pub event_taken : {A : Type 0} (r : Result A TaskFault) (stage later : Stage State) (state : State) (line : List ℕ) (event : Event)
+pub event_taken : {A : Type 0} (r : Result A TaskFault) (stage later : Stage State) (state : State) (line : List ℕ)
+    (event : Event)
     (before after : Option (List ℕ)) → entry_in line ≡ Ok (entries.Event event) → state_of stage ≡ state
     → MatchResult r
-    (λ _. (written : List ℕ) × IsReplaying later × Follows (entries.Event event) (state_of stage) (state_of later) written × Appends before after written)
+    (λ _. (written : List ℕ) × IsReplaying later × Follows (entries.Event event) (state_of stage)
+    (state_of later) written × Appends before after written)
     (λ fault. StopsAt fault (state_of stage) (entries.Event event) before after)
     → IsTaken r later state line before after
 event_taken (Ok x) stage later state line event before after is same (written, begun, follows, appended) =

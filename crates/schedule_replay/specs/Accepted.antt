@@ -71,7 +71,9 @@ AnswersAcceptance reports answer =
 -- So of what was replayed on Ok, whatever octets the schedule was.
 abbrev pub EachReplayIsAccepted : Premise → Type 0
 EachReplayIsAccepted premise =
-    (octets : List ℕ) (left before after : Option (List ℕ)) (events : ℕ) (replayed : ReplaysAll octets left before after events)
-    → premise replayed.state.network replayed.state.run → (left' before' after' : Option (List ℕ)) (answer : Result Verdict Fault)
+    (octets : List ℕ) (left before after : Option (List ℕ)) (events : ℕ)
+    (replayed : ReplaysAll octets left before after events)
+    → premise replayed.state.network replayed.state.run → (left' before' after' : Option (List ℕ))
+    (answer : Result Verdict Fault)
     → Checks (replayed.text ++ replayed.last) left' before' after' answer
     → AnswersAcceptance (reports_in replayed.state.network replayed.state.run) answer

@@ -39,7 +39,8 @@ numbered (line ∷ earlier) = numbered earlier ++ recorded.Event (length earlier
 abbrev pub transcript_of : Network → Lines → List TranscriptLine
 transcript_of nodes lines = map recorded.Node nodes ++ numbered lines
 
--- after these events this doesn't stand where it should: a node after an event, or an event with another number than its place
+-- after these events this doesn't stand where it should: a node after an event, or an event with another number than
+-- its place
 abbrev pub IsOutOfPlace : Lines → TranscriptLine → Type 0
 IsOutOfPlace lines (recorded.Node node) = lines ≢ []
 IsOutOfPlace lines (recorded.Event number line) = number ≢ length lines
@@ -49,13 +50,16 @@ IsOutOfPlace lines (recorded.Event number line) = number ≢ length lines
 abbrev pub FaultsInTranscript : TaskFault → Network → Lines → List ℕ → Type 0
 FaultsInTranscript Json nodes lines line = recorded_in line ≡ Err Json
 FaultsInTranscript Field nodes lines line =
-    (recorded_in line ≡ Err Field) ⊎ ((entry : TranscriptLine) × (recorded_in line ≡ Ok entry) × IsOutOfPlace lines entry)
+    (recorded_in line ≡ Err Field) ⊎ ((entry : TranscriptLine) × (recorded_in line ≡ Ok entry)
+    × IsOutOfPlace lines entry)
 FaultsInTranscript (World why) nodes lines line =
-    (first : TraceLine) × (recorded_in line ≡ Ok (recorded.Event 0 first)) × (lines ≡ []) × (first_clash nodes ≡ Some why)
+    (first : TraceLine) × (recorded_in line ≡ Ok (recorded.Event 0 first)) × (lines ≡ [])
+    × (first_clash nodes ≡ Some why)
 FaultsInTranscript Memory nodes lines line = ⊤
 FaultsInTranscript fault nodes lines line = ⊥
 
--- the fault at the end of a transcript: there was no event and the nodes are no network, or the verdict can't be made or written
+-- the fault at the end of a transcript: there was no event and the nodes are no network, or the verdict can't be made
+-- or written
 abbrev pub FaultsAtTranscriptEnd : TaskFault → Network → Lines → Type 0
 FaultsAtTranscriptEnd (World why) nodes lines = (lines ≡ []) × (first_clash nodes ≡ Some why)
 FaultsAtTranscriptEnd Write nodes lines = first_clash nodes ≡ None
@@ -75,16 +79,19 @@ pub record Recorded : Type 0 where
 
 -- what a node or a recorded event does
 abbrev pub Follows : TranscriptLine → (state later : Recorded) → Type 0
-Follows (recorded.Node node) state later = (state.lines ≡ []) × (later ≡ record { nodes = state.nodes ++ node ∷ []; lines = [] })
+Follows (recorded.Node node) state later =
+    (state.lines ≡ []) × (later ≡ record { nodes = state.nodes ++ node ∷ []; lines = [] })
 Follows (recorded.Event number line) state later =
-    (number ≡ length state.lines) × (first_clash state.nodes ≡ None) × (later ≡ record { nodes = state.nodes; lines = line ∷ state.lines })
+    (number ≡ length state.lines) × (first_clash state.nodes ≡ None)
+    × (later ≡ record { nodes = state.nodes; lines = line ∷ state.lines })
 
 -- Each line is a node, or an event with its place among the events for a number. Only the verdict is written.
 abbrev pub check_rules : Rules Recorded Verdict TaskFault
 check_rules = record {
   lines_limit = lines_limit;
   start = record { nodes = []; lines = [] };
-  Takes = λ line state later written. (entry : TranscriptLine) × (recorded_in line ≡ Ok entry) × Follows entry state later × (written ≡ []);
+  Takes = λ line state later written. (entry : TranscriptLine) × (recorded_in line ≡ Ok entry)
+      × Follows entry state later × (written ≡ []);
   Stops = λ line state fault written. FaultsInTranscript fault state.nodes state.lines line × (written ≡ []);
   Ends = λ lines state answer written.
       (first_clash state.nodes ≡ None) × (answer ≡ verdict state.nodes state.lines) × (written ≡ verdict_text answer);

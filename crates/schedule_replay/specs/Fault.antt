@@ -5,7 +5,8 @@ use Rattle.schedule_replay.specs.declared.fault.Fault.{Fault}
 use Rattle.schedule_replay.specs.declared.fault.FaultKind.{FaultKind}
 use Rattle.schedule_replay.specs.declared.fault.TaskFault.{TaskFault}
 use Rattle.schedule_replay.specs.declared.fault.TaskFault.TheVariants as tasks
-use Rattle.schedule_replay.specs.declared.fault.FaultKind.TheVariants.{Read, Write, LineTooLong, TooManyLines, Json, Field, World, Memory}
+use Rattle.schedule_replay.specs.declared.fault.FaultKind.TheVariants.{Read, Write, LineTooLong, TooManyLines, Json}
+use Rattle.schedule_replay.specs.declared.fault.FaultKind.TheVariants.{Field, World, Memory}
 use Rattle.text_lines.specs.declared.fault.Cause.{Cause}
 use Rattle.text_lines.specs.declared.fault.Cause.TheVariants.{Reading, Task}
 use Rattle.text_lines.specs.declared.fault.ReadingFault.{ReadingFault}
@@ -54,7 +55,8 @@ FailedAs Write input input' output output' = HasNotFailed input input' × HasFai
 FailedAs kind input input' output output' = HasNotFailed input input' × HasNotFailed output output'
 
 -- which of the two devices failed at this answer
-abbrev pub FailedWith : {A R W : Type 0} → Result A Fault → (input input' : Counted R) (output output' : Counted W) → Type 0
+abbrev pub FailedWith : {A R W : Type 0} → Result A Fault → (input input' : Counted R) (output output' : Counted W)
+    → Type 0
 FailedWith answer input input' output output' = MatchResult answer
     (λ _. HasNotFailed input input' × HasNotFailed output output')
     (λ fault. FailedAs fault.what input input' output output')

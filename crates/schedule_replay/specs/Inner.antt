@@ -1,5 +1,5 @@
--- What serves functions inside this crate, views, invariants and proofs alone. No contract of a public call rests on it, so
--- nobody has to believe it.
+-- What serves functions inside this crate, views, invariants and proofs alone. No contract of a public call rests on
+-- it, so nobody has to believe it.
 pub mod Fault
 pub mod Stage
 pub mod Replaying

@@ -44,8 +44,8 @@ abbrev pub owed : Network → Run → List ℕ
 owed nodes [] = nodes_text nodes
 owed nodes (event ∷ earlier) = []
 
--- What goes out of the nodes' lines at this fault, where no event had happened: all of them where a network is there and
--- doesn't accept the first event, and whole lines from the first on where memory is refused.
+-- What goes out of the nodes' lines at this fault, where no event had happened: all of them where a network is there
+-- and doesn't accept the first event, and whole lines from the first on where memory is refused.
 abbrev pub NodesGoOut : TaskFault → Network → List ℕ → Type 0
 NodesGoOut (World why) nodes written = written ≡ (if is_none (first_clash nodes) then nodes_text nodes else [])
 NodesGoOut Write nodes written = ⊤
@@ -63,7 +63,8 @@ Follows (entries.Node node) state later written =
     (state.run ≡ []) × (later ≡ record { network = state.network ++ node ∷ []; run = [] }) × (written ≡ [])
 Follows (entries.Event event) state later written =
     (first_clash state.network ≡ None) × (later ≡ record { network = state.network; run = event ∷ state.run })
-    × (line : List ℕ) × IsEventLine state.network state.run event line × (written ≡ owed state.network state.run ++ line)
+    × (line : List ℕ) × IsEventLine state.network state.run event line
+    × (written ≡ owed state.network state.run ++ line)
 
 -- Each line is a node or an event. The nodes' lines go out with the first event, or at the end where there is none; the
 -- answer is the number of events.
@@ -72,10 +73,12 @@ replay_rules = record {
   lines_limit = lines_limit;
   start = record { network = []; run = [] };
   Takes = λ line state later written. (entry : Line) × (entry_in line ≡ Ok entry) × Follows entry state later written;
-  Stops = λ line state fault written. FaultsIn fault state.network state.run line × GoesOut fault state.network state.run written;
+  Stops = λ line state fault written. FaultsIn fault state.network state.run line
+      × GoesOut fault state.network state.run written;
   Ends = λ lines state events written.
       (first_clash state.network ≡ None) × (events ≡ length state.run) × (written ≡ owed state.network state.run);
-  StopsAtEnd = λ state fault written. (state.run ≡ []) × FaultsAtEnd fault state.network × NodesGoOut fault state.network written;
+  StopsAtEnd = λ state fault written. (state.run ≡ []) × FaultsAtEnd fault state.network
+      × NodesGoOut fault state.network written;
   is_of_writer = is_write;
 }
 

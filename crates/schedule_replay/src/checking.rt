@@ -1,5 +1,5 @@
 //! A transcript that is checked line by line.
-ghost use Rattle.std.specs.Prelude.{◌≡◌, ◌≢◌, ◌⊎◌, [], length, IfOk, MatchResult, Ok, None, string_bytes};
+ghost use Rattle.std.specs.Prelude.{◌≡◌, ◌⊎◌, [], length, IfOk, MatchResult, Ok, None, string_bytes};
 ghost use Rattle.network_model.specs.Clash.{first_clash};
 ghost use Rattle.trace_model.specs.Verdict.{verdict};
 ghost use Rattle.schedule_lines.specs.declared.reading.transcript.TranscriptLine.TheVariants as recorded;

@@ -1,5 +1,5 @@
 //! What tasks share: the limit of lines, the value of a line, and the writing of a text.
-ghost use Rattle.std.specs.Prelude.{◌≡◌, ◌⊎◌, MatchResult, Some, None, string_bytes};
+ghost use Rattle.std.specs.Prelude.{◌≡◌, ◌⊎◌, MatchResult, Some, None};
 ghost use Rattle.std.specs.Io.KnownBytes.{Appends};
 ghost use Rattle.serde_json.specs.View.{view};
 ghost use Rattle.text_lines.specs.Counted.{device_of, HasFailedIf, HasNotFailed};

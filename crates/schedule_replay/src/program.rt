@@ -3,7 +3,6 @@ ghost use Rattle.schedule_replay.specs.Program.{EndsBefore, EndsUnread, Runs, ch
 ghost use Rattle.command_line.specs.Arguments.{AsksNothing, HasHelpFlag, Names, NamesNothing};
 ghost use Rattle.schedule_replay.specs.Lines.{lines_limit};
 ghost use Rattle.text_lines.specs.Lines.{input_limit, GivesWithin};
-ghost use Rattle.text_lines.specs.Counted.{device_of};
 
 use crate::checking::check_text;
 use crate::fault::{Fault, FaultKind};

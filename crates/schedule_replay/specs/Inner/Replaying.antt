@@ -43,4 +43,5 @@ StopsEvent fault world event = ⊥
 abbrev pub StopsAt : TaskFault → State → Line → Option (List ℕ) → Option (List ℕ) → Type 0
 StopsAt fault state entry before after =
     (line : List ℕ) → entry_in line ≡ Ok entry
-    → (written : List ℕ) × replay_rules.Stops line state fault written × WentOut (is_write fault) (Appends before after written)
+    → (written : List ℕ) × replay_rules.Stops line state fault written
+    × WentOut (is_write fault) (Appends before after written)

@@ -11,8 +11,8 @@ StopsReading kind limit number octets left =
     (line : List ℕ) × (others : List (List ℕ)) × (lines_of octets ≡ line ∷ others)
     × (reading_fault limit number line ≡ Some kind) × LeavesUnread kind limit number octets left
 
--- a line of this number was read where there was one, and nothing at the end of the input; a line after which the
--- end was not seen has its LF
+-- a line of this number was read where there was one, and nothing at the end of the input; a line after which the end
+-- was not seen has its LF
 abbrev pub ReadsLine : Bool → (limit number : ℕ) → List ℕ → Bool → List ℕ → Option (List ℕ) → Type 0
 ReadsLine true limit number line ended octets left =
     (lines_of octets ≡ line ∷ lines_of (after_lines 1 octets)) × (reading_fault limit number line ≡ None)

@@ -10,10 +10,12 @@ returns-in_err-node-clause-taken g c = λ state at.
 
 pub returns-in-Node-clause-taken : goal.returns-in-Node-clause-taken
 returns-in-Node-clause-taken g c = λ state at.
-    node_taken c.push.result c.args.self.now.stage c.push.new.self state c.args.line.now c.in-Node.node _ (rw c.in-Node.is at c.in_ok-node.ensures) at
+    node_taken c.push.result c.args.self.now.stage c.push.new.self state c.args.line.now c.in-Node.node _
+    (rw c.in-Node.is at c.in_ok-node.ensures) at
     c.push.ensures
 
 pub returns-in-Event-clause-taken : goal.returns-in-Event-clause-taken
 returns-in-Event-clause-taken g c = λ state at.
-    record_taken c.feed.result c.args.self.now.stage c.feed.new.self.stage state c.args.line.now (recorded.Event c.in-Event.number c.in-Event.line) _
+    record_taken c.feed.result c.args.self.now.stage c.feed.new.self.stage state c.args.line.now
+    (recorded.Event c.in-Event.number c.in-Event.line) _
     (rw c.in-Event.is at c.in_ok-node.ensures) at.0 c.feed.ensures

@@ -9,8 +9,10 @@ returns-in_err-node-clause-taken g c = λ state at.
 
 pub returns-in-Node-clause-taken : goal.returns-in-Node-clause-taken
 returns-in-Node-clause-taken g c = λ state at.
-    node_taken c.push.result c.args.self.now.stage c.push.new.self state c.args.line.now c.in-Node.node _ (rw c.in-Node.is at c.in_ok-node.ensures) at c.push.ensures
+    node_taken c.push.result c.args.self.now.stage c.push.new.self state c.args.line.now c.in-Node.node _
+    (rw c.in-Node.is at c.in_ok-node.ensures) at c.push.ensures
 
 pub returns-in-Event-clause-taken : goal.returns-in-Event-clause-taken
 returns-in-Event-clause-taken g c = λ state at.
-    event_taken c.happen.result c.args.self.now.stage c.happen.new.self.stage state c.args.line.now c.in-Event.event _ _ (rw c.in-Event.is at c.in_ok-node.ensures) at.0 c.happen.ensures.happens
+    event_taken c.happen.result c.args.self.now.stage c.happen.new.self.stage state c.args.line.now
+    c.in-Event.event _ _ (rw c.in-Event.is at c.in_ok-node.ensures) at.0 c.happen.ensures.happens
