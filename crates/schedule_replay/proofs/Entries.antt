@@ -1,23 +1,26 @@
--- What a line is, from what reading its JSON value answered.
-use Rattle.std.proofs.Common.{◌≡◌, ◌∙◌, Bool, true, false, refl, sym, ap, List, ℕ, Option, Some, None, Err}
-use Rattle.std.specs.Prelude.{if◌then◌else◌, ok_or}
+-- What a line is, from what reading its JSON value answered, and which lines a schedule has.
+use Rattle.std.proofs.Common.{◌≡◌, ◌∙◌, ◌⊎◌, Bool, true, false, refl, sym, ap, inl, inr, List, ◌++◌, ℕ, map}
+use Rattle.std.proofs.Common.{Option, Some, None, Err}
+use Rattle.std.specs.Prelude.{if◌then◌else◌, ok_or, reverse}
 use Rattle.std.specs.Str.{IsUtf8, is_utf8}
 use Rattle.std.proofs.lemmas.Str.{is_utf8-from_IsUtf8, IsUtf8-from_is_utf8}
 use Rattle.serde_json.specs.Data.{Data}
 use Rattle.serde_json.specs.Read.{read}
+use Rattle.network_model.specs.Network.{Network}
+use Rattle.network_model.specs.Run.{Run}
 use Rattle.schedule_lines.specs.declared.reading.schedule.Line.{Line}
-use Rattle.schedule_lines.specs.Line.{line_of}
-use Rattle.schedule_replay.specs.declared.fault.FaultKind.{FaultKind}
-use Rattle.schedule_replay.specs.declared.fault.FaultKind.TheVariants.{Json, Field}
-use Rattle.schedule_replay.specs.Schedule.{value_in, entry_in, entry_of_value}
+use Rattle.schedule_lines.specs.declared.reading.schedule.Line.TheVariants as entries
+use Rattle.text_lines.specs.Lines.{AreRead}
+use Rattle.schedule_replay.specs.declared.fault.TaskFault.{TaskFault}
+use Rattle.schedule_replay.specs.declared.fault.TaskFault.TheVariants.{Json, Field, Memory}
+use Rattle.schedule_replay.specs.Lines.{lines_limit, value_in, read_by}
+use Rattle.schedule_replay.specs.Schedule.{entry_in}
+use Rattle.schedule_replay.specs.Inner.Stage.{IsOwnFault}
+
+-- ---- a line
 
 pub value_read : (line : List ℕ) (value : Data) → IsUtf8 line → read line ≡ Some value → value_in line ≡ Some value
 value_read line value text is = rw (is_utf8-from_IsUtf8 line text) is
-
-pub entry_read : (line : List ℕ) (value : Data) (entry : Option Line) → IsUtf8 line × (read line ≡ Some value) → entry ≡ line_of value
-    → entry_in line ≡ ok_or entry Field
-entry_read line value entry (text, is) of =
-    ap entry_of_value (value_read line value text is) ∙ ap (λ (o : Option Line). ok_or {E = FaultKind} o Field) (sym of)
 
 pub no_value : (line : List ℕ) → (IsUtf8 line → read line ≡ None) → value_in line ≡ None
 no_value line none = by_text (is_utf8 line) refl
@@ -26,5 +29,26 @@ no_value line none = by_text (is_utf8 line) refl
     by_text true is = none (IsUtf8-from_is_utf8 line is)
     by_text false is = refl
 
-pub no_entry : (line : List ℕ) → (IsUtf8 line → read line ≡ None) → entry_in line ≡ Err Json
-no_entry line none = ap entry_of_value (no_value line none)
+-- where no value was read
+pub unread : {E : Type 0} (reading : Data → Option E) (line : List ℕ) (fault : TaskFault)
+    → (fault ≡ Memory) ⊎ ((fault ≡ Json) × (value_in line ≡ None))
+    → (fault ≡ Memory) ⊎ IsOwnFault (λ l. read_by reading (value_in l)) fault line
+unread reading line fault (inl memory) = inl memory
+unread reading line fault (inr (json, none)) = inr (inl json, ap (read_by reading) none ∙ ap Err (sym json))
+
+-- what a line is where its value was read
+pub was_read : {E : Type 0} (reading : Data → Option E) (line : List ℕ) (value : Data) (entry : Option E)
+    → value_in line ≡ Some value
+    → entry ≡ reading value → read_by reading (value_in line) ≡ ok_or {E = TaskFault} entry Field
+was_read {E} reading line value entry is of =
+    ap (read_by reading) is ∙ ap (λ (o : Option E). ok_or {E = TaskFault} o Field) (sym of)
+
+-- ---- a schedule
+
+-- lines, of which the first has this number, are these nodes and events in turn
+abbrev pub AreEntries : ℕ → List (List ℕ) → List Line → Type 0
+AreEntries = AreRead entry_in lines_limit
+
+-- a schedule: its nodes, and then its events, the oldest first
+abbrev pub schedule_of : Network → Run → List Line
+schedule_of nodes run = map entries.Node nodes ++ map entries.Event (reverse run)

@@ -13,11 +13,11 @@ use Rattle.world_model.specs.State.{State, after, IsRefused}
 use Rattle.trace_model.specs.declared.line.TraceLine.{TraceLine}
 use Rattle.trace_model.specs.Told.{TellsAnswer}
 use Rattle.schedule_lines.specs.Written.{event_data, line_text}
-use Rattle.schedule_replay.specs.declared.fault.FaultKind.{FaultKind}
-use Rattle.schedule_replay.specs.declared.fault.FaultKind.TheVariants as kinds
-use Rattle.schedule_replay.specs.Fault.{fault_of}
+use Rattle.schedule_replay.specs.declared.fault.TaskFault.{TaskFault}
+use Rattle.schedule_replay.specs.declared.fault.TaskFault.TheVariants as tasks
 use Rattle.schedule_replay.specs.Replay.{IsEventLine}
-use Rattle.schedule_replay.specs.Inner.Stage.{LeavesUnwritten, WritesNone, StopsEvent}
+use Rattle.schedule_replay.specs.Inner.Stage.{LeavesUnwritten}
+use Rattle.schedule_replay.specs.Inner.Replaying.{WritesNone, StopsEvent}
 
 pub told_line : (old new : State) (event : Event) (stepped : Stepped) (recorded : TraceLine) (value : Data)
     → IsStepped old.network old.run event stepped → new ≡ after event old → TellsAnswer new.network new.run event stepped recorded
@@ -32,47 +32,23 @@ told_line old new event stepped recorded value answered new_is told value_is = r
   text = ap line_text value_is ∙ ap (λ (n : ℕ). line_text (event_data n recorded)) answered.tag;
 }
 
--- an event that isn't accepted, or that memory was refused for
-pub refused_event : (why : WorldRefusal) (world : State) (event : Event) (at : Option (List ℕ)) → IsRefused world event why
-    → StopsEvent (fault_of why) world event × WritesNone (fault_of why) at at
-refused_event Memory world event at h = (tt, Keeps-refl at)
-refused_event SameName world event at (inl e) = (e, Keeps-refl at)
-refused_event SameIdentity world event at (inl e) = (e, Keeps-refl at)
-refused_event NoNode world event at (inl e) = (e, Keeps-refl at)
-refused_event WrongKind world event at (inl e) = (e, Keeps-refl at)
-refused_event NoCopy world event at (inl e) = (e, Keeps-refl at)
-refused_event NoTransit world event at (inl e) = (e, Keeps-refl at)
-refused_event ReadingOutOfRange world event at (inl e) = (e, Keeps-refl at)
-refused_event NothingWaiting world event at (inl e) = (e, Keeps-refl at)
-refused_event SameName world event at (inr h) = let e = h.0 in absurd cc
-refused_event SameIdentity world event at (inr h) = let e = h.0 in absurd cc
-refused_event NoNode world event at (inr h) = let e = h.0 in absurd cc
-refused_event WrongKind world event at (inr h) = let e = h.0 in absurd cc
-refused_event NoCopy world event at (inr h) = let e = h.0 in absurd cc
-refused_event NoTransit world event at (inr h) = let e = h.0 in absurd cc
-refused_event ReadingOutOfRange world event at (inr h) = let e = h.0 in absurd cc
-refused_event NothingWaiting world event at (inr h) = let e = h.0 in absurd cc
-
 -- an event that happened, and whose line wasn't written
-pub unwritten_event : (kind : FaultKind) (world : State) (event : Event) (stepped : Stepped) (before after : Option (List ℕ))
-    → IsStepped world.network world.run event stepped → LeavesUnwritten kind before after → StopsEvent kind world event × WritesNone kind before after
-unwritten_event kinds.Memory world event stepped before after answered kept = (tt, kept)
-unwritten_event kinds.Write world event stepped before after answered kept = (ap is_ok answered.outcome, tt)
-unwritten_event kinds.Read world event stepped before after answered kept = absurd kept
-unwritten_event kinds.LineTooLong world event stepped before after answered kept = absurd kept
-unwritten_event kinds.TooManyLines world event stepped before after answered kept = absurd kept
-unwritten_event kinds.Json world event stepped before after answered kept = absurd kept
-unwritten_event kinds.Field world event stepped before after answered kept = absurd kept
-unwritten_event (kinds.World why) world event stepped before after answered kept = absurd kept
+pub unwritten_event : (fault : TaskFault) (world : State) (event : Event) (stepped : Stepped) (before after : Option (List ℕ))
+    → IsStepped world.network world.run event stepped → LeavesUnwritten fault before after → StopsEvent fault world event × WritesNone fault before after
+unwritten_event tasks.Memory world event stepped before after answered kept = (tt, kept)
+unwritten_event tasks.Write world event stepped before after answered kept = (ap is_ok answered.outcome, tt)
+unwritten_event tasks.Json world event stepped before after answered kept = absurd kept
+unwritten_event tasks.Field world event stepped before after answered kept = absurd kept
+unwritten_event (tasks.World why) world event stepped before after answered kept = absurd kept
 
 -- what comes of writing the line of an event that happened
-pub written_event : {A : Type 0} (r : Result A FaultKind) (old new : State) (event : Event) (stepped : Stepped) (recorded : TraceLine) (value : Data)
+pub written_event : {A : Type 0} (r : Result A TaskFault) (old new : State) (event : Event) (stepped : Stepped) (recorded : TraceLine) (value : Data)
     (before later : Option (List ℕ)) → IsStepped old.network old.run event stepped → new ≡ after event old
     → TellsAnswer new.network new.run event stepped recorded → value ≡ event_data stepped.tag recorded
-    → MatchResult r (λ _. Appends before later (line_text value)) (λ kind. LeavesUnwritten kind before later)
+    → MatchResult r (λ _. Appends before later (line_text value)) (λ fault. LeavesUnwritten fault before later)
     → MatchResult r (λ _. (new ≡ after event old) × ((line : List ℕ) × IsEventLine old.network old.run event line × Appends before later line))
-    (λ kind. StopsEvent kind old event × WritesNone kind before later)
+    (λ fault. StopsEvent fault old event × WritesNone fault before later)
 written_event (Ok x) old new event stepped recorded value before later answered new_is told value_is appended =
     (new_is, (line_text value, told_line old new event stepped recorded value answered new_is told value_is, appended))
-written_event (Err kind) old new event stepped recorded value before later answered new_is told value_is kept =
-    unwritten_event kind old event stepped before later answered kept
+written_event (Err fault) old new event stepped recorded value before later answered new_is told value_is kept =
+    unwritten_event fault old event stepped before later answered kept

@@ -1,8 +1,8 @@
 pub mod Entries
-pub mod Records
 pub mod NodeLines
 pub mod EventLines
 pub mod StageLines
+pub mod RecordLines
 pub mod WorkedSchedule
 pub mod Transcribed
 pub mod OneTranscript

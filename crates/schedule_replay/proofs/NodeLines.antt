@@ -8,13 +8,13 @@ use Rattle.network_model.specs.declared.refusal.WorldRefusal.TheVariants.{SameNa
 use Rattle.network_model.specs.Network.{Network}
 use Rattle.network_model.specs.Clash.{first_clash}
 use Rattle.schedule_lines.specs.Written.{node_data, line_text}
-use Rattle.schedule_replay.specs.declared.fault.FaultKind.{FaultKind}
-use Rattle.schedule_replay.specs.declared.fault.FaultKind.TheVariants as kinds
-use Rattle.schedule_replay.specs.Fault.{fault_of}
+use Rattle.schedule_replay.specs.declared.fault.TaskFault.{TaskFault}
+use Rattle.schedule_replay.specs.declared.fault.TaskFault.TheVariants as tasks
+use Rattle.schedule_replay.specs.Inner.Fault.{fault_of}
 use Rattle.schedule_replay.specs.Schedule.{FaultsAtEnd}
 use Rattle.schedule_replay.specs.Replay.{nodes_text, NodesGoOut}
 use Rattle.text_lines.specs.Task.{WentOut}
-use Rattle.schedule_replay.specs.Fault.{is_of_writer}
+use Rattle.schedule_replay.specs.Fault.{is_write}
 use Rattle.schedule_replay.specs.Inner.Stage.{LeavesUnwritten}
 
 -- one node more
@@ -29,24 +29,17 @@ nodes_text-more (suc count) (first ∷ others) node within is =
     ∙ sym (append_assoc (line_text (node_data first)) (nodes_text (take count others)) (line_text (node_data node))))
 
 -- what is said of nodes whose lines didn't all go out
-abbrev pub Unbegun : FaultKind → Network → Option (List ℕ) → Option (List ℕ) → Type 0
-Unbegun kind nodes before after =
-    FaultsAtEnd kind nodes × ((written : List ℕ) × NodesGoOut kind nodes written × WentOut (is_of_writer kind) (Appends before after written))
+abbrev pub Unbegun : TaskFault → Network → Option (List ℕ) → Option (List ℕ) → Type 0
+Unbegun fault nodes before after =
+    FaultsAtEnd fault nodes × ((written : List ℕ) × NodesGoOut fault nodes written × WentOut (is_write fault) (Appends before after written))
 
-clashes : (why : WorldRefusal) (nodes : Network) (at : Option (List ℕ)) → first_clash nodes ≡ Some why → Unbegun (kinds.World why) nodes at at
+clashes : (why : WorldRefusal) (nodes : Network) (at : Option (List ℕ)) → first_clash nodes ≡ Some why → Unbegun (tasks.World why) nodes at at
 clashes why nodes at clash = (clash, ([], rw clash refl, Appends-nil at))
 
 pub no_network : (why : WorldRefusal) (nodes : Network) (at : Option (List ℕ)) → (why ≡ Memory) ⊎ (first_clash nodes ≡ Some why)
     → Unbegun (fault_of why) nodes at at
-no_network Memory nodes at h = (tt, ([], (0, refl), Appends-nil at))
-no_network SameName nodes at (inl e) = absurd cc
-no_network SameIdentity nodes at (inl e) = absurd cc
-no_network NoNode nodes at (inl e) = absurd cc
-no_network WrongKind nodes at (inl e) = absurd cc
-no_network NoCopy nodes at (inl e) = absurd cc
-no_network NoTransit nodes at (inl e) = absurd cc
-no_network ReadingOutOfRange nodes at (inl e) = absurd cc
-no_network NothingWaiting nodes at (inl e) = absurd cc
+no_network why nodes at (inl memory) = rw memory (tt, ([], (0, refl), Appends-nil at))
+no_network Memory nodes at (inr clash) = (tt, ([], (0, refl), Appends-nil at))
 no_network SameName nodes at (inr clash) = clashes SameName nodes at clash
 no_network SameIdentity nodes at (inr clash) = clashes SameIdentity nodes at clash
 no_network NoNode nodes at (inr clash) = clashes NoNode nodes at clash
@@ -58,17 +51,14 @@ no_network NothingWaiting nodes at (inr clash) = clashes NothingWaiting nodes at
 
 -- memory was refused after the lines of so many nodes
 pub no_memory : (count : ℕ) (nodes : Network) (before after : Option (List ℕ)) → Appends before after (nodes_text (take count nodes))
-    → Unbegun kinds.Memory nodes before after
+    → Unbegun tasks.Memory nodes before after
 no_memory count nodes before after so_far = (tt, (nodes_text (take count nodes), (count, refl), so_far))
 
 -- a line wasn't written after those of so many nodes
-pub no_line : (kind : FaultKind) (count : ℕ) (nodes : Network) (before now after : Option (List ℕ))
-    → Appends before now (nodes_text (take count nodes)) → first_clash nodes ≡ None → LeavesUnwritten kind now after → Unbegun kind nodes before after
-no_line kinds.Memory count nodes before now after so_far network kept = no_memory count nodes before after (Appends-kept before now after _ so_far kept)
-no_line kinds.Write count nodes before now after so_far network kept = (network, ([], tt, tt))
-no_line kinds.Read count nodes before now after so_far network kept = absurd kept
-no_line kinds.LineTooLong count nodes before now after so_far network kept = absurd kept
-no_line kinds.TooManyLines count nodes before now after so_far network kept = absurd kept
-no_line kinds.Json count nodes before now after so_far network kept = absurd kept
-no_line kinds.Field count nodes before now after so_far network kept = absurd kept
-no_line (kinds.World why) count nodes before now after so_far network kept = absurd kept
+pub no_line : (fault : TaskFault) (count : ℕ) (nodes : Network) (before now after : Option (List ℕ))
+    → Appends before now (nodes_text (take count nodes)) → first_clash nodes ≡ None → LeavesUnwritten fault now after → Unbegun fault nodes before after
+no_line tasks.Memory count nodes before now after so_far network kept = no_memory count nodes before after (Appends-kept before now after _ so_far kept)
+no_line tasks.Write count nodes before now after so_far network kept = (network, ([], tt, tt))
+no_line tasks.Json count nodes before now after so_far network kept = absurd kept
+no_line tasks.Field count nodes before now after so_far network kept = absurd kept
+no_line (tasks.World why) count nodes before now after so_far network kept = absurd kept

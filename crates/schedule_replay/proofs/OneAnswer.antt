@@ -19,16 +19,17 @@ use Rattle.text_lines.specs.declared.fault.ReadingFault.TheVariants as reading
 use Rattle.text_lines.specs.Task.{Rules}
 use Rattle.text_lines.proofs.OneAnswer.{HasOneCourse, AreOneAnswer, one_answer, course_of_all, course_until}
 use Rattle.text_lines.proofs.OneAnswer as courses
+use Rattle.schedule_replay.specs.declared.fault.TaskFault.{TaskFault}
+use Rattle.schedule_replay.specs.declared.fault.TaskFault.TheVariants.{Write, Json, Field, World, Memory}
 use Rattle.schedule_replay.specs.declared.fault.FaultKind.{FaultKind}
-use Rattle.schedule_replay.specs.declared.fault.FaultKind.TheVariants.{Read, Write, LineTooLong, TooManyLines, Json, Field, World, Memory}
-use Rattle.schedule_replay.specs.Fault.{kind_of, is_of_writer}
+use Rattle.schedule_replay.specs.Fault.{of_task, kind_of, is_write}
 use Rattle.schedule_replay.specs.Answer.{Says}
 use Rattle.schedule_replay.specs.Schedule.{entry_in, refusal_of, FaultsIn, FaultsAtEnd}
 use Rattle.schedule_replay.specs.Show.{StopsShowing, show_rules, Shows}
 use Rattle.schedule_replay.specs.Replay as replays
 use Rattle.schedule_replay.specs.Replay.{IsEventLine, NodesGoOut, GoesOut, replay_rules, Replays}
 use Rattle.schedule_replay.specs.CheckText as checks
-use Rattle.schedule_replay.specs.CheckText.{Recorded, recorded_in, IsOutOfPlace, MistakesIn, MistakesAtEnd, verdict_text, check_rules, Checks}
+use Rattle.schedule_replay.specs.CheckText.{Recorded, recorded_in, IsOutOfPlace, FaultsInTranscript, FaultsAtTranscriptEnd, verdict_text, check_rules, Checks}
 use Rattle.schedule_replay.specs.Accepted.{IsOfDevice}
 use Rattle.schedule_replay.specs.OneAnswer.{HasOneAnswer}
 use Rattle.schedule_replay.proofs.OneText as texts
@@ -36,47 +37,48 @@ use Rattle.schedule_replay.proofs.OneLine.{one_line}
 
 -- ---- from the rules of a task
 
-sure_cause : (what : Cause FaultKind) → (IsOfDevice (kind_of what) → ⊥) → courses.IsOfDevice IsOfDevice what → ⊥
+-- a task's fault of the writer or of memory
+abbrev pub IsDevices : TaskFault → Type 0
+IsDevices fault = IsOfDevice (of_task fault)
+
+sure_cause : (what : Cause TaskFault) → (IsOfDevice (kind_of what) → ⊥) → courses.IsOfDevice IsDevices what → ⊥
 sure_cause (Reading reading.Read) sure device = sure tt
 sure_cause (Reading reading.LineTooLong) sure device = device
 sure_cause (Reading reading.TooManyLines) sure device = device
 sure_cause (Task kind) sure device = sure device
 
-of_writer : (kind : FaultKind) → is_of_writer kind ≡ true → IsOfDevice kind
+of_writer : (fault : TaskFault) → is_write fault ≡ true → IsDevices fault
 of_writer Write is = tt
 of_writer Memory is = tt
-of_writer Read is = tt
-of_writer LineTooLong is = absurd cc
-of_writer TooManyLines is = absurd cc
 of_writer Json is = absurd cc
 of_writer Field is = absurd cc
 of_writer (World why) is = absurd cc
 
-pub says_one : {S A : Type 0} (rules : Rules S A FaultKind) → HasOneCourse rules IsOfDevice → HasOneAnswer (Says rules)
+pub says_one : {S A : Type 0} (rules : Rules S A TaskFault) → HasOneCourse rules IsDevices → HasOneAnswer (Says rules)
 says_one {S} {A} rules sole octets left before after left' before' after' (Ok answer) (Ok answer') one other sure sure' =
-    let same = one_answer rules IsOfDevice sole octets left before after left' before' after' (Ok answer) (Ok answer')
-    (course_of_all rules IsOfDevice octets left before after answer one) (course_of_all rules IsOfDevice octets left' before' after' answer' other) in
+    let same = one_answer rules IsDevices sole octets left before after left' before' after' (Ok answer) (Ok answer')
+    (course_of_all rules IsDevices octets left before after answer one) (course_of_all rules IsDevices octets left' before' after' answer' other) in
     let ends = same.end_is in
     let answers : answer' ≡ answer = cc in
     (ap Ok answers, same.left_is, (same.text, same.output, same.output'))
 says_one rules sole octets left before after left' before' after' (Ok answer) (Err stop) one (what, is, until) sure sure' =
     let known = sure_cause what (subst (λ (kind : FaultKind). IsOfDevice kind → ⊥) is sure') in
-    let same = one_answer rules IsOfDevice sole octets left before after left' before' after' (Ok answer) (Err what)
-    (course_of_all rules IsOfDevice octets left before after answer one) (course_until rules IsOfDevice sole octets left' before' after' stop.line what known until) in
+    let same = one_answer rules IsDevices sole octets left before after left' before' after' (Ok answer) (Err what)
+    (course_of_all rules IsDevices octets left before after answer one) (course_until rules IsDevices sole octets left' before' after' stop.line what known until) in
     let ends = same.end_is in
     absurd cc
 says_one rules sole octets left before after left' before' after' (Err stop) (Ok answer) (what, is, until) other sure sure' =
     let known = sure_cause what (subst (λ (kind : FaultKind). IsOfDevice kind → ⊥) is sure) in
-    let same = one_answer rules IsOfDevice sole octets left before after left' before' after' (Err what) (Ok answer)
-    (course_until rules IsOfDevice sole octets left before after stop.line what known until) (course_of_all rules IsOfDevice octets left' before' after' answer other) in
+    let same = one_answer rules IsDevices sole octets left before after left' before' after' (Err what) (Ok answer)
+    (course_until rules IsDevices sole octets left before after stop.line what known until) (course_of_all rules IsDevices octets left' before' after' answer other) in
     let ends = same.end_is in
     absurd cc
 says_one rules sole octets left before after left' before' after' (Err stop) (Err stop') (what, is, until) (what', is', until') sure sure' =
     let known = sure_cause what (subst (λ (kind : FaultKind). IsOfDevice kind → ⊥) is sure) in
     let known' = sure_cause what' (subst (λ (kind : FaultKind). IsOfDevice kind → ⊥) is' sure') in
-    let same = one_answer rules IsOfDevice sole octets left before after left' before' after' (Err what) (Err what')
-    (course_until rules IsOfDevice sole octets left before after stop.line what known until)
-    (course_until rules IsOfDevice sole octets left' before' after' stop'.line what' known' until') in
+    let same = one_answer rules IsDevices sole octets left before after left' before' after' (Err what) (Err what')
+    (course_until rules IsDevices sole octets left before after stop.line what known until)
+    (course_until rules IsDevices sole octets left' before' after' stop'.line what' known' until') in
     let ends = same.end_is in
     let causes : what' ≡ what = cc in
     let kinds : stop'.what ≡ stop.what = is' ∙ ap kind_of causes ∙ sym is in
@@ -85,17 +87,14 @@ says_one rules sole octets left before after left' before' after' (Err stop) (Er
 
 -- ---- `show`
 
-not_hexadecimal : (digits : List ℕ) (kind : FaultKind) → (IsOfDevice kind → ⊥) → StopsShowing digits kind → (kind ≡ Field) × (is_ok (decode_of digits) ≡ false)
+not_hexadecimal : (digits : List ℕ) (kind : TaskFault) → (IsDevices kind → ⊥) → StopsShowing digits kind → (kind ≡ Field) × (is_ok (decode_of digits) ≡ false)
 not_hexadecimal digits Field sure stops = (refl, stops)
 not_hexadecimal digits Write sure stops = absurd (sure tt)
 not_hexadecimal digits Memory sure stops = absurd (sure tt)
-not_hexadecimal digits Read sure stops = absurd stops
-not_hexadecimal digits LineTooLong sure stops = absurd stops
-not_hexadecimal digits TooManyLines sure stops = absurd stops
 not_hexadecimal digits Json sure stops = absurd stops
 not_hexadecimal digits (World why) sure stops = absurd stops
 
-show_course : HasOneCourse show_rules IsOfDevice
+show_course : HasOneCourse show_rules IsDevices
 show_course = record {
   one_step = λ line state one other text text' h k. (refl, texts.one_answer line text' text k h);
   no_fault = λ line state later text text' kind sure takes stops.
@@ -112,7 +111,7 @@ show_course = record {
 
 -- ---- `replay`
 
-abbrev where_begun : {A : Type 0} → List A → Option FaultKind
+abbrev where_begun : {A : Type 0} → List A → Option TaskFault
 where_begun [] = None
 where_begun (first ∷ others) = Some Field
 
@@ -120,15 +119,12 @@ begun : {A : Type 0} (xs : List A) → xs ≢ [] → where_begun xs ≡ Some Fie
 begun [] some = absurd (some refl)
 begun (x ∷ xs) some = refl
 
-abbrev entry_fault : State → Result Line FaultKind → Option FaultKind
+abbrev entry_fault : State → Result Line TaskFault → Option TaskFault
 entry_fault s (Err kind) = Some kind
 entry_fault s (Ok (entries.Node node)) = where_begun s.run
 entry_fault s (Ok (entries.Event event)) = option_map World (refusal_of s.network s.run event)
 
-the_fault : (s : State) (line : List ℕ) (kind : FaultKind) → (IsOfDevice kind → ⊥) → FaultsIn kind s.network s.run line → entry_fault s (entry_in line) ≡ Some kind
-the_fault s line Read sure fault = absurd fault
-the_fault s line LineTooLong sure fault = absurd fault
-the_fault s line TooManyLines sure fault = absurd fault
+the_fault : (s : State) (line : List ℕ) (kind : TaskFault) → (IsDevices kind → ⊥) → FaultsIn kind s.network s.run line → entry_fault s (entry_in line) ≡ Some kind
 the_fault s line Write sure fault = absurd (sure tt)
 the_fault s line Memory sure fault = absurd (sure tt)
 the_fault s line Json sure fault = ap (entry_fault s) fault
@@ -147,37 +143,31 @@ one_follows s one other (entries.Node node) text text' (first, is, none) (first'
 one_follows s one other (entries.Event event) text text' (network, is, line, is_line, all) (network', is', line', is_line', all') =
     (is' ∙ sym is, all' ∙ ap (λ (t : List ℕ). replays.owed s.network s.run ++ t) (one_line s.network s.run event line' line is_line' is_line) ∙ sym all)
 
-one_of_nodes : (kind : FaultKind) (nodes : Network) (a b : List ℕ) → (IsOfDevice kind → ⊥) → NodesGoOut kind nodes a → NodesGoOut kind nodes b → b ≡ a
-one_of_nodes Read nodes a b sure h k = absurd (sure tt)
+one_of_nodes : (kind : TaskFault) (nodes : Network) (a b : List ℕ) → (IsDevices kind → ⊥) → NodesGoOut kind nodes a → NodesGoOut kind nodes b → b ≡ a
 one_of_nodes Write nodes a b sure h k = absurd (sure tt)
 one_of_nodes Memory nodes a b sure h k = absurd (sure tt)
-one_of_nodes LineTooLong nodes a b sure h k = k ∙ sym h
-one_of_nodes TooManyLines nodes a b sure h k = k ∙ sym h
 one_of_nodes Json nodes a b sure h k = k ∙ sym h
 one_of_nodes Field nodes a b sure h k = k ∙ sym h
 one_of_nodes (World why) nodes a b sure h k = k ∙ sym h
 
-one_out : (kind : FaultKind) (nodes : Network) (run : Run) (a b : List ℕ) → (IsOfDevice kind → ⊥) → GoesOut kind nodes run a → GoesOut kind nodes run b → b ≡ a
+one_out : (kind : TaskFault) (nodes : Network) (run : Run) (a b : List ℕ) → (IsDevices kind → ⊥) → GoesOut kind nodes run a → GoesOut kind nodes run b → b ≡ a
 one_out kind nodes [] a b sure h k = one_of_nodes kind nodes a b sure h k
 one_out kind nodes (event ∷ earlier) a b sure h k = k ∙ sym h
 
-clash_at_end : (kind : FaultKind) (nodes : Network) → (IsOfDevice kind → ⊥) → FaultsAtEnd kind nodes → Some kind ≡ option_map World (first_clash nodes)
+clash_at_end : (kind : TaskFault) (nodes : Network) → (IsDevices kind → ⊥) → FaultsAtEnd kind nodes → Some kind ≡ option_map World (first_clash nodes)
 clash_at_end (World why) nodes sure clash = sym (ap (option_map World) clash)
 clash_at_end Write nodes sure fault = absurd (sure tt)
 clash_at_end Memory nodes sure fault = absurd (sure tt)
-clash_at_end Read nodes sure fault = absurd fault
-clash_at_end LineTooLong nodes sure fault = absurd fault
-clash_at_end TooManyLines nodes sure fault = absurd fault
 clash_at_end Json nodes sure fault = absurd fault
 clash_at_end Field nodes sure fault = absurd fault
 
-no_clash : (kind : FaultKind) (nodes : Network) → Some kind ≡ option_map World (first_clash nodes) → first_clash nodes ≡ None → ⊥
+no_clash : (kind : TaskFault) (nodes : Network) → Some kind ≡ option_map World (first_clash nodes) → first_clash nodes ≡ None → ⊥
 no_clash kind nodes clash none = let fine : option_map World (first_clash nodes) ≡ None = ap (option_map World) none in absurd (cc (clash, fine))
 
-same_fault : (fault : Option FaultKind) (one other : FaultKind) → fault ≡ Some one → fault ≡ Some other → other ≡ one
+same_fault : (fault : Option TaskFault) (one other : TaskFault) → fault ≡ Some one → fault ≡ Some other → other ≡ one
 same_fault fault one other h k = cc (h, k)
 
-replay_course : HasOneCourse replay_rules IsOfDevice
+replay_course : HasOneCourse replay_rules IsDevices
 replay_course = record {
   one_step = λ line s one other text text' (entry, is, follows) (entry', is', follows').
       let same : entry' ≡ entry = cc (is, is') in
@@ -188,21 +178,21 @@ replay_course = record {
       absurd (cc (none, some));
   one_fault = λ line s text text' one other sure sure' h k.
       let same = same_fault (entry_fault s (entry_in line)) one other (the_fault s line one sure h.0) (the_fault s line other sure' k.0) in
-      (same, one_out one s.network s.run text text' sure h.1 (subst (λ (kind : FaultKind). GoesOut kind s.network s.run text') same k.1));
+      (same, one_out one s.network s.run text text' sure h.1 (subst (λ (kind : TaskFault). GoesOut kind s.network s.run text') same k.1));
   one_end = λ lines s text text' one other h k. (k.1 ∙ sym h.1, k.2 ∙ sym h.2);
   no_fault_at_end = λ lines s text text' answer kind sure ends stops. no_clash kind s.network (clash_at_end kind s.network sure stops.1) ends.0;
   one_fault_at_end = λ s text text' one other sure sure' h k.
       let same = same_fault (option_map World (first_clash s.network)) one other (sym (clash_at_end one s.network sure h.1)) (sym (clash_at_end other s.network sure' k.1)) in
-      (same, one_of_nodes one s.network text text' sure h.2 (subst (λ (kind : FaultKind). NodesGoOut kind s.network text') same k.2));
+      (same, one_of_nodes one s.network text text' sure h.2 (subst (λ (kind : TaskFault). NodesGoOut kind s.network text') same k.2));
   writer = of_writer;
 }
 
 -- ---- `check_text`
 
-abbrev at_place : Recorded → ℕ → Option FaultKind
+abbrev at_place : Recorded → ℕ → Option TaskFault
 at_place s number = if number == length s.lines then option_map World (first_clash s.nodes) else Some Field
 
-abbrev record_fault : Recorded → Result TranscriptLine FaultKind → Option FaultKind
+abbrev record_fault : Recorded → Result TranscriptLine TaskFault → Option TaskFault
 record_fault s (Err kind) = Some kind
 record_fault s (Ok (recorded.Node node)) = where_begun s.lines
 record_fault s (Ok (recorded.Event number line)) = at_place s number
@@ -218,52 +208,46 @@ out_of_place : (s : Recorded) (entry : TranscriptLine) → IsOutOfPlace s.lines 
 out_of_place s (recorded.Node node) out = begun s.lines out
 out_of_place s (recorded.Event number line) out = misplaced s number out
 
-the_mistake : (s : Recorded) (line : List ℕ) (kind : FaultKind) → (IsOfDevice kind → ⊥) → MistakesIn kind s.nodes s.lines line → record_fault s (recorded_in line) ≡ Some kind
-the_mistake s line Read sure mistake = absurd mistake
-the_mistake s line LineTooLong sure mistake = absurd mistake
-the_mistake s line TooManyLines sure mistake = absurd mistake
-the_mistake s line Write sure mistake = absurd mistake
-the_mistake s line Memory sure mistake = absurd (sure tt)
-the_mistake s line Json sure mistake = ap (record_fault s) mistake
-the_mistake s line Field sure (inl error) = ap (record_fault s) error
-the_mistake s line Field sure (inr (entry, is, out)) = ap (record_fault s) is ∙ out_of_place s entry out
-the_mistake s line (World why) sure (first, is, none, clash) = ap (record_fault s) is ∙ clashes s why none clash
+the_record_fault : (s : Recorded) (line : List ℕ) (kind : TaskFault) → (IsDevices kind → ⊥) → FaultsInTranscript kind s.nodes s.lines line → record_fault s (recorded_in line) ≡ Some kind
+the_record_fault s line Write sure faults = absurd faults
+the_record_fault s line Memory sure faults = absurd (sure tt)
+the_record_fault s line Json sure faults = ap (record_fault s) faults
+the_record_fault s line Field sure (inl error) = ap (record_fault s) error
+the_record_fault s line Field sure (inr (entry, is, out)) = ap (record_fault s) is ∙ out_of_place s entry out
+the_record_fault s line (World why) sure (first, is, none, clash) = ap (record_fault s) is ∙ clashes s why none clash
 
-no_mistake : (s later : Recorded) (entry : TranscriptLine) → checks.Follows entry s later → record_fault s (Ok entry) ≡ None
-no_mistake s later (recorded.Node node) (first, is) = ap where_begun first
-no_mistake s later (recorded.Event number line) (place, network, is) =
+no_record_fault : (s later : Recorded) (entry : TranscriptLine) → checks.Follows entry s later → record_fault s (Ok entry) ≡ None
+no_record_fault s later (recorded.Node node) (first, is) = ap where_begun first
+no_record_fault s later (recorded.Event number line) (place, network, is) =
     ap (at_place s) place ∙ rw (eq-eqb (length s.lines) (length s.lines) refl) (ap (option_map World) network)
 
 one_recorded : (s one other : Recorded) (entry : TranscriptLine) → checks.Follows entry s one → checks.Follows entry s other → other ≡ one
 one_recorded s one other (recorded.Node node) h k = k.1 ∙ sym h.1
 one_recorded s one other (recorded.Event number line) h k = k.2 ∙ sym h.2
 
-mistaken_nodes : (kind : FaultKind) (s : Recorded) → (IsOfDevice kind → ⊥) → MistakesAtEnd kind s.nodes s.lines → Some kind ≡ option_map World (first_clash s.nodes)
-mistaken_nodes (World why) s sure mistake = sym (ap (option_map World) mistake.1)
-mistaken_nodes Write s sure mistake = absurd (sure tt)
-mistaken_nodes Memory s sure mistake = absurd (sure tt)
-mistaken_nodes Read s sure mistake = absurd mistake
-mistaken_nodes LineTooLong s sure mistake = absurd mistake
-mistaken_nodes TooManyLines s sure mistake = absurd mistake
-mistaken_nodes Json s sure mistake = absurd mistake
-mistaken_nodes Field s sure mistake = absurd mistake
+clash_at_transcript_end : (kind : TaskFault) (s : Recorded) → (IsDevices kind → ⊥) → FaultsAtTranscriptEnd kind s.nodes s.lines → Some kind ≡ option_map World (first_clash s.nodes)
+clash_at_transcript_end (World why) s sure faults = sym (ap (option_map World) faults.1)
+clash_at_transcript_end Write s sure faults = absurd (sure tt)
+clash_at_transcript_end Memory s sure faults = absurd (sure tt)
+clash_at_transcript_end Json s sure faults = absurd faults
+clash_at_transcript_end Field s sure faults = absurd faults
 
-pub check_course : HasOneCourse check_rules IsOfDevice
+pub check_course : HasOneCourse check_rules IsDevices
 check_course = record {
   one_step = λ line s one other text text' (entry, is, follows, none) (entry', is', follows', none').
       let same : entry' ≡ entry = cc (is, is') in
       (one_recorded s one other entry follows (subst (λ (e : TranscriptLine). checks.Follows e s other) same follows'), none' ∙ sym none);
   no_fault = λ line s later text text' kind sure (entry, is, follows, nothing) stops.
-      let none = ap (record_fault s) is ∙ no_mistake s later entry follows in
-      let some = the_mistake s line kind sure stops.0 in
+      let none = ap (record_fault s) is ∙ no_record_fault s later entry follows in
+      let some = the_record_fault s line kind sure stops.0 in
       absurd (cc (none, some));
   one_fault = λ line s text text' one other sure sure' h k.
-      (same_fault (record_fault s (recorded_in line)) one other (the_mistake s line one sure h.0) (the_mistake s line other sure' k.0), k.1 ∙ sym h.1);
+      (same_fault (record_fault s (recorded_in line)) one other (the_record_fault s line one sure h.0) (the_record_fault s line other sure' k.0), k.1 ∙ sym h.1);
   one_end = λ lines s text text' one other h k.
       let same = k.1 ∙ sym h.1 in (same, k.2 ∙ ap verdict_text same ∙ sym h.2);
-  no_fault_at_end = λ lines s text text' answer kind sure ends stops. no_clash kind s.nodes (mistaken_nodes kind s sure stops.0) ends.0;
+  no_fault_at_end = λ lines s text text' answer kind sure ends stops. no_clash kind s.nodes (clash_at_transcript_end kind s sure stops.0) ends.0;
   one_fault_at_end = λ s text text' one other sure sure' h k.
-      (same_fault (option_map World (first_clash s.nodes)) one other (sym (mistaken_nodes one s sure h.0)) (sym (mistaken_nodes other s sure' k.0)), k.1 ∙ sym h.1);
+      (same_fault (option_map World (first_clash s.nodes)) one other (sym (clash_at_transcript_end one s sure h.0)) (sym (clash_at_transcript_end other s sure' k.0)), k.1 ∙ sym h.1);
   writer = of_writer;
 }
 

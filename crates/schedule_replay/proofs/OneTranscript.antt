@@ -1,4 +1,4 @@
--- What is written of a run is taken as its transcript, and so its verdict accepts it, and no line of it is a mistake.
+-- What is written of a run is taken as its transcript, and so its verdict accepts it, and no line of it has a fault.
 use Rattle.std.proofs.Common.{◌≡◌, ◌∙◌, List, [], ◌∷◌, ◌++◌, length, refl, sym, ap, append_assoc, append-nil, map, ℕ}
 use Rattle.std.proofs.Common.{◌+◌, Some, None, Ok, Err, subst}
 use Rattle.network_model.specs.Network.{Network}

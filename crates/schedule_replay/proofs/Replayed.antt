@@ -11,7 +11,7 @@ use Rattle.schedule_lines.specs.declared.reading.schedule.Line.{Line}
 use Rattle.schedule_lines.specs.declared.reading.schedule.Line.TheVariants as entries
 use Rattle.text_lines.specs.Lines.{lines_of}
 use Rattle.text_lines.specs.Task.{TakesLines}
-use Rattle.schedule_replay.specs.Inner.Entries.{AreEntries, schedule_of}
+use Rattle.schedule_replay.proofs.Entries.{AreEntries, schedule_of}
 use Rattle.schedule_replay.specs.Replay.{nodes_text, WritesRun, owed, Follows, replay_rules, ReplaysAll}
 
 -- what went out of the nodes' lines

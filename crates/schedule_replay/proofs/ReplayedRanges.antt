@@ -15,26 +15,26 @@ use Rattle.schedule_lines.specs.declared.reading.schedule.Line.{Line}
 use Rattle.schedule_lines.specs.Line.{line_of}
 use Rattle.schedule_lines.specs.Ranges.{IsNode, IsEvent, IsLine}
 use Rattle.schedule_lines.proofs.Ranges.{reads_in_range}
-use Rattle.schedule_replay.specs.declared.fault.FaultKind.{FaultKind}
-use Rattle.schedule_replay.specs.declared.fault.FaultKind.TheVariants.{Field}
-use Rattle.schedule_replay.specs.Schedule.{value_in, entry_of_value}
-use Rattle.schedule_replay.specs.Inner.Entries.{AreEntries, schedule_of}
+use Rattle.schedule_replay.specs.declared.fault.TaskFault.{TaskFault}
+use Rattle.schedule_replay.specs.declared.fault.TaskFault.TheVariants.{Field}
+use Rattle.schedule_replay.specs.Lines.{lines_limit, value_in, read_by}
+use Rattle.schedule_replay.proofs.Entries.{AreEntries, schedule_of}
 use Rattle.schedule_replay.specs.Accepted.{IsInRange, EachReplayIsAccepted}
 use Rattle.network_model.proofs.ExactPremises.{IsExact}
 use Rattle.schedule_replay.proofs.OneTranscript.{accepted_by, checked_by}
 use Rattle.text_lines.specs.declared.fault.ReadingFault.TheVariants.{TooManyLines, LineTooLong}
-use Rattle.text_lines.specs.Lines.{lines_of, lines_limit, line_limit, without_cr}
+use Rattle.text_lines.specs.Lines.{lines_of, line_limit, without_cr}
 use Rattle.schedule_replay.specs.CheckText.{ChecksAll, ChecksUntil}
 use Rattle.schedule_replay.proofs.Replayed.{replayed}
 use Rattle.schedule_lines.specs.declared.reading.schedule.Line.TheVariants as entries
 
 -- ---- what was read
 
-line_ranged : (o : Option Line) (entry : Line) → ok_or {E = FaultKind} o Field ≡ Ok entry → IfSome o IsLine → IsLine entry
+line_ranged : (o : Option Line) (entry : Line) → ok_or {E = TaskFault} o Field ≡ Ok entry → IfSome o IsLine → IsLine entry
 line_ranged None entry is h = absurd cc
 line_ranged (Some line) entry is h = let same : line ≡ entry = cc in subst IsLine same h
 
-value_ranged : (value : Option Data) (entry : Line) → entry_of_value value ≡ Ok entry → IsLine entry
+value_ranged : (value : Option Data) (entry : Line) → read_by line_of value ≡ Ok entry → IsLine entry
 value_ranged None entry is = absurd cc
 value_ranged (Some value) entry is = line_ranged (line_of value) entry is (reads_in_range value).0
 

@@ -25,11 +25,12 @@ use Rattle.schedule_lines.specs.Ranges.{IsNode, IsEvent, IsRecorded, IsTagged}
 use Rattle.schedule_lines.proofs.Nodes.{nodes_back}
 use Rattle.schedule_lines.proofs.Printed.{event_texts_back, node_texts_back}
 use Rattle.schedule_lines.proofs.ReadBack.{reads_back}
-use Rattle.schedule_replay.specs.declared.fault.FaultKind.{FaultKind}
-use Rattle.schedule_replay.specs.declared.fault.FaultKind.TheVariants.{Field}
-use Rattle.text_lines.specs.Lines.{lines_of, without_cr, lines_limit, line_limit, reading_fault}
+use Rattle.schedule_replay.specs.declared.fault.TaskFault.{TaskFault}
+use Rattle.schedule_replay.specs.declared.fault.TaskFault.TheVariants.{Field}
+use Rattle.text_lines.specs.Lines.{lines_of, without_cr, line_limit, reading_fault}
+use Rattle.schedule_replay.specs.Lines.{lines_limit, read_by}
 use Rattle.schedule_replay.specs.Replay.{nodes_text, WritesRun}
-use Rattle.schedule_replay.specs.CheckText.{recorded_of_value, recorded_in, AreRecorded, numbered}
+use Rattle.schedule_replay.specs.CheckText.{recorded_in, AreRecorded, numbered}
 use Rattle.schedule_replay.specs.Accepted.{EachRunIsTranscribed}
 use Rattle.text_lines.proofs.Cutting.{IsUnended, lines_of-ended}
 use Rattle.schedule_replay.proofs.Entries.{value_read}
@@ -80,7 +81,7 @@ no_cr text h = ap (λ (b : Bool). if b then take (length text - 1) text else tex
 
 -- ---- a line
 
-no_fault : (number : ℕ) (text : List ℕ) → number ≤ lines_limit → length text ≤ 4096 → reading_fault number text ≡ None
+no_fault : (number : ℕ) (text : List ℕ) → number ≤ lines_limit → length text ≤ 4096 → reading_fault lines_limit number text ≡ None
 no_fault number text few short =
     let a : nat_lt lines_limit number ≡ false = grind (arith, nat_tests, few) in
     let b : nat_lt line_limit (length text) ≡ false = grind (arith, nat_tests, short) in
@@ -90,8 +91,8 @@ recorded_line : (d : Data) (entry : TranscriptLine) → list_all is_shown (compa
     → transcript_line_of d ≡ Some entry → recorded_in (without_cr (compact_text d)) ≡ Ok entry
 recorded_line d entry shown is_read is =
     ap recorded_in (no_cr (compact_text d) shown)
-    ∙ ap recorded_of_value (value_read (compact_text d) d (IsUtf8-from_ascii (compact_text d) (ascii (compact_text d) shown)) is_read)
-    ∙ ap (λ (o : Option TranscriptLine). ok_or {E = FaultKind} o Field) is
+    ∙ ap (read_by transcript_line_of) (value_read (compact_text d) d (IsUtf8-from_ascii (compact_text d) (ascii (compact_text d) shown)) is_read)
+    ∙ ap (λ (o : Option TranscriptLine). ok_or {E = TaskFault} o Field) is
 
 -- a line more in front
 one_line : (number : ℕ) (d : Data) (entry : TranscriptLine) (rest : List ℕ) (entries : List TranscriptLine) → Fits 4096 (compact_text d)

@@ -5,9 +5,9 @@ use Rattle.serde_json.proofs.OnLiterals.{serde_json_on_literals}
 use Rattle.network_model.specs.declared.event.Event.TheVariants as events
 use Rattle.network_model.specs.declared.node.NodeKind.TheVariants as kinds
 use Rattle.schedule_lines.specs.declared.reading.schedule.Line.TheVariants as entries
-use Rattle.schedule_replay.specs.declared.fault.FaultKind.TheVariants.{Json, Field}
+use Rattle.schedule_replay.specs.declared.fault.TaskFault.TheVariants.{Json, Field}
 use Rattle.schedule_replay.specs.Schedule.{entry_in}
-use Rattle.schedule_replay.specs.Inner.Entries.{schedule_of}
+use Rattle.schedule_replay.proofs.Entries.{schedule_of}
 use Rattle.schedule_replay.specs.Replay.{nodes_text}
 
 -- a schedule's nodes stand first, and its events in the order in which they happen

@@ -17,7 +17,8 @@ use Rattle.schedule_replay.specs.declared.fault.FaultKind.TheVariants.{Read, Wri
 use Rattle.schedule_replay.specs.declared.fault.FaultKind.TheVariants.{Field, World, Memory}
 use Rattle.schedule_replay.specs.Replay.{nodes_text, WritesRun, ReplaysAll}
 use Rattle.schedule_replay.specs.CheckText.{AreRecorded, transcript_of, ChecksAll, ChecksUntil, Checks}
-use Rattle.text_lines.specs.Lines.{lines_of, lines_limit}
+use Rattle.text_lines.specs.Lines.{lines_of}
+use Rattle.schedule_replay.specs.Lines.{lines_limit}
 
 -- nodes and events whose values are within their ranges, and no more than lines are allowed
 pub record IsInRange (nodes : Network) (run : Run) : Type 0 where
@@ -70,7 +71,9 @@ AnswersAcceptance reports answer =
 -- So of what was replayed on Ok, whatever octets the schedule was.
 abbrev pub EachReplayIsAccepted : Premise → Type 0
 EachReplayIsAccepted premise =
-    (octets : List ℕ) (left before after : Option (List ℕ)) (events : ℕ) (replayed : ReplaysAll octets left before after events)
-    → premise replayed.state.network replayed.state.run → (left' before' after' : Option (List ℕ)) (answer : Result Verdict Fault)
+    (octets : List ℕ) (left before after : Option (List ℕ)) (events : ℕ)
+    (replayed : ReplaysAll octets left before after events)
+    → premise replayed.state.network replayed.state.run → (left' before' after' : Option (List ℕ))
+    (answer : Result Verdict Fault)
     → Checks (replayed.text ++ replayed.last) left' before' after' answer
     → AnswersAcceptance (reports_in replayed.state.network replayed.state.run) answer

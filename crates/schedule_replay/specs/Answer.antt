@@ -6,22 +6,27 @@ use Rattle.text_lines.specs.declared.fault.Cause.{Cause}
 use Rattle.text_lines.specs.Counted.{device_of}
 use Rattle.text_lines.specs.Task.{Rules, AnswersAll, AnswersUntil}
 use Rattle.schedule_replay.specs.declared.fault.Fault.{Fault}
-use Rattle.schedule_replay.specs.declared.fault.FaultKind.{FaultKind}
+use Rattle.schedule_replay.specs.declared.fault.TaskFault.{TaskFault}
 use Rattle.schedule_replay.specs.Fault.{kind_of}
 
 -- the lines of an input of these octets were taken up to a fault
-abbrev pub SaysUntil : {S A : Type 0} → Rules S A FaultKind → List ℕ → (left before after : Option (List ℕ)) → Fault → Type 0
+abbrev pub SaysUntil : {S A : Type 0} → Rules S A TaskFault → List ℕ → (left before after : Option (List ℕ)) → Fault
+    → Type 0
 SaysUntil rules octets left before after stop =
-    (what : Cause FaultKind) × (stop.what ≡ kind_of what) × AnswersUntil rules octets left before after stop.line what
+    (what : Cause TaskFault) × (stop.what ≡ kind_of what) × AnswersUntil rules octets left before after stop.line what
 
 -- what an answer over these octets says, of what is left of them and of what was written
-abbrev pub Says : {S A : Type 0} → Rules S A FaultKind → List ℕ → (left before after : Option (List ℕ)) → Result A Fault → Type 0
-Says rules octets left before after answer = MatchResult answer (AnswersAll rules octets left before after) (SaysUntil rules octets left before after)
+abbrev pub Says : {S A : Type 0} → Rules S A TaskFault → List ℕ → (left before after : Option (List ℕ))
+    → Result A Fault → Type 0
+Says rules octets left before after answer =
+    MatchResult answer (AnswersAll rules octets left before after) (SaysUntil rules octets left before after)
 
--- what an answer says where the reader tells its octets: of the lines whatever the writer is, and of what was written where
--- the writer tells its octets, too
-abbrev pub SaysAnswer : {S A R W : Type 0} → Rules S A FaultKind → (R → Option (List ℕ)) → (W → Option (List ℕ)) → Result A Fault
+-- what an answer says where the reader tells its octets: of the lines whatever the writer is, and of what was written
+-- where the writer tells its octets, too
+abbrev pub SaysAnswer : {S A R W : Type 0} → Rules S A TaskFault → (R → Option (List ℕ)) → (W → Option (List ℕ))
+    → Result A Fault
     → (input input' : Counted R) (output output' : Counted W) → Type 0
 SaysAnswer rules remaining contents answer input input' output output' =
     ForSome (remaining (device_of input)) (λ octets.
-    Says rules octets (remaining (device_of input')) (contents (device_of output)) (contents (device_of output')) answer)
+    Says rules octets (remaining (device_of input')) (contents (device_of output))
+    (contents (device_of output')) answer)

@@ -3,9 +3,10 @@ use Rattle.std.specs.Prelude.{ℕ, Bool, true, false, MatchResult, Result}
 use Rattle.text_lines.specs.declared.counted.Counted.{Counted}
 use Rattle.schedule_replay.specs.declared.fault.Fault.{Fault}
 use Rattle.schedule_replay.specs.declared.fault.FaultKind.{FaultKind}
-use Rattle.schedule_replay.specs.declared.fault.FaultKind.TheVariants.{Read, Write, LineTooLong, TooManyLines, Json, Field, World, Memory}
-use Rattle.network_model.specs.declared.refusal.WorldRefusal.{WorldRefusal}
-use Rattle.network_model.specs.declared.refusal.WorldRefusal.TheVariants as refusals
+use Rattle.schedule_replay.specs.declared.fault.TaskFault.{TaskFault}
+use Rattle.schedule_replay.specs.declared.fault.TaskFault.TheVariants as tasks
+use Rattle.schedule_replay.specs.declared.fault.FaultKind.TheVariants.{Read, Write, LineTooLong, TooManyLines, Json}
+use Rattle.schedule_replay.specs.declared.fault.FaultKind.TheVariants.{Field, World, Memory}
 use Rattle.text_lines.specs.declared.fault.Cause.{Cause}
 use Rattle.text_lines.specs.declared.fault.Cause.TheVariants.{Reading, Task}
 use Rattle.text_lines.specs.declared.fault.ReadingFault.{ReadingFault}
@@ -29,27 +30,23 @@ of_reading reading.Read = Read
 of_reading reading.LineTooLong = LineTooLong
 of_reading reading.TooManyLines = TooManyLines
 
+-- the fault by which a fault of a task is told
+abbrev pub of_task : TaskFault → FaultKind
+of_task tasks.Write = Write
+of_task tasks.Json = Json
+of_task tasks.Field = Field
+of_task (tasks.World why) = World why
+of_task tasks.Memory = Memory
+
 -- the fault by which it is told why lines were answered no further
-abbrev pub kind_of : Cause FaultKind → FaultKind
+abbrev pub kind_of : Cause TaskFault → FaultKind
 kind_of (Reading fault) = of_reading fault
-kind_of (Task kind) = kind
+kind_of (Task fault) = of_task fault
 
 -- whether this fault says that the writer failed
-abbrev pub is_of_writer : FaultKind → Bool
-is_of_writer Write = true
-is_of_writer kind = false
-
--- the fault by which the refusal of a network or of an event is told
-abbrev pub fault_of : WorldRefusal → FaultKind
-fault_of refusals.SameName = World refusals.SameName
-fault_of refusals.SameIdentity = World refusals.SameIdentity
-fault_of refusals.NoNode = World refusals.NoNode
-fault_of refusals.WrongKind = World refusals.WrongKind
-fault_of refusals.NoCopy = World refusals.NoCopy
-fault_of refusals.NoTransit = World refusals.NoTransit
-fault_of refusals.ReadingOutOfRange = World refusals.ReadingOutOfRange
-fault_of refusals.NothingWaiting = World refusals.NothingWaiting
-fault_of refusals.Memory = Memory
+abbrev pub is_write : TaskFault → Bool
+is_write tasks.Write = true
+is_write fault = false
 
 -- which of the two devices failed where this is answered
 abbrev pub FailedAs : {R W : Type 0} → FaultKind → (input input' : Counted R) (output output' : Counted W) → Type 0
@@ -58,7 +55,8 @@ FailedAs Write input input' output output' = HasNotFailed input input' × HasFai
 FailedAs kind input input' output output' = HasNotFailed input input' × HasNotFailed output output'
 
 -- which of the two devices failed at this answer
-abbrev pub FailedWith : {A R W : Type 0} → Result A Fault → (input input' : Counted R) (output output' : Counted W) → Type 0
+abbrev pub FailedWith : {A R W : Type 0} → Result A Fault → (input input' : Counted R) (output output' : Counted W)
+    → Type 0
 FailedWith answer input input' output output' = MatchResult answer
     (λ _. HasNotFailed input input' × HasNotFailed output output')
     (λ fault. FailedAs fault.what input input' output output')

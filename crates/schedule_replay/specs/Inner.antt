@@ -1,6 +1,6 @@
--- What serves functions inside this crate, views, invariants and proofs alone. No contract of a public call rests on it, so
--- nobody has to believe it.
-pub mod Progress
+-- What serves functions inside this crate, views, invariants and proofs alone. No contract of a public call rests on
+-- it, so nobody has to believe it.
+pub mod Fault
 pub mod Stage
-pub mod WriterFault
-pub mod Entries
+pub mod Replaying
+pub mod Checking

@@ -1,4 +1,5 @@
 pub mod Fault
+pub mod Lines
 pub mod Answer
 pub mod Show
 pub mod Schedule

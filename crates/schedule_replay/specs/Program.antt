@@ -46,8 +46,8 @@ Runs remaining contents Check = EndsIn check_status (ChecksAnswer remaining cont
 abbrev pub EndsBefore : {R W : Type 0} → ℕ → (input input' : Counted R) (output output' : Counted W) → Type 0
 EndsBefore status input input' output output' = (status ≡ 3) × (input' ≡ input) × (output' ≡ output)
 
--- What comes of arguments that name no subcommand. Status 0: a text went out whole. Status 2: nothing went
--- out. Status 3: nothing went out, for want of memory, or a write failed.
+-- What comes of arguments that name no subcommand. Status 0: a text went out whole. Status 2: nothing went out. Status
+-- 3: nothing went out, for want of memory, or a write failed.
 abbrev pub EndsUnread : {W : Type 0} → (W → Option (List ℕ)) → ℕ → Counted W → Counted W → Type 0
 EndsUnread contents status old new =
     ((status ≡ 0) × HasNotFailed old new

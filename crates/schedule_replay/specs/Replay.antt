@@ -9,15 +9,16 @@ use Rattle.trace_model.specs.declared.line.TraceLine.{TraceLine}
 use Rattle.trace_model.specs.Told.{TellsEvent}
 use Rattle.schedule_lines.specs.Written.{node_data, event_data, line_text}
 use Rattle.schedule_replay.specs.declared.fault.Fault.{Fault}
-use Rattle.schedule_replay.specs.declared.fault.FaultKind.{FaultKind}
-use Rattle.schedule_replay.specs.declared.fault.FaultKind.TheVariants.{Write, World, Memory}
+use Rattle.schedule_replay.specs.declared.fault.TaskFault.{TaskFault}
+use Rattle.schedule_replay.specs.declared.fault.TaskFault.TheVariants.{Write, World, Memory}
 use Rattle.schedule_replay.specs.Schedule.{FaultsAtEnd, entry_in, FaultsIn}
 use Rattle.text_lines.specs.declared.counted.Counted.{Counted}
 use Rattle.text_lines.specs.Task.{Rules, AnswersAll}
 use Rattle.world_model.specs.State.{State}
 use Rattle.schedule_lines.specs.declared.reading.schedule.Line.{Line}
 use Rattle.schedule_replay.specs.Answer.{Says, SaysAnswer}
-use Rattle.schedule_replay.specs.Fault.{is_of_writer}
+use Rattle.schedule_replay.specs.Fault.{is_write}
+use Rattle.schedule_replay.specs.Lines.{lines_limit}
 use Rattle.schedule_lines.specs.declared.reading.schedule.Line.TheVariants as entries
 
 -- the lines of the nodes
@@ -43,18 +44,18 @@ abbrev pub owed : Network → Run → List ℕ
 owed nodes [] = nodes_text nodes
 owed nodes (event ∷ earlier) = []
 
--- What goes out of the nodes' lines at this fault, where no event had happened: all of them where a network is there and
--- doesn't accept the first event, and whole lines from the first on where memory is refused.
-abbrev pub NodesGoOut : FaultKind → Network → List ℕ → Type 0
+-- What goes out of the nodes' lines at this fault, where no event had happened: all of them where a network is there
+-- and doesn't accept the first event, and whole lines from the first on where memory is refused.
+abbrev pub NodesGoOut : TaskFault → Network → List ℕ → Type 0
 NodesGoOut (World why) nodes written = written ≡ (if is_none (first_clash nodes) then nodes_text nodes else [])
 NodesGoOut Write nodes written = ⊤
 NodesGoOut Memory nodes written = (count : ℕ) × (written ≡ nodes_text (take count nodes))
-NodesGoOut kind nodes written = written ≡ []
+NodesGoOut fault nodes written = written ≡ []
 
 -- what goes out of them at this fault: nothing more where an event had happened
-abbrev pub GoesOut : FaultKind → Network → Run → List ℕ → Type 0
-GoesOut kind nodes [] written = NodesGoOut kind nodes written
-GoesOut kind nodes (event ∷ earlier) written = written ≡ []
+abbrev pub GoesOut : TaskFault → Network → Run → List ℕ → Type 0
+GoesOut fault nodes [] written = NodesGoOut fault nodes written
+GoesOut fault nodes (event ∷ earlier) written = written ≡ []
 
 -- what a node or an event does, and what is written
 abbrev pub Follows : Line → (state later : State) → List ℕ → Type 0
@@ -62,19 +63,23 @@ Follows (entries.Node node) state later written =
     (state.run ≡ []) × (later ≡ record { network = state.network ++ node ∷ []; run = [] }) × (written ≡ [])
 Follows (entries.Event event) state later written =
     (first_clash state.network ≡ None) × (later ≡ record { network = state.network; run = event ∷ state.run })
-    × (line : List ℕ) × IsEventLine state.network state.run event line × (written ≡ owed state.network state.run ++ line)
+    × (line : List ℕ) × IsEventLine state.network state.run event line
+    × (written ≡ owed state.network state.run ++ line)
 
 -- Each line is a node or an event. The nodes' lines go out with the first event, or at the end where there is none; the
 -- answer is the number of events.
-abbrev pub replay_rules : Rules State ℕ FaultKind
+abbrev pub replay_rules : Rules State ℕ TaskFault
 replay_rules = record {
+  lines_limit = lines_limit;
   start = record { network = []; run = [] };
   Takes = λ line state later written. (entry : Line) × (entry_in line ≡ Ok entry) × Follows entry state later written;
-  Stops = λ line state kind written. FaultsIn kind state.network state.run line × GoesOut kind state.network state.run written;
+  Stops = λ line state fault written. FaultsIn fault state.network state.run line
+      × GoesOut fault state.network state.run written;
   Ends = λ lines state events written.
       (first_clash state.network ≡ None) × (events ≡ length state.run) × (written ≡ owed state.network state.run);
-  StopsAtEnd = λ state kind written. (state.run ≡ []) × FaultsAtEnd kind state.network × NodesGoOut kind state.network written;
-  is_of_writer = is_of_writer;
+  StopsAtEnd = λ state fault written. (state.run ≡ []) × FaultsAtEnd fault state.network
+      × NodesGoOut fault state.network written;
+  is_of_writer = is_write;
 }
 
 -- all lines of an input of these octets were replayed, and the input is at its end

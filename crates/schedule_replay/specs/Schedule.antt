@@ -1,10 +1,8 @@
 -- The nodes and events of a schedule, and the faults of its lines.
-use Rattle.std.specs.Prelude.{◌≡◌, ◌≢◌, ◌⊎◌, ℕ, List, [], if◌then◌else◌, Option, Some, None, ok_or, Result, Ok, Err, IsOk, ⊤}
+use Rattle.std.specs.Prelude.{◌≡◌, ◌≢◌, ◌⊎◌, ℕ, List, [], if◌then◌else◌, Option, Some, None, ok_or, Result, Ok, Err}
+use Rattle.std.specs.Prelude.{IsOk, ⊤}
 use Rattle.std.specs.Option.{option_or}
 use Rattle.std.specs.Result.{result_err}
-use Rattle.std.specs.Str.{is_utf8}
-use Rattle.serde_json.specs.Data.{Data}
-use Rattle.serde_json.specs.Read.{read}
 use Rattle.network_model.specs.declared.event.Event.{Event}
 use Rattle.network_model.specs.declared.node.NodeSpec.{NodeSpec}
 use Rattle.network_model.specs.declared.refusal.WorldRefusal.{WorldRefusal}
@@ -15,21 +13,13 @@ use Rattle.network_model.specs.Outcome.{outcome_of}
 use Rattle.schedule_lines.specs.declared.reading.schedule.Line.{Line}
 use Rattle.schedule_lines.specs.declared.reading.schedule.Line.TheVariants as entries
 use Rattle.schedule_lines.specs.Line.{line_of}
-use Rattle.schedule_replay.specs.declared.fault.FaultKind.{FaultKind}
-use Rattle.schedule_replay.specs.declared.fault.FaultKind.TheVariants.{Write, Json, Field, World, Memory}
-
--- the JSON value that a line is; None where it isn't UTF-8 or isn't JSON
-abbrev pub value_in : List ℕ → Option Data
-value_in line = if is_utf8 line then read line else None
-
--- the node or the event that a line's value is
-abbrev pub entry_of_value : Option Data → Result Line FaultKind
-entry_of_value None = Err Json
-entry_of_value (Some value) = ok_or (line_of value) Field
+use Rattle.schedule_replay.specs.Lines.{value_in, read_by}
+use Rattle.schedule_replay.specs.declared.fault.TaskFault.{TaskFault}
+use Rattle.schedule_replay.specs.declared.fault.TaskFault.TheVariants.{Write, Json, Field, World, Memory}
 
 -- the node or the event that a line is, or its fault
-abbrev pub entry_in : List ℕ → Result Line FaultKind
-entry_in line = entry_of_value (value_in line)
+abbrev pub entry_in : List ℕ → Result Line TaskFault
+entry_in line = read_by line_of (value_in line)
 
 -- why an event can't happen after these: there is no such network, or the network doesn't accept the event
 abbrev pub refusal_of : Network → Run → Event → Option WorldRefusal
@@ -37,7 +27,7 @@ refusal_of nodes run event = option_or (first_clash nodes) (result_err (outcome_
 
 -- The fault of a line after these nodes and events, where the line itself was read. Where memory is refused, nothing is
 -- known of the line; where the writer fails, it is an event, of which at least the nodes' lines were to be written.
-abbrev pub FaultsIn : FaultKind → Network → Run → List ℕ → Type 0
+abbrev pub FaultsIn : TaskFault → Network → Run → List ℕ → Type 0
 FaultsIn Json nodes run line = entry_in line ≡ Err Json
 FaultsIn Field nodes run line =
     (entry_in line ≡ Err Field) ⊎ ((node : NodeSpec) × (entry_in line ≡ Ok (entries.Node node)) × (run ≢ []))
@@ -47,11 +37,10 @@ FaultsIn Write nodes run line =
     (event : Event) × (entry_in line ≡ Ok (entries.Event event)) × (first_clash nodes ≡ None)
     × (run ≢ [] → IsOk (outcome_of nodes run event))
 FaultsIn Memory nodes run line = ⊤
-FaultsIn kind nodes run line = ⊥
 
 -- the fault at the end of an input of nodes alone: the nodes are no network, or their lines can't be made or written
-abbrev pub FaultsAtEnd : FaultKind → Network → Type 0
+abbrev pub FaultsAtEnd : TaskFault → Network → Type 0
 FaultsAtEnd (World why) nodes = first_clash nodes ≡ Some why
 FaultsAtEnd Write nodes = first_clash nodes ≡ None
 FaultsAtEnd Memory nodes = ⊤
-FaultsAtEnd kind nodes = ⊥
+FaultsAtEnd fault nodes = ⊥

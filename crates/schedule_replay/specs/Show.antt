@@ -2,13 +2,14 @@
 use Rattle.std.specs.Prelude.{◌≡◌, ℕ, List, [], ◌∷◌, ◌++◌, is_ok, Option, Ok, Result, ⊤, true, false}
 use Rattle.hex.specs.Hex.{decode_of}
 use Rattle.schedule_replay.specs.declared.fault.Fault.{Fault}
-use Rattle.schedule_replay.specs.declared.fault.FaultKind.{FaultKind}
-use Rattle.schedule_replay.specs.declared.fault.FaultKind.TheVariants.{Write, Field, Memory}
+use Rattle.schedule_replay.specs.declared.fault.TaskFault.{TaskFault}
+use Rattle.schedule_replay.specs.declared.fault.TaskFault.TheVariants.{Write, Field, Memory}
 use Rattle.datagram_text.specs.Shown.{IsShownAs}
 use Rattle.text_lines.specs.declared.counted.Counted.{Counted}
 use Rattle.text_lines.specs.Task.{Rules}
 use Rattle.schedule_replay.specs.Answer.{Says, SaysAnswer}
-use Rattle.schedule_replay.specs.Fault.{is_of_writer}
+use Rattle.schedule_replay.specs.Fault.{is_write}
+use Rattle.schedule_replay.specs.Lines.{lines_limit}
 
 -- the digits are a datagram in hexadecimal, and this is its text with an LF
 pub record IsAnswer (digits written : List ℕ) : Type 0 where
@@ -19,21 +20,22 @@ pub record IsAnswer (digits written : List ℕ) : Type 0 where
   pub ended : written ≡ text ++ 10 ∷ []
 
 -- why digits aren't shown: they aren't hexadecimal, or memory or the writer failed where they are
-abbrev pub StopsShowing : List ℕ → FaultKind → Type 0
+abbrev pub StopsShowing : List ℕ → TaskFault → Type 0
 StopsShowing digits Field = is_ok (decode_of digits) ≡ false
 StopsShowing digits Memory = is_ok (decode_of digits) ≡ true
 StopsShowing digits Write = is_ok (decode_of digits) ≡ true
-StopsShowing digits kind = ⊥
+StopsShowing digits fault = ⊥
 
 -- each line is answered alone, and the number of lines at the end
-abbrev pub show_rules : Rules ⊤ ℕ FaultKind
+abbrev pub show_rules : Rules ⊤ ℕ TaskFault
 show_rules = record {
+  lines_limit = lines_limit;
   start = tt;
   Takes = λ line state later written. IsAnswer line written;
-  Stops = λ line state kind written. StopsShowing line kind × (written ≡ []);
+  Stops = λ line state fault written. StopsShowing line fault × (written ≡ []);
   Ends = λ lines state answer written. (answer ≡ lines) × (written ≡ []);
-  StopsAtEnd = λ state kind written. ⊥;
-  is_of_writer = is_of_writer;
+  StopsAtEnd = λ state fault written. ⊥;
+  is_of_writer = is_write;
 }
 
 -- what an answer of `show` over these octets says, of what is left of them and of what was written

@@ -1,5 +1,5 @@
 ghost use Rattle.std.specs.Prelude.{◌≡◌};
-ghost use Rattle.schedule_replay.specs.declared.fault.FaultKind.TheVariants.{Memory};
+ghost use Rattle.schedule_replay.specs.declared.fault.TaskFault.TheVariants.{Memory};
 
 use exchange_check::CheckFault;
 use network_model::WorldRefusal;
@@ -104,15 +104,46 @@ impl From<ReadingFault> for FaultKind {
     }
 }
 
-impl From<Stopped<Cause<FaultKind>>> for Fault {
+/// Why a task doesn't take a line, or its end has no answer.
+#[derive(Clone, Copy)]
+pub(crate) enum TaskFault {
+    /// The writer failed.
+    Write,
+    /// A line isn't UTF-8 or isn't JSON.
+    Json,
+    /// A line isn't what is asked for.
+    Field,
+    /// The nodes are no network, or an event can't happen in it, for this reason.
+    World(WorldRefusal),
+    /// Memory was refused.
+    Memory,
+}
+
+impl From<TaskFault> for FaultKind {
+    ghost use Rattle.schedule_replay.specs.Fault.{of_task};
+
+    ghost from_gives = { λ fault kind. kind ≡ of_task fault };
+
+    fn from(fault: TaskFault) -> FaultKind {
+        match fault {
+            TaskFault::Write => FaultKind::Write,
+            TaskFault::Json => FaultKind::Json,
+            TaskFault::Field => FaultKind::Field,
+            TaskFault::World(why) => FaultKind::World(why),
+            TaskFault::Memory => FaultKind::Memory,
+        }
+    }
+}
+
+impl From<Stopped<Cause<TaskFault>>> for Fault {
     ghost use Rattle.schedule_replay.specs.Fault.{kind_of};
 
     ghost from_gives = { λ stop fault. (fault.line ≡ stop.line) × (fault.what ≡ kind_of stop.what) };
 
-    fn from(stop: Stopped<Cause<FaultKind>>) -> Fault {
+    fn from(stop: Stopped<Cause<TaskFault>>) -> Fault {
         let what = match stop.what {
             Cause::Reading(fault) => fault.into(),
-            Cause::Task(kind) => kind,
+            Cause::Task(fault) => fault.into(),
         };
         Fault {
             line: stop.line,
@@ -121,39 +152,39 @@ impl From<Stopped<Cause<FaultKind>>> for Fault {
     }
 }
 
-impl From<AllocError> for FaultKind {
-    ghost from_gives = { λ _ kind. kind ≡ Memory };
+impl From<AllocError> for TaskFault {
+    ghost from_gives = { λ _ fault. fault ≡ Memory };
 
-    fn from(_refused: AllocError) -> FaultKind {
-        FaultKind::Memory
+    fn from(_refused: AllocError) -> TaskFault {
+        TaskFault::Memory
     }
 }
 
-impl From<WorldRefusal> for FaultKind {
-    ghost use Rattle.schedule_replay.specs.Fault.{fault_of};
+impl From<WorldRefusal> for TaskFault {
+    ghost use Rattle.schedule_replay.specs.Inner.Fault.{fault_of};
 
-    ghost from_gives = { λ why kind. kind ≡ fault_of why };
+    ghost from_gives = { λ why fault. fault ≡ fault_of why };
 
-    fn from(why: WorldRefusal) -> FaultKind {
+    fn from(why: WorldRefusal) -> TaskFault {
         match why {
-            WorldRefusal::Memory => FaultKind::Memory,
-            why => FaultKind::World(why),
+            WorldRefusal::Memory => TaskFault::Memory,
+            why => TaskFault::World(why),
         }
     }
 }
 
-impl From<CheckFault> for FaultKind {
-    ghost from_gives = { λ _ kind. kind ≡ Memory };
+impl From<CheckFault> for TaskFault {
+    ghost from_gives = { λ _ fault. fault ≡ Memory };
 
-    fn from(_refused: CheckFault) -> FaultKind {
-        FaultKind::Memory
+    fn from(_refused: CheckFault) -> TaskFault {
+        TaskFault::Memory
     }
 }
 
-impl<T: Drop> From<AllocFailed<T>> for FaultKind {
-    ghost from_gives = { λ _ kind. kind ≡ Memory };
+impl<T: Drop> From<AllocFailed<T>> for TaskFault {
+    ghost from_gives = { λ _ fault. fault ≡ Memory };
 
-    fn from(_refused: AllocFailed<T>) -> FaultKind {
-        FaultKind::Memory
+    fn from(_refused: AllocFailed<T>) -> TaskFault {
+        TaskFault::Memory
     }
 }

@@ -1,8 +1,8 @@
 ghost use Rattle.std.specs.Prelude.{◌≡◌, ◌≢◌, ◌⊎◌, map, string_bytes};
 ghost use Rattle.schedule_replay.specs.Program.{EndsBefore, EndsUnread, Runs, check_status, status_of};
 ghost use Rattle.command_line.specs.Arguments.{AsksNothing, HasHelpFlag, Names, NamesNothing};
+ghost use Rattle.schedule_replay.specs.Lines.{lines_limit};
 ghost use Rattle.text_lines.specs.Lines.{input_limit, GivesWithin};
-ghost use Rattle.text_lines.specs.Counted.{device_of};
 
 use crate::checking::check_text;
 use crate::fault::{Fault, FaultKind};
@@ -33,7 +33,7 @@ pub fn command<R: Read, W: Write, E: Write>(
         Runs R.remaining W.contents s result input.old input.new output.old output.new
         ⊎ EndsBefore result input.old input.new output.old output.new }
     // Of any reader only so much is read, whatever the arguments and the writer are.
-    ensures bounded { GivesWithin R.remaining input_limit input.old input.new }
+    ensures bounded { GivesWithin R.remaining (input_limit lines_limit) input.old input.new }
     // Other arguments read nothing. Which text help is, and what comes of arguments that begin with `help`, is clap's.
     ensures unread { NamesNothing (map string_bytes words.now) →
         (input.new ≡ input.old) × EndsUnread W.contents result output.old output.new }
@@ -66,7 +66,7 @@ fn run<R: Read, W: Write, E: Write>(
     errors: &mut E,
 ) -> u8
     ensures runs { Runs R.remaining W.contents subcommand result input.old input.new output.old output.new }
-    ensures bounded { GivesWithin R.remaining input_limit input.old input.new }
+    ensures bounded { GivesWithin R.remaining (input_limit lines_limit) input.old input.new }
 {
     match subcommand {
         Subcommand::Show => finish(errors, show(alloc, input, output)),

@@ -1,23 +1,26 @@
 //! A schedule that is replayed line by line.
-ghost use Rattle.std.specs.Prelude.{◌≡◌, ◌⊎◌, ◌++◌, ◌∷◌, ℕ, List, [], false, MatchResult, Ok, None, ◌≢◌};
-ghost use Rattle.std.specs.Option.{ForSome};
+ghost use Rattle.std.specs.Prelude.{◌≡◌, ◌⊎◌, ℕ, List, false, MatchResult, Ok, None};
 ghost use Rattle.std.specs.Io.KnownBytes.{Appends};
 ghost use Rattle.serde_json.specs.View.{view};
 ghost use Rattle.serde_json.specs.Written.{has_float};
 ghost use Rattle.network_model.specs.Clash.{first_clash};
 ghost use Rattle.world_model.specs.State.{new_state, after, State};
 ghost use Rattle.schedule_lines.specs.Written.{line_text};
-ghost use Rattle.schedule_replay.specs.Fault.{FailedWith, is_of_writer};
-ghost use Rattle.schedule_replay.specs.Inner.WriterFault.{WriterFails};
+ghost use Rattle.schedule_lines.specs.declared.reading.schedule.Line.TheVariants as entries;
+ghost use Rattle.schedule_replay.specs.Fault.{FailedWith, is_write};
+ghost use Rattle.schedule_replay.specs.Lines.{lines_limit};
 ghost use Rattle.schedule_replay.specs.Schedule.{entry_in, FaultsAtEnd};
-ghost use Rattle.schedule_replay.specs.Replay.{nodes_text, IsEventLine, ReplaysAnswer, owed, NodesGoOut};
-ghost use Rattle.schedule_replay.specs.Replay.{replay_rules};
-ghost use Rattle.schedule_replay.specs.Inner.Stage.{IsStage, IsOwnFault, LeavesUnwritten, WritesNone, StopsEvent, state_of};
-ghost use Rattle.text_lines.specs.Counted.{device_of, failures_of, HasNotFailed};
+ghost use Rattle.schedule_replay.specs.Replay.{nodes_text, IsEventLine, ReplaysAnswer, NodesGoOut};
+ghost use Rattle.schedule_replay.specs.Replay.{Follows, replay_rules};
+ghost use Rattle.schedule_replay.specs.Inner.Stage.{IsOwnFault, LeavesUnwritten};
+ghost use Rattle.schedule_replay.specs.Inner.Replaying.{state_of, IsReplaying, WritesNone, StopsEvent, StopsAt};
+ghost use Rattle.text_lines.specs.Counted.{device_of, HasNotFailed, HasFailedIf};
 ghost use Rattle.text_lines.specs.Lines.{input_limit, GivesWithin};
 ghost use Rattle.text_lines.specs.Task.{WentOut};
 
-use crate::fault::{Fault, FaultKind};
+use crate::fault::{Fault, TaskFault};
+use crate::lines::{LINES_LIMIT, read_value, write_text};
+use crate::stage::Stage;
 use network_model::{Event, NodeSpec, Nodes};
 use schedule_lines::{Line, event_value, line_text, node_value};
 use serde_json::Value;
@@ -27,117 +30,81 @@ use text_lines::{Counted, LineTask, answer_lines};
 use trace_model::TraceLine;
 use world_model::World;
 
-/// How far a schedule was replayed.
-#[derive(Drop)]
-enum Stage {
-    /// These are its nodes so far.
-    Nodes(Vec<NodeSpec>),
-    /// Events happened in a world of its nodes.
-    Events(World),
-}
-
-/// Replays each line of a schedule.
+/// Replays each line of a schedule, in a world that begins with the first event.
 #[derive(Drop)]
 struct Replaying {
     alloc: Global,
-    stage: Stage,
+    stage: Stage<World>,
 }
 
 impl LineTask for Replaying {
     type Answer = u64;
 
-    type Fault = FaultKind;
+    type Fault = TaskFault;
 
     ghost State = { State };
 
     ghost rules = { replay_rules };
 
-    ghost is_at = { λ task state. (state_of task.stage ≡ state) × IsStage task.stage };
+    ghost is_at = { λ task state. (state_of task.stage ≡ state) × IsReplaying task.stage };
 
-    ghost fails = { WriterFails };
+    fn lines_limit() -> u64 {
+        LINES_LIMIT
+    }
 
-    fn take<W: Write>(self, line: &[u8], output: &mut Counted<W>) -> Result<Replaying, FaultKind> {
-        let Replaying { alloc, stage } = self;
-        match read_entry(alloc, line)? {
-            Line::Node(node) => {
-                let stage = stage.with_node(node)?;
-                Ok(Replaying { alloc, stage })
-            }
-            Line::Event(event) => {
-                let mut world = stage.into_world(alloc, output)?;
-                happen(alloc, &mut world, &event, output)?;
-                let stage = Stage::Events(world);
-                Ok(Replaying { alloc, stage })
-            }
+    fn take<W: Write>(&mut self, line: &[u8], output: &mut Counted<W>) -> Result<(), TaskFault> {
+        match read_entry(self.alloc, line)? {
+            Line::Node(node) => self.stage.push(node),
+            Line::Event(event) => self.happen(&event, output),
         }
     }
 
     /// How many events there were.
-    fn finish<W: Write>(self, _lines: u64, output: &mut Counted<W>) -> Result<u64, FaultKind> {
-        let Replaying { alloc, stage } = self;
-        let world = stage.into_world(alloc, output)?;
-        Ok(world.len())
+    fn finish<W: Write>(&mut self, _lines: u64, output: &mut Counted<W>) -> Result<u64, TaskFault> {
+        match &self.stage {
+            Stage::Nodes(nodes) => Ok(begin(self.alloc, nodes.as_slice(), output)?.len()),
+            Stage::Events(world) => Ok(world.len()),
+        }
     }
 }
 
-impl Stage {
-    /// Takes one more node, which stands before all events.
-    fn with_node(self, node: NodeSpec) -> Result<Stage, FaultKind>
-        requires { IsStage self }
-        ensures { let before = state_of self in
-            MatchResult result
-            (λ next. (before.run ≡ []) × IsStage next
-            × (state_of next ≡ record { network = before.network ++ node ∷ []; run = [] }))
-            (λ kind. (kind ≡ FaultKind.Memory) ⊎ ((kind ≡ FaultKind.Field) × (before.run ≢ []))) }
-    {
-        match self {
-            Stage::Nodes(mut nodes) => {
-                nodes.push(node)?;
-                Ok(Stage::Nodes(nodes))
-            }
-            Stage::Events(_) => Err(FaultKind::Field),
-        }
-    }
-
-    /// The world of the nodes and events, which begins where there was no event yet.
-    fn into_world<W: Write>(
-        self,
-        alloc: Global,
-        output: &mut Counted<W>,
-    ) -> Result<World, FaultKind>
-        requires { IsStage self }
-        ensures world { let before = W.contents (device_of output.old) in
+impl Replaying {
+    /// Lets an event happen, and writes its line.
+    fn happen<W: Write>(&mut self, event: &Event, output: &mut Counted<W>) -> Result<(), TaskFault>
+        requires { IsReplaying self.old.stage }
+        ensures happens { let state = state_of self.old.stage in
+            let before = W.contents (device_of output.old) in
             let after = W.contents (device_of output.new) in
             MatchResult result
-            (λ world. (world ≡ state_of self) × (first_clash world.network ≡ None)
-            × Appends before after (owed world.network world.run))
-            (λ kind. (written : List ℕ) × replay_rules.StopsAtEnd (state_of self) kind written
-            × WentOut (is_of_writer kind) (Appends before after written)) }
+            (λ _. (written : List ℕ) × IsReplaying self.new.stage
+            × Follows (entries.Event event.now) state (state_of self.new.stage) written × Appends before after written)
+            (λ fault. StopsAt fault state (entries.Event event.now) before after) }
         ensures failures { MatchResult result
             (λ _. HasNotFailed output.old output.new)
-            (λ kind. WriterFails kind (failures_of output.old) (failures_of output.new)) }
+            (λ fault. HasFailedIf (is_write fault) output.old output.new) }
     {
-        match self {
-            Stage::Nodes(nodes) => begin(alloc, nodes.as_slice(), output),
-            Stage::Events(world) => Ok(world),
+        match &mut self.stage {
+            Stage::Nodes(nodes) => {
+                let mut world = begin(self.alloc, nodes.as_slice(), output)?;
+                happen(self.alloc, &mut world, event, output)?;
+                self.stage = Stage::Events(world);
+                Ok(())
+            }
+            Stage::Events(world) => happen(self.alloc, world, event, output),
         }
     }
 }
 
 /// The node or the event that a line is.
-fn read_entry(alloc: Global, line: &[u8]) -> Result<Line, FaultKind>
+fn read_entry(alloc: Global, line: &[u8]) -> Result<Line, TaskFault>
     ensures { MatchResult result
         (λ entry. entry_in line.now ≡ Ok entry)
-        (λ kind. (kind ≡ FaultKind.Memory) ⊎ IsOwnFault kind line.now) }
+        (λ fault. (fault ≡ TaskFault.Memory) ⊎ IsOwnFault entry_in fault line.now) }
 {
-    let value = match Value::from_slice(alloc, line) {
-        Ok(value) => value,
-        Err(error) if error.is_memory() => return Err(FaultKind::Memory),
-        Err(_) => return Err(FaultKind::Json),
-    };
+    let value = read_value(alloc, line)?;
     match Line::of(&value) {
         Some(entry) => Ok(entry),
-        None => Err(FaultKind::Field),
+        None => Err(TaskFault::Field),
     }
 }
 
@@ -146,22 +113,19 @@ fn write_line<W: Write>(
     alloc: Global,
     value: &Value,
     output: &mut Counted<W>,
-) -> Result<(), FaultKind>
+) -> Result<(), TaskFault>
     requires { has_float (view value.now) ≡ false }
     ensures written { let before = W.contents (device_of output.old) in
         let after = W.contents (device_of output.new) in
         MatchResult result
         (λ _. Appends before after (line_text (view value.now)))
-        (λ kind. LeavesUnwritten kind before after) }
+        (λ fault. LeavesUnwritten fault before after) }
     ensures failures { MatchResult result
         (λ _. HasNotFailed output.old output.new)
-        (λ kind. WriterFails kind (failures_of output.old) (failures_of output.new)) }
+        (λ fault. HasFailedIf (is_write fault) output.old output.new) }
 {
     let text = line_text(alloc, value)?;
-    match output.write_all(text.as_bytes()) {
-        Ok(()) => Ok(()),
-        Err(_) => Err(FaultKind::Write),
-    }
+    write_text(text.as_str(), output)
 }
 
 /// Begins a world of these nodes, and writes their lines.
@@ -169,18 +133,18 @@ fn begin<W: Write>(
     alloc: Global,
     nodes: &[NodeSpec],
     output: &mut Counted<W>,
-) -> Result<World, FaultKind>
+) -> Result<World, TaskFault>
     ensures begun { let before = W.contents (device_of output.old) in
         let after = W.contents (device_of output.new) in
         MatchResult result
         (λ world. (world ≡ new_state nodes.now) × (first_clash nodes.now ≡ None)
         × Appends before after (nodes_text nodes.now))
-        (λ kind. FaultsAtEnd kind nodes.now
-        × ((written : List ℕ) × NodesGoOut kind nodes.now written
-        × WentOut (is_of_writer kind) (Appends before after written))) }
+        (λ fault. FaultsAtEnd fault nodes.now
+        × ((written : List ℕ) × NodesGoOut fault nodes.now written
+        × WentOut (is_write fault) (Appends before after written))) }
     ensures failures { MatchResult result
         (λ _. HasNotFailed output.old output.new)
-        (λ kind. WriterFails kind (failures_of output.old) (failures_of output.new)) }
+        (λ fault. HasFailedIf (is_write fault) output.old output.new) }
 {
     let network = Nodes::new(alloc, nodes)?;
     let world = World::new(alloc, network)?;
@@ -191,22 +155,22 @@ fn begin<W: Write>(
     Ok(world)
 }
 
-/// Lets an event happen, and writes its line.
+/// Lets an event happen in a world, and writes its line.
 fn happen<W: Write>(
     alloc: Global,
     world: &mut World,
     event: &Event,
     output: &mut Counted<W>,
-) -> Result<(), FaultKind>
+) -> Result<(), TaskFault>
     ensures happens { let before = W.contents (device_of output.old) in
         let after_it = W.contents (device_of output.new) in
         MatchResult result
         (λ _. (world.new ≡ after event.now world.old)
         × ((line : List ℕ) × IsEventLine world.old.network world.old.run event.now line × Appends before after_it line))
-        (λ kind. StopsEvent kind world.old event.now × WritesNone kind before after_it) }
+        (λ fault. StopsEvent fault world.old event.now × WritesNone fault before after_it) }
     ensures failures { MatchResult result
         (λ _. HasNotFailed output.old output.new)
-        (λ kind. WriterFails kind (failures_of output.old) (failures_of output.new)) }
+        (λ fault. HasFailedIf (is_write fault) output.old output.new) }
 {
     let stepped = world.step(event)?;
     let line = TraceLine::of(event, &stepped, world);
@@ -230,12 +194,12 @@ pub fn replay<R: Read, W: Write>(
 ) -> Result<u64, Fault>
     ensures replayed { ReplaysAnswer R.remaining W.contents result input.old input.new output.old output.new }
     // Of any reader only so much is read, whatever the writer is.
-    ensures bounded { GivesWithin R.remaining input_limit input.old input.new }
+    ensures bounded { GivesWithin R.remaining (input_limit lines_limit) input.old input.new }
     ensures failures { FailedWith result input.old input.new output.old output.new }
 {
-    let task = Replaying {
+    let mut task = Replaying {
         alloc,
-        stage: Stage::Nodes(Vec::new(alloc)),
+        stage: Stage::new(alloc),
     };
-    Ok(answer_lines(task, input, output)?)
+    Ok(answer_lines(&mut task, input, output)?)
 }

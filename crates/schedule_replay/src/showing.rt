@@ -1,12 +1,12 @@
 ghost use Rattle.std.specs.Prelude.{◌≡◌, ◌≤◌, length, MatchResult, ◌⊎◌, ⊤};
-ghost use Rattle.std.specs.Option.{ForSome};
 ghost use Rattle.std.specs.String.{string_bytes};
 ghost use Rattle.schedule_replay.specs.Fault.{FailedWith};
-ghost use Rattle.schedule_replay.specs.Inner.WriterFault.{WriterFails};
+ghost use Rattle.schedule_replay.specs.Lines.{lines_limit};
 ghost use Rattle.schedule_replay.specs.Show.{IsAnswer, ShowsAnswer, StopsShowing, show_rules};
 ghost use Rattle.text_lines.specs.Lines.{input_limit, line_limit, GivesWithin};
 
-use crate::fault::{Fault, FaultKind};
+use crate::fault::{Fault, TaskFault};
+use crate::lines::{LINES_LIMIT, write_text};
 use datagram_text::push_datagram;
 use std::alloc::Global;
 use std::io::{Read, Write};
@@ -24,7 +24,7 @@ struct Showing {
 impl LineTask for Showing {
     type Answer = u64;
 
-    type Fault = FaultKind;
+    type Fault = TaskFault;
 
     ghost State = { ⊤ };
 
@@ -32,38 +32,33 @@ impl LineTask for Showing {
 
     ghost is_at = { λ _ _. ⊤ };
 
-    ghost fails = { WriterFails };
+    fn lines_limit() -> u64 {
+        LINES_LIMIT
+    }
 
     /// Answers one line, in one write.
-    fn take<W: Write>(
-        mut self,
-        digits: &[u8],
-        output: &mut Counted<W>,
-    ) -> Result<Showing, FaultKind> {
+    fn take<W: Write>(&mut self, digits: &[u8], output: &mut Counted<W>) -> Result<(), TaskFault> {
         make_answer(&mut self.text, digits)?;
-        match output.write_all(self.text.as_bytes()) {
-            Ok(()) => Ok(self),
-            Err(_) => Err(FaultKind::Write),
-        }
+        write_text(self.text.as_str(), output)
     }
 
     /// How many lines there were.
-    fn finish<W: Write>(self, lines: u64, _output: &mut Counted<W>) -> Result<u64, FaultKind> {
+    fn finish<W: Write>(&mut self, lines: u64, _output: &mut Counted<W>) -> Result<u64, TaskFault> {
         Ok(lines)
     }
 }
 
 /// Puts the answer to a line in place of what `text` holds.
-fn make_answer(text: &mut String, digits: &[u8]) -> Result<(), FaultKind>
+fn make_answer(text: &mut String, digits: &[u8]) -> Result<(), TaskFault>
     requires { length digits.now ≤ line_limit }
     ensures { MatchResult result
         (λ _. IsAnswer digits.now (string_bytes text.new))
-        (λ kind. ((kind ≡ FaultKind.Field) ⊎ (kind ≡ FaultKind.Memory)) × StopsShowing digits.now kind) }
+        (λ fault. ((fault ≡ TaskFault.Field) ⊎ (fault ≡ TaskFault.Memory)) × StopsShowing digits.now fault) }
 {
     let mut room = [0; DATAGRAM_LIMIT];
     let datagram = &mut room[..digits.len() / 2];
     if hex::decode_to_slice(digits, datagram).is_err() {
-        return Err(FaultKind::Field);
+        return Err(TaskFault::Field);
     }
     text.clear();
     push_datagram(text, datagram)?;
@@ -84,11 +79,11 @@ pub fn show<R: Read, W: Write>(
 ) -> Result<u64, Fault>
     ensures shown { ShowsAnswer R.remaining W.contents result input.old input.new output.old output.new }
     // Of any reader only so much is read, whatever the writer is.
-    ensures bounded { GivesWithin R.remaining input_limit input.old input.new }
+    ensures bounded { GivesWithin R.remaining (input_limit lines_limit) input.old input.new }
     ensures failures { FailedWith result input.old input.new output.old output.new }
 {
-    let task = Showing {
+    let mut task = Showing {
         text: String::new(alloc),
     };
-    Ok(answer_lines(task, input, output)?)
+    Ok(answer_lines(&mut task, input, output)?)
 }

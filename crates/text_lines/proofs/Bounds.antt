@@ -6,7 +6,7 @@ use Rattle.std.specs.Prelude.{nat_lt}
 use Rattle.std.specs.Io.KnownBytes.{Consumes, Keeps}
 use Rattle.text_lines.specs.declared.counted.Counted.{Counted}
 use Rattle.text_lines.specs.Counted.{device_of, given_of, with_more, HasGiven}
-use Rattle.text_lines.specs.Lines.{line_limit, lines_limit, input_limit, room_of, GivesWithin}
+use Rattle.text_lines.specs.Lines.{line_limit, input_limit, room_of, GivesWithin}
 use Rattle.text_lines.proofs.KnownOctets.{Consumes-known, Keeps-known}
 
 more_more : (x a b : ℕ) → with_more (with_more x a) b ≡ with_more x (a + b)
@@ -62,21 +62,21 @@ line_within remaining count x y z fits so_far octet =
     gives_less remaining _ _ x z (gives_more remaining _ _ x y z so_far octet) (omega arith)
 
 -- whole lines, and one more
-pub line_more : {R : Type 0} (remaining : R → Option (List ℕ)) (count : ℕ) (x y z : Counted R) → GivesWithin remaining (count * (line_limit + 1)) x y
-    → GivesWithin remaining (room_of (count + 1) + 1) y z → GivesWithin remaining ((count + 1) * (line_limit + 1)) x z
-line_more remaining count x y z so_far line =
-    gives_less remaining _ _ x z (gives_more remaining _ _ x y z so_far line) (go (nat_lt lines_limit (count + 1)))
+pub line_more : {R : Type 0} (remaining : R → Option (List ℕ)) (limit count : ℕ) (x y z : Counted R) → GivesWithin remaining (count * (line_limit + 1)) x y
+    → GivesWithin remaining (room_of limit (count + 1) + 1) y z → GivesWithin remaining ((count + 1) * (line_limit + 1)) x z
+line_more remaining limit count x y z so_far line =
+    gives_less remaining _ _ x z (gives_more remaining _ _ x y z so_far line) (go (nat_lt limit (count + 1)))
   where
     go : (beyond : Bool) → count * (line_limit + 1) + ((if beyond then 0 else line_limit) + 1) ≤ (count + 1) * (line_limit + 1)
     go true = omega arith
     go false = omega arith
 
 -- whole lines, and the octets of a last one, are within the limit
-pub input_within : {R : Type 0} (remaining : R → Option (List ℕ)) (count : ℕ) (x y z : Counted R) → count ≤ lines_limit → GivesWithin remaining (count * (line_limit + 1)) x y
-    → GivesWithin remaining (room_of (count + 1) + 1) y z → GivesWithin remaining input_limit x z
-input_within remaining count x y z allowed so_far line =
-    gives_less remaining _ _ x z (gives_more remaining _ _ x y z so_far line) (go (nat_lt lines_limit (count + 1)) refl)
+pub input_within : {R : Type 0} (remaining : R → Option (List ℕ)) (limit count : ℕ) (x y z : Counted R) → count ≤ limit → GivesWithin remaining (count * (line_limit + 1)) x y
+    → GivesWithin remaining (room_of limit (count + 1) + 1) y z → GivesWithin remaining (input_limit limit) x z
+input_within remaining limit count x y z allowed so_far line =
+    gives_less remaining _ _ x z (gives_more remaining _ _ x y z so_far line) (go (nat_lt limit (count + 1)) refl)
   where
-    go : (beyond : Bool) → nat_lt lines_limit (count + 1) ≡ beyond → count * (line_limit + 1) + ((if beyond then 0 else line_limit) + 1) ≤ input_limit
+    go : (beyond : Bool) → nat_lt limit (count + 1) ≡ beyond → count * (line_limit + 1) + ((if beyond then 0 else line_limit) + 1) ≤ input_limit limit
     go true is = omega arith
-    go false is = let below = ltb-false lines_limit (count + 1) is in omega arith
+    go false is = let below = ltb-false limit (count + 1) is in omega arith

@@ -49,7 +49,7 @@ record IsTaken {S A F : Type 0} (rules : Rules S A F) (number : ℕ) (lines : Li
   state : S
   text : List ℕ
   before : TakesLines rules number (take place lines) start state text
-  readable : reading_fault (number + place) line ≡ None
+  readable : reading_fault rules.lines_limit (number + place) line ≡ None
   later : S
   written : List ℕ
   takes : rules.Takes (without_cr line) state later written
@@ -62,7 +62,7 @@ is_taken rules number (first ∷ lines) start state text zero line (next, one, o
       state = start;
       text = [];
       before = (refl, refl);
-      readable = subst (λ (x : ℕ × List ℕ). reading_fault x.0 x.1 ≡ None) (λ i. (place_is i, same i)) fine;
+      readable = subst (λ (x : ℕ × List ℕ). reading_fault rules.lines_limit x.0 x.1 ≡ None) (λ i. (place_is i, same i)) fine;
       later = next;
       written = one;
       takes = subst (λ (l : List ℕ). rules.Takes (without_cr l) start next one) same takes;
@@ -75,7 +75,7 @@ is_taken rules number (first ∷ lines) start state text (suc place) line (next,
       state = inner.state;
       text = one ++ inner.text;
       before = (next, one, inner.text, fine, takes, inner.before, refl);
-      readable = subst (λ (n : ℕ). reading_fault n line ≡ None) (omega arith) inner.readable;
+      readable = subst (λ (n : ℕ). reading_fault rules.lines_limit n line ≡ None) (omega arith) inner.readable;
       later = inner.later;
       written = inner.written;
       takes = inner.takes;
@@ -132,11 +132,11 @@ not_before {S} {A} {F} rules Device one octets (Err what) place count state late
     found : (line : List ℕ) → slice_get (lines_of octets) place ≡ Some line → IsTaken rules 1 (take count (lines_of octets)) rules.start place line
     found line there = is_taken rules 1 (take count (lines_of octets)) rules.start later text' place line others (get_taken (lines_of octets) place count less ∙ there)
 
-    readable : (line : List ℕ) → slice_get (lines_of octets) place ≡ Some line → reading_fault (place + 1) line ≡ None
-    readable line there = subst (λ (n : ℕ). reading_fault n line ≡ None) (omega arith) (found line there).readable
+    readable : (line : List ℕ) → slice_get (lines_of octets) place ≡ Some line → reading_fault rules.lines_limit (place + 1) line ≡ None
+    readable line there = subst (λ (n : ℕ). reading_fault rules.lines_limit n line ≡ None) (omega arith) (found line there).readable
 
     unreadable : (fault : ReadingFault) (line : Option (List ℕ)) → slice_get (lines_of octets) place ≡ line → (IsOfDevice Device (Reading fault) → ⊥)
-        → FaultsInReading fault (place + 1) line → ⊥
+        → FaultsInReading fault rules.lines_limit (place + 1) line → ⊥
     unreadable Read line there sure faults = sure tt
     unreadable LineTooLong None there sure faults = faults
     unreadable LineTooLong (Some line) there sure faults = let fine = readable line there in absurd (cc (fine, faults))
@@ -159,19 +159,19 @@ record AreOne {A F : Type 0} (end end' : Result A (Cause F)) (last last' : List 
   last_is : last' ≡ last
   left_is : left' ≡ left
 
-there_is : (fault : ReadingFault) (number : ℕ) (line : Option (List ℕ)) {F : Type 0} (Device : F → Type 0) → (IsOfDevice Device (Reading fault) → ⊥) → FaultsInReading fault number line
-    → (l : List ℕ) × (line ≡ Some l) × (reading_fault number l ≡ Some fault)
-there_is Read number line Device sure faults = absurd (sure tt)
-there_is LineTooLong number None Device sure faults = absurd faults
-there_is LineTooLong number (Some line) Device sure faults = (line, refl, faults)
-there_is TooManyLines number None Device sure faults = absurd faults
-there_is TooManyLines number (Some line) Device sure faults = (line, refl, faults)
+there_is : (fault : ReadingFault) (limit number : ℕ) (line : Option (List ℕ)) {F : Type 0} (Device : F → Type 0) → (IsOfDevice Device (Reading fault) → ⊥) → FaultsInReading fault limit number line
+    → (l : List ℕ) × (line ≡ Some l) × (reading_fault limit number l ≡ Some fault)
+there_is Read limit number line Device sure faults = absurd (sure tt)
+there_is LineTooLong limit number None Device sure faults = absurd faults
+there_is LineTooLong limit number (Some line) Device sure faults = (line, refl, faults)
+there_is TooManyLines limit number None Device sure faults = absurd faults
+there_is TooManyLines limit number (Some line) Device sure faults = (line, refl, faults)
 
-one_left : (fault : ReadingFault) {F : Type 0} (Device : F → Type 0) → (IsOfDevice Device (Reading fault) → ⊥) → (number : ℕ) (octets : List ℕ) (left left' : Option (List ℕ))
-    → LeavesUnread fault number octets left → LeavesUnread fault number octets left' → left' ≡ left
-one_left Read Device sure number octets left left' h k = absurd (sure tt)
-one_left LineTooLong Device sure number octets left left' h k = k ∙ sym h
-one_left TooManyLines Device sure number octets left left' h k = k ∙ sym h
+one_left : (fault : ReadingFault) {F : Type 0} (Device : F → Type 0) → (IsOfDevice Device (Reading fault) → ⊥) → (limit number : ℕ) (octets : List ℕ) (left left' : Option (List ℕ))
+    → LeavesUnread fault limit number octets left → LeavesUnread fault limit number octets left' → left' ≡ left
+one_left Read Device sure limit number octets left left' h k = absurd (sure tt)
+one_left LineTooLong Device sure limit number octets left left' h k = k ∙ sym h
+one_left TooManyLines Device sure limit number octets left left' h k = k ∙ sym h
 
 -- a line and the end aren't at one place
 not_both : (octets line : List ℕ) (place : ℕ) → slice_get (lines_of octets) place ≡ Some line → place ≡ length (lines_of octets) → ⊥
@@ -181,31 +181,31 @@ one_stop : {S A F : Type 0} (rules : Rules S A F) (Device : F → Type 0) → Ha
     (left left' : Option (List ℕ)) → (IsOfDevice Device what → ⊥) → (IsOfDevice Device what' → ⊥) → StopsBefore rules place state octets what last left
     → StopsBefore rules place state octets what' last' left' → (what' ≡ what) × (last' ≡ last) × (left' ≡ left)
 one_stop rules Device one octets place state (Reading fault) (Reading fault') last last' left left' sure sure' (whole, faults, none, unread) (whole', faults', none', unread') =
-    let (line, there, is) = there_is fault (place + 1) (slice_get (lines_of octets) place) Device sure faults in
-    let (line', there', is') = there_is fault' (place + 1) (slice_get (lines_of octets) place) Device sure' faults' in
+    let (line, there, is) = there_is fault rules.lines_limit (place + 1) (slice_get (lines_of octets) place) Device sure faults in
+    let (line', there', is') = there_is fault' rules.lines_limit (place + 1) (slice_get (lines_of octets) place) Device sure' faults' in
     let lines : line' ≡ line = cc (there, there') in
-    let again = subst (λ (l : List ℕ). reading_fault (place + 1) l ≡ Some fault') lines is' in
+    let again = subst (λ (l : List ℕ). reading_fault rules.lines_limit (place + 1) l ≡ Some fault') lines is' in
     let same : fault' ≡ fault = cc (is, again) in
-    let unread_same = subst (λ (f : ReadingFault). LeavesUnread f (place + 1) (after_lines place octets) left') same unread' in (
+    let unread_same = subst (λ (f : ReadingFault). LeavesUnread f rules.lines_limit (place + 1) (after_lines place octets) left') same unread' in (
       ap Reading same,
       none' ∙ sym none,
-      one_left fault Device sure (place + 1) (after_lines place octets) left left' unread unread_same,
+      one_left fault Device sure rules.lines_limit (place + 1) (after_lines place octets) left left' unread unread_same,
     )
 one_stop rules Device one octets place state (Reading fault) (Task kind) last last' left left' sure sure' (whole, faults, none, unread) (inl (line', whole', there', fine', stops', unread')) =
-    let (line, there, is) = there_is fault (place + 1) (slice_get (lines_of octets) place) Device sure faults in
+    let (line, there, is) = there_is fault rules.lines_limit (place + 1) (slice_get (lines_of octets) place) Device sure faults in
     let lines : line' ≡ line = cc (there, there') in
-    let fine = subst (λ (l : List ℕ). reading_fault (place + 1) l ≡ None) lines fine' in
+    let fine = subst (λ (l : List ℕ). reading_fault rules.lines_limit (place + 1) l ≡ None) lines fine' in
     absurd (cc (is, fine))
 one_stop rules Device one octets place state (Reading fault) (Task kind) last last' left left' sure sure' (whole, faults, none, unread) (inr (at_end, stops', none')) =
-    let (line, there, is) = there_is fault (place + 1) (slice_get (lines_of octets) place) Device sure faults in
+    let (line, there, is) = there_is fault rules.lines_limit (place + 1) (slice_get (lines_of octets) place) Device sure faults in
     absurd (not_both octets line place there at_end)
 one_stop rules Device one octets place state (Task kind) (Reading fault) last last' left left' sure sure' (inl (line', whole', there', fine', stops', unread')) (whole, faults, none, unread) =
-    let (line, there, is) = there_is fault (place + 1) (slice_get (lines_of octets) place) Device sure' faults in
+    let (line, there, is) = there_is fault rules.lines_limit (place + 1) (slice_get (lines_of octets) place) Device sure' faults in
     let lines : line' ≡ line = cc (there, there') in
-    let fine = subst (λ (l : List ℕ). reading_fault (place + 1) l ≡ None) lines fine' in
+    let fine = subst (λ (l : List ℕ). reading_fault rules.lines_limit (place + 1) l ≡ None) lines fine' in
     absurd (cc (is, fine))
 one_stop rules Device one octets place state (Task kind) (Reading fault) last last' left left' sure sure' (inr (at_end, stops', none')) (whole, faults, none, unread) =
-    let (line, there, is) = there_is fault (place + 1) (slice_get (lines_of octets) place) Device sure' faults in
+    let (line, there, is) = there_is fault rules.lines_limit (place + 1) (slice_get (lines_of octets) place) Device sure' faults in
     absurd (not_both octets line place there at_end)
 one_stop {S} rules Device one octets place state (Task kind) (Task kind') last last' left left' sure sure' (inl (line, whole, there, fine, stops, unread)) (inl (line', whole', there', fine', stops', unread')) =
     let lines : line' ≡ line = cc (there, there') in
@@ -224,7 +224,7 @@ one_stop rules Device one octets place state (Task kind) (Task kind') last last'
 no_stop : {S A F : Type 0} (rules : Rules S A F) (Device : F → Type 0) → HasOneCourse rules Device → (octets : List ℕ) (place : ℕ) (state : S) (answer : A) (what : Cause F) (last last' : List ℕ)
     (left left' : Option (List ℕ)) → EndsAs rules Device octets place state (Ok answer) last left → EndsAs rules Device octets place state (Err what) last' left' → ⊥
 no_stop rules Device one octets place state answer (Reading fault) last last' left left' (at_end, ends, none) (sure, (whole, faults, nothing, unread)) =
-    let (line, there, is) = there_is fault (place + 1) (slice_get (lines_of octets) place) Device sure faults in
+    let (line, there, is) = there_is fault rules.lines_limit (place + 1) (slice_get (lines_of octets) place) Device sure faults in
     not_both octets line place there at_end
 no_stop rules Device one octets place state answer (Task kind) last last' left left' (at_end, ends, none) (sure, inl (line, whole, there, fine, stops, unread)) =
     not_both octets line place there at_end
@@ -247,7 +247,7 @@ place_within : {S A F : Type 0} (rules : Rules S A F) (Device : F → Type 0) (o
     → EndsAs rules Device octets place state end last left → place ≤ length (lines_of octets)
 place_within rules Device octets place state (Ok answer) last left (at_end, ends, none) = omega (arith, at_end)
 place_within rules Device octets place state (Err (Reading fault)) last left (sure, (whole, faults, nothing, unread)) =
-    let (line, there, is) = there_is fault (place + 1) (slice_get (lines_of octets) place) Device sure faults in
+    let (line, there, is) = there_is fault rules.lines_limit (place + 1) (slice_get (lines_of octets) place) Device sure faults in
     omega (arith, is_within (lines_of octets) place line there)
 place_within rules Device octets place state (Err (Task kind)) last left (sure, inl (line, whole, there, fine, stops, unread)) = omega (arith, is_within (lines_of octets) place line there)
 place_within rules Device octets place state (Err (Task kind)) last left (sure, inr (at_end, stops, none)) = omega (arith, at_end)

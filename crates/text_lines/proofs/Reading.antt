@@ -6,13 +6,13 @@ use Rattle.std.proofs.Math.Dec.{eqb-suc-zero}
 use Rattle.std.specs.Io.KnownBytes.{Consumes, Keeps, IsAtEnd}
 use Rattle.std.proofs.KnownBytes.{Consumes-trans, Consumes-kept}
 use Rattle.text_lines.specs.declared.fault.ReadingFault.TheVariants.{Read, LineTooLong, TooManyLines}
-use Rattle.text_lines.specs.Lines.{lines_of, lfs_in, line_limit, lines_limit, reading_fault}
+use Rattle.text_lines.specs.Lines.{lines_of, lfs_in, line_limit, reading_fault}
 use Rattle.text_lines.specs.Inner.Reading.{ReadsLine, StopsReading}
 use Rattle.text_lines.proofs.KnownOctets.{Consumes-known}
 use Rattle.text_lines.proofs.Cutting.{IsUnended, lines_of-ended, drop_through-ended, lfs_in-ended, lines_of-last, drop_through-last, first_line, longer_line}
 
-no_fault : (count : ℕ) (line : List ℕ) → count < lines_limit → length line ≤ line_limit → reading_fault (count + 1) line ≡ None
-no_fault count line allowed fits = rw (le-ltb lines_limit (count + 1) (omega arith), le-ltb line_limit (length line) fits)
+no_fault : (limit count : ℕ) (line : List ℕ) → count < limit → length line ≤ line_limit → reading_fault limit (count + 1) line ≡ None
+no_fault limit count line allowed fits = rw (le-ltb limit (count + 1) (omega arith), le-ltb line_limit (length line) fits)
 
 -- the octets end where a reader at its end has nothing left
 at_end : (c : Option (List ℕ)) (front rest octets : List ℕ) → IsAtEnd c → c ≡ Some rest → octets ≡ front ++ rest → (octets ≡ front) × (c ≡ Some [])
@@ -20,39 +20,39 @@ at_end None front rest octets end left split = absurd cc
 at_end (Some xs) front rest octets end left split =
     let none : rest ≡ [] = cc in (split ∙ ap (λ r. front ++ r) none ∙ append-nil front, ap Some end)
 
-pub line_ended : (a b c : Option (List ℕ)) (line : List ℕ) (count : ℕ) (octets : List ℕ) → Consumes a b line → Consumes b c (10 ∷ [])
-    → IsUnended line → length line ≤ line_limit → count < lines_limit → a ≡ Some octets → ReadsLine true (count + 1) line false octets c
-line_ended a b c line count octets first then unended fits allowed known =
+pub line_ended : (a b c : Option (List ℕ)) (line : List ℕ) (limit count : ℕ) (octets : List ℕ) → Consumes a b line → Consumes b c (10 ∷ [])
+    → IsUnended line → length line ≤ line_limit → count < limit → a ≡ Some octets → ReadsLine true limit (count + 1) line false octets c
+line_ended a b c line limit count octets first then unended fits allowed known =
     let (rest, left, split) = Consumes-known a c _ octets (Consumes-trans a b c line (10 ∷ []) first then) known in
     let whole : octets ≡ line ++ 10 ∷ rest = split ∙ append_assoc line (10 ∷ []) rest in
     let behind = drop_through-ended line rest unended in
     rw whole (
       lines_of-ended line rest unended ∙ ap (λ r. line ∷ lines_of r) (sym behind),
-      no_fault count line allowed fits,
+      no_fault limit count line allowed fits,
       left ∙ ap Some (sym behind),
       λ _. lfs_in-ended line rest unended ∙ ap (λ r. lfs_in r + 1) (sym behind),
     )
 
-line_or_none : (c : Option (List ℕ)) (line : List ℕ) (count : ℕ) → c ≡ Some [] → IsUnended line → reading_fault (count + 1) line ≡ None
-    → ReadsLine (not (length line == 0)) (count + 1) line true line c
-line_or_none c [] count left unended fine = (refl, left)
-line_or_none c (x ∷ xs) count left unended fine =
+line_or_none : (c : Option (List ℕ)) (line : List ℕ) (limit count : ℕ) → c ≡ Some [] → IsUnended line → reading_fault limit (count + 1) line ≡ None
+    → ReadsLine (not (length line == 0)) limit (count + 1) line true line c
+line_or_none c [] limit count left unended fine = (refl, left)
+line_or_none c (x ∷ xs) limit count left unended fine =
     let behind = drop_through-last (x ∷ xs) unended in
     rw (eqb-suc-zero (length xs)) (lines_of-last x xs unended ∙ ap (λ r. (x ∷ xs) ∷ lines_of r) (sym behind), fine, left ∙ ap Some (sym behind), λ unended. absurd (true≢false unended))
 
-pub line_last : (a b c : Option (List ℕ)) (line : List ℕ) (count : ℕ) (octets : List ℕ) → Consumes a b line → Consumes b c [] → IsAtEnd c
-    → IsUnended line → length line ≤ line_limit → count < lines_limit → a ≡ Some octets → ReadsLine (not (length line == 0)) (count + 1) line true octets c
-line_last a b c line count octets first then end unended fits allowed known =
+pub line_last : (a b c : Option (List ℕ)) (line : List ℕ) (limit count : ℕ) (octets : List ℕ) → Consumes a b line → Consumes b c [] → IsAtEnd c
+    → IsUnended line → length line ≤ line_limit → count < limit → a ≡ Some octets → ReadsLine (not (length line == 0)) limit (count + 1) line true octets c
+line_last a b c line limit count octets first then end unended fits allowed known =
     let (rest, left, split) = Consumes-known a c _ octets (Consumes-trans a b c line [] first then) known in
     let (whole, nothing) = at_end c line rest octets end left (split ∙ ap (λ l. l ++ rest) (append-nil line)) in
-    rw whole (line_or_none c line count nothing unended (no_fault count line allowed fits))
+    rw whole (line_or_none c line limit count nothing unended (no_fault limit count line allowed fits))
 
-too_long : (count : ℕ) (line : List ℕ) → count < lines_limit → line_limit < length line → reading_fault (count + 1) line ≡ Some LineTooLong
-too_long count line allowed long = rw (le-ltb lines_limit (count + 1) (omega arith), lt-ltb line_limit (length line) long)
+too_long : (limit count : ℕ) (line : List ℕ) → count < limit → line_limit < length line → reading_fault limit (count + 1) line ≡ Some LineTooLong
+too_long limit count line allowed long = rw (le-ltb limit (count + 1) (omega arith), lt-ltb line_limit (length line) long)
 
-pub line_too_long : (a b c : Option (List ℕ)) (line : List ℕ) (x count : ℕ) (octets : List ℕ) → Consumes a b line → Consumes b c (x ∷ []) → x ≢ 10
-    → IsUnended line → length line ≡ line_limit → count < lines_limit → a ≡ Some octets → StopsReading LineTooLong (count + 1) octets c
-line_too_long a b c line x count octets first then other unended full allowed known =
+pub line_too_long : (a b c : Option (List ℕ)) (line : List ℕ) (x limit count : ℕ) (octets : List ℕ) → Consumes a b line → Consumes b c (x ∷ []) → x ≢ 10
+    → IsUnended line → length line ≡ line_limit → count < limit → a ≡ Some octets → StopsReading LineTooLong limit (count + 1) octets c
+line_too_long a b c line x limit count octets first then other unended full allowed known =
     let (rest, left, split) = Consumes-known a c _ octets (Consumes-trans a b c line (x ∷ []) first then) known in
     let (longer, others, e, long) = longer_line line x rest unended other in
     let whole : octets ≡ line ++ x ∷ rest = split ∙ append_assoc line (x ∷ []) rest in
@@ -60,22 +60,22 @@ line_too_long a b c line x count octets first then other unended full allowed kn
       longer,
       others,
       ap lines_of whole ∙ e,
-      too_long count longer allowed (omega arith),
+      too_long limit count longer allowed (omega arith),
       left ∙ ap Some (sym (ap (drop 4097) split ∙ drop_at (line ++ x ∷ []) rest 4097 passed)),
     )
 
-pub line_failed : (a b c : Option (List ℕ)) (line : List ℕ) (count : ℕ) (octets : List ℕ) → Consumes a b line → Keeps b c
-    → IsUnended line → length line ≤ line_limit → count < lines_limit → a ≡ Some octets → StopsReading Read (count + 1) octets c
-line_failed a b c line count octets first kept unended fits allowed known =
+pub line_failed : (a b c : Option (List ℕ)) (line : List ℕ) (limit count : ℕ) (octets : List ℕ) → Consumes a b line → Keeps b c
+    → IsUnended line → length line ≤ line_limit → count < limit → a ≡ Some octets → StopsReading Read limit (count + 1) octets c
+line_failed a b c line limit count octets first kept unended fits allowed known =
     let (rest, left, split) = Consumes-known a c _ octets (Consumes-kept a b c line first kept) known in (
       length line,
-      rw (le-ltb lines_limit (count + 1) (omega arith)) fits,
+      rw (le-ltb limit (count + 1) (omega arith)) fits,
       rw (split, take_at line rest (length line) refl) unended,
       left ∙ ap Some (sym (ap (drop (length line)) split ∙ drop_at line rest (length line) refl)),
     )
 
-pub beyond_last : (a b : Option (List ℕ)) (x : ℕ) (octets : List ℕ) → Consumes a b (x ∷ []) → a ≡ Some octets → StopsReading TooManyLines (lines_limit + 1) octets b
-beyond_last a b x octets first known =
+pub beyond_last : (a b : Option (List ℕ)) (x limit : ℕ) (octets : List ℕ) → Consumes a b (x ∷ []) → a ≡ Some octets → StopsReading TooManyLines limit (limit + 1) octets b
+beyond_last a b x limit octets first known =
     let (rest, left, split) = Consumes-known a b _ octets first known in
     let (line, others, e) = first_line x rest in
-    (line, others, ap lines_of split ∙ e, refl, left ∙ ap Some (sym (ap (drop 1) split)))
+    (line, others, ap lines_of split ∙ e, rw (lt-ltb limit (limit + 1) (omega arith)) refl, left ∙ ap Some (sym (ap (drop 1) split)))

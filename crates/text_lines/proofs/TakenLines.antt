@@ -55,7 +55,7 @@ after_lines-more count octets = rw add-one (after_lines-suc count octets)
 
 -- one line more is taken after the others
 TakesLines-push : {S A F : Type 0} (rules : Rules S A F) (number : ℕ) (lines : List (List ℕ)) (line : List ℕ) (start state later : S) (text written : List ℕ)
-    → TakesLines rules number lines start state text → reading_fault (number + length lines) line ≡ None → rules.Takes (without_cr line) state later written
+    → TakesLines rules number lines start state text → reading_fault rules.lines_limit (number + length lines) line ≡ None → rules.Takes (without_cr line) state later written
     → TakesLines rules number (lines ++ line ∷ []) start later (text ++ written)
 TakesLines-push rules number [] line start state later text written (same, none) fine takes = (
   later,
@@ -92,7 +92,7 @@ begun rules octets left now known = record {
 }
 
 pub taken_more : {S A F : Type 0} (rules : Rules S A F) (octets : List ℕ) (before : Option (List ℕ)) (count : ℕ) (ended : Bool) (state later : S) (left left' now now' : Option (List ℕ)) (line written : List ℕ)
-    → HasTaken rules octets before count false state left now → ReadsLine true (count + 1) line ended (after_lines count octets) left'
+    → HasTaken rules octets before count false state left now → ReadsLine true rules.lines_limit (count + 1) line ended (after_lines count octets) left'
     → rules.Takes (without_cr line) state later written → Appends now now' written → HasTaken rules octets before (count + 1) ended later left' now'
 taken_more rules octets before count ended state later left left' now now' line written so_far (cut, fine, behind, lf) takes appended =
     let place = is_at count (lines_of octets) line _ (so_far.rest ∙ cut) in
@@ -145,12 +145,12 @@ until rules octets before count ended state left left' now now' line what last s
 }
 
 pub stopped_reading : {S A F : Type 0} (rules : Rules S A F) (octets : List ℕ) (before : Option (List ℕ)) (count : ℕ) (state : S) (left left' now : Option (List ℕ)) (line : ℕ) (fault : ReadingFault)
-    → HasTaken rules octets before count false state left now → line ≡ count + 1 → StopsReading fault (count + 1) (after_lines count octets) left'
+    → HasTaken rules octets before count false state left now → line ≡ count + 1 → StopsReading fault rules.lines_limit (count + 1) (after_lines count octets) left'
     → AnswersUntil rules octets left' before now line (Reading fault)
 stopped_reading rules octets before count state left left' now line fault so_far number stops =
     go fault stops
   where
-    go : (fault : ReadingFault) → StopsReading fault (count + 1) (after_lines count octets) left' → AnswersUntil rules octets left' before now line (Reading fault)
+    go : (fault : ReadingFault) → StopsReading fault rules.lines_limit (count + 1) (after_lines count octets) left' → AnswersUntil rules octets left' before now line (Reading fault)
     go Read stops =
         until rules octets before count false state left left' now now line (Reading Read) [] so_far number
         (omega (arith, so_far.lfs refl), tt, refl, stops) (Appends-nil now)
@@ -164,7 +164,7 @@ stopped_reading rules octets before count state left left' now line fault so_far
         (omega (arith, so_far.lfs refl), rw place.at fault, refl, unread) (Appends-nil now)
 
 pub stopped_taking : {S A F : Type 0} (rules : Rules S A F) (octets : List ℕ) (before : Option (List ℕ)) (count : ℕ) (ended : Bool) (state : S) (left left' now now' : Option (List ℕ)) (number : ℕ) (line : List ℕ) (fault : F) (last : List ℕ)
-    → HasTaken rules octets before count false state left now → number ≡ count + 1 → ReadsLine true (count + 1) line ended (after_lines count octets) left'
+    → HasTaken rules octets before count false state left now → number ≡ count + 1 → ReadsLine true rules.lines_limit (count + 1) line ended (after_lines count octets) left'
     → rules.Stops (without_cr line) state fault last → WentOut (rules.is_of_writer fault) (Appends now now' last)
     → AnswersUntil rules octets left' before now' number (Task fault)
 stopped_taking rules octets before count ended state left left' now now' number line fault last so_far place_is (cut, fine, behind, lf) stops out =

@@ -1,5 +1,5 @@
 -- What a counted reader or writer shows.
-use Rattle.std.specs.Prelude.{◌≡◌, ℕ, ◌+◌, ◌-◌, ◌^◌, min}
+use Rattle.std.specs.Prelude.{◌≡◌, ℕ, ◌+◌, ◌-◌, ◌^◌, min, Bool, true, false}
 use Rattle.text_lines.specs.declared.counted.Counted.{Counted}
 
 -- the reader or writer itself
@@ -33,6 +33,11 @@ HasFailed old new = failures_of new ≡ one_more (failures_of old)
 -- no call failed
 abbrev pub HasNotFailed : {T : Type 0} → Counted T → Counted T → Type 0
 HasNotFailed old new = failures_of new ≡ failures_of old
+
+-- one call failed where this says so, and else none
+abbrev pub HasFailedIf : {T : Type 0} → Bool → Counted T → Counted T → Type 0
+HasFailedIf true old new = HasFailed old new
+HasFailedIf false old new = HasNotFailed old new
 
 -- so many octets more were given
 abbrev pub HasGiven : {T : Type 0} → ℕ → Counted T → Counted T → Type 0

@@ -8,7 +8,7 @@ pub enum ReadingFault {
     Read,
     /// A line has more than 4,096 octets before its LF.
     LineTooLong,
-    /// There is an octet after the last line that is allowed, the 1,048,576th.
+    /// There is an octet after the last line that is allowed.
     TooManyLines,
 }
 

@@ -2,8 +2,8 @@ ghost use Rattle.std.specs.Prelude.{◌≡◌, ℕ, List, false, IsTrue, ◌+◌
 ghost use Rattle.std.specs.Prelude.{MatchResult, MatchOption, length};
 ghost use Rattle.std.specs.Option.{ForSome};
 ghost use Rattle.std.specs.Io.KnownBytes.{Consumes, IsAtEnd, Keeps};
-ghost use Rattle.text_lines.specs.Counted.{device_of, HasFailed, HasNotFailed};
-ghost use Rattle.text_lines.specs.Lines.{line_limit, lines_limit, room_of, without_cr, GivesWithin};
+ghost use Rattle.text_lines.specs.Counted.{device_of, greatest_count, HasFailed, HasNotFailed};
+ghost use Rattle.text_lines.specs.Lines.{line_limit, room_of, without_cr, GivesWithin};
 ghost use Rattle.text_lines.specs.Inner.Reading.{ReadsLine};
 ghost use Rattle.text_lines.specs.Lines.{IsFromReading};
 ghost use Rattle.text_lines.specs.Inner.Reading.{StopsReading};
@@ -16,16 +16,16 @@ use std::io::Read;
 /// The most octets of a line, without its LF.
 pub const LINE_LIMIT: usize = 4096;
 
-/// The most lines of an input.
-const LINES_LIMIT: u64 = 1_048_576;
-
-/// The line that was read last, in the one buffer that all lines share, and how many were read.
+/// The line that was read last, in the one buffer that all lines share, and how many were read, of
+/// at most how many.
 #[derive(Drop)]
 pub(crate) struct Lines {
     line: ArrayVec<u8, LINE_LIMIT>,
     count: u64,
+    limit: u64,
     ended: bool,
-    ghost within: { count ≤ 1048576 },
+    ghost within: { count ≤ limit },
+    ghost counted: { limit < greatest_count },
 }
 
 /// The next octet, or None at the end of the input.
@@ -51,14 +51,17 @@ fn read_octet<R: Read>(input: &mut Counted<R>) -> Result<Option<u8>, ReadingFaul
 }
 
 impl Lines {
-    /// No line was read yet.
-    pub(crate) fn new() -> Lines
+    /// No line was read yet, of at most so many.
+    pub(crate) fn new(limit: u64) -> Lines
+        requires { limit < greatest_count }
         ensures count { result.count ≡ 0 }
+        ensures limit { result.limit ≡ limit }
         ensures ended { result.ended ≡ false }
     {
         Lines {
             line: ArrayVec::new(),
             count: 0,
+            limit,
             ended: false,
         }
     }
@@ -93,16 +96,17 @@ impl Lines {
         ensures next { ForSome (R.remaining (device_of input.old)) (λ octets.
             let left = R.remaining (device_of input.new) in
             MatchResult result
-            (λ found. ReadsLine found (self.old.count + 1) self.new.line.items self.new.ended octets left)
-            (λ stop. StopsReading stop.what (self.old.count + 1) octets left)) }
+            (λ found. ReadsLine found self.old.limit (self.old.count + 1) self.new.line.items self.new.ended octets left)
+            (λ stop. StopsReading stop.what self.old.limit (self.old.count + 1) octets left)) }
         ensures count { MatchResult result
             (λ found. self.new.count ≡ (if found then self.old.count + 1 else self.old.count))
             (λ stop. stop.line ≡ self.old.count + 1) }
+        ensures limit { self.new.limit ≡ self.old.limit }
         ensures ended { IsTrue self.new.ended → IsAtEnd (R.remaining (device_of input.new)) }
         ensures before_end { MatchResult result
             (λ found. IsTrue found → self.old.ended ≡ false)
             (λ _. self.old.ended ≡ false) }
-        ensures given { GivesWithin R.remaining (room_of (self.old.count + 1) + 1) input.old input.new }
+        ensures given { GivesWithin R.remaining (room_of self.old.limit (self.old.count + 1) + 1) input.old input.new }
         ensures failures { MatchResult result
             (λ _. HasNotFailed input.old input.new)
             (λ stop. IsFromReading stop.what input.old input.new) }
@@ -111,7 +115,7 @@ impl Lines {
             return Ok(false);
         }
         let line = self.count + 1;
-        if self.count == LINES_LIMIT {
+        if self.count == self.limit {
             return expect_end(input).map_err(|what| Stopped { line, what });
         }
         let found = self
@@ -125,14 +129,15 @@ impl Lines {
 
     /// Reads octets up to an LF or the end of the input, and answers whether there was one.
     fn read_line<R: Read>(&mut self, input: &mut Counted<R>) -> Result<bool, ReadingFault>
-        requires within { self.old.count < lines_limit }
+        requires within { self.old.count < self.old.limit }
         requires before_end { self.old.ended ≡ false }
         ensures next { ForSome (R.remaining (device_of input.old)) (λ octets.
             let left = R.remaining (device_of input.new) in
             MatchResult result
-            (λ found. ReadsLine found (self.old.count + 1) self.new.line.items self.new.ended octets left)
-            (λ kind. StopsReading kind (self.old.count + 1) octets left)) }
+            (λ found. ReadsLine found self.old.limit (self.old.count + 1) self.new.line.items self.new.ended octets left)
+            (λ kind. StopsReading kind self.old.limit (self.old.count + 1) octets left)) }
         ensures count { self.new.count ≡ self.old.count }
+        ensures limit { self.new.limit ≡ self.old.limit }
         ensures ended { IsTrue self.new.ended → IsAtEnd (R.remaining (device_of input.new)) }
         ensures given { GivesWithin R.remaining (line_limit + 1) input.old input.new }
         ensures failures { MatchResult result
@@ -155,11 +160,11 @@ impl Lines {
 
 /// Reads after the last line that is allowed.
 fn expect_end<R: Read>(input: &mut Counted<R>) -> Result<bool, ReadingFault>
-    ensures next { ForSome (R.remaining (device_of input.old)) (λ octets. (line : List ℕ) →
+    ensures next { ForSome (R.remaining (device_of input.old)) (λ octets. (limit : ℕ) (line : List ℕ) →
         let left = R.remaining (device_of input.new) in
         MatchResult result
-        (λ found. ReadsLine found (lines_limit + 1) line false octets left)
-        (λ kind. StopsReading kind (lines_limit + 1) octets left)) }
+        (λ found. ReadsLine found limit (limit + 1) line false octets left)
+        (λ kind. StopsReading kind limit (limit + 1) octets left)) }
     ensures none { IfOk result (λ found. found ≡ false) }
     ensures given { GivesWithin R.remaining 1 input.old input.new }
     ensures failures { MatchResult result

@@ -1,7 +1,7 @@
-ghost use Rattle.std.specs.Prelude.{◌≡◌, ◌≤◌, ℕ, List, length, MatchResult};
+ghost use Rattle.std.specs.Prelude.{◌≡◌, ◌≤◌, ◌<◌, List, ℕ, length, MatchResult};
 ghost use Rattle.std.specs.Option.{ForSome};
 ghost use Rattle.std.specs.Io.KnownBytes.{Appends};
-ghost use Rattle.text_lines.specs.Counted.{device_of, failures_of, HasNotFailed};
+ghost use Rattle.text_lines.specs.Counted.{device_of, greatest_count, HasNotFailed, HasFailedIf};
 ghost use Rattle.text_lines.specs.Lines.{line_limit, input_limit, GivesWithin};
 ghost use Rattle.text_lines.specs.Task.{Rules, WentOut, Answers, FailedAt};
 
@@ -11,7 +11,7 @@ use crate::lines::Lines;
 use std::io::{Read, Write};
 
 /// What is done with the lines of an input, one after the other, and after the last.
-pub trait LineTask: Sized {
+pub trait LineTask {
     /// What the end answers.
     type Answer;
     /// Why a line isn't taken, or the end has no answer.
@@ -25,33 +25,35 @@ pub trait LineTask: Sized {
     /// The states that a task may be seen in.
     ghost is_at: { Self → State → Type 0 };
 
-    /// How often the writer fails at a fault, by the counts before and after it.
-    ghost fails: { Self.Fault → ℕ → ℕ → Type 0 };
+    /// The most lines of an input, fewer than 2^64 - 1: a fault after the last of them has a number, too.
+    fn lines_limit() -> u64
+        ensures limit { result ≡ rules.lines_limit }
+        ensures counted { result < greatest_count };
 
     /// Takes one more line.
-    fn take<W: Write>(self, line: &[u8], output: &mut Counted<W>) -> Result<Self, Self::Fault>
-        requires stands { (state : State) × is_at self state }
+    fn take<W: Write>(&mut self, line: &[u8], output: &mut Counted<W>) -> Result<(), Self::Fault>
+        requires stands { (state : State) × is_at self.old state }
         requires within { length line.now ≤ line_limit }
-        ensures taken { (state : State) → is_at self state →
+        ensures taken { (state : State) → is_at self.old state →
             let before = W.contents (device_of output.old) in
             let after = W.contents (device_of output.new) in
             MatchResult result
-            (λ next. (later : State) × (written : List ℕ) × is_at next later
+            (λ _. (later : State) × (written : List ℕ) × is_at self.new later
             × rules.Takes line.now state later written × Appends before after written)
             (λ what. (written : List ℕ) × rules.Stops line.now state what written
             × WentOut (rules.is_of_writer what) (Appends before after written)) }
         ensures failures { MatchResult result
             (λ _. HasNotFailed output.old output.new)
-            (λ what. fails what (failures_of output.old) (failures_of output.new)) };
+            (λ what. HasFailedIf (rules.is_of_writer what) output.old output.new) };
 
     /// Ends after the last of so many lines.
     fn finish<W: Write>(
-        self,
+        &mut self,
         lines: u64,
         output: &mut Counted<W>,
     ) -> Result<Self::Answer, Self::Fault>
-        requires { (state : State) × is_at self state }
-        ensures ended { (state : State) → is_at self state →
+        requires { (state : State) × is_at self.old state }
+        ensures ended { (state : State) → is_at self.old state →
             let before = W.contents (device_of output.old) in
             let after = W.contents (device_of output.new) in
             MatchResult result
@@ -60,37 +62,34 @@ pub trait LineTask: Sized {
             × WentOut (rules.is_of_writer what) (Appends before after written)) }
         ensures failures { MatchResult result
             (λ _. HasNotFailed output.old output.new)
-            (λ what. fails what (failures_of output.old) (failures_of output.new)) };
+            (λ what. HasFailedIf (rules.is_of_writer what) output.old output.new) };
 }
 
-/// Takes all lines of the input in turn, and ends after the last. A line is taken before the next one is read.
-pub fn answer_lines<T: LineTask + Drop, R: Read, W: Write>(
-    task: T,
+/// Takes all lines of the input in turn, and ends after the last. A line is taken before the next
+/// one is read. The task is left as its calls left it.
+pub fn answer_lines<T: LineTask, R: Read, W: Write>(
+    task: &mut T,
     input: &mut Counted<R>,
     output: &mut Counted<W>,
 ) -> Result<T::Answer, Stopped<Cause<T::Fault>>>
-    requires { T.is_at task T.rules.start }
+    requires { T.is_at task.old T.rules.start }
     ensures answered { ForSome (R.remaining (device_of input.old)) (λ octets.
         Answers T.rules octets (R.remaining (device_of input.new))
         (W.contents (device_of output.old)) (W.contents (device_of output.new)) result) }
     // Of any reader only so much is read, whatever the writer is.
-    ensures bounded { GivesWithin R.remaining input_limit input.old input.new }
+    ensures bounded { GivesWithin R.remaining (input_limit T.rules.lines_limit) input.old input.new }
     ensures failures { MatchResult result
         (λ _. HasNotFailed input.old input.new × HasNotFailed output.old output.new)
-        (λ stop. FailedAt T.fails stop.what input.old input.new output.old output.new) }
+        (λ stop. FailedAt T.rules stop.what input.old input.new output.old output.new) }
 {
-    let mut lines = Lines::new();
-    let mut task = task;
+    let mut lines = Lines::new(T::lines_limit());
     while lines.read_next(input)? {
-        task = match task.take(lines.line(), output) {
-            Ok(next) => next,
-            Err(what) => {
-                return Err(Stopped {
-                    line: lines.count(),
-                    what: Cause::Task(what),
-                });
-            }
-        };
+        if let Err(what) = task.take(lines.line(), output) {
+            return Err(Stopped {
+                line: lines.count(),
+                what: Cause::Task(what),
+            });
+        }
     }
     match task.finish(lines.count(), output) {
         Ok(answer) => Ok(answer),

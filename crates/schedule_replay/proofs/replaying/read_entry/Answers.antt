@@ -1,13 +1,16 @@
-use Rattle.std.proofs.Common.{◌∙◌, inl, inr, refl, sym, true≢false}
-use Rattle.schedule_replay.proofs.Entries.{entry_read, no_entry}
+use Rattle.std.proofs.Common.{inl, inr, refl}
+use Rattle.std.proofs.lemmas.Result.{err_from_is_err_and}
+use Rattle.schedule_lines.specs.Line.{line_of}
+use Rattle.schedule_replay.proofs.Entries.{unread, was_read}
 use Rattle.schedule_replay.proofs.replaying.read_entry.Goals as goal
 
-pub returns-in-Err-2 : goal.returns-in-Err-2
-returns-in-Err-2 c =
-    inr (inl refl, no_entry c.args.line.now (c.in-Err.ensures.err (λ memory. true≢false (sym (c.is_memory.ensures.1 memory) ∙ c.if-is_memory.false))))
+pub returns-in_err-value : goal.returns-in_err-value
+returns-in_err-value c =
+    let e = err_from_is_err_and c.from_residual.result c.from_residual.ensures.1 in
+    rw (e.1, e.2) (unread line_of c.args.line.now _ c.in_err-value.ensures)
 
 pub returns-in-Some : goal.returns-in-Some
-returns-in-Some c = entry_read c.args.line.now _ _ c.in-Ok.ensures.ok c.in-Some.ensures
+returns-in-Some c = was_read line_of c.args.line.now _ _ c.in_ok-value.ensures c.in-Some.ensures
 
 pub returns : goal.returns
-returns c = inr (inr refl, entry_read c.args.line.now _ _ c.in-Ok.ensures.ok c.in-None.ensures)
+returns c = inr (inr refl, was_read line_of c.args.line.now _ _ c.in_ok-value.ensures c.in-None.ensures)

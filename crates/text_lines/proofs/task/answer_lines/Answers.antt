@@ -9,6 +9,7 @@ loop-task-init g c = record {
   taken = λ octets known.
       rw (c.new-lines.ensures.count, c.new-lines.ensures.ended) (g.T.LineTask.rules.start, c.requires, begun g.T.LineTask.rules octets _ _ known);
   at = (g.T.LineTask.rules.start, c.requires);
+  limit = c.new-lines.ensures.limit ∙ c.lines_limit.ensures.limit;
   bounded = rw c.new-lines.ensures.count (search rules);
   reader = search rules;
   writer = search rules;
@@ -22,7 +23,7 @@ returns-in_err-read_next-clause-answered g c =
     λ octets known.
     let (state, at, so_far) = c.loop-task.invariant.taken octets known in
     let read = c.in_err-read_next.ensures in
-    rw (p.1, from.1) (stopped_reading g.T.LineTask.rules octets _ _ state _ _ _ _ _ (rw read.before_end at so_far) (from.0 ∙ read.count) (read.next _ so_far.input))
+    rw (p.1, from.1) (stopped_reading g.T.LineTask.rules octets _ _ state _ _ _ _ _ (rw read.before_end at so_far) (from.0 ∙ read.count) (rw c.loop-task.invariant.limit at (read.next _ so_far.input)))
 
 pub loop-task-preserved : goal.loop-task-preserved
 loop-task-preserved g c = record {
@@ -30,8 +31,8 @@ loop-task-preserved g c = record {
       let (state, at, so_far) = c.loop-task.invariant.taken octets known in
       let read = c.in_ok-read_next.ensures in
       let count = rw c.if-branch.true at read.count in
-      let line = rw c.if-branch.true at (read.next _ so_far.input) in
-      let (later, written, at_later, takes, appended) = c.in-Ok.ensures.taken state at in
+      let line = rw (c.if-branch.true, c.loop-task.invariant.limit) at (read.next _ so_far.input) in
+      let (later, written, at_later, takes, appended) = c.in_default.ensures.taken state at in
       rw count (
         later,
         at_later,
@@ -40,9 +41,10 @@ loop-task-preserved g c = record {
       );
   at =
       let (state, at) = c.loop-task.invariant.at in
-      let (later, written, at_later, takes, appended) = c.in-Ok.ensures.taken state at in
+      let (later, written, at_later, takes, appended) = c.in_default.ensures.taken state at in
       (later, at_later);
-  bounded = rw (rw c.if-branch.true at c.in_ok-read_next.ensures.count) (line_more _ _ _ _ _ c.loop-task.invariant.bounded c.in_ok-read_next.ensures.given);
+  limit = c.in_ok-read_next.ensures.limit ∙ c.loop-task.invariant.limit;
+  bounded = rw (rw c.if-branch.true at c.in_ok-read_next.ensures.count) (line_more _ _ _ _ _ _ c.loop-task.invariant.bounded c.in_ok-read_next.ensures.given);
   reader = search rules;
   writer = search rules;
   ended = search rules;
@@ -54,19 +56,19 @@ returns-in-Err-clause-answered g c =
     let (state, at, so_far) = c.loop-task.invariant.taken octets known in
     let read = c.in_ok-read_next.ensures in
     let count = rw c.if-branch.true at read.count in
-    let line = rw c.if-branch.true at (read.next _ so_far.input) in
+    let line = rw (c.if-branch.true, c.loop-task.invariant.limit) at (read.next _ so_far.input) in
     let (written, stops, out) = c.in-Err.ensures.taken state at in
     stopped_taking g.T.LineTask.rules octets _ _ _ state _ _ _ _ _ _ _ written (rw (read.before_end c.if-branch.true) at so_far) (c.count.ensures ∙ count) line
     (rw c.line.ensures.line at stops) out
 
-pub returns-in-Ok-finish-clause-answered : goal.returns-in-Ok-finish-clause-answered
-returns-in-Ok-finish-clause-answered g c =
+pub returns-in-Ok-clause-answered : goal.returns-in-Ok-clause-answered
+returns-in-Ok-clause-answered g c =
     λ octets known.
     let (state, at, so_far) = c.loop-task.invariant.taken octets known in
     let read = c.in_ok-read_next.ensures in
     let count = rw c.if-branch.false at read.count in
     let end = rw c.if-branch.false at (read.next _ so_far.input) in
-    let (written, ends, appended) = c.in-Ok-finish.ensures.ended state at in
+    let (written, ends, appended) = c.in-Ok.ensures.ended state at in
     taken_all g.T.LineTask.rules octets _ _ _ state _ _ _ _ _ written so_far end.0 end.1 (rw (c.count-2.ensures, count) at ends) appended
 
 pub returns-in-Err-finish-clause-answered : goal.returns-in-Err-finish-clause-answered
@@ -80,13 +82,21 @@ returns-in-Err-finish-clause-answered g c =
     stopped_at_end g.T.LineTask.rules octets _ _ _ state _ _ _ _ _ _ written so_far (ap (λ n. n + 1) (c.count-in-Err-finish.ensures ∙ count)) end.0 end.1 stops out
 
 pub returns-in_err-read_next-clause-bounded : goal.returns-in_err-read_next-clause-bounded
-returns-in_err-read_next-clause-bounded g c = input_within _ c.loop-task.lines.count _ _ _ (search rules) c.loop-task.invariant.bounded c.in_err-read_next.ensures.given
+returns-in_err-read_next-clause-bounded g c =
+    rw (← c.loop-task.invariant.limit)
+    (input_within _ _ c.loop-task.lines.count _ _ _ (search rules) c.loop-task.invariant.bounded c.in_err-read_next.ensures.given)
 
 pub returns-in-Err-clause-bounded : goal.returns-in-Err-clause-bounded
-returns-in-Err-clause-bounded g c = input_within _ c.loop-task.lines.count _ _ _ (search rules) c.loop-task.invariant.bounded c.in_ok-read_next.ensures.given
+returns-in-Err-clause-bounded g c =
+    rw (← c.loop-task.invariant.limit)
+    (input_within _ _ c.loop-task.lines.count _ _ _ (search rules) c.loop-task.invariant.bounded c.in_ok-read_next.ensures.given)
 
-pub returns-in-Ok-finish-clause-bounded : goal.returns-in-Ok-finish-clause-bounded
-returns-in-Ok-finish-clause-bounded g c = input_within _ c.loop-task.lines.count _ _ _ (search rules) c.loop-task.invariant.bounded c.in_ok-read_next.ensures.given
+pub returns-in-Ok-clause-bounded : goal.returns-in-Ok-clause-bounded
+returns-in-Ok-clause-bounded g c =
+    rw (← c.loop-task.invariant.limit)
+    (input_within _ _ c.loop-task.lines.count _ _ _ (search rules) c.loop-task.invariant.bounded c.in_ok-read_next.ensures.given)
 
 pub returns-in-Err-finish-clause-bounded : goal.returns-in-Err-finish-clause-bounded
-returns-in-Err-finish-clause-bounded g c = input_within _ c.loop-task.lines.count _ _ _ (search rules) c.loop-task.invariant.bounded c.in_ok-read_next.ensures.given
+returns-in-Err-finish-clause-bounded g c =
+    rw (← c.loop-task.invariant.limit)
+    (input_within _ _ c.loop-task.lines.count _ _ _ (search rules) c.loop-task.invariant.bounded c.in_ok-read_next.ensures.given)

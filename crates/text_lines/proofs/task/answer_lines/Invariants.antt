@@ -3,7 +3,7 @@ use Rattle.std.proofs.Common.{◌≡◌, ℕ, List, ◌+◌, ◌-◌, ◌*◌, S
 use Rattle.std.specs.Prelude.{IsTrue}
 use Rattle.std.specs.Io.KnownBytes.{IsAtEnd}
 use Rattle.text_lines.specs.Counted.{device_of, HasNotFailed}
-use Rattle.text_lines.specs.Lines.{line_limit, lines_limit, GivesWithin}
+use Rattle.text_lines.specs.Lines.{line_limit, GivesWithin}
 use Rattle.text_lines.proofs.TakenLines.{HasTaken}
 use Rattle.text_lines.proofs.task.answer_lines.Given as goal
 
@@ -13,6 +13,7 @@ invariant-loop-task g l = record {
       → (state : g.T.LineTask.State) × g.T.LineTask.is_at l.task state × HasTaken g.T.LineTask.rules octets (g.W.Write.contents (device_of l.fn.output)) l.lines.count l.lines.ended
       state (g.R.Read.remaining (device_of l.input)) (g.W.Write.contents (device_of l.output));
   at : (state : g.T.LineTask.State) × g.T.LineTask.is_at l.task state;
+  limit : l.lines.limit ≡ g.T.LineTask.rules.lines_limit;
   bounded : GivesWithin g.R.Read.remaining (l.lines.count * (line_limit + 1)) l.fn.input l.input;
   reader : HasNotFailed l.fn.input l.input;
   writer : HasNotFailed l.fn.output l.output;
@@ -20,4 +21,4 @@ invariant-loop-task g l = record {
 }
 
 abbrev pub decreases-loop-task : goal.decreases-loop-task
-decreases-loop-task g l = lines_limit - l.lines.count
+decreases-loop-task g l = l.lines.limit - l.lines.count

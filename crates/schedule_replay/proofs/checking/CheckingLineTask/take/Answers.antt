@@ -1,17 +1,21 @@
-use Rattle.std.proofs.Common.{[], refl}
-use Rattle.std.proofs.KnownBytes.{Appends-nil}
+use Rattle.std.proofs.lemmas.Result.{err_from_is_err_and}
 use Rattle.schedule_lines.specs.declared.reading.transcript.TranscriptLine.TheVariants as recorded
-use Rattle.schedule_replay.specs.Inner.Progress.{recorded_of}
+use Rattle.schedule_replay.proofs.RecordLines.{unread_record, node_taken, record_taken}
 use Rattle.schedule_replay.proofs.checking.CheckingLineTask.take.Goals as goal
 
-pub returns-in_ok-progress-in-Node-clause-taken : goal.returns-in_ok-progress-in-Node-clause-taken
-returns-in_ok-progress-in-Node-clause-taken g c = λ state at.
-    let entry = rw c.in-Node.is at c.in_ok-node.ensures in
-    let (first, stands, is) = c.in_ok-progress-in-Node.ensures in
-    rw (← at.0) (recorded_of c.in_ok-progress-in-Node.progress, [], (refl, stands), (recorded.Node c.in-Node.node, entry, (first, is), refl), Appends-nil _)
+pub returns-in_err-node-clause-taken : goal.returns-in_err-node-clause-taken
+returns-in_err-node-clause-taken g c = λ state at.
+    let e = err_from_is_err_and c.from_residual.result c.from_residual.ensures.1 in
+    rw (e.1, e.2) (unread_record _ state c.args.line.now _ c.in_err-node.ensures)
 
-pub returns-in_ok-progress-in-Event-clause-taken : goal.returns-in_ok-progress-in-Event-clause-taken
-returns-in_ok-progress-in-Event-clause-taken g c = λ state at.
-    let entry = rw c.in-Event.is at c.in_ok-node.ensures in
-    let (place, network, stands, is) = c.in_ok-progress-in-Event.ensures in
-    rw (← at.0) (recorded_of c.in_ok-progress-in-Event.progress, [], (refl, stands), (recorded.Event c.in-Event.number c.in-Event.line, entry, (place, network, is), refl), Appends-nil _)
+pub returns-in-Node-clause-taken : goal.returns-in-Node-clause-taken
+returns-in-Node-clause-taken g c = λ state at.
+    node_taken c.push.result c.args.self.now.stage c.push.new.self state c.args.line.now c.in-Node.node _
+    (rw c.in-Node.is at c.in_ok-node.ensures) at
+    c.push.ensures
+
+pub returns-in-Event-clause-taken : goal.returns-in-Event-clause-taken
+returns-in-Event-clause-taken g c = λ state at.
+    record_taken c.feed.result c.args.self.now.stage c.feed.new.self.stage state c.args.line.now
+    (recorded.Event c.in-Event.number c.in-Event.line) _
+    (rw c.in-Event.is at c.in_ok-node.ensures) at.0 c.feed.ensures

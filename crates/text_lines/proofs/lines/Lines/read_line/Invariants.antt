@@ -11,7 +11,7 @@ invariant-loop-octet g l =
     Consumes (g.R.Read.remaining (device_of l.fn.input)) (g.R.Read.remaining (device_of l.input)) l.self.line.items
     × IsUnended l.self.line.items × (l.self.count ≡ l.fn.self.count)
     × HasNotFailed l.fn.input l.input × (length l.self.line.items ≤ line_limit) × (l.self.ended ≡ false)
-    × GivesWithin g.R.Read.remaining (length l.self.line.items) l.fn.input l.input
+    × GivesWithin g.R.Read.remaining (length l.self.line.items) l.fn.input l.input × (l.self.limit ≡ l.fn.self.limit)
 
 abbrev pub decreases-loop-octet : goal.decreases-loop-octet
 decreases-loop-octet g l = line_limit - length l.self.line.items

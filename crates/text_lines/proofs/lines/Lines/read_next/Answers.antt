@@ -2,9 +2,9 @@ use Rattle.std.proofs.Common.{rules}
 use Rattle.std.proofs.lemmas.Result.{err_from_is_err_and}
 use Rattle.text_lines.proofs.lines.Lines.read_next.Goals as goal
 
-pub returns-then-self-eq-LINES_LIMIT-clause-next : goal.returns-then-self-eq-LINES_LIMIT-clause-next
-returns-then-self-eq-LINES_LIMIT-clause-next g c = λ octets known.
-    let next = c.expect_end.ensures.next octets known c.args.self.now.line.items in
+pub returns-then-self-2-clause-next : goal.returns-then-self-2-clause-next
+returns-then-self-2-clause-next g c = λ octets known.
+    let next = c.expect_end.ensures.next octets known c.args.self.now.limit c.args.self.now.line.items in
     search rules
 
 pub returns-in_err-found-clause-next : goal.returns-in_err-found-clause-next

@@ -1,0 +1,25 @@
+use Rattle.std.proofs.Common.{◌≡◌, ◌∙◌, List, [], ℕ, Option, Result, Ok, Err, ap, refl, sym}
+use Rattle.std.specs.Prelude.{MatchResult, is_ok}
+use Rattle.std.specs.Io.KnownBytes.{Appends}
+use Rattle.schedule_replay.specs.declared.fault.TaskFault.{TaskFault}
+use Rattle.schedule_replay.specs.declared.fault.TaskFault.TheVariants.{Write}
+use Rattle.schedule_replay.specs.Fault.{is_write}
+use Rattle.schedule_replay.specs.Show.{IsAnswer, show_rules}
+use Rattle.text_lines.specs.Task.{WentOut}
+use Rattle.schedule_replay.proofs.showing.ShowingLineTask.take.Goals as goal
+
+-- the answer to a line was written, or the writer failed
+written : {A : Type 0} (r : Result A TaskFault) (line text : List ℕ) (before after : Option (List ℕ))
+    → IsAnswer line text
+    → MatchResult r (λ _. Appends before after text) (λ fault. fault ≡ Write)
+    → MatchResult r
+    (λ _. (later : Unit {0}) × (out : List ℕ) × Unit {0} × show_rules.Takes line tt later out
+    × Appends before after out)
+    (λ fault. (out : List ℕ) × show_rules.Stops line tt fault out × WentOut (is_write fault) (Appends before after out))
+written (Ok x) line text before after shown appended = (tt, text, tt, shown, appended)
+written (Err fault) line text before after shown is = rw is ([], (ap is_ok shown.hexadecimal, refl), tt)
+
+pub returns-clause-taken : goal.returns-clause-taken
+returns-clause-taken g c = λ state at.
+    written c.write_text.result c.args.digits.now _ _ _ c.in_ok-make_answer.ensures
+    (rw c.as_str.ensures.value at c.write_text.ensures.written)
