@@ -24,6 +24,8 @@ use Rattle.schedule_replay.specs.declared.fault.TaskFault.TheVariants.{Write, Js
 use Rattle.schedule_replay.specs.declared.fault.FaultKind.{FaultKind}
 use Rattle.schedule_replay.specs.Fault.{of_task, kind_of, is_write}
 use Rattle.schedule_replay.specs.Answer.{Says}
+use Rattle.schedule_replay.specs.Replay as replay
+use Rattle.schedule_replay.specs.CheckText as check
 use Rattle.schedule_replay.specs.Schedule.{entry_in, refusal_of, FaultsIn, FaultsAtEnd}
 use Rattle.schedule_replay.specs.Show.{StopsShowing, show_rules, Shows}
 use Rattle.schedule_replay.specs.Replay as replays
@@ -54,31 +56,31 @@ of_writer Json is = absurd cc
 of_writer Field is = absurd cc
 of_writer (World why) is = absurd cc
 
-pub says_one : {S A : Type 0} (rules : Rules S A TaskFault) → HasOneCourse rules IsDevices → HasOneAnswer (Says rules)
-says_one {S} {A} rules sole octets left before after left' before' after' (Ok answer) (Ok answer') one other sure sure' =
-    let same = one_answer rules IsDevices sole octets left before after left' before' after' (Ok answer) (Ok answer')
-    (course_of_all rules IsDevices octets left before after answer one) (course_of_all rules IsDevices octets left' before' after' answer' other) in
+pub says_one : {S A : Type 0} (rules : Rules S A TaskFault) (start : S) → HasOneCourse rules IsDevices → HasOneAnswer (Says rules start)
+says_one {S} {A} rules start sole octets left before after left' before' after' (Ok answer) (Ok answer') one other sure sure' =
+    let same = one_answer rules start IsDevices sole octets left before after left' before' after' (Ok answer) (Ok answer')
+    (course_of_all rules start IsDevices octets left before after answer one) (course_of_all rules start IsDevices octets left' before' after' answer' other) in
     let ends = same.end_is in
     let answers : answer' ≡ answer = cc in
     (ap Ok answers, same.left_is, (same.text, same.output, same.output'))
-says_one rules sole octets left before after left' before' after' (Ok answer) (Err stop) one (what, is, until) sure sure' =
+says_one rules start sole octets left before after left' before' after' (Ok answer) (Err stop) one (what, is, until) sure sure' =
     let known = sure_cause what (subst (λ (kind : FaultKind). IsOfDevice kind → ⊥) is sure') in
-    let same = one_answer rules IsDevices sole octets left before after left' before' after' (Ok answer) (Err what)
-    (course_of_all rules IsDevices octets left before after answer one) (course_until rules IsDevices sole octets left' before' after' stop.line what known until) in
+    let same = one_answer rules start IsDevices sole octets left before after left' before' after' (Ok answer) (Err what)
+    (course_of_all rules start IsDevices octets left before after answer one) (course_until rules start IsDevices sole octets left' before' after' stop.line what known until) in
     let ends = same.end_is in
     absurd cc
-says_one rules sole octets left before after left' before' after' (Err stop) (Ok answer) (what, is, until) other sure sure' =
+says_one rules start sole octets left before after left' before' after' (Err stop) (Ok answer) (what, is, until) other sure sure' =
     let known = sure_cause what (subst (λ (kind : FaultKind). IsOfDevice kind → ⊥) is sure) in
-    let same = one_answer rules IsDevices sole octets left before after left' before' after' (Err what) (Ok answer)
-    (course_until rules IsDevices sole octets left before after stop.line what known until) (course_of_all rules IsDevices octets left' before' after' answer other) in
+    let same = one_answer rules start IsDevices sole octets left before after left' before' after' (Err what) (Ok answer)
+    (course_until rules start IsDevices sole octets left before after stop.line what known until) (course_of_all rules start IsDevices octets left' before' after' answer other) in
     let ends = same.end_is in
     absurd cc
-says_one rules sole octets left before after left' before' after' (Err stop) (Err stop') (what, is, until) (what', is', until') sure sure' =
+says_one rules start sole octets left before after left' before' after' (Err stop) (Err stop') (what, is, until) (what', is', until') sure sure' =
     let known = sure_cause what (subst (λ (kind : FaultKind). IsOfDevice kind → ⊥) is sure) in
     let known' = sure_cause what' (subst (λ (kind : FaultKind). IsOfDevice kind → ⊥) is' sure') in
-    let same = one_answer rules IsDevices sole octets left before after left' before' after' (Err what) (Err what')
-    (course_until rules IsDevices sole octets left before after stop.line what known until)
-    (course_until rules IsDevices sole octets left' before' after' stop'.line what' known' until') in
+    let same = one_answer rules start IsDevices sole octets left before after left' before' after' (Err what) (Err what')
+    (course_until rules start IsDevices sole octets left before after stop.line what known until)
+    (course_until rules start IsDevices sole octets left' before' after' stop'.line what' known' until') in
     let ends = same.end_is in
     let causes : what' ≡ what = cc in
     let kinds : stop'.what ≡ stop.what = is' ∙ ap kind_of causes ∙ sym is in
@@ -252,10 +254,10 @@ check_course = record {
 }
 
 pub shows_one : HasOneAnswer Shows
-shows_one = says_one show_rules show_course
+shows_one = says_one show_rules tt show_course
 
 pub replays_one : HasOneAnswer Replays
-replays_one = says_one replay_rules replay_course
+replays_one = says_one replay_rules replay.nothing replay_course
 
 pub checks_one : HasOneAnswer Checks
-checks_one = says_one check_rules check_course
+checks_one = says_one check_rules check.nothing check_course

@@ -8,7 +8,7 @@ use Rattle.trace_model.specs.Verdict.{verdict}
 use Rattle.trace_model.specs.Complete.{MissesNothing}
 use Rattle.schedule_lines.specs.declared.reading.transcript.TranscriptLine.{TranscriptLine}
 use Rattle.schedule_replay.specs.Replay.{nodes_text}
-use Rattle.schedule_replay.specs.CheckText.{numbered, transcript_of, Recorded, AreRecorded, Follows, check_rules}
+use Rattle.schedule_replay.specs.CheckText.{nothing, numbered, transcript_of, Recorded, AreRecorded, Follows, check_rules}
 use Rattle.schedule_replay.specs.CheckText.{ChecksAll, verdict_text}
 use Rattle.schedule_replay.specs.Accepted.{EachRunIsAccepted, IsOfDevice, EachRunIsChecked}
 use Rattle.network_model.proofs.ExactPremises.{IsExact}
@@ -63,7 +63,7 @@ taken number (line ∷ lines) (entry ∷ entries) state later (fine, is, rest) (
     (next, [], [], fine, (entry, is, does, refl), taken (number + 1) lines entries next later rest others, refl)
 
 transcript_taken : (nodes : Network) (lines : Lines) (octets : List ℕ) → first_clash nodes ≡ None → AreRecorded 1 (lines_of octets) (transcript_of nodes lines)
-    → TakesLines check_rules 1 (lines_of octets) check_rules.start (record { nodes = nodes; lines = lines }) []
+    → TakesLines check_rules 1 (lines_of octets) nothing (record { nodes = nodes; lines = lines }) []
 transcript_taken nodes lines octets network are = taken 1 (lines_of octets) (transcript_of nodes lines) _ _ are (transcript_follows nodes lines network)
 
 -- ---- what was taken is the transcript

@@ -10,23 +10,23 @@ use Rattle.schedule_replay.specs.declared.fault.TaskFault.{TaskFault}
 use Rattle.schedule_replay.specs.Fault.{kind_of}
 
 -- the lines of an input of these octets were taken up to a fault
-abbrev pub SaysUntil : {S A : Type 0} → Rules S A TaskFault → List ℕ → (left before after : Option (List ℕ)) → Fault
-    → Type 0
-SaysUntil rules octets left before after stop =
-    (what : Cause TaskFault) × (stop.what ≡ kind_of what) × AnswersUntil rules octets left before after stop.line what
+abbrev pub SaysUntil : {S A : Type 0} → Rules S A TaskFault → (start : S) → List ℕ
+    → (left before after : Option (List ℕ)) → Fault → Type 0
+SaysUntil rules start octets left before after stop =
+    (what : Cause TaskFault) × (stop.what ≡ kind_of what) × AnswersUntil rules start octets left before after stop.line what
 
 -- what an answer over these octets says, of what is left of them and of what was written
-abbrev pub Says : {S A : Type 0} → Rules S A TaskFault → List ℕ → (left before after : Option (List ℕ))
+abbrev pub Says : {S A : Type 0} → Rules S A TaskFault → (start : S) → List ℕ → (left before after : Option (List ℕ))
     → Result A Fault → Type 0
-Says rules octets left before after answer =
-    MatchResult answer (AnswersAll rules octets left before after) (SaysUntil rules octets left before after)
+Says rules start octets left before after answer =
+    MatchResult answer (AnswersAll rules start octets left before after) (SaysUntil rules start octets left before after)
 
 -- what an answer says where the reader tells its octets: of the lines whatever the writer is, and of what was written
 -- where the writer tells its octets, too
-abbrev pub SaysAnswer : {S A R W : Type 0} → Rules S A TaskFault → (R → Option (List ℕ)) → (W → Option (List ℕ))
-    → Result A Fault
+abbrev pub SaysAnswer : {S A R W : Type 0} → Rules S A TaskFault → (start : S)
+    → (R → Option (List ℕ)) → (W → Option (List ℕ)) → Result A Fault
     → (input input' : Counted R) (output output' : Counted W) → Type 0
-SaysAnswer rules remaining contents answer input input' output output' =
+SaysAnswer rules start remaining contents answer input input' output output' =
     ForSome (remaining (device_of input)) (λ octets.
-    Says rules octets (remaining (device_of input')) (contents (device_of output))
+    Says rules start octets (remaining (device_of input')) (contents (device_of output))
     (contents (device_of output')) answer)

@@ -89,7 +89,6 @@ Follows (recorded.Event number line) state later =
 abbrev pub check_rules : Rules Recorded Verdict TaskFault
 check_rules = record {
   lines_limit = lines_limit;
-  start = record { nodes = []; lines = [] };
   Takes = λ line state later written. (entry : TranscriptLine) × (recorded_in line ≡ Ok entry)
       × Follows entry state later × (written ≡ []);
   Stops = λ line state fault written. FaultsInTranscript fault state.nodes state.lines line × (written ≡ []);
@@ -99,19 +98,23 @@ check_rules = record {
   is_of_writer = is_write;
 }
 
+-- no node and no event
+abbrev pub nothing : Recorded
+nothing = record { nodes = []; lines = [] }
+
 -- all lines of an input of these octets are a transcript, and the input is at its end
 abbrev pub ChecksAll : List ℕ → (left before after : Option (List ℕ)) → Verdict → Type 0
-ChecksAll = AnswersAll check_rules
+ChecksAll = AnswersAll check_rules nothing
 
 -- the lines before a fault are the beginning of a transcript; nothing went out, but where the writer failed
 abbrev pub ChecksUntil : List ℕ → (left before after : Option (List ℕ)) → Fault → Type 0
-ChecksUntil = SaysUntil check_rules
+ChecksUntil = SaysUntil check_rules nothing
 
 -- what an answer of `check_text` over these octets says, of what is left of them and of what was written
 abbrev pub Checks : List ℕ → (left before after : Option (List ℕ)) → Result Verdict Fault → Type 0
-Checks = Says check_rules
+Checks = Says check_rules nothing
 
 -- what an answer of `check_text` says where the reader tells its octets, and where the writer does
 abbrev pub ChecksAnswer : {R W : Type 0} → (R → Option (List ℕ)) → (W → Option (List ℕ)) → Result Verdict Fault
     → (input input' : Counted R) (output output' : Counted W) → Type 0
-ChecksAnswer = SaysAnswer check_rules
+ChecksAnswer = SaysAnswer check_rules nothing

@@ -71,7 +71,6 @@ Follows (entries.Event event) state later written =
 abbrev pub replay_rules : Rules State ℕ TaskFault
 replay_rules = record {
   lines_limit = lines_limit;
-  start = record { network = []; run = [] };
   Takes = λ line state later written. (entry : Line) × (entry_in line ≡ Ok entry) × Follows entry state later written;
   Stops = λ line state fault written. FaultsIn fault state.network state.run line
       × GoesOut fault state.network state.run written;
@@ -82,15 +81,19 @@ replay_rules = record {
   is_of_writer = is_write;
 }
 
+-- no node and no event
+abbrev pub nothing : State
+nothing = record { network = []; run = [] }
+
 -- all lines of an input of these octets were replayed, and the input is at its end
 abbrev pub ReplaysAll : List ℕ → (left before after : Option (List ℕ)) → ℕ → Type 0
-ReplaysAll = AnswersAll replay_rules
+ReplaysAll = AnswersAll replay_rules nothing
 
 -- what an answer of `replay` over these octets says, of what is left of them and of what was written
 abbrev pub Replays : List ℕ → (left before after : Option (List ℕ)) → Result ℕ Fault → Type 0
-Replays = Says replay_rules
+Replays = Says replay_rules nothing
 
 -- what an answer of `replay` says where the reader tells its octets, and where the writer does
 abbrev pub ReplaysAnswer : {R W : Type 0} → (R → Option (List ℕ)) → (W → Option (List ℕ)) → Result ℕ Fault
     → (input input' : Counted R) (output output' : Counted W) → Type 0
-ReplaysAnswer = SaysAnswer replay_rules
+ReplaysAnswer = SaysAnswer replay_rules nothing

@@ -30,7 +30,6 @@ StopsShowing digits fault = ⊥
 abbrev pub show_rules : Rules ⊤ ℕ TaskFault
 show_rules = record {
   lines_limit = lines_limit;
-  start = tt;
   Takes = λ line state later written. IsAnswer line written;
   Stops = λ line state fault written. StopsShowing line fault × (written ≡ []);
   Ends = λ lines state answer written. (answer ≡ lines) × (written ≡ []);
@@ -40,9 +39,9 @@ show_rules = record {
 
 -- what an answer of `show` over these octets says, of what is left of them and of what was written
 abbrev pub Shows : List ℕ → (left before after : Option (List ℕ)) → Result ℕ Fault → Type 0
-Shows = Says show_rules
+Shows = Says show_rules tt
 
 -- what an answer of `show` says where the reader tells its octets, and where the writer does
 abbrev pub ShowsAnswer : {R W : Type 0} → (R → Option (List ℕ)) → (W → Option (List ℕ)) → Result ℕ Fault
     → (input input' : Counted R) (output output' : Counted W) → Type 0
-ShowsAnswer = SaysAnswer show_rules
+ShowsAnswer = SaysAnswer show_rules tt

@@ -111,26 +111,26 @@ EndsAs rules Device octets place state (Ok answer) last left =
 EndsAs rules Device octets place state (Err what) last left = (IsOfDevice Device what → ⊥) × StopsBefore rules place state octets what last left
 
 -- an answer that isn't a fault of a device or of memory
-pub record Course {S A F : Type 0} (rules : Rules S A F) (Device : F → Type 0) (octets : List ℕ) (left before after : Option (List ℕ)) (end : Result A (Cause F)) : Type 0 where
+pub record Course {S A F : Type 0} (rules : Rules S A F) (start : S) (Device : F → Type 0) (octets : List ℕ) (left before after : Option (List ℕ)) (end : Result A (Cause F)) : Type 0 where
   pub place : ℕ
   pub state : S
   pub text : List ℕ
-  pub taken : TakesLines rules 1 (take place (lines_of octets)) rules.start state text
+  pub taken : TakesLines rules 1 (take place (lines_of octets)) start state text
   pub last : List ℕ
   pub ends : EndsAs rules Device octets place state end last left
   pub output : Appends before after (text ++ last)
 
 -- a line that ends it isn't among those that were taken
-not_before : {S A F : Type 0} (rules : Rules S A F) (Device : F → Type 0) → HasOneCourse rules Device → (octets : List ℕ) (end : Result A (Cause F)) (place count : ℕ)
-    (state later : S) (text text' last : List ℕ) (left : Option (List ℕ)) → TakesLines rules 1 (take place (lines_of octets)) rules.start state text
-    → EndsAs rules Device octets place state end last left → TakesLines rules 1 (take count (lines_of octets)) rules.start later text'
+not_before : {S A F : Type 0} (rules : Rules S A F) (start : S) (Device : F → Type 0) → HasOneCourse rules Device → (octets : List ℕ) (end : Result A (Cause F)) (place count : ℕ)
+    (state later : S) (text text' last : List ℕ) (left : Option (List ℕ)) → TakesLines rules 1 (take place (lines_of octets)) start state text
+    → EndsAs rules Device octets place state end last left → TakesLines rules 1 (take count (lines_of octets)) start later text'
     → count ≤ length (lines_of octets) → place < count → ⊥
-not_before rules Device one octets (Ok answer) place count state later text text' last left taken (at_end, ends, none) others within less = absurd (omega (arith, at_end, within, less))
-not_before {S} {A} {F} rules Device one octets (Err what) place count state later text text' last left taken (sure, stops) others within less =
+not_before rules start Device one octets (Ok answer) place count state later text text' last left taken (at_end, ends, none) others within less = absurd (omega (arith, at_end, within, less))
+not_before {S} {A} {F} rules start Device one octets (Err what) place count state later text text' last left taken (sure, stops) others within less =
     go what sure stops
   where
-    found : (line : List ℕ) → slice_get (lines_of octets) place ≡ Some line → IsTaken rules 1 (take count (lines_of octets)) rules.start place line
-    found line there = is_taken rules 1 (take count (lines_of octets)) rules.start later text' place line others (get_taken (lines_of octets) place count less ∙ there)
+    found : (line : List ℕ) → slice_get (lines_of octets) place ≡ Some line → IsTaken rules 1 (take count (lines_of octets)) start place line
+    found line there = is_taken rules 1 (take count (lines_of octets)) start later text' place line others (get_taken (lines_of octets) place count less ∙ there)
 
     readable : (line : List ℕ) → slice_get (lines_of octets) place ≡ Some line → reading_fault rules.lines_limit (place + 1) line ≡ None
     readable line there = subst (λ (n : ℕ). reading_fault rules.lines_limit n line ≡ None) (omega arith) (found line there).readable
@@ -147,8 +147,8 @@ not_before {S} {A} {F} rules Device one octets (Err what) place count state late
     go (Reading fault) sure stops = unreadable fault (slice_get (lines_of octets) place) refl sure stops.1
     go (Task fault) sure (inl (line, whole, there, fine, stops, unread)) =
         let here = found line there in
-        let same = one_course rules Device one 1 (take place (lines_of octets)) rules.start state here.state text here.text taken
-        (subst (λ (ls : List (List ℕ)). TakesLines rules 1 ls rules.start here.state here.text) (take-take-less (lines_of octets) place count less) here.before) in
+        let same = one_course rules Device one 1 (take place (lines_of octets)) start state here.state text here.text taken
+        (subst (λ (ls : List (List ℕ)). TakesLines rules 1 ls start here.state here.text) (take-take-less (lines_of octets) place count less) here.before) in
         one.no_fault (without_cr line) state here.later here.written last fault sure
         (subst (λ (s : S). rules.Takes (without_cr line) s here.later here.written) same.0 here.takes) stops
     go (Task fault) sure (inr (at_end, stops, none)) = absurd (omega (arith, at_end, within, less))
@@ -264,17 +264,17 @@ pub record AreOneAnswer {A F : Type 0} (end end' : Result A (Cause F)) (place pl
   pub output : Appends before after text
   pub output' : Appends before' after' text
 
-pub one_answer : {S A F : Type 0} (rules : Rules S A F) (Device : F → Type 0) → HasOneCourse rules Device → (octets : List ℕ) (left before after left' before' after' : Option (List ℕ))
-    (end end' : Result A (Cause F)) (one : Course rules Device octets left before after end) (other : Course rules Device octets left' before' after' end')
+pub one_answer : {S A F : Type 0} (rules : Rules S A F) (start : S) (Device : F → Type 0) → HasOneCourse rules Device → (octets : List ℕ) (left before after left' before' after' : Option (List ℕ))
+    (end end' : Result A (Cause F)) (one : Course rules start Device octets left before after end) (other : Course rules start Device octets left' before' after' end')
     → AreOneAnswer end end' one.place other.place left left' before after before' after'
-one_answer {S} rules Device sole octets left before after left' before' after' end end' one other =
+one_answer {S} rules start Device sole octets left before after left' before' after' end end' one other =
     let place : other.place ≡ one.place = neither_less other.place one.place
-    (not_before rules Device sole octets end' other.place one.place other.state one.state other.text one.text other.last left' other.taken other.ends one.taken
+    (not_before rules start Device sole octets end' other.place one.place other.state one.state other.text one.text other.last left' other.taken other.ends one.taken
     (place_within rules Device octets one.place one.state end one.last left one.ends))
-    (not_before rules Device sole octets end one.place other.place one.state other.state one.text other.text one.last left one.taken one.ends other.taken
+    (not_before rules start Device sole octets end one.place other.place one.state other.state one.text other.text one.last left one.taken one.ends other.taken
     (place_within rules Device octets other.place other.state end' other.last left' other.ends)) in
-    let again = subst (λ (n : ℕ). TakesLines rules 1 (take n (lines_of octets)) rules.start other.state other.text) place other.taken in
-    let course = one_course rules Device sole 1 (take one.place (lines_of octets)) rules.start one.state other.state one.text other.text one.taken again in
+    let again = subst (λ (n : ℕ). TakesLines rules 1 (take n (lines_of octets)) start other.state other.text) place other.taken in
+    let course = one_course rules Device sole 1 (take one.place (lines_of octets)) start one.state other.state one.text other.text one.taken again in
     let ends = subst (λ (x : ℕ × S). EndsAs rules Device octets x.0 x.1 end' other.last left') (λ i. (place i, course.0 i)) other.ends in
     let same = one_end_at rules Device sole octets one.place one.state end end' one.last other.last left left' one.ends ends in
     record {
@@ -288,13 +288,13 @@ one_answer {S} rules Device sole octets left before after left' before' after' e
 
 -- ---- answers
 
-abbrev pub course_of_all : {S A F : Type 0} (rules : Rules S A F) (Device : F → Type 0) (octets : List ℕ) (left before after : Option (List ℕ)) (answer : A)
-    → AnswersAll rules octets left before after answer → Course rules Device octets left before after (Ok answer)
-course_of_all {S} rules Device octets left before after answer all = record {
+abbrev pub course_of_all : {S A F : Type 0} (rules : Rules S A F) (start : S) (Device : F → Type 0) (octets : List ℕ) (left before after : Option (List ℕ)) (answer : A)
+    → AnswersAll rules start octets left before after answer → Course rules start Device octets left before after (Ok answer)
+course_of_all {S} rules start Device octets left before after answer all = record {
   place = length (lines_of octets);
   state = all.state;
   text = all.text;
-  taken = subst (λ (ls : List (List ℕ)). TakesLines rules 1 ls rules.start all.state all.text) (sym (take_all (length (lines_of octets)) (lines_of octets) (le_refl _))) all.taken;
+  taken = subst (λ (ls : List (List ℕ)). TakesLines rules 1 ls start all.state all.text) (sym (take_all (length (lines_of octets)) (lines_of octets) (le_refl _))) all.taken;
   last = all.last;
   ends = (refl, all.ends, all.input);
   output = all.output;
@@ -310,9 +310,9 @@ known_output rules Device one (Task kind) known sure out =
     by_writer true is out = absurd (sure (one.writer kind is))
     by_writer false is out = out
 
-abbrev pub course_until : {S A F : Type 0} (rules : Rules S A F) (Device : F → Type 0) → HasOneCourse rules Device → (octets : List ℕ) (left before after : Option (List ℕ)) (line : ℕ) (what : Cause F)
-    → (IsOfDevice Device what → ⊥) → (until : AnswersUntil rules octets left before after line what) → Course rules Device octets left before after (Err what)
-course_until rules Device one octets left before after line what sure until = record {
+abbrev pub course_until : {S A F : Type 0} (rules : Rules S A F) (start : S) (Device : F → Type 0) → HasOneCourse rules Device → (octets : List ℕ) (left before after : Option (List ℕ)) (line : ℕ) (what : Cause F)
+    → (IsOfDevice Device what → ⊥) → (until : AnswersUntil rules start octets left before after line what) → Course rules start Device octets left before after (Err what)
+course_until rules start Device one octets left before after line what sure until = record {
   place = until.earlier;
   state = until.state;
   text = until.text;

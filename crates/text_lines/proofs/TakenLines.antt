@@ -13,9 +13,9 @@ use Rattle.text_lines.specs.Inner.Reading.{StopsReading, ReadsLine}
 use Rattle.text_lines.specs.Task.{Rules, TakesLines, WentOut, StopsBefore, is_of_writer, AnswersAll, AnswersUntil}
 
 -- the first lines, which are count, were taken; each has its LF, unless the end was seen
-pub record HasTaken {S A F : Type 0} (rules : Rules S A F) (octets : List ℕ) (before : Option (List ℕ)) (count : ℕ) (ended : Bool) (state : S) (left now : Option (List ℕ)) : Type 0 where
+pub record HasTaken {S A F : Type 0} (rules : Rules S A F) (start : S) (octets : List ℕ) (before : Option (List ℕ)) (count : ℕ) (ended : Bool) (state : S) (left now : Option (List ℕ)) : Type 0 where
   pub text : List ℕ
-  pub taken : TakesLines rules 1 (take count (lines_of octets)) rules.start state text
+  pub taken : TakesLines rules 1 (take count (lines_of octets)) start state text
   pub output : Appends before now text
   pub input : left ≡ Some (after_lines count octets)
   pub rest : drop count (lines_of octets) ≡ lines_of (after_lines count octets)
@@ -79,9 +79,9 @@ TakesLines-push rules number (first ∷ lines) line start state later text writt
 
 -- ---- the loop
 
-pub begun : {S A F : Type 0} (rules : Rules S A F) (octets : List ℕ) (left now : Option (List ℕ)) → left ≡ Some octets
-    → HasTaken rules octets now 0 false rules.start left now
-begun rules octets left now known = record {
+pub begun : {S A F : Type 0} (rules : Rules S A F) (start : S) (octets : List ℕ) (left now : Option (List ℕ)) → left ≡ Some octets
+    → HasTaken rules start octets now 0 false start left now
+begun rules start octets left now known = record {
   text = [];
   taken = (refl, refl);
   output = Appends-nil now;
@@ -91,15 +91,15 @@ begun rules octets left now known = record {
   lfs = λ unended. omega arith;
 }
 
-pub taken_more : {S A F : Type 0} (rules : Rules S A F) (octets : List ℕ) (before : Option (List ℕ)) (count : ℕ) (ended : Bool) (state later : S) (left left' now now' : Option (List ℕ)) (line written : List ℕ)
-    → HasTaken rules octets before count false state left now → ReadsLine true rules.lines_limit (count + 1) line ended (after_lines count octets) left'
-    → rules.Takes (without_cr line) state later written → Appends now now' written → HasTaken rules octets before (count + 1) ended later left' now'
-taken_more rules octets before count ended state later left left' now now' line written so_far (cut, fine, behind, lf) takes appended =
+pub taken_more : {S A F : Type 0} (rules : Rules S A F) (start : S) (octets : List ℕ) (before : Option (List ℕ)) (count : ℕ) (ended : Bool) (state later : S) (left left' now now' : Option (List ℕ)) (line written : List ℕ)
+    → HasTaken rules start octets before count false state left now → ReadsLine true rules.lines_limit (count + 1) line ended (after_lines count octets) left'
+    → rules.Takes (without_cr line) state later written → Appends now now' written → HasTaken rules start octets before (count + 1) ended later left' now'
+taken_more rules start octets before count ended state later left left' now now' line written so_far (cut, fine, behind, lf) takes appended =
     let place = is_at count (lines_of octets) line _ (so_far.rest ∙ cut) in
     let more = after_lines-more count octets in
     record {
       text = so_far.text ++ written;
-      taken = rw place.upto (TakesLines-push rules 1 (take count (lines_of octets)) line rules.start state later so_far.text written so_far.taken
+      taken = rw place.upto (TakesLines-push rules 1 (take count (lines_of octets)) line start state later so_far.text written so_far.taken
           (rw (length-take-le count (lines_of octets) so_far.within, add_comm 1 count) fine) takes);
       output = Appends-trans before now now' so_far.text written so_far.output appended;
       input = behind ∙ ap Some (sym more);
@@ -108,10 +108,10 @@ taken_more rules octets before count ended state later left left' now now' line 
       lfs = λ unended. let lfs = so_far.lfs refl in let one = lf unended in rw more (omega (arith, lfs, one));
     }
 
-pub taken_all : {S A F : Type 0} (rules : Rules S A F) (octets : List ℕ) (before : Option (List ℕ)) (count : ℕ) (ended : Bool) (state : S) (left left' now now' : Option (List ℕ)) (answer : A) (last : List ℕ)
-    → HasTaken rules octets before count ended state left now → after_lines count octets ≡ [] → left' ≡ Some []
-    → rules.Ends count state answer last → Appends now now' last → AnswersAll rules octets left' before now' answer
-taken_all rules octets before count ended state left left' now now' answer last so_far none end ends appended =
+pub taken_all : {S A F : Type 0} (rules : Rules S A F) (start : S) (octets : List ℕ) (before : Option (List ℕ)) (count : ℕ) (ended : Bool) (state : S) (left left' now now' : Option (List ℕ)) (answer : A) (last : List ℕ)
+    → HasTaken rules start octets before count ended state left now → after_lines count octets ≡ [] → left' ≡ Some []
+    → rules.Ends count state answer last → Appends now now' last → AnswersAll rules start octets left' before now' answer
+taken_all rules start octets before count ended state left left' now now' answer last so_far none end ends appended =
     let all = within_list count (lines_of octets) (so_far.rest ∙ ap lines_of none) so_far.within in
     record {
       state = state;
@@ -130,10 +130,10 @@ out_after : (of_writer : Bool) (before now now' : Option (List ℕ)) (text last 
 out_after true before now now' text last known out = tt
 out_after false before now now' text last known out = Appends-trans before now now' text last known out
 
-until : {S A F : Type 0} (rules : Rules S A F) (octets : List ℕ) (before : Option (List ℕ)) (count : ℕ) (ended : Bool) (state : S) (left left' now now' : Option (List ℕ)) (line : ℕ) (what : Cause F) (last : List ℕ)
-    → HasTaken rules octets before count ended state left now → line ≡ count + 1 → StopsBefore rules count state octets what last left'
-    → WentOut (is_of_writer rules what) (Appends now now' last) → AnswersUntil rules octets left' before now' line what
-until rules octets before count ended state left left' now now' line what last so_far number stops out = record {
+until : {S A F : Type 0} (rules : Rules S A F) (start : S) (octets : List ℕ) (before : Option (List ℕ)) (count : ℕ) (ended : Bool) (state : S) (left left' now now' : Option (List ℕ)) (line : ℕ) (what : Cause F) (last : List ℕ)
+    → HasTaken rules start octets before count ended state left now → line ≡ count + 1 → StopsBefore rules count state octets what last left'
+    → WentOut (is_of_writer rules what) (Appends now now' last) → AnswersUntil rules start octets left' before now' line what
+until rules start octets before count ended state left left' now now' line what last so_far number stops out = record {
   earlier = count;
   number = number;
   state = state;
@@ -144,38 +144,38 @@ until rules octets before count ended state left left' now now' line what last s
   output = out_after (is_of_writer rules what) before now now' so_far.text last so_far.output out;
 }
 
-pub stopped_reading : {S A F : Type 0} (rules : Rules S A F) (octets : List ℕ) (before : Option (List ℕ)) (count : ℕ) (state : S) (left left' now : Option (List ℕ)) (line : ℕ) (fault : ReadingFault)
-    → HasTaken rules octets before count false state left now → line ≡ count + 1 → StopsReading fault rules.lines_limit (count + 1) (after_lines count octets) left'
-    → AnswersUntil rules octets left' before now line (Reading fault)
-stopped_reading rules octets before count state left left' now line fault so_far number stops =
+pub stopped_reading : {S A F : Type 0} (rules : Rules S A F) (start : S) (octets : List ℕ) (before : Option (List ℕ)) (count : ℕ) (state : S) (left left' now : Option (List ℕ)) (line : ℕ) (fault : ReadingFault)
+    → HasTaken rules start octets before count false state left now → line ≡ count + 1 → StopsReading fault rules.lines_limit (count + 1) (after_lines count octets) left'
+    → AnswersUntil rules start octets left' before now line (Reading fault)
+stopped_reading rules start octets before count state left left' now line fault so_far number stops =
     go fault stops
   where
-    go : (fault : ReadingFault) → StopsReading fault rules.lines_limit (count + 1) (after_lines count octets) left' → AnswersUntil rules octets left' before now line (Reading fault)
+    go : (fault : ReadingFault) → StopsReading fault rules.lines_limit (count + 1) (after_lines count octets) left' → AnswersUntil rules start octets left' before now line (Reading fault)
     go Read stops =
-        until rules octets before count false state left left' now now line (Reading Read) [] so_far number
+        until rules start octets before count false state left left' now now line (Reading Read) [] so_far number
         (omega (arith, so_far.lfs refl), tt, refl, stops) (Appends-nil now)
     go LineTooLong (long, others, cut, fault, unread) =
         let place = is_at count (lines_of octets) long others (so_far.rest ∙ cut) in
-        until rules octets before count false state left left' now now line (Reading LineTooLong) [] so_far number
+        until rules start octets before count false state left left' now now line (Reading LineTooLong) [] so_far number
         (omega (arith, so_far.lfs refl), rw place.at fault, refl, unread) (Appends-nil now)
     go TooManyLines (long, others, cut, fault, unread) =
         let place = is_at count (lines_of octets) long others (so_far.rest ∙ cut) in
-        until rules octets before count false state left left' now now line (Reading TooManyLines) [] so_far number
+        until rules start octets before count false state left left' now now line (Reading TooManyLines) [] so_far number
         (omega (arith, so_far.lfs refl), rw place.at fault, refl, unread) (Appends-nil now)
 
-pub stopped_taking : {S A F : Type 0} (rules : Rules S A F) (octets : List ℕ) (before : Option (List ℕ)) (count : ℕ) (ended : Bool) (state : S) (left left' now now' : Option (List ℕ)) (number : ℕ) (line : List ℕ) (fault : F) (last : List ℕ)
-    → HasTaken rules octets before count false state left now → number ≡ count + 1 → ReadsLine true rules.lines_limit (count + 1) line ended (after_lines count octets) left'
+pub stopped_taking : {S A F : Type 0} (rules : Rules S A F) (start : S) (octets : List ℕ) (before : Option (List ℕ)) (count : ℕ) (ended : Bool) (state : S) (left left' now now' : Option (List ℕ)) (number : ℕ) (line : List ℕ) (fault : F) (last : List ℕ)
+    → HasTaken rules start octets before count false state left now → number ≡ count + 1 → ReadsLine true rules.lines_limit (count + 1) line ended (after_lines count octets) left'
     → rules.Stops (without_cr line) state fault last → WentOut (rules.is_of_writer fault) (Appends now now' last)
-    → AnswersUntil rules octets left' before now' number (Task fault)
-stopped_taking rules octets before count ended state left left' now now' number line fault last so_far place_is (cut, fine, behind, lf) stops out =
+    → AnswersUntil rules start octets left' before now' number (Task fault)
+stopped_taking rules start octets before count ended state left left' now now' number line fault last so_far place_is (cut, fine, behind, lf) stops out =
     let place = is_at count (lines_of octets) line _ (so_far.rest ∙ cut) in
-    until rules octets before count false state left left' now now' number (Task fault) last so_far place_is
+    until rules start octets before count false state left left' now now' number (Task fault) last so_far place_is
     (inl (line, omega (arith, so_far.lfs refl), place.at, fine, stops, behind ∙ ap Some (sym (after_lines-more count octets)))) out
 
-pub stopped_at_end : {S A F : Type 0} (rules : Rules S A F) (octets : List ℕ) (before : Option (List ℕ)) (count : ℕ) (ended : Bool) (state : S) (left left' now now' : Option (List ℕ)) (number : ℕ) (fault : F) (last : List ℕ)
-    → HasTaken rules octets before count ended state left now → number ≡ count + 1 → after_lines count octets ≡ [] → left' ≡ Some []
+pub stopped_at_end : {S A F : Type 0} (rules : Rules S A F) (start : S) (octets : List ℕ) (before : Option (List ℕ)) (count : ℕ) (ended : Bool) (state : S) (left left' now now' : Option (List ℕ)) (number : ℕ) (fault : F) (last : List ℕ)
+    → HasTaken rules start octets before count ended state left now → number ≡ count + 1 → after_lines count octets ≡ [] → left' ≡ Some []
     → rules.StopsAtEnd state fault last → WentOut (rules.is_of_writer fault) (Appends now now' last)
-    → AnswersUntil rules octets left' before now' number (Task fault)
-stopped_at_end rules octets before count ended state left left' now now' number fault last so_far place_is none end stops out =
-    until rules octets before count ended state left left' now now' number (Task fault) last so_far place_is
+    → AnswersUntil rules start octets left' before now' number (Task fault)
+stopped_at_end rules start octets before count ended state left left' now now' number fault last so_far place_is none end stops out =
+    until rules start octets before count ended state left left' now now' number (Task fault) last so_far place_is
     (inr (within_list count (lines_of octets) (so_far.rest ∙ ap lines_of none) so_far.within, stops, end)) out

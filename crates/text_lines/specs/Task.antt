@@ -12,13 +12,11 @@ use Rattle.text_lines.specs.Counted.{HasNotFailed, HasFailedIf}
 use Rattle.text_lines.specs.Lines.{lines_of, lfs_in, after_lines, without_cr, reading_fault, LeavesUnread}
 use Rattle.text_lines.specs.Lines.{IsFromReading}
 
--- The rules of a task: how many lines it allows; the state that it begins in; from which state to which a line takes
--- it, with what is written; at which fault a line stops it, with what is written before; what it answers after so many
--- lines, at the end, with what is written; at which fault the end stops it; and which of these faults say that the
--- writer failed.
+-- The rules of a task: how many lines it allows; from which state to which a line takes it, with what is written; at
+-- which fault a line stops it, with what is written before; what it answers after so many lines, at the end, with what is
+-- written; at which fault the end stops it; and which of these faults say that the writer failed.
 pub record Rules (S A F : Type 0) : Type 1 where
   pub lines_limit : ℕ
-  pub start : S
   pub Takes : List ℕ → S → S → List ℕ → Type 0
   pub Stops : List ℕ → S → F → List ℕ → Type 0
   pub Ends : ℕ → S → A → List ℕ → Type 0
@@ -63,11 +61,11 @@ is_of_writer rules (Reading fault) = false
 is_of_writer rules (Task fault) = rules.is_of_writer fault
 
 -- all lines of an input of these octets were taken, the end gave the answer, and the input is at its end
-pub record AnswersAll {S A F : Type 0} (rules : Rules S A F) (octets : List ℕ) (left before after : Option (List ℕ))
-    (answer : A) : Type 0 where
+pub record AnswersAll {S A F : Type 0} (rules : Rules S A F) (start : S) (octets : List ℕ)
+    (left before after : Option (List ℕ)) (answer : A) : Type 0 where
   pub state : S
   pub text : List ℕ
-  pub taken : TakesLines rules 1 (lines_of octets) rules.start state text
+  pub taken : TakesLines rules 1 (lines_of octets) start state text
   pub last : List ℕ
   pub ends : rules.Ends (length (lines_of octets)) state answer last
   pub output : Appends before after (text ++ last)
@@ -75,23 +73,23 @@ pub record AnswersAll {S A F : Type 0} (rules : Rules S A F) (octets : List ℕ)
 
 -- The lines before a fault, each with its LF, were taken. The fault is that of the next line, of which and after which
 -- the rest is unread, or that of the end.
-pub record AnswersUntil {S A F : Type 0} (rules : Rules S A F) (octets : List ℕ) (left before after : Option (List ℕ))
-    (line : ℕ) (what : Cause F) : Type 0 where
+pub record AnswersUntil {S A F : Type 0} (rules : Rules S A F) (start : S) (octets : List ℕ)
+    (left before after : Option (List ℕ)) (line : ℕ) (what : Cause F) : Type 0 where
   pub earlier : ℕ
   pub number : line ≡ earlier + 1
   pub state : S
   pub text : List ℕ
-  pub taken : TakesLines rules 1 (take earlier (lines_of octets)) rules.start state text
+  pub taken : TakesLines rules 1 (take earlier (lines_of octets)) start state text
   pub last : List ℕ
   pub stops : StopsBefore rules earlier state octets what last left
   pub output : WentOut (is_of_writer rules what) (Appends before after (text ++ last))
 
 -- what an answer over these octets says, of what is left of them and of what was written
-abbrev pub Answers : {S A F : Type 0} → Rules S A F → List ℕ → (left before after : Option (List ℕ))
+abbrev pub Answers : {S A F : Type 0} → Rules S A F → (start : S) → List ℕ → (left before after : Option (List ℕ))
     → Result A (Stopped (Cause F)) → Type 0
-Answers rules octets left before after answer = MatchResult answer
-    (AnswersAll rules octets left before after)
-    (λ stop. AnswersUntil rules octets left before after stop.line stop.what)
+Answers rules start octets left before after answer = MatchResult answer
+    (AnswersAll rules start octets left before after)
+    (λ stop. AnswersUntil rules start octets left before after stop.line stop.what)
 
 -- which of the two devices failed at this: the writer where the task's fault says so
 abbrev pub FailedAt : {S A F R W : Type 0} → Rules S A F → Cause F

@@ -72,9 +72,9 @@ pub fn answer_lines<T: LineTask, R: Read, W: Write>(
     input: &mut Counted<R>,
     output: &mut Counted<W>,
 ) -> Result<T::Answer, Stopped<Cause<T::Fault>>>
-    requires { T.is_at task.old T.rules.start }
-    ensures answered { ForSome (R.remaining (device_of input.old)) (λ octets.
-        Answers T.rules octets (R.remaining (device_of input.new))
+    requires { (start : T.State) × T.is_at task.old start }
+    ensures answered { (start : T.State) → T.is_at task.old start → ForSome (R.remaining (device_of input.old)) (λ octets.
+        Answers T.rules start octets (R.remaining (device_of input.new))
         (W.contents (device_of output.old)) (W.contents (device_of output.new)) result) }
     // Of any reader only so much is read, whatever the writer is.
     ensures bounded { GivesWithin R.remaining (input_limit T.rules.lines_limit) input.old input.new }

@@ -6,9 +6,9 @@ use Rattle.text_lines.proofs.task.answer_lines.Goals as goal
 
 pub loop-task-init : goal.loop-task-init
 loop-task-init g c = record {
-  taken = λ octets known.
-      rw (c.new-lines.ensures.count, c.new-lines.ensures.ended) (g.T.LineTask.rules.start, c.requires, begun g.T.LineTask.rules octets _ _ known);
-  at = (g.T.LineTask.rules.start, c.requires);
+  taken = λ start began octets known.
+      rw (c.new-lines.ensures.count, c.new-lines.ensures.ended) (start, began, begun g.T.LineTask.rules start octets _ _ known);
+  at = c.requires;
   limit = c.new-lines.ensures.limit ∙ c.lines_limit.ensures.limit;
   bounded = rw c.new-lines.ensures.count (search rules);
   reader = search rules;
@@ -20,15 +20,15 @@ pub returns-in_err-read_next-clause-answered : goal.returns-in_err-read_next-cla
 returns-in_err-read_next-clause-answered g c =
     let p = err_from_is_err_and c.from_residual.result c.from_residual.ensures.1 in
     let from = p.2 in
-    λ octets known.
-    let (state, at, so_far) = c.loop-task.invariant.taken octets known in
+    λ start began octets known.
+    let (state, at, so_far) = c.loop-task.invariant.taken start began octets known in
     let read = c.in_err-read_next.ensures in
-    rw (p.1, from.1) (stopped_reading g.T.LineTask.rules octets _ _ state _ _ _ _ _ (rw read.before_end at so_far) (from.0 ∙ read.count) (rw c.loop-task.invariant.limit at (read.next _ so_far.input)))
+    rw (p.1, from.1) (stopped_reading g.T.LineTask.rules start octets _ _ state _ _ _ _ _ (rw read.before_end at so_far) (from.0 ∙ read.count) (rw c.loop-task.invariant.limit at (read.next _ so_far.input)))
 
 pub loop-task-preserved : goal.loop-task-preserved
 loop-task-preserved g c = record {
-  taken = λ octets known.
-      let (state, at, so_far) = c.loop-task.invariant.taken octets known in
+  taken = λ start began octets known.
+      let (state, at, so_far) = c.loop-task.invariant.taken start began octets known in
       let read = c.in_ok-read_next.ensures in
       let count = rw c.if-branch.true at read.count in
       let line = rw (c.if-branch.true, c.loop-task.invariant.limit) at (read.next _ so_far.input) in
@@ -36,7 +36,7 @@ loop-task-preserved g c = record {
       rw count (
         later,
         at_later,
-        taken_more g.T.LineTask.rules octets _ _ _ state later _ _ _ _ _ written (rw (read.before_end c.if-branch.true) at so_far) line
+        taken_more g.T.LineTask.rules start octets _ _ _ state later _ _ _ _ _ written (rw (read.before_end c.if-branch.true) at so_far) line
             (rw c.line.ensures.line at takes) appended,
       );
   at =
@@ -52,34 +52,34 @@ loop-task-preserved g c = record {
 
 pub returns-in-Err-clause-answered : goal.returns-in-Err-clause-answered
 returns-in-Err-clause-answered g c =
-    λ octets known.
-    let (state, at, so_far) = c.loop-task.invariant.taken octets known in
+    λ start began octets known.
+    let (state, at, so_far) = c.loop-task.invariant.taken start began octets known in
     let read = c.in_ok-read_next.ensures in
     let count = rw c.if-branch.true at read.count in
     let line = rw (c.if-branch.true, c.loop-task.invariant.limit) at (read.next _ so_far.input) in
     let (written, stops, out) = c.in-Err.ensures.taken state at in
-    stopped_taking g.T.LineTask.rules octets _ _ _ state _ _ _ _ _ _ _ written (rw (read.before_end c.if-branch.true) at so_far) (c.count.ensures ∙ count) line
+    stopped_taking g.T.LineTask.rules start octets _ _ _ state _ _ _ _ _ _ _ written (rw (read.before_end c.if-branch.true) at so_far) (c.count.ensures ∙ count) line
     (rw c.line.ensures.line at stops) out
 
 pub returns-in-Ok-clause-answered : goal.returns-in-Ok-clause-answered
 returns-in-Ok-clause-answered g c =
-    λ octets known.
-    let (state, at, so_far) = c.loop-task.invariant.taken octets known in
+    λ start began octets known.
+    let (state, at, so_far) = c.loop-task.invariant.taken start began octets known in
     let read = c.in_ok-read_next.ensures in
     let count = rw c.if-branch.false at read.count in
     let end = rw c.if-branch.false at (read.next _ so_far.input) in
     let (written, ends, appended) = c.in-Ok.ensures.ended state at in
-    taken_all g.T.LineTask.rules octets _ _ _ state _ _ _ _ _ written so_far end.0 end.1 (rw (c.count-2.ensures, count) at ends) appended
+    taken_all g.T.LineTask.rules start octets _ _ _ state _ _ _ _ _ written so_far end.0 end.1 (rw (c.count-2.ensures, count) at ends) appended
 
 pub returns-in-Err-finish-clause-answered : goal.returns-in-Err-finish-clause-answered
 returns-in-Err-finish-clause-answered g c =
-    λ octets known.
-    let (state, at, so_far) = c.loop-task.invariant.taken octets known in
+    λ start began octets known.
+    let (state, at, so_far) = c.loop-task.invariant.taken start began octets known in
     let read = c.in_ok-read_next.ensures in
     let count = rw c.if-branch.false at read.count in
     let end = rw c.if-branch.false at (read.next _ so_far.input) in
     let (written, stops, out) = c.in-Err-finish.ensures.ended state at in
-    stopped_at_end g.T.LineTask.rules octets _ _ _ state _ _ _ _ _ _ written so_far (ap (λ n. n + 1) (c.count-in-Err-finish.ensures ∙ count)) end.0 end.1 stops out
+    stopped_at_end g.T.LineTask.rules start octets _ _ _ state _ _ _ _ _ _ written so_far (ap (λ n. n + 1) (c.count-in-Err-finish.ensures ∙ count)) end.0 end.1 stops out
 
 pub returns-in_err-read_next-clause-bounded : goal.returns-in_err-read_next-clause-bounded
 returns-in_err-read_next-clause-bounded g c =

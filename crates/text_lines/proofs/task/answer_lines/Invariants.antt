@@ -9,8 +9,9 @@ use Rattle.text_lines.proofs.task.answer_lines.Given as goal
 
 abbrev pub invariant-loop-task : goal.invariant-loop-task
 invariant-loop-task g l = record {
-  taken : (octets : List ℕ) → g.R.Read.remaining (device_of l.fn.input) ≡ Some octets
-      → (state : g.T.LineTask.State) × g.T.LineTask.is_at l.task state × HasTaken g.T.LineTask.rules octets (g.W.Write.contents (device_of l.fn.output)) l.lines.count l.lines.ended
+  taken : (start : g.T.LineTask.State) → g.T.LineTask.is_at l.fn.task start
+      → (octets : List ℕ) → g.R.Read.remaining (device_of l.fn.input) ≡ Some octets
+      → (state : g.T.LineTask.State) × g.T.LineTask.is_at l.task state × HasTaken g.T.LineTask.rules start octets (g.W.Write.contents (device_of l.fn.output)) l.lines.count l.lines.ended
       state (g.R.Read.remaining (device_of l.input)) (g.W.Write.contents (device_of l.output));
   at : (state : g.T.LineTask.State) × g.T.LineTask.is_at l.task state;
   limit : l.lines.limit ≡ g.T.LineTask.rules.lines_limit;
