@@ -1,15 +1,12 @@
 -- The line of an event that happened, and why there is none.
-use Rattle.std.proofs.Common.{◌≡◌, ◌∙◌, inl, inr, ap, subst, ℕ, List, Option, Result, Ok, Err}
+use Rattle.std.proofs.Common.{◌≡◌, ◌∙◌, ap, subst, ℕ, List, Option, Result, Ok, Err}
 use Rattle.std.specs.Prelude.{MatchResult, is_ok}
 use Rattle.std.specs.Io.KnownBytes.{Appends}
-use Rattle.std.proofs.KnownBytes.{Keeps-refl}
 use Rattle.serde_json.specs.Data.{Data}
 use Rattle.network_model.specs.declared.event.Event.{Event}
 use Rattle.network_model.specs.declared.stepped.Stepped.{Stepped}
-use Rattle.network_model.specs.declared.refusal.WorldRefusal.{WorldRefusal}
-use Rattle.network_model.specs.declared.refusal.WorldRefusal.TheVariants.{SameName, SameIdentity, NoNode, WrongKind, NoCopy, NoTransit, ReadingOutOfRange, NothingWaiting, Memory}
 use Rattle.network_model.specs.Outcome.{IsStepped}
-use Rattle.world_model.specs.State.{State, after, IsRefused}
+use Rattle.world_model.specs.State.{State, after}
 use Rattle.trace_model.specs.declared.line.TraceLine.{TraceLine}
 use Rattle.trace_model.specs.Told.{TellsAnswer}
 use Rattle.schedule_lines.specs.Written.{event_data, line_text}

@@ -1,6 +1,6 @@
 -- What one more line does to a schedule that is replayed, and what is known at a fault in it.
 use Rattle.std.proofs.Common.{◌≡◌, ◌≢◌, ◌∙◌, ◌⊎◌, inl, inr, refl, sym, ap, subst, ℕ, List, [], ◌∷◌, ◌++◌, length}
-use Rattle.std.proofs.Common.{take_all, le_refl, Option, Some, None, Result, Ok, Err}
+use Rattle.std.proofs.Common.{take_all, le_refl, Option, None, Result, Ok, Err}
 use Rattle.std.specs.Prelude.{MatchResult}
 use Rattle.std.specs.Io.KnownBytes.{Appends}
 use Rattle.std.proofs.KnownBytes.{Appends-nil, Appends-trans, Appends-kept}
@@ -11,7 +11,6 @@ use Rattle.network_model.specs.Network.{Network}
 use Rattle.network_model.specs.Run.{Run}
 use Rattle.network_model.specs.Clash.{first_clash}
 use Rattle.world_model.specs.State.{State, new_state, after}
-use Rattle.schedule_lines.specs.declared.reading.schedule.Line.{Line}
 use Rattle.schedule_lines.specs.declared.reading.schedule.Line.TheVariants as entries
 use Rattle.schedule_replay.specs.declared.fault.TaskFault.{TaskFault}
 use Rattle.schedule_replay.specs.declared.fault.TaskFault.TheVariants.{Write, Json, Field, World, Memory}

@@ -1,6 +1,6 @@
 -- What `check_text` answers and writes, by the transcript that it reads.
 use Rattle.std.specs.Prelude.{◌≡◌, ◌≢◌, ◌⊎◌, ℕ, List, [], ◌∷◌, ◌++◌, length, map, codes, decimal, Option, Some, None}
-use Rattle.std.specs.Prelude.{ok_or, Result, Ok, Err, ⊤}
+use Rattle.std.specs.Prelude.{Result, Ok, Err, ⊤}
 use Rattle.network_model.specs.Network.{Network}
 use Rattle.network_model.specs.Clash.{first_clash}
 use Rattle.trace_model.specs.declared.line.TraceLine.{TraceLine}

@@ -1,11 +1,5 @@
-use Rattle.std.proofs.Common.{◌≡◌, ◌∙◌, sym, ap, None, Option, ℕ, List}
-use Rattle.std.specs.Io.KnownBytes.{Appends}
+use Rattle.std.proofs.Common.{ap}
 use Rattle.std.proofs.lemmas.Result.{err_from_is_err_and}
-use Rattle.network_model.specs.Clash.{first_clash}
-use Rattle.network_model.specs.Network.{Network}
-use Rattle.world_model.specs.State.{State, new_state}
-use Rattle.schedule_replay.specs.declared.stage.Stage.{Stage}
-use Rattle.schedule_replay.specs.Replay.{nodes_text, owed}
 use Rattle.schedule_replay.specs.Inner.Replaying.{state_of}
 use Rattle.schedule_replay.proofs.StageLines.{no_world, none_owed, begun_world, happened, stopped, event_done}
 use Rattle.schedule_replay.proofs.replaying.Replaying.happen.Goals as goal

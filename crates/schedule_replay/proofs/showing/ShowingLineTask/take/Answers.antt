@@ -1,4 +1,4 @@
-use Rattle.std.proofs.Common.{◌≡◌, ◌∙◌, List, [], ℕ, Option, Result, Ok, Err, ap, refl, sym}
+use Rattle.std.proofs.Common.{◌≡◌, List, [], ℕ, Option, Result, Ok, Err, ap, refl}
 use Rattle.std.specs.Prelude.{MatchResult, is_ok}
 use Rattle.std.specs.Io.KnownBytes.{Appends}
 use Rattle.schedule_replay.specs.declared.fault.TaskFault.{TaskFault}
