@@ -24,8 +24,6 @@ use Rattle.schedule_replay.specs.declared.fault.TaskFault.TheVariants.{Write, Js
 use Rattle.schedule_replay.specs.declared.fault.FaultKind.{FaultKind}
 use Rattle.schedule_replay.specs.Fault.{of_task, kind_of, is_write}
 use Rattle.schedule_replay.specs.Answer.{Says}
-use Rattle.schedule_replay.specs.Replay as replay
-use Rattle.schedule_replay.specs.CheckText as check
 use Rattle.schedule_replay.specs.Schedule.{entry_in, refusal_of, FaultsIn, FaultsAtEnd}
 use Rattle.schedule_replay.specs.Show.{StopsShowing, show_rules, Shows}
 use Rattle.schedule_replay.specs.Replay as replays
@@ -257,7 +255,7 @@ pub shows_one : HasOneAnswer Shows
 shows_one = says_one show_rules tt show_course
 
 pub replays_one : HasOneAnswer Replays
-replays_one = says_one replay_rules replay.nothing replay_course
+replays_one = says_one replay_rules replays.nothing replay_course
 
 pub checks_one : HasOneAnswer Checks
-checks_one = says_one check_rules check.nothing check_course
+checks_one = says_one check_rules checks.nothing check_course
