@@ -33,7 +33,9 @@ type_numbered number =
 -- how many octets the fields of a message take; its suffix begins after them
 abbrev pub fields_length : MessageType → ℕ
 fields_length types.DelayResp = 54
-fields_length _ = 44
+fields_length types.Sync = 44
+fields_length types.DelayReq = 44
+fields_length types.FollowUp = 44
 
 -- the timestamp field
 abbrev pub stamp_in : Body → Stamp

@@ -171,7 +171,7 @@ module _ (network : Network) (e : LinePlace) where
         journey = kept_journey_is network e (event_of e) i;
       })
 
--- what is kept of a line, where it tells of something done
+-- what is kept of a line, where it counts
 pub fact_by-is : (network : Network) (line : TraceLine) (earlier : Lines)
     → fact_by network (facts_at network earlier) (site_at network earlier) line (length earlier)
     ≡ cond (counts network line) (Some (fact_of network (line_place line earlier))) None

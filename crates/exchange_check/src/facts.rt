@@ -19,7 +19,8 @@ pub(crate) struct KeptJourney {
     pub(crate) writes_right: bool,
 }
 
-/// A line that tells of something done, as far as later lines ask.
+/// A line that counts, as far as later lines ask. What is kept of a line, this and its place in the tables, takes
+/// some 204 octets (`bench/check` measures it).
 #[derive(Clone, Copy, Debug, PartialEq, Eq)]
 pub(crate) struct Fact {
     /// The line's number.

@@ -1,4 +1,4 @@
-//! Which lines are good, and tell of something done.
+//! Which lines are good, and which of these count.
 
 ghost use Rattle.std.specs.Prelude.{◌≡◌};
 ghost use Rattle.trace_model.specs.Line.{is_done, is_made, is_entered, completes, is_heard, is_refused, is_ignored};
@@ -108,7 +108,7 @@ fn is_good(nodes: &Nodes, event: &Event, out: &TraceOut) -> bool
     }
 }
 
-/// Whether a line tells of something done.
+/// Whether a line counts: it is good, and its event was neither refused nor ignored.
 pub(crate) fn counts(nodes: &Nodes, line: &TraceLine) -> bool
     ensures { result ≡ counts nodes.now line.now }
 {

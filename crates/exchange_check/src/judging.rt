@@ -265,7 +265,7 @@ impl Kept {
         }
     }
 
-    /// The line that made the copy which is heard at a line, and stands below it.
+    /// The line that made the copy which is heard at a line, and stands before it.
     fn sender(&self, fact: &Fact) -> Option<Fact>
         ensures { result ≡ sender_by (facts_of self.now) fact.now }
     {

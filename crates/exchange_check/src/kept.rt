@@ -35,7 +35,7 @@ use trace_model::{TraceLine, TraceOut, Verdict};
 /// What is kept of the lines so far.
 #[derive(Drop)]
 pub(crate) struct Kept {
-    /// Of each line that tells of something done.
+    /// Of each line that counts.
     pub(crate) facts: Vec<Option<Fact>>,
     /// Of each node.
     pub(crate) sites: HashMap<Name, Site>,
@@ -78,7 +78,7 @@ fn drawn(port: Option<Port>, count: Seq) -> Seq
     }
 }
 
-/// The copy that entered at a line, where that is a line of this clock and the copy was made below it.
+/// The copy that entered at a line, where that is a line of this clock and the copy was made before it.
 fn copy_entered(clock: &Name, entered: &Fact) -> Option<u64>
     ensures { result ≡ copy_entered_by clock.now entered.now }
 {
@@ -134,7 +134,7 @@ impl Kept {
         }
     }
 
-    /// What is kept of the line of this number, where it tells of something done.
+    /// What is kept of the line of this number, where it counts.
     pub(crate) fn at(&self, number: u64) -> Option<&Fact>
         ensures { option_map (λ fact. fact.now) result ≡ facts_of self.now number }
     {
@@ -265,8 +265,8 @@ impl Kept {
         }
     }
 
-    /// What is kept of a line that tells of something done.
-    fn told(&self, nodes: &Nodes, line: &TraceLine, known: &Known) -> Fact
+    /// What is kept of a line that counts.
+    fn fact_of(&self, nodes: &Nodes, line: &TraceLine, known: &Known) -> Fact
         ensures { result ≡ fact_known nodes.now (facts_of self.now) line.now known.now
             (kept_journey_by (facts_of self.now) known.now line.now.event) }
     {
@@ -294,7 +294,7 @@ impl Kept {
         if !counts(nodes, line) {
             return None;
         }
-        Some(self.told(nodes, line, &self.known(nodes, line, number)))
+        Some(self.fact_of(nodes, line, &self.known(nodes, line, number)))
     }
 
     /// The copy that entered at the stay which a Leave line leaves, where the journey of the copy that left
@@ -311,7 +311,7 @@ impl Kept {
         if copy < number { Some(copy) } else { None }
     }
 
-    /// Notes the line of this number, of which this fact was kept.
+    /// Takes the line of this number, which counts, into what is kept beside facts.
     fn note(&mut self, fact: &Fact, number: u64) -> Result<(), CheckFault>
         ensures sites { OnOk result (sites_of self.new ≡ sites_after fact.now.event number (sites_of self.old)) }
         ensures stays { StaysAfter self.old.stays self.new.stays number (stay_of (facts_of self.old) number fact.now)
@@ -341,8 +341,8 @@ impl Kept {
         }
     }
 
-    /// Notes the line of this number, with this fact.
-    fn tell(&mut self, fact: &Option<Fact>, number: u64) -> Result<(), CheckFault>
+    /// The same, where the line counts.
+    fn note_fact(&mut self, fact: &Option<Fact>, number: u64) -> Result<(), CheckFault>
         ensures sites { OnOk result (sites_of self.new ≡ sites_told fact.now number (sites_of self.old)) }
         ensures stays { StaysAfter self.old.stays self.new.stays number
             (option_and_then (stay_of (facts_of self.old) number) fact.now) (leaves_told fact.now) result }
@@ -387,7 +387,7 @@ impl Kept {
         }
         let total = self.facts.len() as u64;
         let verdict = self.judged(nodes, &fact, &line.out, total - 1);
-        if self.tell(&fact, number).is_err() {
+        if self.note_fact(&fact, number).is_err() {
             self.facts.pop();
             return Err(CheckFault::Memory);
         }

@@ -3,8 +3,8 @@
 //! The copies of a message make a tree: a copy grew from the one that entered the clock which it
 //! left. They stand in an order, each linked to the next: after a copy comes all that grew from it,
 //! each deeper than it, up to the first that isn't deeper. A new copy is put right after the one that
-//! it grew from. When a stay is left again, what grew from the copy that left after it first follows
-//! that copy in the order: it is marked and taken out.
+//! it grew from. When a stay is left again, the copy that left after it first is marked, and stays in
+//! the order; all that grew from that copy stands right behind it, and is marked and taken out.
 
 ghost use Rattle.std.specs.Prelude.{◌≡◌, ℕ, ◌<◌, ◌+◌, true, false, IfSome, Some};
 ghost use Rattle.std.specs.Prelude.{None, option_map, length, OnOk, OnErr};

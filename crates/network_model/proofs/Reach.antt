@@ -1,5 +1,5 @@
 -- Numbers that meet lie within one turn of each other, so equal sequenceIds are equal numbers and one event drew both.
--- Both premises give this one property, `IsWithinReach`, and all that follows rests on it alone.
+-- Both premises give one property, `NumbersMeet`, and all that follows rests on it alone.
 use Rattle.std.proofs.Common.{◌≡◌, ◌∙◌, ℕ, ◌+◌, ◌-◌, ◌<◌, ◌≤◌, Bool, true, false, [], ◌∷◌, length, Option, Some, refl, sym, ap, subst, arith, if◌then◌else◌, option_and_then}
 use Rattle.std.specs.Prelude.{count_by, ◌&&◌, ◌||◌, IfSome, ◌==◌}
 use Rattle.std.specs.Option.{option_map_or}

@@ -12,6 +12,6 @@ next number = (number + 1) % 65536
 abbrev pub ahead : ℕ → ℕ → ℕ
 ahead number other = (number + 65536 - other) % 65536
 
--- less than half a turn ahead, and not equal
+-- less than half a turn ahead, and not equal: by it a slave takes a Sync for newer than the last that completed
 abbrev pub is_newer : ℕ → ℕ → Bool
 is_newer number other = nat_le 1 (ahead number other) && nat_le (ahead number other) 32767

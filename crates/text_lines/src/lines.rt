@@ -127,7 +127,7 @@ impl Lines {
         Ok(found)
     }
 
-    /// Reads octets up to an LF or the end of the input, and answers whether there was one.
+    /// Reads octets up to an LF or the end of the input, and answers whether there was a line.
     fn read_line<R: Read>(&mut self, input: &mut Counted<R>) -> Result<bool, ReadingFault>
         requires within { self.old.count < self.old.limit }
         requires before_end { self.old.ended ≡ false }

@@ -16,7 +16,9 @@ pub record LineStay : Type 0 where
   pub entered : LinePlace
   pub left : LinePlace
 
--- the line that sent a message, a Sync, SyncOne or Request, and the message's stays in clocks, the last one first
+-- The line that sent a message, a Sync, SyncOne or Request, and the message's stays in clocks, the last one first. Of a
+-- run a journey ends where a clock shows less at the end of a stay than at its beginning; of lines it goes on, and its
+-- readings are judged apart.
 pub record LineJourney : Type 0 where
   pub origin : LinePlace
   pub stays : List LineStay
@@ -38,7 +40,7 @@ abbrev pub with_stay : (left entered : LinePlace) → LineJourney → LineJourne
 with_stay left entered journey =
     record { origin = journey.origin; stays = record { entered = entered; left = left } ∷ journey.stays }
 
--- the copy that entered at a line, where that is a line of this clock and the copy was made below it
+-- the copy that entered at a line, where that is a line of this clock and the copy was made before it
 abbrev pub copy_entered : NodeName → LinePlace → Option ℕ
 copy_entered clock entered = option_and_then
     (λ copy. if is_named (site entered) clock && nat_lt copy (line_number entered) then Some copy else None)

@@ -97,7 +97,7 @@ is_good network (Tick node) out = is_slave network node && is_done out
 is_good network (SetMaster node master) out = is_slave network node && is_master network master && is_done out
 is_good network (StepClock node diff) out = is_some (kind_of network node) && is_done out
 
--- A line that tells of something done: it is good, and its event was neither refused nor ignored. To the lines after it
+-- A line counts where it is good and its event was neither refused nor ignored. To the lines after it
 -- every other line is as if it weren't there.
 abbrev pub counts : Network → TraceLine → Bool
 counts network line = is_good network line.event line.out && not (is_refused line.out || is_ignored line.out)

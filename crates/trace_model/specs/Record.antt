@@ -32,7 +32,7 @@ event_of e = e.line.event
 abbrev pub site : LinePlace → NodeName
 site e = site_of e.line.event
 
--- the line of this number, where it tells of something done
+-- the line of this number, where it counts
 abbrev pub line_at : Network → Lines → ℕ → Option LinePlace
 line_at network [] n = None
 line_at network (line ∷ earlier) n =
@@ -40,7 +40,7 @@ line_at network (line ∷ earlier) n =
     then (if counts network line then Some (line_place line earlier) else None)
     else line_at network earlier n
 
--- the events of these lines that were done, newest first
+-- the events of those of these lines that count, newest first
 abbrev pub events : Network → Lines → Run
 events network lines = map (λ line. line.event) (filter (counts network) lines)
 

@@ -55,7 +55,7 @@ abbrev pub line_of : Network → Lines → (Event → Bool) → NodeName → ℕ
 line_of network lines kind node number =
     where_passes (λ e. is_at kind node (event_of e)) (line_at network lines number)
 
--- the line that made the copy which is heard at a line, and stands below it
+-- the line that made the copy which is heard at a line, and stands before it
 abbrev pub sender : Network → Lines → LinePlace → Option LinePlace
 sender network lines e = option_and_then (below (line_at network lines) (line_number e)) (heard_copy (event_of e))
 

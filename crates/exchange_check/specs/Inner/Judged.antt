@@ -165,7 +165,7 @@ found_reason network facts once site slave report (Some found) =
     (found_journey_to facts once draws_sync found.sync_arrival)
     (found_journey_to facts once is_request found.request_arrival)
 
--- why a report at a line that tells of something done isn't sound, or nothing where it is
+-- why a report at a line that counts isn't sound, or nothing where it is
 abbrev pub fact_reason : Network → Facts → Once → Stamps → Sites → Fact → Report → Option Why
 fact_reason network facts once stamps sites fact report =
     found_reason network facts once (sites (site_of fact.event)) (site_of fact.event) report

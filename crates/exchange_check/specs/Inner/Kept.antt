@@ -32,7 +32,7 @@ use Rattle.trace_model.specs.Octets.{drawing_port, message_sent, is_written}
 abbrev pub port_setup : Port → PortSetup
 port_setup port = record { config = port.config; first = port.first.0 }
 
--- what is kept of the line of each number, where it tells of something done
+-- what is kept of the line of each number, where it counts
 abbrev pub Facts : Type 0
 Facts = ℕ → Option Fact
 
@@ -75,7 +75,7 @@ known_by network sites line n = record {
 abbrev pub kept_journey_at : Facts → ℕ → Option KeptJourney
 kept_journey_at facts copy = option_and_then (λ fact. fact.journey) (facts copy)
 
--- the copy that entered at a line, where that is a line of this clock and the copy was made below it
+-- the copy that entered at a line, where that is a line of this clock and the copy was made before it
 abbrev pub copy_entered_by : NodeName → Fact → Option ℕ
 copy_entered_by clock entered = option_and_then
     (λ copy. if is_named (site_of entered.event) clock && nat_lt copy entered.line then Some copy else None)

@@ -6,7 +6,7 @@ use Rattle.exchange_check.specs.declared.facts.Fact.{Fact}
 use Rattle.exchange_check.specs.Inner.Machine.{facts_of, leaves_told}
 use Rattle.exchange_check.specs.Inner.Stays.{stay_of, with_stay, state_in, AreStays}
 use Rattle.exchange_check.proofs.CopyStates.{one_more}
-use Rattle.exchange_check.proofs.kept.Kept.tell.Goals as goal
+use Rattle.exchange_check.proofs.kept.Kept.note_fact.Goals as goal
 
 pub returns-in-None-clause-stays : goal.returns-in-None-clause-stays
 returns-in-None-clause-stays c stays leaves h =
