@@ -17,26 +17,26 @@ returns c = record {
       let last : c.len-total.result - 1 ≡ length items = omega arith in
       let below : count < c.len-total.result = omega arith in
       let bound : c.len-total.result < 18446744073709551616 = search rules in
-      let sites : sites_of c.tell.new.self
+      let sites : sites_of c.note_fact.new.self
       ≡ sites_told c.fact-fact.result c.len-number.result (sites_of c.args.self.now) = search rules in
       let stays_are : (stays : LastStays) (leaves : Leaves)
       → AreStays c.args.self.now.stays stays leaves c.len-number.result
-      → AreStays c.tell.new.self.stays
+      → AreStays c.note_fact.new.self.stays
       (with_stay c.len-number.result
       (option_and_then (stay_of (fact_in c.push.new.self.items) c.len-number.result) c.fact-fact.result) stays)
       (leaves_told c.fact-fact.result leaves) (c.len-number.result + 1) = search rules in
-      let stamps : stamps_of c.tell.new.self
+      let stamps : stamps_of c.note_fact.new.self
       ≡ stamps_told c.fact-fact.result c.len-number.result (sites_of c.args.self.now)
       (stamps_of c.args.self.now) = search rules in
       IsKept-line c.args.nodes.now c.args.line.now count m c.args.self.now
       (record {
-        facts = c.tell.new.self.facts;
-        sites = c.tell.new.self.sites;
-        stays = c.tell.new.self.stays;
-        stamps = c.tell.new.self.stamps;
+        facts = c.note_fact.new.self.facts;
+        sites = c.note_fact.new.self.sites;
+        stays = c.note_fact.new.self.stays;
+        stamps = c.note_fact.new.self.stamps;
         verdict = c.judged-verdict.result;
       })
       c.len-number.result (c.len-total.result - 1) c.fact-fact.result c.push.new.self.items h
-      number last c.fact-fact.ensures pushed (λ i. (c.tell.ensures.facts i).items) sites stays_are stamps
+      number last c.fact-fact.ensures pushed (λ i. (c.note_fact.ensures.facts i).items) sites stays_are stamps
       (c.judged-verdict.ensures (accepted-bound c.args.self.now count m c.len-total.result h below bound));
 }
