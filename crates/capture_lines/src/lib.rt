@@ -1,0 +1,11 @@
+//! Lines of a recording at a slave: a datagram with the time at which its port sent or received it, and
+//! what was measured, as JSON or as a row of a table.
+#![tactic(auto)]
+
+mod decimal;
+mod measurement;
+mod timed;
+
+pub use decimal::Nanoseconds;
+pub use measurement::{Half, Measurement, TABLE_HEAD, push_json, push_row};
+pub use timed::{Timed, read_timed};
