@@ -1,2 +1,4 @@
 pub mod LongDivision
+pub mod ExactDecimals
 pub mod Times
+pub mod Worked

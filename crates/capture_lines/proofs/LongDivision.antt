@@ -6,7 +6,7 @@ use Rattle.std.specs.Fmt.{decimal}
 use Rattle.std.specs.Int.RustNames.{unsigned_abs}
 use lib.Signed.{lt_z}
 use borrow.Author.Differences.{ints}
-use Rattle.capture_lines.specs.Decimal.{decimals, fraction_text, nanoseconds_text}
+use Rattle.capture_lines.specs.Decimal.{decimals, pointed, nanoseconds_text}
 
 pub decimals-nothing : (places : ℕ) → decimals places 0 ≡ []
 unfolding decimals
@@ -40,9 +40,9 @@ out_of_places front all place rest past so_far =
     sym (append-nil front) ∙ (rw (no_place, decimals-no_places rest) at so_far)
 
 -- a point stands before decimals alone
-fraction : (rest : ℕ) (point : List ℕ) → ((rest ≡ 0) × (point ≡ [])) ⊎ ((rest ≢ 0) × (point ≡ codes ".")) → point ++ decimals 17 rest ≡ fraction_text rest
+fraction : (rest : ℕ) (point : List ℕ) → ((rest ≡ 0) × (point ≡ [])) ⊎ ((rest ≢ 0) × (point ≡ codes ".")) → point ++ decimals 17 rest ≡ pointed (decimals 17 rest)
 fraction rest point (inl none) = rw (none.0, none.1, decimals-nothing 17)
-fraction rest point (inr some) = let test : eqb rest 0 ≡ false = grind (arith, nat_tests, some.0) in rw (test, some.1)
+fraction rest point (inr some) = rw (some.1, decimals-step 16 rest (omega (arith, some.0)))
 
 -- what is written of a number: its sign, whole nanoseconds, a point, and decimals
 pub shown : (z : ℤ) (size : ℕ) (sign point : List ℕ) → size ≡ unsigned_abs z

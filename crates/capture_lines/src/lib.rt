@@ -3,6 +3,7 @@
 #![tactic(auto)]
 
 mod decimal;
+pub mod laws;
 mod measurement;
 mod timed;
 

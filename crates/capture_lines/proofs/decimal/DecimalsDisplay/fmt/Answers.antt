@@ -1,4 +1,4 @@
-use Rattle.std.proofs.Common.{◌+◌, ◌*◌, ◌/◌, [], ◌∷◌, ◌++◌, refl, arith}
+use Rattle.std.proofs.Common.{◌+◌, ◌*◌, ◌/◌, [], ◌∷◌, ◌++◌, refl, true, arith}
 use Rattle.std.proofs.Output.{has_written_append, has_written_of_eq}
 use Rattle.std.proofs.lemmas.Fmt.{decimal_digit}
 use Rattle.capture_lines.proofs.LongDivision.{moved, ended, out_of_places}
@@ -15,7 +15,7 @@ loop-place-preserved g c =
       written = λ plain.
           let before = so_far.written plain in
           has_written_append _ _ _ _ _ _ before
-          (has_written_of_eq _ _ _ _ _ (decimal_digit (rest * 10 / 131072) (omega arith)) (c.in_ok-write.ensures.writes before.plain refl));
+          (has_written_of_eq _ _ _ _ _ (decimal_digit (rest * 10 / 131072) (omega arith)) (c.in_ok-write.ensures.writes before.plain (refl {a = true})));
     }
 
 pub returns-then-rest-eq0-clause-writes : goal.returns-then-rest-eq0-clause-writes

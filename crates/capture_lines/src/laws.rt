@@ -1,0 +1,15 @@
+//! What follows from the definitions alone, for any number and any text.
+ghost use Rattle.std.specs.Prelude.{◌≡◌, ℕ, List, Some, true};
+ghost use Rattle.std.specs.List.{list_all};
+ghost use Rattle.capture_lines.specs.Decimal.{size_text, ShowsExactly};
+ghost use Rattle.capture_lines.specs.Timed.{time_in, is_time_octet};
+
+/// The text of a number of halves of 2^-16 ns has that number exactly, in as few digits as can be.
+pub fn nanoseconds_are_exact()
+    ensures { (size : ℕ) → ShowsExactly size (size_text size) }
+{}
+
+/// A time's text is digits and points, which need no escapes in JSON and none in a table.
+pub fn times_need_no_escapes()
+    ensures { (text : List ℕ) (time : ℕ) → time_in text ≡ Some time → list_all is_time_octet text ≡ true }
+{}
