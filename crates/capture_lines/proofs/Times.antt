@@ -16,9 +16,9 @@ use Rattle.std.proofs.lemmas.List.Folds.{list_all-append}
 use Rattle.std.proofs.lemmas.List.Quantifiers.{position-Some}
 use Rattle.std.proofs.lemmas.Str.{IsUtf8-from_ascii}
 use Rattle.std.proofs.lemmas.Str.Ascii.{IsAscii-nil, IsAscii-cons}
-use Rattle.capture_lines.specs.Timed.{are_digits, number_in, seconds_in, nanoseconds_in, time_of, time_in, moment_of, is_time_octet}
+use Rattle.capture_lines.specs.Timed.{are_digits, number_in, seconds_in, nanoseconds_in, time_of, time_in, moment_at, is_time_octet}
 
-own : IsNumeralModel (λ ds. list_all is_ascii_digit ds ≡ true) (digits_value 10)
+pub own : IsNumeralModel (λ ds. list_all is_ascii_digit ds ≡ true) (digits_value 10)
 own = numerals_by_value _ (search rules)
 
 -- at least one digit, at most so many, and nothing else
@@ -61,28 +61,28 @@ digits_of most text n h = AreDigits-from_test most text (some_if (are_digits mos
 pub below_second : (text : List ℕ) (n : ℕ) → Some n ≡ number_in 9 text → n < 10 ^ length text → n * 10 ^ (9 - length text) < 10 ^ 9
 below_second text n is below = scaled n (length text) (digits_of 9 text n (sym is)).fit below
 
-digits_are : (text : List ℕ) → list_all is_ascii_digit text ≡ true → list_all is_time_octet text ≡ true
+pub digits_are : (text : List ℕ) → list_all is_ascii_digit text ≡ true → list_all is_time_octet text ≡ true
 digits_are [] h = refl
 digits_are (x ∷ xs) h =
     let parts = and_parts (is_ascii_digit x) (list_all is_ascii_digit xs) h in
     rw (parts.0, digits_are xs parts.1)
 
 -- the octet at which a text is parted, and what stands round it
-parted_at : (octet i : ℕ) (text : List ℕ) → position (λ other. other == octet) text ≡ Some i → text ≡ take i text ++ octet ∷ drop (i + 1) text
+pub parted_at : (octet i : ℕ) (text : List ℕ) → position (λ other. other == octet) text ≡ Some i → text ≡ take i text ++ octet ∷ drop (i + 1) text
 parted_at octet i text h =
     let at = position-Some (λ other. other == octet) text i 0 h in
     let here : get_or text i 0 ≡ octet = grind (arith, nat_tests, at.1) in
     sym (take-append-drop i text) ∙ ap (λ rest. take i text ++ rest) (drop-cons text i 0 at.0 ∙ rw (here, add-one) refl)
 
-some_of_map : {X Y : Type 0} (f : X → Y) (o : Option X) (y : Y) → option_map f o ≡ Some y → (x : X) × (o ≡ Some x)
-some_of_map f (Some x) y h = (x, refl)
+pub some_of_map : {X Y : Type 0} (f : X → Y) (o : Option X) (y : Y) → option_map f o ≡ Some y → (x : X) × (o ≡ Some x) × (f x ≡ y)
+some_of_map f (Some x) y h = (x, refl, cc)
 some_of_map f None y h = absurd cc
 
-some_of_then : {X Y : Type 0} (f : X → Option Y) (o : Option X) (y : Y) → option_and_then f o ≡ Some y → (x : X) × (o ≡ Some x) × (f x ≡ Some y)
+pub some_of_then : {X Y : Type 0} (f : X → Option Y) (o : Option X) (y : Y) → option_and_then f o ≡ Some y → (x : X) × (o ≡ Some x) × (f x ≡ Some y)
 some_of_then f (Some x) y h = (x, refl, h)
 some_of_then f None y h = absurd cc
 
-unless : {X : Type 0} (test : Bool) (o : Option X) (y : X) → (if test then None else o) ≡ Some y → o ≡ Some y
+pub unless : {X : Type 0} (test : Bool) (o : Option X) (y : X) → (if test then None else o) ≡ Some y → o ≡ Some y
 unless true o y h = absurd cc
 unless false o y h = h
 
@@ -99,10 +99,10 @@ nanoseconds_are text n h =
 
 octets_of : (text : List ℕ) (at : Option ℕ) (time : ℕ) → position (λ other. other == 46) text ≡ at
     → time_of text (option_map (λ i. (take i text, drop (i + 1) text)) at) ≡ Some time → list_all is_time_octet text ≡ true
-octets_of text None time is h = seconds_are text _ (some_of_then (λ seconds. moment_of seconds 0) (seconds_in text) time h).1
+octets_of text None time is h = seconds_are text _ (some_of_then (λ seconds. moment_at seconds 0) (seconds_in text) time h).1
 octets_of text (Some i) time is h =
-    let seconds = some_of_then (λ seconds. option_and_then (moment_of seconds) (nanoseconds_in (drop (i + 1) text))) (seconds_in (take i text)) time h in
-    let nanoseconds = some_of_then (moment_of seconds.0) (nanoseconds_in (drop (i + 1) text)) time seconds.2 in
+    let seconds = some_of_then (λ seconds. option_and_then (moment_at seconds) (nanoseconds_in (drop (i + 1) text))) (seconds_in (take i text)) time h in
+    let nanoseconds = some_of_then (moment_at seconds.0) (nanoseconds_in (drop (i + 1) text)) time seconds.2 in
     let front = seconds_are (take i text) seconds.0 seconds.1 in
     let rest = nanoseconds_are (drop (i + 1) text) nanoseconds.0 nanoseconds.1 in
     rw (parted_at 46 i text is, list_all-append is_time_octet (take i text) (46 ∷ drop (i + 1) text), front) rest

@@ -1,9 +1,8 @@
 -- Lines, numbers and measurements, worked by hand.
-use Rattle.std.proofs.Common.{◌≡◌, ◌-◌, ◌*◌, ◌∷◌, ℕ, List, Bor, pos, negsuc, [], codes, Some, None, refl}
+use Rattle.std.proofs.Common.{◌≡◌, ◌-◌, ◌*◌, ℕ, List, Bor, pos, negsuc, [], codes, Some, None, refl}
 use Rattle.std.specs.Fmt.{digits}
 use Rattle.slave_port.specs.declared.heard.Report.{Report}
 use Rattle.capture_lines.specs.declared.measurement.Half.TheVariants.{Sync, Response}
-use Rattle.capture_lines.specs.declared.measurement.Measurement.{Measurement}
 use Rattle.capture_lines.specs.Decimal.{decimals, nanoseconds_text}
 use Rattle.capture_lines.specs.Measurement.{json_text, row_text}
 use Rattle.capture_lines.specs.Timed.{line_parts, time_in, timed_in}

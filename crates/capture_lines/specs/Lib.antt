@@ -1,3 +1,3 @@
-pub mod Timed
 pub mod Decimal
+pub mod Timed
 pub mod Measurement

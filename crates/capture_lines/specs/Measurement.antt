@@ -31,6 +31,10 @@ json_text m =
     ++ codes "],\"time\":\"" ++ m.time.now
     ++ codes "\"}\n"
 
+-- the line above all rows
+abbrev pub table_head : List ℕ
+table_head = codes "time,offset_ns,path_ns,by,line\n"
+
 -- a measurement as a row of the table
 abbrev pub row_text : Measurement → List ℕ
 row_text m =

@@ -1,10 +1,12 @@
 -- What a line of a recording tells: a time, and the digits of a datagram.
-use Rattle.std.specs.Prelude.{ℕ, ◌+◌, ◌-◌, ◌*◌, ◌^◌, nat_lt, nat_le, ◌==◌, ◌&&◌, ◌||◌, Bool, List, length, take, drop}
-use Rattle.std.specs.Prelude.{slice_index, Option, Some, None, option_map, option_and_then, if◌then◌else◌}
+use Rattle.std.specs.Prelude.{◌≡◌, ℕ, ◌+◌, ◌-◌, ◌*◌, ◌^◌, ◌<◌, ◌≤◌, nat_lt, nat_le, ◌==◌, ◌&&◌, ◌||◌, Bool, true}
+use Rattle.std.specs.Prelude.{List, ◌++◌, length, take, drop, slice_index, Option, Some, None, option_map, option_and_then, if◌then◌else◌}
 use Rattle.std.specs.List.{list_all, position}
 use Rattle.std.specs.Char.{is_ascii_digit}
+use Rattle.std.specs.Fmt.{decimal}
 use Rattle.std.specs.Str.Parse.{digits_value}
 use Rattle.ptp_units.specs.Moment.{stamp, moment}
+use Rattle.capture_lines.specs.Decimal.{pointed}
 use Rattle.capture_lines.specs.declared.timed.Timed.{Timed}
 
 -- the text of a time, that time in units, and the digits of the datagram
@@ -40,29 +42,35 @@ abbrev pub nanoseconds_in : List ℕ → Option ℕ
 nanoseconds_in text = option_map (λ number. number * 10 ^ (9 - length text)) (number_in 9 text)
 
 -- the moment of seconds below 2^48 and nanoseconds
-abbrev pub moment_of : ℕ → ℕ → Option ℕ
-moment_of seconds nanoseconds =
+abbrev pub moment_at : ℕ → ℕ → Option ℕ
+moment_at seconds nanoseconds =
     if nat_lt seconds (2 ^ 48) then Some (moment (stamp seconds nanoseconds) 0) else None
 
 -- the moment of whole seconds, or of seconds and nanoseconds that a point parts
 abbrev pub time_of : List ℕ → Option (List ℕ × List ℕ) → Option ℕ
-time_of text None = option_and_then (λ seconds. moment_of seconds 0) (seconds_in text)
+time_of text None = option_and_then (λ seconds. moment_at seconds 0) (seconds_in text)
 time_of text (Some parts) =
-    option_and_then (λ seconds. option_and_then (moment_of seconds) (nanoseconds_in parts.1)) (seconds_in parts.0)
+    option_and_then (λ seconds. option_and_then (moment_at seconds) (nanoseconds_in parts.1)) (seconds_in parts.0)
 
 -- the time that a text is, in units since the beginning of the timescale
 abbrev pub time_in : List ℕ → Option ℕ
 time_in text = time_of text (parted 46 text)
 
+-- the text is whole seconds below 2^48 and at most 9 decimals, which make exactly this time
+pub record TellsExactly (text : List ℕ) (time : ℕ) : Type 0 where
+  pub seconds : ℕ
+  pub fraction : List ℕ
+  pub spelled : text ≡ decimal seconds ++ pointed fraction
+  pub below : seconds < 2 ^ 48
+  pub digits : list_all is_ascii_digit fraction ≡ true
+  pub at_most : length fraction ≤ 9
+  pub exact : time * 10 ^ length fraction ≡ (seconds * 10 ^ length fraction + digits_value 10 fraction) * (10 ^ 9 * 2 ^ 16)
+
 -- a digit or a point
 abbrev pub is_time_octet : ℕ → Bool
 is_time_octet octet = is_ascii_digit octet || octet == 46
 
--- a time before the blank, and the digits after it
-abbrev pub timed_of : Option (List ℕ × List ℕ) → Option LineParts
-timed_of None = None
-timed_of (Some parts) = option_map (λ time. line_parts parts.0 time parts.1) (time_in parts.0)
-
 -- what a line tells: a time, one blank, and the digits of a datagram, which may be none
 abbrev pub timed_in : List ℕ → Option LineParts
-timed_in line = timed_of (parted 32 line)
+timed_in line =
+    option_and_then (λ parts. option_map (λ time. line_parts parts.0 time parts.1) (time_in parts.0)) (parted 32 line)

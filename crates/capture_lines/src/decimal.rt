@@ -1,4 +1,3 @@
-//! Exact decimals.
 ghost use Rattle.std.specs.Prelude.{◌<◌, Some};
 ghost use Rattle.capture_lines.specs.Decimal.{decimals, nanoseconds_text};
 

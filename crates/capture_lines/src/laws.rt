@@ -2,11 +2,18 @@
 ghost use Rattle.std.specs.Prelude.{◌≡◌, ℕ, List, Some, true};
 ghost use Rattle.std.specs.List.{list_all};
 ghost use Rattle.capture_lines.specs.Decimal.{size_text, ShowsExactly};
-ghost use Rattle.capture_lines.specs.Timed.{time_in, is_time_octet};
+ghost use Rattle.capture_lines.specs.Timed.{time_in, is_time_octet, TellsExactly};
 
 /// The text of a number of halves of 2^-16 ns has that number exactly, in as few digits as can be.
 pub fn nanoseconds_are_exact()
     ensures { (size : ℕ) → ShowsExactly size (size_text size) }
+{}
+
+/// A text is read as a time exactly where its digits make that time: whole seconds below 2^48 without zeros in
+/// front, and nothing, or a point and at most nine decimals.
+pub fn times_are_exact()
+    ensures told { (text : List ℕ) (time : ℕ) → time_in text ≡ Some time → TellsExactly text time }
+    ensures read { (text : List ℕ) (time : ℕ) → TellsExactly text time → time_in text ≡ Some time }
 {}
 
 /// A time's text is digits and points, which need no escapes in JSON and none in a table.

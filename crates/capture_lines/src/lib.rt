@@ -8,5 +8,5 @@ mod measurement;
 mod timed;
 
 pub use decimal::Nanoseconds;
-pub use measurement::{Half, Measurement, TABLE_HEAD, push_json, push_row};
+pub use measurement::{Half, Measurement, push_json, push_row, table_head};
 pub use timed::{Timed, read_timed};

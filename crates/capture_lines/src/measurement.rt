@@ -1,15 +1,12 @@
-//! What was measured, as a line.
 ghost use Rattle.std.specs.Prelude.{◌≡◌, ◌++◌, OnOk, Some};
 ghost use Rattle.std.specs.String.{string_bytes};
+ghost use Rattle.capture_lines.specs.Measurement.{half_text, follow_text, json_text, table_head, row_text};
 
 use crate::decimal::Nanoseconds;
 use slave_port::Report;
 use std::alloc::AllocError;
 use std::fmt;
 use std::fmt::{Display, Formatter};
-
-/// The head of the table.
-pub const TABLE_HEAD: &str = "time,offset_ns,path_ns,by,line\n";
 
 /// Which half completed a report.
 #[derive(Clone, Copy, Debug, PartialEq, Eq)]
@@ -21,8 +18,6 @@ pub enum Half {
 }
 
 impl Display for Half {
-    ghost use Rattle.capture_lines.specs.Measurement.{half_text};
-
     ghost output = { λ half. Some (half_text half) };
 
     fn fmt<W: fmt::Write>(&self, f: &mut Formatter<W>) -> fmt::Result {
@@ -51,8 +46,6 @@ pub struct Measurement<'a> {
 struct Follow(Option<u64>);
 
 impl Display for Follow {
-    ghost use Rattle.capture_lines.specs.Measurement.{follow_text};
-
     ghost output = { λ follow. Some (follow_text follow.0) };
 
     fn fmt<W: fmt::Write>(&self, f: &mut Formatter<W>) -> fmt::Result {
@@ -62,8 +55,6 @@ impl Display for Follow {
         }
     }
 }
-
-ghost use Rattle.capture_lines.specs.Measurement.{json_text, row_text};
 
 /// Appends a measurement as JSON, in one line.
 pub fn push_json(text: &mut String, measured: &Measurement<'_>) -> Result<(), AllocError>
@@ -91,6 +82,13 @@ pub fn push_json(text: &mut String, measured: &Measurement<'_>) -> Result<(), Al
         report.request_tag,
         report.response_tag
     )
+}
+
+/// The head of the table, a line.
+pub fn table_head() -> &'static str
+    ensures { result.now ≡ table_head }
+{
+    "time,offset_ns,path_ns,by,line\n"
 }
 
 /// Appends a measurement as a row of the table.

@@ -1,4 +1,3 @@
-//! A datagram with its time, as a line.
 ghost use Rattle.std.specs.Prelude.{◌≡◌, ◌≤◌, ◌<◌, ◌^◌, ◌==◌, length, option_map, IfSome};
 ghost use Rattle.std.specs.List.{position};
 ghost use Rattle.capture_lines.specs.Timed.{are_digits, number_in, seconds_in, nanoseconds_in, time_in, timed_in, parts_of};
