@@ -1,5 +1,6 @@
 -- The decimals of long division are exact, and no more than are needed.
-use Rattle.std.proofs.Common.{◌≡◌, ◌≢◌, ℕ, zero, suc, ◌+◌, ◌-◌, ◌*◌, ◌/◌, ◌%◌, ◌^◌, ◌<◌, ◌≤◌, true, List, [], ◌∷◌, ◌++◌, length, refl, ap, sym, arith, rules}
+use Rattle.std.proofs.Common.{◌≡◌, ◌≢◌, ℕ, zero, suc, ◌+◌, ◌-◌, ◌*◌, ◌/◌, ◌%◌, ◌^◌, ◌<◌, ◌≤◌, true, List, [], ◌∷◌}
+use Rattle.std.proofs.Common.{◌++◌, length, refl, ap, sym, arith, rules}
 use Rattle.std.specs.List.{list_all}
 use Rattle.std.specs.Char.{is_ascii_digit}
 use Rattle.std.proofs.lemmas.Str.Parse.{IsNumeralModel, numerals_by_weight}
@@ -23,7 +24,8 @@ length_decimals (suc places) (suc rest) =
     rw (decimals-step places (suc rest) (omega arith)) (omega arith)
 
 -- what long division leaves is a part of the rest, twice as coarse
-leaves : (rest q r p k : ℕ) → rest * 10 ≡ q * 131072 + r → rest * (2 * p) ≡ k * 131072 → r * p ≡ (5 * k - q * p) * 131072
+leaves : (rest q r p k : ℕ) → rest * 10 ≡ q * 131072 + r → rest * (2 * p) ≡ k * 131072
+    → r * p ≡ (5 * k - q * p) * 131072
 leaves rest q r p k division even =
     let times = ap (λ x. x * p) division in
     omega arith
@@ -58,29 +60,37 @@ shortest_after rest ds some after [] e =
     omega arith
 shortest_after rest ds some after (x ∷ front) e = let same : ds ≡ front ++ 48 ∷ [] = cc in after.shortest front same
 
-exact_after : (rest : ℕ) (ds : List ℕ) → 0 < rest → rest < 131072 → AreExact (rest * 10 % 131072) ds → AreExact rest ((48 + rest * 10 / 131072) ∷ ds)
+exact_after : (rest : ℕ) (ds : List ℕ) → 0 < rest → rest < 131072 → AreExact (rest * 10 % 131072) ds
+    → AreExact rest ((48 + rest * 10 / 131072) ∷ ds)
 exact_after rest ds some below after =
     let digit : is_ascii_digit (48 + rest * 10 / 131072) ≡ true = grind (arith, nat_tests) in
     let value : 48 + rest * 10 / 131072 - 48 ≡ rest * 10 / 131072 = omega arith in
     let power : 10 ^ suc (length ds) ≡ 10 * 10 ^ length ds = omega arith in
     record {
       digits = rw (digit, after.digits);
-      exact = rw (value, power) (weighed rest (rest * 10 / 131072) (rest * 10 % 131072) (10 ^ length ds) (weigh ds) (omega arith) after.exact);
+      exact = rw (value, power)
+          (weighed rest (rest * 10 / 131072) (rest * 10 % 131072) (10 ^ length ds) (weigh ds)
+          (omega arith) after.exact);
       shortest = shortest_after rest ds some after;
     }
 
 -- the decimals of a rest that is whole after so many halvings
-exact_decimals : (places rest k : ℕ) → rest < 131072 → rest * 2 ^ places ≡ k * 131072 → AreExact rest (decimals places rest)
+exact_decimals : (places rest k : ℕ) → rest < 131072 → rest * 2 ^ places ≡ k * 131072
+    → AreExact rest (decimals places rest)
 exact_decimals zero rest k below even = exact_nothing rest (decimals 0 rest) (omega arith) (decimals-no_places rest)
-exact_decimals (suc places) zero k below even = exact_nothing 0 (decimals (suc places) 0) refl (decimals-nothing (suc places))
+exact_decimals (suc places) zero k below even =
+    exact_nothing 0 (decimals (suc places) 0) refl (decimals-nothing (suc places))
 exact_decimals (suc places) (suc rest) k below even =
     let power : 2 ^ suc places ≡ 2 * 2 ^ places = omega arith in
-    let halved = leaves (suc rest) (suc rest * 10 / 131072) (suc rest * 10 % 131072) (2 ^ places) k (omega arith) (rw power at even) in
+    let halved = leaves (suc rest) (suc rest * 10 / 131072) (suc rest * 10 % 131072) (2 ^ places) k (omega arith)
+    (rw power at even) in
     let after = exact_decimals places (suc rest * 10 % 131072) _ (omega arith) halved in
-    rw (decimals-step places (suc rest) (omega arith)) (exact_after (suc rest) (decimals places (suc rest * 10 % 131072)) (omega arith) below after)
+    rw (decimals-step places (suc rest) (omega arith))
+    (exact_after (suc rest) (decimals places (suc rest * 10 % 131072)) (omega arith) below after)
 
 -- a whole number before exact decimals
-joined : (size whole rest e v : ℕ) → size ≡ whole * 131072 + rest → v * 131072 ≡ rest * e → (whole * e + v) * 131072 ≡ size * e
+joined : (size whole rest e v : ℕ) → size ≡ whole * 131072 + rest → v * 131072 ≡ rest * e
+    → (whole * e + v) * 131072 ≡ size * e
 joined size whole rest e v parts exact =
     let times = ap (λ x. x * e) parts in
     omega arith
@@ -95,7 +105,8 @@ shows_exactly size =
       text = refl;
       digits = are.digits;
       exact = rw (sym (own.same (decimals 17 rest) (own.to (decimals 17 rest) are.digits)))
-          (joined size (size / 131072) rest (10 ^ length (decimals 17 rest)) (weigh (decimals 17 rest)) (omega arith) are.exact);
+          (joined size (size / 131072) rest (10 ^ length (decimals 17 rest)) (weigh (decimals 17 rest))
+          (omega arith) are.exact);
       at_most = length_decimals 17 rest;
       shortest = are.shortest;
     }

@@ -1,5 +1,6 @@
 -- The steps of the long division that gives decimals.
-use Rattle.std.proofs.Common.{◌≡◌, ◌≢◌, ℕ, zero, suc, ◌+◌, ◌-◌, ◌*◌, ◌/◌, ◌%◌, ◌<◌, eqb, true, false, inl, inr, List, [], ◌∷◌, ◌++◌, append-nil, append_assoc, refl, sym, arith, ◌≤◌, ◌∙◌}
+use Rattle.std.proofs.Common.{◌≡◌, ◌≢◌, ℕ, zero, suc, ◌+◌, ◌-◌, ◌*◌, ◌/◌, ◌%◌, ◌<◌, eqb, true, false, inl, inr, List}
+use Rattle.std.proofs.Common.{[], ◌∷◌, ◌++◌, append-nil, append_assoc, refl, sym, arith, ◌≤◌, ◌∙◌}
 use Rattle.std.proofs.lemmas.Bool.Decides.{nat_tests}
 use Rattle.std.specs.Prelude.{ℤ, pos, negsuc, codes, ◌⊎◌}
 use Rattle.std.specs.Fmt.{decimal}
@@ -17,7 +18,8 @@ pub decimals-no_places : (rest : ℕ) → decimals 0 rest ≡ []
 unfolding decimals
 decimals-no_places rest = refl
 
-pub decimals-step : (places rest : ℕ) → 0 < rest → decimals (suc places) rest ≡ (48 + rest * 10 / 131072) ∷ decimals places (rest * 10 % 131072)
+pub decimals-step : (places rest : ℕ) → 0 < rest
+    → decimals (suc places) rest ≡ (48 + rest * 10 / 131072) ∷ decimals places (rest * 10 % 131072)
 unfolding decimals
 decimals-step places rest some = let test : eqb rest 0 ≡ false = grind (arith, nat_tests) in rw test
 
@@ -34,13 +36,15 @@ pub ended : (front all : List ℕ) (places rest : ℕ) → rest ≡ 0 → front 
 ended front all places rest none so_far =
     sym (append-nil front) ∙ (rw (none, decimals-nothing places) at so_far)
 
-pub out_of_places : (front all : List ℕ) (place rest : ℕ) → 17 ≤ place → front ++ decimals (17 - place) rest ≡ all → front ≡ all
+pub out_of_places : (front all : List ℕ) (place rest : ℕ) → 17 ≤ place → front ++ decimals (17 - place) rest ≡ all
+    → front ≡ all
 out_of_places front all place rest past so_far =
     let no_place : 17 - place ≡ 0 = omega arith in
     sym (append-nil front) ∙ (rw (no_place, decimals-no_places rest) at so_far)
 
 -- a point stands before decimals alone
-fraction : (rest : ℕ) (point : List ℕ) → ((rest ≡ 0) × (point ≡ [])) ⊎ ((rest ≢ 0) × (point ≡ codes ".")) → point ++ decimals 17 rest ≡ pointed (decimals 17 rest)
+fraction : (rest : ℕ) (point : List ℕ) → ((rest ≡ 0) × (point ≡ [])) ⊎ ((rest ≢ 0) × (point ≡ codes "."))
+    → point ++ decimals 17 rest ≡ pointed (decimals 17 rest)
 fraction rest point (inl none) = rw (none.0, none.1, decimals-nothing 17)
 fraction rest point (inr some) = rw (some.1, decimals-step 16 rest (omega (arith, some.0)))
 

@@ -1,11 +1,15 @@
 -- A time's text is spelled by its digits, and each spelling is read.
-use Rattle.std.proofs.Common.{◌≡◌, ℕ, zero, suc, ◌+◌, ◌-◌, ◌*◌, ◌^◌, ◌<◌, ◌≤◌, nat_lt, nat_le, slice_index, true, false, ◌&&◌, ◌==◌, List, [], ◌∷◌, ◌++◌, length, take, drop, get_or, Option, Some, None, option_map, option_and_then, Bool, if◌then◌else◌, refl, ap, sym, arith, append-nil, length-append, ◌∙◌}
+use Rattle.std.proofs.Common.{◌≡◌, ℕ, zero, suc, ◌+◌, ◌-◌, ◌*◌, ◌^◌, ◌<◌, ◌≤◌, nat_lt, nat_le, slice_index, true}
+use Rattle.std.proofs.Common.{false, ◌&&◌, ◌==◌, List, [], ◌∷◌, ◌++◌, length, take, drop, get_or, Option, Some, None}
+use Rattle.std.proofs.Common.{option_map, option_and_then, Bool, if◌then◌else◌, refl, ap, sym, arith, append-nil}
+use Rattle.std.proofs.Common.{length-append, ◌∙◌}
 use Rattle.std.specs.Fmt.{decimal}
 use Rattle.std.specs.List.{list_all, position, position_or_len}
 use Rattle.std.specs.Char.{is_ascii_digit}
 use Rattle.std.specs.Str.Parse.{digits_value}
 use Rattle.std.proofs.lemmas.Str.Parse.{digits_value_short}
-use Rattle.std.proofs.lemmas.Fmt.{decimal-digits_value, digits_decimal, digits_value-decimal, decimal_digit, decimal_nonempty, first_decimal, length-decimal-le}
+use Rattle.std.proofs.lemmas.Fmt.{decimal-digits_value, digits_decimal, digits_value-decimal, decimal_digit}
+use Rattle.std.proofs.lemmas.Fmt.{decimal_nonempty, first_decimal, length-decimal-le}
 use Rattle.std.proofs.lemmas.Bool.{and_parts}
 use Rattle.std.proofs.lemmas.Bool.Decides.{nat_tests}
 use Rattle.std.proofs.lemmas.Nat.{pow-add}
@@ -13,7 +17,8 @@ use Rattle.std.proofs.Math.Nat.{eq_of_mul-eq-mul_right, one-le-pow}
 use Rattle.std.proofs.Math.Seq.{take-append_seam, drop-append-add}
 use Rattle.ptp_units.specs.Moment.{stamp, moment}
 use Rattle.capture_lines.specs.Decimal.{pointed}
-use Rattle.capture_lines.specs.Timed.{are_digits, number_in, seconds_in, nanoseconds_in, moment_at, time_of, time_in, TellsExactly}
+use Rattle.capture_lines.specs.Timed.{are_digits, number_in, seconds_in, nanoseconds_in, moment_at, time_of, time_in}
+use Rattle.capture_lines.specs.Timed.{TellsExactly}
 use Rattle.capture_lines.proofs.Times.{own, digits_of, parted_at, unless, some_of_map, some_of_then}
 
 -- ---- what a test that passed says
@@ -33,9 +38,11 @@ seconds_spelled : (text : List ℕ) (s : ℕ) → seconds_in text ≡ Some s →
 seconds_spelled text s h =
     let zeros = slice_index text 0 == 48 && nat_lt 1 (length text) in
     let number = unless zeros (number_in 15 text) s h in
-    let some_zeros : (slice_index text 0 == 48 && nat_lt 1 (length text)) ≡ false = not_dropped zeros (number_in 15 text) s h in
+    let some_zeros : (slice_index text 0 == 48 && nat_lt 1 (length text)) ≡ false =
+    not_dropped zeros (number_in 15 text) s h in
     let are = digits_of 15 text s number in
-    let alone : get_or text 0 0 ≡ 48 → length text ≡ 1 = λ zero_first. grind (arith, nat_tests, are.some, some_zeros, zero_first) in
+    let alone : get_or text 0 0 ≡ 48 → length text ≡ 1 =
+    λ zero_first. grind (arith, nat_tests, are.some, some_zeros, zero_first) in
     let small = digits_value_short own text 15 are.digits are.fit in
     sym (decimal-digits_value own text are.digits are.some alone (omega arith)) ∙ ap decimal (value_of 15 text s number)
 
@@ -43,7 +50,8 @@ seconds_spelled text s h =
 powers : (k : ℕ) → k ≤ 9 → 10 ^ (9 - k) * 10 ^ k ≡ 10 ^ 9
 powers k fits = let all : (9 - k) + k ≡ 9 = omega arith in sym (pow-add 10 (9 - k) k) ∙ ap (λ e. 10 ^ e) all
 
-scale : (s v p q : ℕ) → p * q ≡ 1000000000 → ((s * 1000000000 + v * p) * 65536 + 0) * q ≡ (s * q + v) * (1000000000 * 65536)
+scale : (s v p q : ℕ) → p * q ≡ 1000000000
+    → ((s * 1000000000 + v * p) * 65536 + 0) * q ≡ (s * q + v) * (1000000000 * 65536)
 scale s v p q ten =
     let times = ap (λ x. v * x) ten in
     omega arith
@@ -76,10 +84,12 @@ told_at text None time is h =
     }
 told_at text (Some i) time is h =
     let after = drop (i + 1) text in
-    let seconds = some_of_then (λ seconds. option_and_then (moment_at seconds) (nanoseconds_in after)) (seconds_in (take i text)) time h in
+    let seconds = some_of_then (λ seconds. option_and_then (moment_at seconds) (nanoseconds_in after))
+    (seconds_in (take i text)) time h in
     let s = seconds.0 in
     let nanoseconds = some_of_then (moment_at s) (nanoseconds_in after) time seconds.2 in
-    let number = some_of_map (λ number. number * 10 ^ (9 - length after)) (number_in 9 after) nanoseconds.0 nanoseconds.1 in
+    let number = some_of_map (λ number. number * 10 ^ (9 - length after))
+    (number_in 9 after) nanoseconds.0 nanoseconds.1 in
     let are = digits_of 9 after number.0 number.1 in
     let moment_is = kept (nat_lt s (2 ^ 48)) (moment (stamp s nanoseconds.0) 0) time nanoseconds.2 in
     record {
@@ -98,7 +108,8 @@ pub told : (text : List ℕ) (time : ℕ) → time_in text ≡ Some time → Tel
 told text time h = told_at text (position (λ other. other == 46) text) time refl h
 
 -- ---- from a spelling to its time
-test_of : (most : ℕ) (text : List ℕ) → 0 < length text → length text ≤ most → list_all is_ascii_digit text ≡ true → are_digits most text ≡ true
+test_of : (most : ℕ) (text : List ℕ) → 0 < length text → length text ≤ most → list_all is_ascii_digit text ≡ true
+    → are_digits most text ≡ true
 test_of most text some fit digits =
     let low : nat_le 1 (length text) ≡ true = grind (arith, nat_tests) in
     let high : nat_le (length text) most ≡ true = grind (arith, nat_tests) in
@@ -118,9 +129,11 @@ nanoseconds_read : (ds : List ℕ) → 0 < length ds → length ds ≤ 9 → lis
     → nanoseconds_in ds ≡ Some (digits_value 10 ds * 10 ^ (9 - length ds))
 nanoseconds_read ds some fit digits = rw (test_of 9 ds some fit digits)
 
-same_time : (time s v k : ℕ) → k ≤ 9 → time * 10 ^ k ≡ (s * 10 ^ k + v) * (1000000000 * 65536) → moment (stamp s (v * 10 ^ (9 - k))) 0 ≡ time
+same_time : (time s v k : ℕ) → k ≤ 9 → time * 10 ^ k ≡ (s * 10 ^ k + v) * (1000000000 * 65536)
+    → moment (stamp s (v * 10 ^ (9 - k))) 0 ≡ time
 same_time time s v k fits exact =
-    eq_of_mul-eq-mul_right (10 ^ k) (one-le-pow k 10 (omega arith)) _ _ (scale s v (10 ^ (9 - k)) (10 ^ k) (powers k fits) ∙ sym exact)
+    eq_of_mul-eq-mul_right (10 ^ k) (one-le-pow k 10 (omega arith)) _ _
+    (scale s v (10 ^ (9 - k)) (10 ^ k) (powers k fits) ∙ sym exact)
 
 past_digits : (ds rest : List ℕ) → list_all is_ascii_digit ds ≡ true
     → position_or_len (λ other. other == 46) (ds ++ rest) ≡ length ds + position_or_len (λ other. other == 46) rest
@@ -132,17 +145,22 @@ past_digits (x ∷ xs) rest h =
 
 no_point : (ds : List ℕ) → list_all is_ascii_digit ds ≡ true → position (λ other. other == 46) ds ≡ None
 no_point ds h =
-    let at : position_or_len (λ other. other == 46) ds ≡ length ds = sym (ap (position_or_len (λ other. other == 46)) (append-nil ds)) ∙ past_digits ds [] h ∙ omega arith in
+    let at : position_or_len (λ other. other == 46) ds ≡ length ds =
+    sym (ap (position_or_len (λ other. other == 46)) (append-nil ds)) ∙ past_digits ds [] h ∙ omega arith in
     let test : nat_lt (length ds) (length ds) ≡ false = grind (arith, nat_tests) in
     rw (at, test)
 
-point_at : (ds rest : List ℕ) → list_all is_ascii_digit ds ≡ true → position (λ other. other == 46) (ds ++ 46 ∷ rest) ≡ Some (length ds)
+point_at : (ds rest : List ℕ) → list_all is_ascii_digit ds ≡ true
+    → position (λ other. other == 46) (ds ++ 46 ∷ rest) ≡ Some (length ds)
 point_at ds rest h =
-    let at : position_or_len (λ other. other == 46) (ds ++ 46 ∷ rest) ≡ length ds = past_digits ds (46 ∷ rest) h ∙ omega arith in
-    let test : nat_lt (length ds) (length (ds ++ 46 ∷ rest)) ≡ true = grind (arith, nat_tests, length-append ds (46 ∷ rest)) in
+    let at : position_or_len (λ other. other == 46) (ds ++ 46 ∷ rest) ≡ length ds =
+    past_digits ds (46 ∷ rest) h ∙ omega arith in
+    let test : nat_lt (length ds) (length (ds ++ 46 ∷ rest)) ≡ true =
+    grind (arith, nat_tests, length-append ds (46 ∷ rest)) in
     rw (at, test)
 
-read_spelled : (s : ℕ) (fraction : List ℕ) (time : ℕ) → s < 2 ^ 48 → list_all is_ascii_digit fraction ≡ true → length fraction ≤ 9
+read_spelled : (s : ℕ) (fraction : List ℕ) (time : ℕ) → s < 2 ^ 48 → list_all is_ascii_digit fraction ≡ true
+    → length fraction ≤ 9
     → time * 10 ^ length fraction ≡ (s * 10 ^ length fraction + digits_value 10 fraction) * (10 ^ 9 * 2 ^ 16)
     → time_in (decimal s ++ pointed fraction) ≡ Some time
 read_spelled s [] time below digits at_most exact =
@@ -163,4 +181,5 @@ read_spelled s (d ∷ ds) time below digits at_most exact =
     (ap Some (same_time time s (digits_value 10 (d ∷ ds)) (length (d ∷ ds)) at_most exact))
 
 pub read : (text : List ℕ) (time : ℕ) → TellsExactly text time → time_in text ≡ Some time
-read text time tells = rw tells.spelled (read_spelled tells.seconds tells.fraction time tells.below tells.digits tells.at_most tells.exact)
+read text time tells = rw tells.spelled
+    (read_spelled tells.seconds tells.fraction time tells.below tells.digits tells.at_most tells.exact)

@@ -1,5 +1,8 @@
 -- What the digits and the parts of a time are.
-use Rattle.std.proofs.Common.{◌≡◌, ℕ, ◌+◌, ◌-◌, ◌*◌, ◌^◌, ◌<◌, ◌≤◌, nat_le, nat_lt, slice_index, true, false, ◌&&◌, ◌==◌, add-one, List, [], ◌∷◌, ◌++◌, length, take, drop, get_or, Result, Option, Some, None, IfSome, option_map, option_and_then, Bool, if◌then◌else◌, refl, ap, sym, arith, rules, ◌∙◌}
+use Rattle.std.proofs.Common.{◌≡◌, ℕ, ◌+◌, ◌-◌, ◌*◌, ◌^◌, ◌<◌, ◌≤◌, nat_le, nat_lt, slice_index, true, false, ◌&&◌}
+use Rattle.std.proofs.Common.{◌==◌, add-one, List, [], ◌∷◌, ◌++◌, length, take, drop, get_or, Result, Option, Some}
+use Rattle.std.proofs.Common.{None, IfSome, option_map, option_and_then, Bool, if◌then◌else◌, refl, ap, sym, arith}
+use Rattle.std.proofs.Common.{rules, ◌∙◌}
 use Rattle.std.specs.Result.{result_ok}
 use Rattle.std.specs.List.{list_all, position}
 use Rattle.std.specs.Char.{is_ascii_digit}
@@ -16,7 +19,8 @@ use Rattle.std.proofs.lemmas.List.Folds.{list_all-append}
 use Rattle.std.proofs.lemmas.List.Quantifiers.{position-Some}
 use Rattle.std.proofs.lemmas.Str.{IsUtf8-from_ascii}
 use Rattle.std.proofs.lemmas.Str.Ascii.{IsAscii-nil, IsAscii-cons}
-use Rattle.capture_lines.specs.Timed.{are_digits, number_in, seconds_in, nanoseconds_in, time_of, time_in, moment_at, is_time_octet}
+use Rattle.capture_lines.specs.Timed.{are_digits, number_in, seconds_in, nanoseconds_in, time_of, time_in, moment_at}
+use Rattle.capture_lines.specs.Timed.{is_time_octet}
 
 pub own : IsNumeralModel (λ ds. list_all is_ascii_digit ds ≡ true) (digits_value 10)
 own = numerals_by_value _ (search rules)
@@ -34,7 +38,8 @@ AreDigits-from_test most text h =
     record { some = grind (arith, nat_tests, lengths.0); fit = grind (arith, nat_tests, lengths.1); digits = first.1 }
 
 -- what `parse` gives of digits
-pub parsed : {E : Type 0} (most : ℕ) (text : List ℕ) (r : Result ℕ E) → ParsesUnsigned 64 10 text r → are_digits most text ≡ true → most ≤ 15
+pub parsed : {E : Type 0} (most : ℕ) (text : List ℕ) (r : Result ℕ E) → ParsesUnsigned 64 10 text r
+    → are_digits most text ≡ true → most ≤ 15
     → (result_ok r ≡ number_in most text) × IfSome (result_ok r) (λ n. n < 10 ^ length text)
 parsed most text r given digits short =
     let are = AreDigits-from_test most text digits in
@@ -58,7 +63,8 @@ some_if false x y h = absurd cc
 pub digits_of : (most : ℕ) (text : List ℕ) (n : ℕ) → number_in most text ≡ Some n → AreDigits most text
 digits_of most text n h = AreDigits-from_test most text (some_if (are_digits most text) (digits_value 10 text) n h)
 
-pub below_second : (text : List ℕ) (n : ℕ) → Some n ≡ number_in 9 text → n < 10 ^ length text → n * 10 ^ (9 - length text) < 10 ^ 9
+pub below_second : (text : List ℕ) (n : ℕ) → Some n ≡ number_in 9 text → n < 10 ^ length text
+    → n * 10 ^ (9 - length text) < 10 ^ 9
 below_second text n is below = scaled n (length text) (digits_of 9 text n (sym is)).fit below
 
 pub digits_are : (text : List ℕ) → list_all is_ascii_digit text ≡ true → list_all is_time_octet text ≡ true
@@ -68,17 +74,20 @@ digits_are (x ∷ xs) h =
     rw (parts.0, digits_are xs parts.1)
 
 -- the octet at which a text is parted, and what stands round it
-pub parted_at : (octet i : ℕ) (text : List ℕ) → position (λ other. other == octet) text ≡ Some i → text ≡ take i text ++ octet ∷ drop (i + 1) text
+pub parted_at : (octet i : ℕ) (text : List ℕ) → position (λ other. other == octet) text ≡ Some i
+    → text ≡ take i text ++ octet ∷ drop (i + 1) text
 parted_at octet i text h =
     let at = position-Some (λ other. other == octet) text i 0 h in
     let here : get_or text i 0 ≡ octet = grind (arith, nat_tests, at.1) in
     sym (take-append-drop i text) ∙ ap (λ rest. take i text ++ rest) (drop-cons text i 0 at.0 ∙ rw (here, add-one) refl)
 
-pub some_of_map : {X Y : Type 0} (f : X → Y) (o : Option X) (y : Y) → option_map f o ≡ Some y → (x : X) × (o ≡ Some x) × (f x ≡ y)
+pub some_of_map : {X Y : Type 0} (f : X → Y) (o : Option X) (y : Y) → option_map f o ≡ Some y
+    → (x : X) × (o ≡ Some x) × (f x ≡ y)
 some_of_map f (Some x) y h = (x, refl, cc)
 some_of_map f None y h = absurd cc
 
-pub some_of_then : {X Y : Type 0} (f : X → Option Y) (o : Option X) (y : Y) → option_and_then f o ≡ Some y → (x : X) × (o ≡ Some x) × (f x ≡ Some y)
+pub some_of_then : {X Y : Type 0} (f : X → Option Y) (o : Option X) (y : Y) → option_and_then f o ≡ Some y
+    → (x : X) × (o ≡ Some x) × (f x ≡ Some y)
 some_of_then f (Some x) y h = (x, refl, h)
 some_of_then f None y h = absurd cc
 
@@ -98,10 +107,13 @@ nanoseconds_are text n h =
     digits_are text (digits_of 9 text number.0 number.1).digits
 
 octets_of : (text : List ℕ) (at : Option ℕ) (time : ℕ) → position (λ other. other == 46) text ≡ at
-    → time_of text (option_map (λ i. (take i text, drop (i + 1) text)) at) ≡ Some time → list_all is_time_octet text ≡ true
-octets_of text None time is h = seconds_are text _ (some_of_then (λ seconds. moment_at seconds 0) (seconds_in text) time h).1
+    → time_of text (option_map (λ i. (take i text, drop (i + 1) text)) at) ≡ Some time
+    → list_all is_time_octet text ≡ true
+octets_of text None time is h =
+    seconds_are text _ (some_of_then (λ seconds. moment_at seconds 0) (seconds_in text) time h).1
 octets_of text (Some i) time is h =
-    let seconds = some_of_then (λ seconds. option_and_then (moment_at seconds) (nanoseconds_in (drop (i + 1) text))) (seconds_in (take i text)) time h in
+    let seconds = some_of_then (λ seconds. option_and_then (moment_at seconds) (nanoseconds_in (drop (i + 1) text)))
+    (seconds_in (take i text)) time h in
     let nanoseconds = some_of_then (moment_at seconds.0) (nanoseconds_in (drop (i + 1) text)) time seconds.2 in
     let front = seconds_are (take i text) seconds.0 seconds.1 in
     let rest = nanoseconds_are (drop (i + 1) text) nanoseconds.0 nanoseconds.1 in

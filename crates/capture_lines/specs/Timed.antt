@@ -1,6 +1,7 @@
 -- What a line of a recording tells: a time, and the digits of a datagram.
 use Rattle.std.specs.Prelude.{◌≡◌, ℕ, ◌+◌, ◌-◌, ◌*◌, ◌^◌, ◌<◌, ◌≤◌, nat_lt, nat_le, ◌==◌, ◌&&◌, ◌||◌, Bool, true}
-use Rattle.std.specs.Prelude.{List, ◌++◌, length, take, drop, slice_index, Option, Some, None, option_map, option_and_then, if◌then◌else◌}
+use Rattle.std.specs.Prelude.{List, ◌++◌, length, take, drop, slice_index, Option, Some, None, option_map}
+use Rattle.std.specs.Prelude.{option_and_then, if◌then◌else◌}
 use Rattle.std.specs.List.{list_all, position}
 use Rattle.std.specs.Char.{is_ascii_digit}
 use Rattle.std.specs.Fmt.{decimal}
@@ -64,7 +65,8 @@ pub record TellsExactly (text : List ℕ) (time : ℕ) : Type 0 where
   pub below : seconds < 2 ^ 48
   pub digits : list_all is_ascii_digit fraction ≡ true
   pub at_most : length fraction ≤ 9
-  pub exact : time * 10 ^ length fraction ≡ (seconds * 10 ^ length fraction + digits_value 10 fraction) * (10 ^ 9 * 2 ^ 16)
+  pub exact : time * 10 ^ length fraction
+      ≡ (seconds * 10 ^ length fraction + digits_value 10 fraction) * (10 ^ 9 * 2 ^ 16)
 
 -- a digit or a point
 abbrev pub is_time_octet : ℕ → Bool

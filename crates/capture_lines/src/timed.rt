@@ -1,6 +1,7 @@
 ghost use Rattle.std.specs.Prelude.{◌≡◌, ◌≤◌, ◌<◌, ◌^◌, ◌==◌, length, option_map, IfSome};
 ghost use Rattle.std.specs.List.{position};
-ghost use Rattle.capture_lines.specs.Timed.{are_digits, number_in, seconds_in, nanoseconds_in, time_in, timed_in, parts_of};
+ghost use Rattle.capture_lines.specs.Timed.{are_digits, number_in, seconds_in, nanoseconds_in, time_in, timed_in};
+ghost use Rattle.capture_lines.specs.Timed.{parts_of};
 
 use ptp_units::{ScaledTime, Timestamp};
 use std::str;

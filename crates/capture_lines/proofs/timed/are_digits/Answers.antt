@@ -7,5 +7,6 @@ use Rattle.capture_lines.proofs.timed.are_digits.Goals as goal
 
 pub returns-then-text-most : goal.returns-then-text-most
 returns-then-text-most c =
-    let all = all_from_yields_List is_ascii_digit _ _ c.all.result c.all.ensures.ran (YieldsList-from_slice c.as_bytes.result.now cc) (λ x b q k. search (rules, tests)) in
+    let all = all_from_yields_List is_ascii_digit _ _ c.all.result c.all.ensures.ran
+    (YieldsList-from_slice c.as_bytes.result.now cc) (λ x b q k. search (rules, tests)) in
     grind (arith, nat_tests)

@@ -15,7 +15,8 @@ loop-place-preserved g c =
       written = λ plain.
           let before = so_far.written plain in
           has_written_append _ _ _ _ _ _ before
-          (has_written_of_eq _ _ _ _ _ (decimal_digit (rest * 10 / 131072) (omega arith)) (c.in_ok-write.ensures.writes before.plain (refl {a = true})));
+          (has_written_of_eq _ _ _ _ _ (decimal_digit (rest * 10 / 131072) (omega arith))
+          (c.in_ok-write.ensures.writes before.plain (refl {a = true})));
     }
 
 pub returns-then-rest-eq0-clause-writes : goal.returns-then-rest-eq0-clause-writes
@@ -26,4 +27,5 @@ returns-then-rest-eq0-clause-writes g c = λ plain ok.
 pub returns-after-loop-place-clause-writes : goal.returns-after-loop-place-clause-writes
 returns-after-loop-place-clause-writes g c = λ plain ok.
     let so_far = c.loop-place.invariant in
-    has_written_of_eq _ _ _ _ _ (out_of_places so_far.front _ c.loop-place._place _ (omega arith) so_far.decimals) (so_far.written plain)
+    has_written_of_eq _ _ _ _ _ (out_of_places so_far.front _ c.loop-place._place _ (omega arith) so_far.decimals)
+    (so_far.written plain)

@@ -3,7 +3,8 @@ use Rattle.std.specs.Int.{w128}
 use Rattle.std.proofs.Output.{has_written_of_eq}
 use Rattle.std.proofs.lemmas.Int.{to_z-of_z}
 use Rattle.capture_lines.proofs.LongDivision.{shown}
-use Rattle.capture_lines.proofs.decimal.NanosecondsDisplay.fmt.Goals.{then-self-lt0, else-self-lt0, then-rest-eq0, else-rest-eq0}
+use Rattle.capture_lines.proofs.decimal.NanosecondsDisplay.fmt.Goals.{then-self-lt0, else-self-lt0, then-rest-eq0}
+use Rattle.capture_lines.proofs.decimal.NanosecondsDisplay.fmt.Goals.{else-rest-eq0}
 use Rattle.capture_lines.proofs.decimal.NanosecondsDisplay.fmt.Goals as goal
 
 pub returns-clause-writes : goal.returns-clause-writes
