@@ -6,6 +6,7 @@ use Rattle.capture_lines.specs.declared.measurement.Half.TheVariants.{Sync, Resp
 use Rattle.capture_lines.specs.declared.measurement.Measurement.{Measurement}
 use Rattle.capture_lines.specs.Decimal.{nanoseconds_text}
 
+-- which half completed a report
 abbrev pub half_text : Half → List ℕ
 half_text Sync = codes "sync"
 half_text Response = codes "response"

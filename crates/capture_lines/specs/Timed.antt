@@ -10,15 +10,17 @@ use Rattle.ptp_units.specs.Moment.{stamp, moment}
 use Rattle.capture_lines.specs.Decimal.{pointed}
 use Rattle.capture_lines.specs.declared.timed.Timed.{Timed}
 
--- the text of a time, that time in units, and the digits of the datagram
+-- the text of a time, that time in units, and the digits of a datagram
 pub record LineParts : Type 0 where
   pub text : List ℕ
   pub time : ℕ
   pub digits : List ℕ
 
+-- these parts
 abbrev pub line_parts : List ℕ → ℕ → List ℕ → LineParts
 line_parts text time digits = record { text = text; time = time; digits = digits }
 
+-- the parts that a line was read as
 abbrev pub parts_of : Timed → LineParts
 parts_of timed = line_parts timed.text.now timed.time timed.digits.now
 

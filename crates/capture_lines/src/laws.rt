@@ -4,7 +4,8 @@ ghost use Rattle.std.specs.List.{list_all};
 ghost use Rattle.capture_lines.specs.Decimal.{size_text, ShowsExactly};
 ghost use Rattle.capture_lines.specs.Timed.{time_in, is_time_octet, TellsExactly};
 
-/// The text of a number of halves of 2^-16 ns has that number exactly, in as few digits as can be.
+/// The text of a number of halves of 2^-16 ns, in nanoseconds, makes exactly that number, and ends in no 0 after a
+/// point.
 pub fn nanoseconds_are_exact()
     ensures { (size : ℕ) → ShowsExactly size (size_text size) }
 {}
