@@ -1,0 +1,5 @@
+pub mod LongDivision
+pub mod ExactDecimals
+pub mod Times
+pub mod SpelledTimes
+pub mod Worked

@@ -1,0 +1,47 @@
+-- What was measured, as JSON and as a row of a table.
+use Rattle.std.specs.Prelude.{ℕ, List, ◌++◌, codes, Option, Some, None}
+use Rattle.std.specs.Fmt.{decimal, signed_decimal}
+use Rattle.capture_lines.specs.declared.measurement.Half.{Half}
+use Rattle.capture_lines.specs.declared.measurement.Half.TheVariants.{Sync, Response}
+use Rattle.capture_lines.specs.declared.measurement.Measurement.{Measurement}
+use Rattle.capture_lines.specs.Decimal.{nanoseconds_text}
+
+-- which half completed a report
+abbrev pub half_text : Half → List ℕ
+half_text Sync = codes "sync"
+half_text Response = codes "response"
+
+-- the line of a Follow_Up, or null
+abbrev pub follow_text : Option ℕ → List ℕ
+follow_text None = codes "null"
+follow_text (Some line) = decimal line
+
+-- a measurement as JSON, in one line
+abbrev pub json_text : Measurement → List ℕ
+json_text m =
+    codes "{\"by\":\"" ++ half_text m.by
+    ++ codes "\",\"line\":" ++ decimal m.line
+    ++ codes ",\"offset\":\"" ++ nanoseconds_text m.report.offset2
+    ++ codes "\",\"offset2\":\"" ++ signed_decimal m.report.offset2
+    ++ codes "\",\"path\":\"" ++ nanoseconds_text m.report.path2
+    ++ codes "\",\"path2\":\"" ++ signed_decimal m.report.path2
+    ++ codes "\",\"tags\":[" ++ decimal m.report.sync_tag
+    ++ codes "," ++ follow_text m.report.follow_tag
+    ++ codes "," ++ decimal m.report.request_tag
+    ++ codes "," ++ decimal m.report.response_tag
+    ++ codes "],\"time\":\"" ++ m.time.now
+    ++ codes "\"}\n"
+
+-- the line above all rows
+abbrev pub table_head : List ℕ
+table_head = codes "time,offset_ns,path_ns,by,line\n"
+
+-- a measurement as a row of the table
+abbrev pub row_text : Measurement → List ℕ
+row_text m =
+    m.time.now
+    ++ codes "," ++ nanoseconds_text m.report.offset2
+    ++ codes "," ++ nanoseconds_text m.report.path2
+    ++ codes "," ++ half_text m.by
+    ++ codes "," ++ decimal m.line
+    ++ codes "\n"
