@@ -1,0 +1,211 @@
+-- A port that listens to a recording: what holds of it holds after all datagrams, so each of its reports is exact.
+use Rattle.std.proofs.Common.{◌≡◌, ◌∙◌, ℕ, ◌+◌, ◌≤◌, Bool, true, false, List, ◌∷◌, Option, Some, None, Ok, Err, refl}
+use Rattle.std.proofs.Common.{sym, ap, subst, arith, option_and_then, if◌then◌else◌}
+use Rattle.std.specs.Prelude.{◌==◌, not, count_by, IsTrue}
+use Rattle.std.specs.Option.{option_map_or}
+use Rattle.std.specs.Result.{result_ok}
+use Rattle.std.specs.List.{All}
+use Rattle.std.proofs.lemmas.Bool.{and_right, not-true}
+use Rattle.std.proofs.lemmas.List.Elements.{All-nil, All-weaker}
+use Rattle.ptp_units.specs.Sequence.{of_count}
+use Rattle.event_codec.specs.declared.message.Body.{Body}
+use Rattle.event_codec.specs.declared.message.Body.TheVariants as bodies
+use Rattle.event_codec.specs.Packet.{Contents}
+use Rattle.event_codec.specs.Port.{is_same_port}
+use Rattle.event_codec.specs.Reading.{Reading}
+use Rattle.network_model.specs.declared.event.Event.{Event}
+use Rattle.network_model.specs.Network.{Network, NodeName, PortSetup, IsNetwork}
+use Rattle.network_model.specs.Run.{Run}
+use Rattle.network_model.specs.Kinds.{is_at, draws_sync, is_request}
+use Rattle.network_model.specs.Truth.{slave_at}
+use Rattle.network_model.specs.Outcome.{IsRun}
+use Rattle.network_model.proofs.Sequences.{count-yes, count-no}
+use Rattle.capture_model.specs.declared.watched.Watched.{Watched}
+use Rattle.capture_model.specs.Recorded.{Recorded}
+use Rattle.capture_model.specs.Listening.{Listening, setup_in, is_of, hears, hears_request, after_all, hearing}
+use Rattle.capture_model.specs.Listening.{answer_in, report_in, report_at, reports}
+use Rattle.capture_model.specs.Told.{Tells, Nothing, Untold, Told, Other, told_at, is_others_request, says_nothing}
+use Rattle.capture_model.specs.Told.{IsTimed, AreNumbered, event_told}
+use Rattle.capture_model.specs.Premises.{IsFresh, IsTicked, syncs_since_tick}
+use Rattle.capture_model.specs.Exact.{Watches, IsExact, EachReportIsExact}
+use Rattle.capture_model.proofs.Lines.{Lines, Extends, told-in, told-more, told-now, numbered-rest}
+use Rattle.capture_model.proofs.Near.{All-brought}
+use Rattle.capture_model.proofs.ToldEvents.{untold_asks_none}
+use Rattle.capture_model.proofs.Holding.{holds-later}
+use Rattle.capture_model.proofs.Standing.{Stands}
+use Rattle.capture_model.proofs.Reported.{IsMadeOf, made-later, exact_of}
+use Rattle.capture_model.proofs.Steps.{within, step}
+
+module _ (network : Network) (slave master : NodeName) (w : Watched) (apart : IsNetwork network)
+    (watches : Watches network slave master w) where
+  -- the Syncs since the last tick are few
+  ticked-now : {run : Run} {ds : List Recorded} (tells : Tells network slave run ds) → IsTicked 16384 master w tells
+      → syncs_since_tick master w tells ≤ 16384
+  ticked-now Nothing ticked = omega arith
+  ticked-now (Untold event earlier ds none tells) ticked = ticked.0
+  ticked-now (Told event earlier m d ds made said timed tells) ticked = ticked.0
+  ticked-now (Other run d ds nothing tells) ticked = ticked-now tells ticked
+
+  -- what holds after all datagrams
+  record HoldsAfter {run : Run} {ds : List Recorded} (tells : Tells network slave run ds) : Type 0 where
+    pub stands : Stands network slave master w watches within (event_told tells)
+        (count_by (is_at draws_sync master) run) (count_by (is_at is_request slave) run)
+        (syncs_since_tick master w tells) (after_all w ds)
+    pub made : All (IsMadeOf (event_told tells) slave master) (reports w ds)
+
+  start : HoldsAfter Nothing
+  start = record {
+    stands = record {
+      holds = record {
+        follows_master = refl;
+        near_syncs = (λ k d low. absurd (omega arith), λ k d low. absurd (omega arith));
+        near_follows = (λ k d low. absurd (omega arith), λ k d low. absurd (omega arith));
+        near_completions = (λ k d low. absurd (omega arith), λ k d low. absurd (omega arith));
+        near_delays = (λ k d low. absurd (omega arith), λ k d low. absurd (omega arith));
+        last_requests = tt;
+      };
+      next = λ asked. cc;
+    };
+    made = All-nil (IsMadeOf (event_told {network = network} {slave = slave} Nothing) slave master);
+  }
+
+  -- an event that no line tells
+  untold : (event : Event) (earlier : Run) (ds : List Recorded) (none : told_at network slave event earlier ≡ None)
+      (tells : Tells network slave earlier ds)
+      → HoldsAfter tells → HoldsAfter (Untold event earlier ds none tells)
+  untold event earlier ds none tells before =
+      let more : Lines = event_told (Untold event earlier ds none tells) in
+      let extends : Extends (event_told tells) more = λ line p is. is in
+      let asks_none = untold_asks_none network slave watches.own event earlier watches.slave_port none in
+      let sent : count_by (is_at is_request slave) (event ∷ earlier) ≡ count_by (is_at is_request slave)
+      earlier = count-no (is_at is_request slave) event earlier asks_none in
+      record {
+        stands = record {
+          holds = holds-later network slave master watches.own watches.other w.master within (event_told tells) more
+              (count_by (is_at draws_sync master) earlier) (count_by (is_at draws_sync master) (event ∷ earlier))
+              (count_by (is_at is_request slave) earlier) (count_by (is_at is_request slave) (event ∷ earlier))
+              (syncs_since_tick master w tells)
+              (syncs_since_tick master w (Untold event earlier ds none tells)) (setup_in w (after_all w ds))
+              (after_all w ds).calls extends
+              (drawn (is_at draws_sync master event) refl) (omega arith) before.stands.holds;
+          next = λ asked. before.stands.next asked ∙ ap (λ (n : ℕ). of_count (watches.own.first + n)) (sym sent);
+        };
+        made = All-weaker (IsMadeOf (event_told tells) slave master) (IsMadeOf more slave master)
+            (made-later (event_told tells) more slave master extends)
+            (reports w ds) before.made;
+      }
+    where
+      drawn : (draws : Bool) → is_at draws_sync master event ≡ draws
+          → count_by (is_at draws_sync master) (event ∷ earlier) + syncs_since_tick master w tells
+          ≤ count_by (is_at draws_sync master) earlier
+          + (if draws then syncs_since_tick master w tells + 1 else syncs_since_tick master w tells)
+      drawn true e = omega (arith, count-yes (is_at draws_sync master) event earlier e)
+      drawn false e = omega (arith, count-no (is_at draws_sync master) event earlier e)
+
+  -- a datagram that says nothing changes nothing
+  unheard : (line time : ℕ) (r : Reading) (l : Listening) → says_nothing network slave r ≡ true
+      → (option_map_or (λ m. hears w line time m m.body l) (result_ok r) l ≡ l)
+      × (option_and_then (λ m. hearing line time m m.body) (result_ok r) ≡ None)
+  unheard line time (Err refusal) l nothing = (refl, refl)
+  unheard line time (Ok m) l nothing = by m.body nothing
+    where
+      others : (port : Option PortSetup) → slave_at network slave ≡ port
+          → option_map_or (λ port. not (is_same_port m.header.source port.config.identity)) port false ≡ true
+          → is_of w w.slave m.header ≡ false
+      others None at nothing = cc
+      others (Some port) at nothing =
+          let ports : Some port ≡ Some watches.own = sym at ∙ watches.slave_port in
+          let own : port ≡ watches.own = cc in
+          let identity : port.config.identity ≡ w.slave = ap (λ (o : PortSetup). o.config.identity) own
+          ∙ sym watches.slave_is in
+          and_right (m.header.domain == w.domain) (is_same_port m.header.source w.slave)
+          (ap (is_same_port m.header.source) (sym identity)
+          ∙ not-true (is_same_port m.header.source port.config.identity) nothing)
+
+      by : (body : Body) → is_others_request network slave m.header body ≡ true → (hears w line time m body l ≡ l)
+          × (hearing line time m body ≡ None)
+      by (bodies.DelayReq origin) nothing = (
+        ap (λ b. if b then hears_request w line time m.header.sequence.0 l else l)
+            (others (slave_at network slave) refl nothing),
+        refl,
+      )
+      by (bodies.Sync origin) nothing = cc
+      by (bodies.FollowUp precise) nothing = cc
+      by (bodies.DelayResp receive requesting) nothing = cc
+
+  -- so it leaves all as it was
+  other : (run : Run) (d : Recorded) (ds : List Recorded) (nothing : IsTrue (says_nothing network slave d.said))
+      (tells : Tells network slave run ds)
+      → HoldsAfter tells → HoldsAfter (Other run d ds nothing tells)
+  other run d ds nothing tells before =
+      let more : Lines = event_told (Other run d ds nothing tells) in
+      let extends : Extends (event_told tells) more = λ line p is. is in
+      let slack : ℕ = syncs_since_tick master w tells in
+      let syncs : ℕ = count_by (is_at draws_sync master) run in
+      let sent : ℕ = count_by (is_at is_request slave) run in
+      let l : Listening = after_all w ds in
+      let still = unheard d.line d.time d.said l nothing in
+      let none : report_at w ds d ≡ None = ap (option_and_then (λ call. report_in (answer_in w l call))) still.1 in
+      record {
+        stands = subst (Stands network slave master w watches within more syncs sent slack) (sym still.0) (record {
+          holds = holds-later network slave master watches.own watches.other w.master within (event_told tells) more
+              syncs syncs sent sent
+              slack slack (setup_in w l) l.calls extends (omega arith) (omega arith) before.stands.holds;
+          next = before.stands.next;
+        });
+        made = All-brought (IsMadeOf more slave master) (report_at w ds d) (reports w ds)
+            (λ r is. let same : Some r ≡ None = sym is ∙ none in cc)
+            (All-weaker (IsMadeOf (event_told tells) slave master) (IsMadeOf more slave master)
+            (made-later (event_told tells) more slave master extends)
+            (reports w ds) before.made);
+      }
+
+  -- a datagram that tells an event
+  told : (event : Event) (earlier : Run) (m : Contents) (d : Recorded) (ds : List Recorded)
+      (made : told_at network slave event earlier ≡ Some m)
+      (said : d.said ≡ Ok m) (timed : IsTimed event earlier d.time) (tells : Tells network slave earlier ds)
+      → IsRun network (event ∷ earlier) → AreNumbered (d ∷ ds)
+      → IsFresh 32768 w (Told event earlier m d ds made said timed tells)
+      → IsTicked 16384 master w tells → HoldsAfter tells → HoldsAfter (Told event earlier m d ds made said timed tells)
+  told event earlier m d ds made said timed tells accepted numbered fresh ticked before =
+      let more : Lines = event_told (Told event earlier m d ds made said timed tells) in
+      let extends = told-more network slave event earlier m d made said timed tells numbered in
+      let one = step network slave master w apart watches event earlier m d ds accepted (event_told tells) more extends
+      (told-in network slave (Told event earlier m d ds made said timed tells))
+      (told-now network slave event earlier m d made said timed tells) said timed
+      (syncs_since_tick master w tells) (ticked-now tells ticked) before.stands fresh.0 made in
+      record {
+        stands = one.stands.stands;
+        made = All-brought (IsMadeOf more slave master) (report_at w ds d) (reports w ds) one.reported
+            (All-weaker (IsMadeOf (event_told tells) slave master) (IsMadeOf more slave master)
+            (made-later (event_told tells) more slave master extends)
+            (reports w ds) before.made);
+      }
+
+  -- each of them in turn
+  listened : {run : Run} {ds : List Recorded} (tells : Tells network slave run ds) → IsRun network run → AreNumbered ds
+      → IsFresh 32768 w tells
+      → IsTicked 16384 master w tells → HoldsAfter tells
+  listened Nothing accepted numbered fresh ticked = start
+  listened (Untold event earlier ds none tells) accepted numbered fresh ticked =
+      untold event earlier ds none tells (listened tells accepted.1 numbered fresh ticked.1)
+  listened (Other run d ds nothing tells) accepted numbered fresh ticked =
+      other run d ds nothing tells (listened tells accepted (numbered-rest network slave d ds numbered) fresh ticked)
+  listened (Told event earlier m d ds made said timed tells) accepted numbered fresh ticked =
+      told event earlier m d ds made said timed tells accepted numbered fresh ticked.1
+      (listened tells accepted.1 (numbered-rest network slave d ds numbered) fresh.1 ticked.1)
+
+  -- all reports
+  pub each_exact : {run : Run} {ds : List Recorded} (tells : Tells network slave run ds) → IsRun network run
+      → AreNumbered ds → IsFresh 32768 w tells
+      → IsTicked 16384 master w tells → All (IsExact master tells) (reports w ds)
+  each_exact {ds = ds} tells accepted numbered fresh ticked =
+      All-weaker (IsMadeOf (event_told tells) slave master) (IsExact master tells)
+      (exact_of network slave master tells) (reports w ds)
+      (listened tells accepted numbered fresh ticked).made
+
+-- the law
+pub each_report : EachReportIsExact
+each_report network run slave master w ds premise watches tells asked =
+    each_exact network slave master w premise.apart watches tells premise.accepted asked.numbered asked.fresh
+    asked.ticked

@@ -1,0 +1,236 @@
+-- A listening port over a datagram: what holds of it goes on holding, and is as after a tick where the datagram brings
+-- one.
+use Rattle.std.proofs.Common.{◌≡◌, ◌∙◌, ℕ, zero, suc, ◌+◌, ◌<◌, ◌≤◌, Bool, true, false, List, ◌∷◌, Some, refl, sym, ap}
+use Rattle.std.proofs.Common.{subst, arith, nat_lt, if◌then◌else◌}
+use Rattle.std.specs.Prelude.{◌==◌, ◌||◌, not, count_by}
+use Rattle.std.proofs.lemmas.Bool.{ne_eqb, eq-eqb}
+use Rattle.std.proofs.lemmas.List.Sums.{sum_by-cons}
+use Rattle.ptp_units.specs.Sequence.{of_count, ahead}
+use Rattle.event_codec.specs.Reading.{Reading}
+use Rattle.slave_port.specs.History as calls
+use Rattle.slave_port.specs.History.{Call, Setup, requests_drawn, next_number}
+use Rattle.slave_port.specs.Requests.{requests}
+use Rattle.network_model.specs.Network.{Network, NodeName}
+use Rattle.network_model.specs.Run.{Place}
+use Rattle.network_model.specs.Kinds.{is_at, is_request}
+use Rattle.network_model.specs.Clock.{reading}
+use Rattle.capture_model.specs.declared.watched.Watched.{Watched}
+use Rattle.capture_model.specs.Listening.{Listening, setup_in, told, draws, asks, anew, hears_request, hears_sync}
+use Rattle.capture_model.specs.Listening.{is_stale, answer_in, with_row, with_count, stale_most, ticks_every}
+use Rattle.capture_model.specs.Listening.{table_capacity}
+use Rattle.capture_model.specs.Premises.{is_tick, ticks_in}
+use Rattle.capture_model.specs.Exact.{Watches}
+use Rattle.capture_model.proofs.Lines.{Lines}
+use Rattle.capture_model.proofs.Near.{Reach}
+use Rattle.capture_model.proofs.Requests.{AreRequests, drawn-draws, next-draws, requests-asked}
+use Rattle.capture_model.proofs.Holding.{Holds, holds-ticked, holds-asked}
+
+-- one call more
+count-tick : (history : List Call) → count_by is_tick (calls.Tick ∷ history) ≡ count_by is_tick history + 1
+count-tick history = omega (arith, sum_by-cons (λ c. if is_tick c then 1 else 0) calls.Tick history)
+
+count-other : (call : Call) (history : List Call) → is_tick call ≡ false
+    → count_by is_tick (call ∷ history) ≡ count_by is_tick history
+count-other call history is = omega (
+  arith,
+  sum_by-cons (λ c. if is_tick c then 1 else 0) call history,
+  ap {B = ℕ}
+      (λ b. if b then 1 else 0) is,
+)
+
+count-draws : (count tag : ℕ) (history : List Call)
+    → count_by is_tick (draws count tag history) ≡ count_by is_tick history
+count-draws zero tag history = refl
+count-draws (suc count) tag history = count-other (calls.NextRequest tag) (draws count tag history) refl
+    ∙ count-draws count tag history
+
+-- a port that had so many ticks before has so many Syncs since its last one
+abbrev pub since_tick : (before slack : ℕ) → Listening → ℕ
+since_tick before slack l = if not (ticks_in l == before) then 0 else slack
+
+since-no_tick : (before slack : ℕ) (l : Listening) → ticks_in l ≡ before → since_tick before slack l ≡ slack
+since-no_tick before slack l same = ap {B = ℕ} (λ b. if not b then 0 else slack) (eq-eqb (ticks_in l) before same)
+
+since-tick : (before slack : ℕ) (l : Listening) → before < ticks_in l → since_tick before slack l ≡ 0
+since-tick before slack l more = ap {B = ℕ} (λ b. if not b then 0 else slack)
+    (ne_eqb (ticks_in l) before (λ (e : ticks_in l ≡ before). omega arith))
+
+since-low : (before slack : ℕ) (l : Listening) → since_tick before slack l ≤ slack
+since-low before slack l = by (ticks_in l == before)
+  where
+    by : (same : Bool) → (if not same then 0 else slack) ≤ slack
+    by true = omega arith
+    by false = omega arith
+
+module _ (network : Network) (slave master : NodeName) (w : Watched) (watches : Watches network slave master w)
+    (reach : Reach) (lines : Lines) where
+  -- what holds of a listening port, the next number of its requests among it
+  pub record Stands (syncs sent slack : ℕ) (l : Listening) : Type 0 where
+    pub holds : Holds network slave master watches.own watches.other w.master reach lines syncs sent slack
+        (setup_in w l) l.calls
+    pub next : l.asked ≡ true → next_number (setup_in w l) l.calls ≡ of_count (watches.own.first + sent)
+
+  -- the same after a datagram, before which the port had so many ticks
+  pub record StandsAfter (before syncs sent slack : ℕ) (l : Listening) : Type 0 where
+    pub more : before ≤ ticks_in l
+    pub stands : Stands syncs sent (since_tick before slack l) l
+
+  module _ (before syncs sent slack : ℕ) (few : slack ≤ reach.between) where
+    -- over a tick
+    ticked : (l : Listening) (counted stale : ℕ) → StandsAfter before syncs sent slack l
+        → StandsAfter before syncs sent slack (record l
+        { calls = calls.Tick ∷ l.calls; syncs = counted; stale = stale })
+    ticked l counted stale after =
+        let grown : before < ticks_in (record l { calls = calls.Tick ∷ l.calls; syncs = counted; stale = stale }) =
+        (let more = after.more in omega (arith, count-tick l.calls)) in
+        let none = since-tick before slack (record l { calls = calls.Tick ∷ l.calls; syncs = counted; stale = stale })
+        grown in
+        record {
+          more = omega arith;
+          stands = record {
+            holds = subst
+                (λ (s : ℕ). Holds network slave master watches.own watches.other w.master reach lines syncs sent s
+                (setup_in w l) (calls.Tick ∷ l.calls)) (sym none)
+                (holds-ticked network slave master watches.own watches.other w.master reach lines syncs sent
+                (since_tick before slack l) (setup_in w l) l.calls
+                after.stands.holds (omega (arith, since-low before slack l)));
+            next = after.stands.next;
+          };
+        }
+
+    -- over other counts
+    recounted : (l : Listening) (counted stale : ℕ) → StandsAfter before syncs sent slack l
+        → StandsAfter before syncs sent slack (record l { syncs = counted; stale = stale })
+    recounted l counted stale after = record {
+      more = after.more;
+      stands = record { holds = after.stands.holds; next = after.stands.next };
+    }
+
+    rowed : (stale : Bool) (l : Listening) → StandsAfter before syncs sent slack l
+        → StandsAfter before syncs sent slack (with_row stale l)
+    rowed false l after = recounted l l.syncs 0 after
+    rowed true l after = by (l.stale + 1 == stale_most)
+      where
+        by : (full : Bool) → StandsAfter before syncs sent slack
+            (if full then record l { calls = calls.Tick ∷ calls.Tick ∷ l.calls; stale = 0 } else record l
+            { stale = l.stale + 1 })
+        by true = ticked (record l { calls = calls.Tick ∷ l.calls }) l.syncs 0 (ticked l l.syncs l.stale after)
+        by false = recounted l l.syncs (l.stale + 1) after
+
+    counted : (l : Listening) → StandsAfter before syncs sent slack l
+        → StandsAfter before syncs sent slack (with_count l)
+    counted l after = by (l.syncs + 1 == ticks_every)
+      where
+        by : (full : Bool) → StandsAfter before syncs sent slack
+            (if full then record l { calls = calls.Tick ∷ l.calls; syncs = 0 } else record l { syncs = l.syncs + 1 })
+        by true = ticked l 0 l.stale after
+        by false = recounted l (l.syncs + 1) l.stale after
+
+    -- a Sync
+    pub hears_sync-stands : (of_master : Bool) (call : Call) (l : Listening)
+        → StandsAfter before syncs sent slack (told call l)
+        → StandsAfter before syncs sent slack (hears_sync w of_master call l)
+    hears_sync-stands false call l after = after
+    hears_sync-stands true call l after =
+        counted (with_row (is_stale (answer_in w l call)) (told call l))
+        (rowed (is_stale (answer_in w l call)) (told call l) after)
+
+  module _ (syncs sent slack : ℕ) (l : Listening) where
+    -- a message that the port is told
+    pub told-event : (heard : Reading) (t2 tag : ℕ)
+        → Holds network slave master watches.own watches.other w.master reach lines syncs sent slack (setup_in w l)
+        (calls.Event heard t2 tag ∷ l.calls)
+        → (l.asked ≡ true → next_number (setup_in w l) l.calls ≡ of_count (watches.own.first + sent))
+        → StandsAfter (ticks_in l) syncs sent slack (told (calls.Event heard t2 tag) l)
+    told-event heard t2 tag holds next =
+        let same = count-other (calls.Event heard t2 tag) l.calls refl in
+        record {
+          more = omega arith;
+          stands = record {
+            holds = subst (λ (s : ℕ). Holds network slave master watches.own watches.other w.master reach lines syncs
+                sent s (setup_in w l) (calls.Event heard t2 tag ∷ l.calls))
+                (sym (since-no_tick (ticks_in l) slack (told (calls.Event heard t2 tag) l) same)) holds;
+            next = next;
+          };
+        }
+
+    pub told-general : (heard : Reading) (tag : ℕ)
+        → Holds network slave master watches.own watches.other w.master reach lines syncs sent slack (setup_in w l)
+        (calls.General heard tag ∷ l.calls)
+        → (l.asked ≡ true → next_number (setup_in w l) l.calls ≡ of_count (watches.own.first + sent))
+        → StandsAfter (ticks_in l) syncs sent slack (told (calls.General heard tag) l)
+    told-general heard tag holds next =
+        let same = count-other (calls.General heard tag) l.calls refl in
+        record {
+          more = omega arith;
+          stands = record {
+            holds = subst (λ (s : ℕ). Holds network slave master watches.own watches.other w.master reach lines syncs
+                sent s (setup_in w l) (calls.General heard tag ∷ l.calls))
+                (sym (since-no_tick (ticks_in l) slack (told (calls.General heard tag) l) same)) holds;
+            next = next;
+          };
+        }
+
+    -- the slave's next Delay_Req is asked for, and the port begins anew at none
+    pub asked-stands : (p : Place) (line time number : ℕ) → Stands syncs sent slack l
+        → sent ≡ count_by (is_at is_request slave) p.earlier
+        → lines line ≡ Some p → is_at is_request slave p.event ≡ true → number ≡ of_count (watches.own.first + sent)
+        → time ≡ reading p
+        → StandsAfter (ticks_in l) syncs (sent + 1) slack (hears_request w line time number l)
+    asked-stands p line time number stands sent_is line_is drawn number_is time_is =
+        subst (λ (b : Bool). StandsAfter (ticks_in l) syncs (sent + 1) slack
+        (if b then asks w line time number l
+        else if ahead number next == 65535 then l else asks w line time number (anew w number l)))
+        (sym (goes_on l.asked stands.next)) after
+      where
+        next : ℕ
+        next = next_number (setup_in w l) l.calls
+
+        low : number < 65536
+        low = omega (arith, number_is)
+
+        same : ticks_in (asks w line time number l) ≡ ticks_in l
+        same = count-other (calls.RequestLeft number time) (draws (ahead number next + 1) line l.calls) refl
+            ∙ count-draws (ahead number next + 1) line l.calls
+
+        -- the number after this one is the next
+        after_it : next_number (setup_in w l) (asks w line time number l).calls ≡ of_count
+            (watches.own.first + (sent + 1))
+        after_it = omega (
+          arith,
+          number_is,
+          next-draws (setup_in w l) number line l.calls low,
+          drawn-draws (ahead number next + 1) line l.calls,
+          drawn-draws (ahead number next) line l.calls,
+        )
+
+        after : StandsAfter (ticks_in l) syncs (sent + 1) slack (asks w line time number l)
+        after = record {
+          more = omega (arith, same);
+          stands = record {
+            holds = subst (λ (s : ℕ). Holds network slave master watches.own watches.other w.master reach lines syncs
+                (sent + 1) s (setup_in w l) (asks w line time number l).calls)
+                (sym (since-no_tick (ticks_in l) slack (asks w line time number l) same))
+                (holds-asked network slave master watches.own watches.other w.master reach lines syncs sent slack
+                (setup_in w l) l.calls stands.holds
+                (ahead number next + 1) line number time (sent + 1) (subst
+                (λ (n : ℕ). AreRequests slave watches.own lines (n + 1)
+                (requests (setup_in w l) (asks w line time number l).calls)) (sym sent_is)
+                (requests-asked slave watches.own (setup_in w l) lines p line number time l.calls low line_is drawn
+                (number_is ∙ ap (λ (n : ℕ). of_count (watches.own.first + n)) sent_is) time_is
+                (subst (λ (n : ℕ). AreRequests slave watches.own lines n (requests (setup_in w l) l.calls)) sent_is
+                stands.holds.last_requests))));
+            next = λ asked. after_it;
+          };
+        }
+
+        turn : (n : ℕ) → n < 65536 → ahead n n ≡ 0
+        turn n below = omega arith
+
+        goes_on : (asked : Bool) → (asked ≡ true → next ≡ of_count (watches.own.first + sent))
+            → (not asked || nat_lt (ahead number next) table_capacity) ≡ true
+        goes_on false is = refl
+        goes_on true is =
+            let one : next ≡ number = is refl ∙ sym number_is in
+            ap (λ (n : ℕ). nat_lt (ahead number n) table_capacity) one
+            ∙ ap (λ (n : ℕ). nat_lt n table_capacity) (turn number low)

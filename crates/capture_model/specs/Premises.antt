@@ -1,0 +1,78 @@
+-- What is asked of a recording whose reports are exact: no number is too old when it is used, and ticks come often
+-- enough.
+use Rattle.std.specs.Prelude.{ℕ, ◌+◌, ◌<◌, ◌≤◌, ⊤, Bool, true, false, not, ◌==◌, List, count_by, if◌then◌else◌}
+use Rattle.std.specs.Prelude.{IsTrue, IfSome}
+use Rattle.std.specs.Option.{option_map_or}
+use Rattle.slave_port.specs.History as calls
+use Rattle.slave_port.specs.History.{Call}
+use Rattle.network_model.specs.Network.{Network, NodeName}
+use Rattle.network_model.specs.Run.{Run, place}
+use Rattle.network_model.specs.Kinds.{is_at, draws_sync}
+use Rattle.network_model.specs.Numbering.{drawn_later}
+use Rattle.network_model.specs.Truth.{origin_heard}
+use Rattle.network_model.specs.Premises.{Limits, is_of_use}
+use Rattle.capture_model.specs.declared.watched.Watched.{Watched}
+use Rattle.capture_model.specs.Recorded.{Recorded}
+use Rattle.capture_model.specs.Listening.{Listening, after_all, hear, hearing_of, answer_in}
+use Rattle.capture_model.specs.Told.{Tells, Nothing, Untold, Told, Other, AreNumbered}
+
+-- the port uses what a datagram says
+abbrev pub is_used : Watched → List Recorded → Recorded → Bool
+is_used w earlier d = option_map_or (λ call. is_of_use (answer_in w (after_all w earlier) call)) (hearing_of d) false
+
+-- where the port uses a message, fewer numbers than this are later than its own in its sequence
+abbrev pub IsFresh : {network : Network} {slave : NodeName} {run : Run} {ds : List Recorded} → (late : ℕ) → Watched
+    → Tells network slave run ds → Type 0
+IsFresh late w Nothing = ⊤
+IsFresh late w (Untold event earlier ds none tells) = IsFresh late w tells
+IsFresh late w (Told event earlier m d ds made said timed tells) =
+    (IsTrue (is_used w ds d) → IfSome (origin_heard (place event earlier))
+    (λ origin. drawn_later origin earlier < late))
+    × IsFresh late w tells
+IsFresh late w (Other run d ds nothing tells) = IsFresh late w tells
+
+-- a call that is a tick
+abbrev pub is_tick : Call → Bool
+is_tick calls.Tick = true
+is_tick _ = false
+
+-- how many ticks the port was given
+abbrev pub ticks_in : Listening → ℕ
+ticks_in l = count_by is_tick l.calls
+
+-- a datagram brings a tick
+abbrev pub brings_tick : Watched → List Recorded → Recorded → Bool
+brings_tick w earlier d = not (ticks_in (hear w d (after_all w earlier)) == ticks_in (after_all w earlier))
+
+-- how many Syncs the master drew since the port's last tick
+abbrev pub syncs_since_tick : {network : Network} {slave : NodeName} {run : Run} {ds : List Recorded}
+    → (master : NodeName) → Watched
+    → Tells network slave run ds → ℕ
+syncs_since_tick master w Nothing = 0
+syncs_since_tick master w (Untold event earlier ds none tells) =
+    if is_at draws_sync master event then syncs_since_tick master w tells + 1 else syncs_since_tick master w tells
+syncs_since_tick master w (Told event earlier m d ds made said timed tells) =
+    if brings_tick w ds d then 0 else syncs_since_tick master w tells
+syncs_since_tick master w (Other run d ds nothing tells) = syncs_since_tick master w tells
+
+-- at no point did the master draw more Syncs than this since the port's last tick
+abbrev pub IsTicked : {network : Network} {slave : NodeName} {run : Run} {ds : List Recorded} → (between_ticks : ℕ)
+    → (master : NodeName)
+    → Watched → Tells network slave run ds → Type 0
+IsTicked between_ticks master w Nothing = ⊤
+IsTicked between_ticks master w (Untold event earlier ds none tells) =
+    (syncs_since_tick master w (Untold event earlier ds none tells) ≤ between_ticks)
+    × IsTicked between_ticks master w tells
+IsTicked between_ticks master w (Told event earlier m d ds made said timed tells) =
+    (syncs_since_tick master w (Told event earlier m d ds made said timed tells) ≤ between_ticks)
+    × IsTicked between_ticks master w tells
+IsTicked between_ticks master w (Other run d ds nothing tells) = IsTicked between_ticks master w tells
+
+-- The recording of a slave and of a master that it follows: its lines are numbered, no number is too old when it is
+-- used,
+-- and ticks come often enough.
+pub record IsFreshAndTicked (limits : Limits) {network : Network} {slave : NodeName} {run : Run} {ds : List Recorded}
+    (master : NodeName) (w : Watched) (tells : Tells network slave run ds) : Type 0 where
+  pub numbered : AreNumbered ds
+  pub fresh : IsFresh limits.late w tells
+  pub ticked : IsTicked limits.between_ticks master w tells

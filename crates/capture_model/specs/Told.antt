@@ -1,0 +1,93 @@
+-- Which recordings tell what came to a slave in a run, and what it sent.
+use Rattle.std.specs.Prelude.{◌≡◌, ℕ, ◌<◌, ◌==◌, Bool, true, false, ⊤, List, [], ◌∷◌, if◌then◌else◌, Option, Some, None}
+use Rattle.std.specs.Prelude.{Ok, Err}
+use Rattle.std.specs.Prelude.{option_and_then, not, IsTrue}
+use Rattle.std.specs.Option.{option_map_or}
+use Rattle.event_codec.specs.declared.message.Body.{Body}
+use Rattle.event_codec.specs.declared.message.Body.TheVariants.{Sync, DelayReq, FollowUp, DelayResp}
+use Rattle.event_codec.specs.declared.message.Header.{Header}
+use Rattle.event_codec.specs.Packet.{Contents}
+use Rattle.event_codec.specs.Port.{is_same_port}
+use Rattle.event_codec.specs.Reading.{Reading}
+use Rattle.network_model.specs.declared.event.Event.{Event}
+use Rattle.network_model.specs.declared.event.Event.TheVariants.{Arrive, Hear, Request}
+use Rattle.network_model.specs.Network.{Network, NodeName, is_named}
+use Rattle.network_model.specs.Run.{Run, Place, place, site_of}
+use Rattle.network_model.specs.Clock.{reading}
+use Rattle.network_model.specs.Truth.{slave_at, copy_of, drawn}
+use Rattle.capture_model.specs.Recorded.{Recorded}
+
+-- a Sync, which is all that a slave hears of event messages
+abbrev pub is_sync : Body → Bool
+is_sync (Sync origin) = true
+is_sync _ = false
+
+-- a Follow_Up or a Delay_Resp, which is all that it hears of general messages
+abbrev pub is_general : Body → Bool
+is_general (FollowUp precise) = true
+is_general (DelayResp receive requesting) = true
+is_general _ = false
+
+-- a message, where its body is of this kind
+abbrev pub where_is : (Body → Bool) → Contents → Option Contents
+where_is kind m = if kind m.body then Some m else None
+
+-- the message that an event of a slave tells: a Sync that arrives, a Follow_Up or a Delay_Resp that it hears, a
+-- Delay_Req
+-- that it sends
+abbrev pub told_by : Network → Event → Run → Option Contents
+told_by network (Arrive node copy at) earlier = option_and_then (where_is is_sync) (copy_of network earlier copy)
+told_by network (Hear node copy) earlier = option_and_then (where_is is_general) (copy_of network earlier copy)
+told_by network (Request node at) earlier = drawn network (Request node at) earlier
+told_by network _ earlier = None
+
+-- the same where the event is of this slave
+abbrev pub told_at : Network → NodeName → Event → Run → Option Contents
+told_at network slave event earlier =
+    if is_named (site_of event) slave then told_by network event earlier else None
+
+-- a Delay_Req of another port than a slave's
+abbrev pub is_others_request : Network → NodeName → Header → Body → Bool
+is_others_request network slave header (DelayReq origin) =
+    option_map_or (λ port. not (is_same_port header.source port.config.identity)) (slave_at network slave) false
+is_others_request network slave header _ = false
+
+-- what says nothing to a slave: no message, or the Delay_Req of another port
+abbrev pub says_nothing : Network → NodeName → Reading → Bool
+says_nothing network slave (Ok m) = is_others_request network slave m.header m.body
+says_nothing network slave (Err refusal) = true
+
+-- what is recorded of a message that is heard has any time; a Sync and a Delay_Req have the clock's reading
+abbrev pub IsTimed : Event → Run → ℕ → Type 0
+IsTimed (Hear node copy) earlier time = ⊤
+IsTimed event earlier time = time ≡ reading (place event earlier)
+
+-- The datagrams tell, in order, each Sync that arrived at a slave, each Follow_Up and Delay_Resp that it heard and each
+-- Delay_Req that it sent, with its clock's readings. Datagrams that say nothing to it may stand between. Both are
+-- newest
+-- first.
+pub data Tells (network : Network) (slave : NodeName) : Run → List Recorded → Type 0 where
+  Nothing : Tells network slave [] []
+  Untold : (event : Event) (earlier : Run) (ds : List Recorded) → told_at network slave event earlier ≡ None
+      → Tells network slave earlier ds → Tells network slave (event ∷ earlier) ds
+  Told : (event : Event) (earlier : Run) (m : Contents) (d : Recorded) (ds : List Recorded)
+      → told_at network slave event earlier ≡ Some m → d.said ≡ Ok m → IsTimed event earlier d.time
+      → Tells network slave earlier ds → Tells network slave (event ∷ earlier) (d ∷ ds)
+  Other : (run : Run) (d : Recorded) (ds : List Recorded) → IsTrue (says_nothing network slave d.said)
+      → Tells network slave run ds → Tells network slave run (d ∷ ds)
+
+-- each line has a greater number than those before it
+abbrev pub AreNumbered : List Recorded → Type 0
+AreNumbered [] = ⊤
+AreNumbered (d ∷ []) = ⊤
+AreNumbered (d ∷ (before ∷ earlier)) = (before.line < d.line) × AreNumbered (before ∷ earlier)
+
+-- the event that the line of this number tells
+abbrev pub event_told : {network : Network} {slave : NodeName} {run : Run} {ds : List Recorded}
+    → Tells network slave run ds
+    → (line : ℕ) → Option Place
+event_told Nothing line = None
+event_told (Untold event earlier ds none tells) line = event_told tells line
+event_told (Told event earlier m d ds made said timed tells) line =
+    if d.line == line then Some (place event earlier) else event_told tells line
+event_told (Other run d ds nothing tells) line = event_told tells line
