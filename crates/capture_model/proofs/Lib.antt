@@ -10,3 +10,5 @@ mod Standing
 mod Reported
 mod Steps
 mod Listened
+mod Short
+mod Worked
