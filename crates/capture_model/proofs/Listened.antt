@@ -30,7 +30,6 @@ use Rattle.capture_model.specs.Premises.{IsFresh, IsTicked, syncs_since_tick}
 use Rattle.capture_model.specs.Exact.{Watches, IsExact, EachReportIsExact}
 use Rattle.capture_model.proofs.Lines.{Lines, Extends, told-in, told-more, told-now, numbered-rest}
 use Rattle.capture_model.proofs.Near.{All-brought}
-use Rattle.capture_model.proofs.ToldEvents.{untold_asks_none}
 use Rattle.capture_model.proofs.Holding.{holds-later}
 use Rattle.capture_model.proofs.Standing.{Stands}
 use Rattle.capture_model.proofs.Reported.{IsMadeOf, made-later, exact_of}
@@ -42,7 +41,7 @@ module _ (network : Network) (slave master : NodeName) (w : Watched) (apart : Is
   ticked-now : {run : Run} {ds : List Recorded} (tells : Tells network slave run ds) → IsTicked 16384 master w tells
       → syncs_since_tick master w tells ≤ 16384
   ticked-now Nothing ticked = omega arith
-  ticked-now (Untold event earlier ds none tells) ticked = ticked.0
+  ticked-now (Untold event earlier ds no_request tells) ticked = ticked.0
   ticked-now (Told event earlier m d ds made said timed tells) ticked = ticked.0
   ticked-now (Other run d ds nothing tells) ticked = ticked-now tells ticked
 
@@ -70,22 +69,21 @@ module _ (network : Network) (slave master : NodeName) (w : Watched) (apart : Is
   }
 
   -- an event that no line tells
-  untold : (event : Event) (earlier : Run) (ds : List Recorded) (none : told_at network slave event earlier ≡ None)
+  untold : (event : Event) (earlier : Run) (ds : List Recorded) (no_request : IsTrue (not (is_at is_request slave event)))
       (tells : Tells network slave earlier ds)
-      → HoldsAfter tells → HoldsAfter (Untold event earlier ds none tells)
-  untold event earlier ds none tells before =
-      let more : Lines = event_told (Untold event earlier ds none tells) in
+      → HoldsAfter tells → HoldsAfter (Untold event earlier ds no_request tells)
+  untold event earlier ds no_request tells before =
+      let more : Lines = event_told (Untold event earlier ds no_request tells) in
       let extends : Extends (event_told tells) more = λ line p is. is in
-      let asks_none = untold_asks_none network slave watches.own event earlier watches.slave_port none in
-      let sent : count_by (is_at is_request slave) (event ∷ earlier) ≡ count_by (is_at is_request slave)
-      earlier = count-no (is_at is_request slave) event earlier asks_none in
+      let sent : count_by (is_at is_request slave) (event ∷ earlier) ≡ count_by (is_at is_request slave) earlier =
+      count-no (is_at is_request slave) event earlier (not-true (is_at is_request slave event) no_request) in
       record {
         stands = record {
           holds = holds-later network slave master watches.own watches.other w.master within (event_told tells) more
               (count_by (is_at draws_sync master) earlier) (count_by (is_at draws_sync master) (event ∷ earlier))
               (count_by (is_at is_request slave) earlier) (count_by (is_at is_request slave) (event ∷ earlier))
               (syncs_since_tick master w tells)
-              (syncs_since_tick master w (Untold event earlier ds none tells)) (setup_in w (after_all w ds))
+              (syncs_since_tick master w (Untold event earlier ds no_request tells)) (setup_in w (after_all w ds))
               (after_all w ds).calls extends
               (drawn (is_at draws_sync master event) refl) (omega arith) before.stands.holds;
           next = λ asked. before.stands.next asked ∙ ap (λ (n : ℕ). of_count (watches.own.first + n)) (sym sent);
@@ -187,8 +185,8 @@ module _ (network : Network) (slave master : NodeName) (w : Watched) (apart : Is
       → IsFresh 32768 w tells
       → IsTicked 16384 master w tells → HoldsAfter tells
   listened Nothing accepted numbered fresh ticked = start
-  listened (Untold event earlier ds none tells) accepted numbered fresh ticked =
-      untold event earlier ds none tells (listened tells accepted.1 numbered fresh ticked.1)
+  listened (Untold event earlier ds no_request tells) accepted numbered fresh ticked =
+      untold event earlier ds no_request tells (listened tells accepted.1 numbered fresh ticked.1)
   listened (Other run d ds nothing tells) accepted numbered fresh ticked =
       other run d ds nothing tells (listened tells accepted (numbered-rest network slave d ds numbered) fresh ticked)
   listened (Told event earlier m d ds made said timed tells) accepted numbered fresh ticked =

@@ -16,7 +16,7 @@ module _ (network : Network) (slave master : NodeName) (w : Watched) where
       → length run ≤ late
       → IsFresh late w tells
   IsFresh-short late Nothing short = tt
-  IsFresh-short late (Untold event earlier ds none tells) short = IsFresh-short late tells (omega arith)
+  IsFresh-short late (Untold event earlier ds no_request tells) short = IsFresh-short late tells (omega arith)
   IsFresh-short late (Told event earlier m d ds made said timed tells) short = (
     λ _. each_origin (origin_heard (place event earlier)) earlier late (omega arith),
     IsFresh-short late tells (omega arith),
@@ -35,7 +35,7 @@ module _ (network : Network) (slave master : NodeName) (w : Watched) where
   syncs_since_tick-le : {run : Run} {ds : List Recorded} (tells : Tells network slave run ds)
       → syncs_since_tick master w tells ≤ length run
   syncs_since_tick-le Nothing = omega arith
-  syncs_since_tick-le (Untold event earlier ds none tells) =
+  syncs_since_tick-le (Untold event earlier ds no_request tells) =
       omega (
         arith,
         one_more (is_at draws_sync master event) (syncs_since_tick master w tells) (length earlier)
@@ -53,8 +53,8 @@ module _ (network : Network) (slave master : NodeName) (w : Watched) where
       → length run ≤ between_ticks
       → IsTicked between_ticks master w tells
   IsTicked-short between_ticks Nothing short = tt
-  IsTicked-short between_ticks (Untold event earlier ds none tells) short = (
-    omega (arith, syncs_since_tick-le (Untold event earlier ds none tells)),
+  IsTicked-short between_ticks (Untold event earlier ds no_request tells) short = (
+    omega (arith, syncs_since_tick-le (Untold event earlier ds no_request tells)),
     IsTicked-short between_ticks tells
         (omega arith),
   )

@@ -1,9 +1,7 @@
 -- Which event a line tells: the arrival of a Sync, the hearing of a Follow_Up or a Delay_Resp, or a Delay_Req that the
 -- slave sends.
-use Rattle.std.proofs.Common.{◌≡◌, ◌∙◌, ℕ, Bool, true, false, Option, Some, None, refl, sym, ap, subst, option_map}
+use Rattle.std.proofs.Common.{◌≡◌, ◌∙◌, ℕ, Bool, true, false, Some, None, refl, sym, ap, subst}
 use Rattle.std.proofs.Common.{if◌then◌else◌}
-use Rattle.std.specs.Prelude.{◌&&◌}
-use Rattle.std.proofs.lemmas.Bool.{and_right}
 use Rattle.ptp_units.specs.Moment.{Stamp}
 use Rattle.ptp_units.specs.Sequence.{of_count}
 use Rattle.event_codec.specs.declared.message.Body.{Body}
@@ -16,9 +14,8 @@ use Rattle.network_model.specs.declared.event.Event.{Event}
 use Rattle.network_model.specs.declared.event.Event.TheVariants.{Arrive, Hear, Request}
 use Rattle.network_model.specs.Network.{Network, NodeName, PortSetup, is_named}
 use Rattle.network_model.specs.Run.{Run, place, site_of}
-use Rattle.network_model.specs.Kinds.{is_at, is_request}
 use Rattle.network_model.specs.Numbering.{number_of}
-use Rattle.network_model.specs.Truth.{slave_at, copy_of, drawn}
+use Rattle.network_model.specs.Truth.{slave_at, copy_of}
 use Rattle.network_model.proofs.Sites.{named-same}
 use Rattle.capture_model.specs.Told.{is_sync, is_general, where_is, told_by, told_at}
 
@@ -88,27 +85,3 @@ module _ (network : Network) (slave : NodeName) (earlier : Run) (m : Contents) w
           → (if named then told_by network event earlier else None) ≡ Some m → IsTold network slave event earlier m
       by true e told = told_kind event (named-same (site_of event) slave e) told
       by false e told = cc
-
--- each Delay_Req of the slave is told
-pub untold_asks_none : (network : Network) (slave : NodeName) (port : PortSetup) (event : Event) (earlier : Run)
-    → slave_at network slave ≡ Some port
-    → told_at network slave event earlier ≡ None → is_at is_request slave event ≡ false
-untold_asks_none network slave port event earlier slave_is untold = by (is_named (site_of event) slave) refl untold
-  where
-    kind : (event : Event) → site_of event ≡ slave → told_by network event earlier ≡ None → is_request event ≡ false
-    kind (Request node at) site untold =
-        let port_is : slave_at network node ≡ Some port = subst (λ (n : NodeName). slave_at network n ≡ Some port)
-        (sym site) slave_is in
-        let made : drawn network (Request node at) earlier ≡ Some
-        (delay_req port.config (of_count (number_of port (place (Request node at) earlier)))) =
-        ap (λ (o : Option PortSetup). option_map
-        (λ (port : PortSetup). delay_req port.config (of_count (number_of port (place (Request node at) earlier))))
-        o) port_is in
-        cc
-    kind _ site untold = refl
-
-    by : (named : Bool) → is_named (site_of event) slave ≡ named
-        → (if named then told_by network event earlier else None) ≡ None → is_at is_request slave event ≡ false
-    by true e untold = ap (λ (b : Bool). b && is_named (site_of event) slave)
-        (kind event (named-same (site_of event) slave e) untold)
-    by false e untold = and_right (is_request event) (is_named (site_of event) slave) e

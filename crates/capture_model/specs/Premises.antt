@@ -24,7 +24,7 @@ is_used w earlier d = option_map_or (λ call. is_of_use (answer_in w (after_all 
 abbrev pub IsFresh : {network : Network} {slave : NodeName} {run : Run} {ds : List Recorded} → (late : ℕ) → Watched
     → Tells network slave run ds → Type 0
 IsFresh late w Nothing = ⊤
-IsFresh late w (Untold event earlier ds none tells) = IsFresh late w tells
+IsFresh late w (Untold event earlier ds no_request tells) = IsFresh late w tells
 IsFresh late w (Told event earlier m d ds made said timed tells) =
     (IsTrue (is_used w ds d) → IfSome (origin_heard (place event earlier))
     (λ origin. drawn_later origin earlier < late))
@@ -49,7 +49,7 @@ abbrev pub syncs_since_tick : {network : Network} {slave : NodeName} {run : Run}
     → (master : NodeName) → Watched
     → Tells network slave run ds → ℕ
 syncs_since_tick master w Nothing = 0
-syncs_since_tick master w (Untold event earlier ds none tells) =
+syncs_since_tick master w (Untold event earlier ds no_request tells) =
     if is_at draws_sync master event then syncs_since_tick master w tells + 1 else syncs_since_tick master w tells
 syncs_since_tick master w (Told event earlier m d ds made said timed tells) =
     if brings_tick w ds d then 0 else syncs_since_tick master w tells
@@ -60,8 +60,8 @@ abbrev pub IsTicked : {network : Network} {slave : NodeName} {run : Run} {ds : L
     → (master : NodeName)
     → Watched → Tells network slave run ds → Type 0
 IsTicked between_ticks master w Nothing = ⊤
-IsTicked between_ticks master w (Untold event earlier ds none tells) =
-    (syncs_since_tick master w (Untold event earlier ds none tells) ≤ between_ticks)
+IsTicked between_ticks master w (Untold event earlier ds no_request tells) =
+    (syncs_since_tick master w (Untold event earlier ds no_request tells) ≤ between_ticks)
     × IsTicked between_ticks master w tells
 IsTicked between_ticks master w (Told event earlier m d ds made said timed tells) =
     (syncs_since_tick master w (Told event earlier m d ds made said timed tells) ≤ between_ticks)

@@ -13,6 +13,7 @@ use Rattle.network_model.specs.declared.event.Event.{Event}
 use Rattle.network_model.specs.declared.event.Event.TheVariants.{Arrive, Hear, Request}
 use Rattle.network_model.specs.Network.{Network, NodeName, is_named}
 use Rattle.network_model.specs.Run.{Run, Place, place, site_of}
+use Rattle.network_model.specs.Kinds.{is_at, is_request}
 use Rattle.network_model.specs.Clock.{reading}
 use Rattle.network_model.specs.Truth.{slave_at, copy_of, drawn}
 use Rattle.capture_model.specs.Recorded.{Recorded}
@@ -62,13 +63,12 @@ abbrev pub IsTimed : Event → Run → ℕ → Type 0
 IsTimed (Hear node copy) earlier time = ⊤
 IsTimed event earlier time = time ≡ reading (place event earlier)
 
--- The datagrams tell, in order, each Sync that arrived at a slave, each Follow_Up and Delay_Resp that it heard and each
--- Delay_Req that it sent, with its clock's readings. Datagrams that say nothing to it may stand between. Both are
--- newest
--- first.
+-- The datagrams tell, in order, Syncs that arrived at a slave and Follow_Ups and Delay_Resps that it heard, of which some
+-- may be missing, and each Delay_Req that it sent, with its clock's readings. Datagrams that say nothing to it may stand
+-- between. Both are newest first.
 pub data Tells (network : Network) (slave : NodeName) : Run → List Recorded → Type 0 where
   Nothing : Tells network slave [] []
-  Untold : (event : Event) (earlier : Run) (ds : List Recorded) → told_at network slave event earlier ≡ None
+  Untold : (event : Event) (earlier : Run) (ds : List Recorded) → IsTrue (not (is_at is_request slave event))
       → Tells network slave earlier ds → Tells network slave (event ∷ earlier) ds
   Told : (event : Event) (earlier : Run) (m : Contents) (d : Recorded) (ds : List Recorded)
       → told_at network slave event earlier ≡ Some m → d.said ≡ Ok m → IsTimed event earlier d.time
@@ -87,7 +87,7 @@ abbrev pub event_told : {network : Network} {slave : NodeName} {run : Run} {ds :
     → Tells network slave run ds
     → (line : ℕ) → Option Place
 event_told Nothing line = None
-event_told (Untold event earlier ds none tells) line = event_told tells line
+event_told (Untold event earlier ds no_request tells) line = event_told tells line
 event_told (Told event earlier m d ds made said timed tells) line =
     if d.line == line then Some (place event earlier) else event_told tells line
 event_told (Other run d ds nothing tells) line = event_told tells line
