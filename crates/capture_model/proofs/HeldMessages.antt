@@ -1,6 +1,5 @@
 -- Each message that a listening port holds names its event by its line: the Sync that arrived or the Follow_Up that was
--- heard, of which
--- Sync of the master it is, and how many of its Syncs the master drew since.
+-- heard, of which Sync of the master it is, and how many of its Syncs the master drew since.
 use Rattle.std.proofs.Common.{◌≡◌, ℕ, ◌+◌, ◌<◌, ◌≤◌, true, Some, arith, int_lt}
 use Rattle.std.specs.Prelude.{count_by}
 use Rattle.ptp_units.specs.Interval.{too_big}

@@ -1,14 +1,15 @@
 -- What holds of a listening port's calls: it follows the master, what it holds and what completed is of events that
--- lines tell, and the
--- numbers of what it holds are near. It goes on holding over ticks, requests and messages.
-use Rattle.std.proofs.Common.{◌≡◌, ℕ, zero, suc, ◌+◌, ◌≤◌, List, ◌∷◌, Some, arith}
+-- lines tell, and the numbers of what it holds are near. It goes on holding over ticks, requests and messages.
+use Rattle.std.proofs.Common.{◌≡◌, ℕ, zero, suc, ◌+◌, ◌≤◌, List, ◌∷◌, Some, refl, sym, ◌∙◌, subst, arith}
 use Rattle.pairing.specs.Marked.{Entry}
 use Rattle.slave_port.specs.History as calls
 use Rattle.slave_port.specs.History.{Call, Setup, present_master}
 use Rattle.slave_port.specs.Values.{SyncValue, FollowValue}
 use Rattle.slave_port.specs.Requests.{requests}
+use Rattle.slave_port.specs.Window.{Window}
 use Rattle.slave_port.specs.Completion.{SyncCompletion, DelayCompletion}
-use Rattle.slave_port.specs.Kept.{kept, delay_completions, usable_two_step_sync, usable_follow_up, sync_completion}
+use Rattle.slave_port.specs.Kept.{Kept, kept, delay_completions, usable_two_step_sync, usable_follow_up}
+use Rattle.slave_port.specs.Kept.{sync_completion}
 use Rattle.slave_port.specs.Kept.{delay_completion}
 use Rattle.event_codec.specs.Reading.{Reading}
 use Rattle.event_codec.specs.declared.port.PortIdentity.{PortIdentity}
@@ -19,7 +20,7 @@ use Rattle.capture_model.proofs.Near.{Reach, AreNear, near-brought, near-ticked,
 use Rattle.capture_model.proofs.HeldMessages.{IsHeldSync, IsHeldFollow, held_sync-later, held_follow-later}
 use Rattle.capture_model.proofs.HeldMessages.{held_sync-wider, held_follow-wider}
 use Rattle.capture_model.proofs.Completions.{IsOneSync, IsOneRequest, one_sync-later, one_request-later}
-use Rattle.capture_model.proofs.Requests.{AreRequests, requests-later, requests-draws}
+use Rattle.capture_model.proofs.Requests.{AreRequests, requests-later}
 
 module _ (network : Network) (slave master : NodeName) (own other : PortSetup) (identity : PortIdentity)
     (reach : Reach) where
@@ -136,30 +137,31 @@ module _ (network : Network) (slave master : NodeName) (own other : PortSetup) (
       last_requests = holds.last_requests;
     }
 
-    -- requests that are drawn, and one that departed
-    holds-draws : (count tag : ℕ) → Holds lines syncs sent slack setup (draws count tag history)
-    holds-draws zero tag = holds
-    holds-draws (suc count) tag =
-        let before = holds-draws count tag in
-        record {
-          follows_master = before.follows_master;
-          near_syncs = before.near_syncs;
-          near_follows = before.near_follows;
-          near_completions = before.near_completions;
-          near_delays = before.near_delays;
-          last_requests = requests-draws slave own setup lines sent (suc count) tag history holds.last_requests;
-        }
+    -- requests that are drawn leave all else as it was, and so does one that departed
+    drawn-kept : (count tag : ℕ)
+        → (present_master (draws count tag history) ≡ present_master history)
+        × (kept setup (draws count tag history) ≡ kept setup history)
+        × (delay_completions setup (draws count tag history) ≡ delay_completions setup history)
+    drawn-kept zero tag = (refl, refl, refl)
+    drawn-kept (suc count) tag = drawn-kept count tag
 
     pub holds-asked : (count tag number t3 more : ℕ)
         → AreRequests slave own lines more (requests setup (calls.RequestLeft number t3 ∷ draws count tag history))
         → Holds lines syncs more slack setup (calls.RequestLeft number t3 ∷ draws count tag history)
     holds-asked count tag number t3 more asked =
-        let before = holds-draws count tag in
+        let same = drawn-kept count tag in
         record {
-          follows_master = before.follows_master;
-          near_syncs = before.near_syncs;
-          near_follows = before.near_follows;
-          near_completions = before.near_completions;
-          near_delays = before.near_delays;
+          follows_master = same.0 ∙ holds.follows_master;
+          near_syncs = subst (λ (k : Kept). AreNear (IsHeldSync network slave master other lines syncs) reach slack
+              k.syncs) (sym same.1) holds.near_syncs;
+          near_follows = subst (λ (k : Kept). AreNear (IsHeldFollow network slave master other lines syncs) reach slack
+              k.follows) (sym same.1)
+              holds.near_follows;
+          near_completions = subst (λ (k : Kept). AreNear (λ bound. IsOneSync lines slave master) reach slack
+              k.completions) (sym same.1)
+              holds.near_completions;
+          near_delays = subst (λ (d : Window DelayCompletion). AreNear (λ bound. IsOneRequest lines slave master) reach
+              slack d) (sym same.2)
+              holds.near_delays;
           last_requests = asked;
         }

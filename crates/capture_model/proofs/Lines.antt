@@ -29,7 +29,7 @@ AreIn lines run = (line : ℕ) (p : Place) → lines line ≡ Some p → IsIn ru
 module _ (network : Network) (slave : NodeName) where
   pub told-in : {run : Run} {ds : List Recorded} (tells : Tells network slave run ds) → AreIn (event_told tells) run
   told-in Nothing line p is = cc
-  told-in (Untold event earlier ds no_request tells) line p is = place_at-later event earlier (tag_of p) p
+  told-in (Untold event earlier ds tells) line p is = place_at-later event earlier (tag_of p) p
       (told-in tells line p is)
   told-in (Other run d ds nothing tells) line p is = told-in tells line p is
   told-in (Told event earlier m d ds made said timed tells) line p is = by (d.line == line) is (told-in tells line p)
@@ -45,7 +45,7 @@ module _ (network : Network) (slave : NodeName) where
       → All (λ (d : Recorded). d.line < n) ds
       → (line : ℕ) (p : Place) → event_told tells line ≡ Some p → line < n
   lines-below n Nothing below line p is = cc
-  lines-below n (Untold event earlier ds no_request tells) below line p is = lines-below n tells below line p is
+  lines-below n (Untold event earlier ds tells) below line p is = lines-below n tells below line p is
   lines-below n (Other run d ds nothing tells) below line p is =
       lines-below n tells (All-tail (λ (d : Recorded). d.line < n) d ds below) line p is
   lines-below n (Told event earlier m d ds made said timed tells) below line p is =

@@ -1,13 +1,13 @@
 -- A port that listens to a recording: what holds of it holds after all datagrams, so each of its reports is exact.
-use Rattle.std.proofs.Common.{◌≡◌, ◌∙◌, ℕ, ◌+◌, ◌≤◌, Bool, true, false, List, ◌∷◌, Option, Some, None, Ok, Err, refl}
+use Rattle.std.proofs.Common.{◌≡◌, ◌∙◌, ℕ, ◌+◌, ◌-◌, ◌<◌, ◌≤◌, Bool, true, false, List, [], ◌∷◌, Option, Some, None, Ok}
+use Rattle.std.proofs.Common.{Err, refl}
 use Rattle.std.proofs.Common.{sym, ap, subst, arith, option_and_then, if◌then◌else◌}
-use Rattle.std.specs.Prelude.{◌==◌, not, count_by, IsTrue}
+use Rattle.std.specs.Prelude.{◌&&◌, ◌==◌, not, IsTrue}
 use Rattle.std.specs.Option.{option_map_or}
 use Rattle.std.specs.Result.{result_ok}
 use Rattle.std.specs.List.{All}
 use Rattle.std.proofs.lemmas.Bool.{and_right, not-true}
 use Rattle.std.proofs.lemmas.List.Elements.{All-nil, All-weaker}
-use Rattle.ptp_units.specs.Sequence.{of_count}
 use Rattle.event_codec.specs.declared.message.Body.{Body}
 use Rattle.event_codec.specs.declared.message.Body.TheVariants as bodies
 use Rattle.event_codec.specs.Packet.{Contents}
@@ -19,86 +19,149 @@ use Rattle.network_model.specs.Run.{Run}
 use Rattle.network_model.specs.Kinds.{is_at, draws_sync, is_request}
 use Rattle.network_model.specs.Truth.{slave_at}
 use Rattle.network_model.specs.Outcome.{IsRun}
-use Rattle.network_model.proofs.Sequences.{count-yes, count-no}
+use Rattle.network_model.proofs.Sequences.{count-yes, count-no, count-more}
 use Rattle.capture_model.specs.declared.watched.Watched.{Watched}
 use Rattle.capture_model.specs.Recorded.{Recorded}
-use Rattle.capture_model.specs.Listening.{Listening, setup_in, is_of, hears, hears_request, after_all, hearing}
+use Rattle.capture_model.specs.Listening.{Listening, setup_in, start, is_of, hears, hears_request, after_all, hearing}
 use Rattle.capture_model.specs.Listening.{answer_in, report_in, report_at, reports}
 use Rattle.capture_model.specs.Told.{Tells, Nothing, Untold, Told, Other, told_at, is_others_request, says_nothing}
 use Rattle.capture_model.specs.Told.{IsTimed, AreNumbered, event_told}
-use Rattle.capture_model.specs.Premises.{IsFresh, IsTicked, syncs_since_tick}
+use Rattle.capture_model.specs.Premises.{IsFresh, IsTicked, MissesFew, syncs_since_tick, requests_missing, brings_tick}
 use Rattle.capture_model.specs.Exact.{Watches, IsExact, EachReportIsExact}
-use Rattle.capture_model.proofs.Lines.{Lines, Extends, told-in, told-more, told-now, numbered-rest}
+use Rattle.capture_model.proofs.Lines.{Lines, told-in, told-more, told-now, numbered-rest}
 use Rattle.capture_model.proofs.Near.{All-brought}
 use Rattle.capture_model.proofs.Holding.{holds-later}
-use Rattle.capture_model.proofs.Standing.{Stands}
+use Rattle.capture_model.proofs.Standing.{Stands, set-stands, unasked-stands}
 use Rattle.capture_model.proofs.Reported.{IsMadeOf, made-later, exact_of}
-use Rattle.capture_model.proofs.Steps.{within, step}
+use Rattle.capture_model.proofs.Steps.{within, syncs_in, sent_in, step}
 
 module _ (network : Network) (slave master : NodeName) (w : Watched) (apart : IsNetwork network)
     (watches : Watches network slave master w) where
-  -- the Syncs since the last tick are few
+  -- the Syncs since the last tick are few, and so are the requests that are missing
   ticked-now : {run : Run} {ds : List Recorded} (tells : Tells network slave run ds) → IsTicked 16384 master w tells
       → syncs_since_tick master w tells ≤ 16384
   ticked-now Nothing ticked = omega arith
-  ticked-now (Untold event earlier ds no_request tells) ticked = ticked.0
-  ticked-now (Told event earlier m d ds made said timed tells) ticked = ticked.0
+  ticked-now (Untold event earlier ds tells) ticked = ticked.0
+  ticked-now (Told event earlier m d ds made said timed tells) ticked = by (brings_tick w ds d)
+      (ticked-now tells ticked)
+    where
+      by : (ticks : Bool) → syncs_since_tick master w tells ≤ 16384
+          → (if ticks then 0 else syncs_since_tick master w tells) ≤ 16384
+      by true few = omega arith
+      by false few = few
   ticked-now (Other run d ds nothing tells) ticked = ticked-now tells ticked
 
-  -- what holds after all datagrams
+  missing-now : {run : Run} {ds : List Recorded} (tells : Tells network slave run ds) → MissesFew 32768 w tells
+      → requests_missing w tells < 32768
+  missing-now Nothing missing = omega arith
+  missing-now (Untold event earlier ds tells) missing = missing.0
+  missing-now (Told event earlier m d ds made said timed tells) missing = by (is_request event)
+      (missing-now tells missing)
+    where
+      by : (request : Bool) → requests_missing w tells < 32768
+          → (if request then 0 else requests_missing w tells) < 32768
+      by true few = omega arith
+      by false few = few
+  missing-now (Other run d ds nothing tells) missing = missing-now tells missing
+
+  -- how many Syncs the master drew, and how many requests the slave
+  abbrev syncs_of : Run → ℕ
+  syncs_of run = syncs_in network slave master w apart watches run
+
+  abbrev sent_of : Run → ℕ
+  sent_of run = sent_in network slave master w apart watches run
+
+  -- what holds after all datagrams, where the port knows of so many requests
   record HoldsAfter {run : Run} {ds : List Recorded} (tells : Tells network slave run ds) : Type 0 where
-    pub stands : Stands network slave master w watches within (event_told tells)
-        (count_by (is_at draws_sync master) run) (count_by (is_at is_request slave) run)
+    pub known : ℕ
+    pub counted : known + requests_missing w tells ≡ sent_of run
+    pub stands : Stands network slave master w watches within (event_told tells) (syncs_of run) known
         (syncs_since_tick master w tells) (after_all w ds)
     pub made : All (IsMadeOf (event_told tells) slave master) (reports w ds)
 
-  start : HoldsAfter Nothing
-  start = record {
-    stands = record {
-      holds = record {
-        follows_master = refl;
-        near_syncs = (λ k d low. absurd (omega arith), λ k d low. absurd (omega arith));
-        near_follows = (λ k d low. absurd (omega arith), λ k d low. absurd (omega arith));
-        near_completions = (λ k d low. absurd (omega arith), λ k d low. absurd (omega arith));
-        near_delays = (λ k d low. absurd (omega arith), λ k d low. absurd (omega arith));
-        last_requests = tt;
-      };
-      next = λ asked. cc;
-    };
-    made = All-nil (IsMadeOf (event_told {network = network} {slave = slave} Nothing) slave master);
+  -- a port that was told its master alone, of whatever run
+  at_start : (lines : Lines) (syncs sent slack : ℕ)
+      → Stands network slave master w watches within lines syncs sent slack (start w)
+  at_start lines syncs sent slack = record {
+    holds = set-stands network slave master w watches within lines syncs sent slack (start w) refl;
+    next = λ asked. cc;
+    none = λ unasked. refl;
   }
 
-  -- an event that no line tells
-  untold : (event : Event) (earlier : Run) (ds : List Recorded) (no_request : IsTrue (not (is_at is_request slave event)))
-      (tells : Tells network slave earlier ds)
-      → HoldsAfter tells → HoldsAfter (Untold event earlier ds no_request tells)
-  untold event earlier ds no_request tells before =
-      let more : Lines = event_told (Untold event earlier ds no_request tells) in
-      let extends : Extends (event_told tells) more = λ line p is. is in
-      let sent : count_by (is_at is_request slave) (event ∷ earlier) ≡ count_by (is_at is_request slave) earlier =
-      count-no (is_at is_request slave) event earlier (not-true (is_at is_request slave event) no_request) in
+  -- an event that no line tells adds a Sync at most
+  untold_stands : (event : Event) (earlier : Run) (ds : List Recorded) (tells : Tells network slave earlier ds)
+      (known : ℕ)
+      → Stands network slave master w watches within (event_told tells) (syncs_of earlier) known
+      (syncs_since_tick master w tells) (after_all w ds)
+      → Stands network slave master w watches within (event_told (Untold event earlier ds tells))
+      (syncs_of (event ∷ earlier)) known
+      (syncs_since_tick master w (Untold event earlier ds tells)) (after_all w ds)
+  untold_stands event earlier [] tells known before =
+      at_start (event_told (Untold event earlier [] tells)) (syncs_of (event ∷ earlier)) known 0
+  untold_stands event earlier (d ∷ ds) tells known before =
+      let more : Lines = event_told (Untold event earlier (d ∷ ds) tells) in
+      let l : Listening = after_all w (d ∷ ds) in
       record {
-        stands = record {
-          holds = holds-later network slave master watches.own watches.other w.master within (event_told tells) more
-              (count_by (is_at draws_sync master) earlier) (count_by (is_at draws_sync master) (event ∷ earlier))
-              (count_by (is_at is_request slave) earlier) (count_by (is_at is_request slave) (event ∷ earlier))
-              (syncs_since_tick master w tells)
-              (syncs_since_tick master w (Untold event earlier ds no_request tells)) (setup_in w (after_all w ds))
-              (after_all w ds).calls extends
-              (drawn (is_at draws_sync master event) refl) (omega arith) before.stands.holds;
-          next = λ asked. before.stands.next asked ∙ ap (λ (n : ℕ). of_count (watches.own.first + n)) (sym sent);
-        };
-        made = All-weaker (IsMadeOf (event_told tells) slave master) (IsMadeOf more slave master)
-            (made-later (event_told tells) more slave master extends)
-            (reports w ds) before.made;
+        holds = holds-later network slave master watches.own watches.other w.master within (event_told tells) more
+            (syncs_of earlier) (syncs_of (event ∷ earlier))
+            known known (syncs_since_tick master w tells)
+            (syncs_since_tick master w (Untold event earlier (d ∷ ds) tells)) (setup_in w l) l.calls
+            (λ line p is. is) (drawn (is_at draws_sync master event) refl) (omega arith) before.holds;
+        next = before.next;
+        none = before.none;
       }
     where
       drawn : (draws : Bool) → is_at draws_sync master event ≡ draws
-          → count_by (is_at draws_sync master) (event ∷ earlier) + syncs_since_tick master w tells
-          ≤ count_by (is_at draws_sync master) earlier
-          + (if draws then syncs_since_tick master w tells + 1 else syncs_since_tick master w tells)
+          → syncs_of (event ∷ earlier) + syncs_since_tick master w tells
+          ≤ syncs_of earlier + (if draws then syncs_since_tick master w tells + 1 else syncs_since_tick master w tells)
       drawn true e = omega (arith, count-yes (is_at draws_sync master) event earlier e)
       drawn false e = omega (arith, count-no (is_at draws_sync master) event earlier e)
+
+  -- and a request that is missing, unless the port knows of none
+  untold : (event : Event) (earlier : Run) (ds : List Recorded) (tells : Tells network slave earlier ds)
+      → HoldsAfter tells → HoldsAfter (Untold event earlier ds tells)
+  untold event earlier ds tells before =
+      let more : Lines = event_told (Untold event earlier ds tells) in
+      let one = requested (after_all w ds).asked (is_at is_request slave event) refl refl in
+      record {
+        known = one.0;
+        counted = one.1;
+        stands = one.2;
+        made = All-weaker (IsMadeOf (event_told tells) slave master) (IsMadeOf more slave master)
+            (made-later (event_told tells) more slave master (λ line p is. is)) (reports w ds) before.made;
+      }
+    where
+      stands : Stands network slave master w watches within (event_told (Untold event earlier ds tells))
+          (syncs_of (event ∷ earlier)) before.known
+          (syncs_since_tick master w (Untold event earlier ds tells)) (after_all w ds)
+      stands = untold_stands event earlier ds tells before.known before.stands
+
+      requested : (asked drew : Bool) → (after_all w ds).asked ≡ asked → is_at is_request slave event ≡ drew
+          → (n : ℕ) × (n + (if asked && drew then requests_missing w tells + 1 else requests_missing w tells) ≡ sent_of
+          (event ∷ earlier))
+          × Stands network slave master w watches within (event_told (Untold event earlier ds tells))
+          (syncs_of (event ∷ earlier)) n
+          (syncs_since_tick master w (Untold event earlier ds tells)) (after_all w ds)
+      requested true true e f = (
+        before.known,
+        (let counted = before.counted in omega
+            (arith, count-yes (is_at is_request slave) event earlier f)),
+        stands,
+      )
+      requested true false e f = (
+        before.known,
+        (let counted = before.counted in omega
+            (arith, count-no (is_at is_request slave) event earlier f)),
+        stands,
+      )
+      requested false drew e f = (
+        sent_of (event ∷ earlier) - requests_missing w tells,
+        (let counted = before.counted in omega (arith, count-more (is_at is_request slave) event earlier)),
+        unasked-stands network slave master w watches within (event_told (Untold event earlier ds tells))
+            (syncs_of (event ∷ earlier)) before.known
+            (sent_of (event ∷ earlier) - requests_missing w tells)
+            (syncs_since_tick master w (Untold event earlier ds tells)) (after_all w ds) e stands,
+      )
 
   -- a datagram that says nothing changes nothing
   unheard : (line time : ℕ) (r : Reading) (l : Listening) → says_nothing network slave r ≡ true
@@ -137,25 +200,26 @@ module _ (network : Network) (slave master : NodeName) (w : Watched) (apart : Is
       → HoldsAfter tells → HoldsAfter (Other run d ds nothing tells)
   other run d ds nothing tells before =
       let more : Lines = event_told (Other run d ds nothing tells) in
-      let extends : Extends (event_told tells) more = λ line p is. is in
       let slack : ℕ = syncs_since_tick master w tells in
-      let syncs : ℕ = count_by (is_at draws_sync master) run in
-      let sent : ℕ = count_by (is_at is_request slave) run in
       let l : Listening = after_all w ds in
       let still = unheard d.line d.time d.said l nothing in
       let none : report_at w ds d ≡ None = ap (option_and_then (λ call. report_in (answer_in w l call))) still.1 in
       record {
-        stands = subst (Stands network slave master w watches within more syncs sent slack) (sym still.0) (record {
-          holds = holds-later network slave master watches.own watches.other w.master within (event_told tells) more
-              syncs syncs sent sent
-              slack slack (setup_in w l) l.calls extends (omega arith) (omega arith) before.stands.holds;
-          next = before.stands.next;
-        });
+        known = before.known;
+        counted = before.counted;
+        stands = subst (Stands network slave master w watches within more (syncs_of run) before.known slack)
+            (sym still.0) (record {
+              holds = holds-later network slave master watches.own watches.other w.master within (event_told tells) more
+                  (syncs_of run) (syncs_of run)
+                  before.known before.known slack slack (setup_in w l) l.calls (λ line p is. is) (omega arith)
+                  (omega arith) before.stands.holds;
+              next = before.stands.next;
+              none = before.stands.none;
+            });
         made = All-brought (IsMadeOf more slave master) (report_at w ds d) (reports w ds)
             (λ r is. let same : Some r ≡ None = sym is ∙ none in cc)
             (All-weaker (IsMadeOf (event_told tells) slave master) (IsMadeOf more slave master)
-            (made-later (event_told tells) more slave master extends)
-            (reports w ds) before.made);
+            (made-later (event_told tells) more slave master (λ line p is. is)) (reports w ds) before.made);
       }
 
   -- a datagram that tells an event
@@ -164,16 +228,21 @@ module _ (network : Network) (slave master : NodeName) (w : Watched) (apart : Is
       (said : d.said ≡ Ok m) (timed : IsTimed event earlier d.time) (tells : Tells network slave earlier ds)
       → IsRun network (event ∷ earlier) → AreNumbered (d ∷ ds)
       → IsFresh 32768 w (Told event earlier m d ds made said timed tells)
-      → IsTicked 16384 master w tells → HoldsAfter tells → HoldsAfter (Told event earlier m d ds made said timed tells)
-  told event earlier m d ds made said timed tells accepted numbered fresh ticked before =
+      → IsTicked 16384 master w tells → MissesFew 32768 w tells → HoldsAfter tells
+      → HoldsAfter (Told event earlier m d ds made said timed tells)
+  told event earlier m d ds made said timed tells accepted numbered fresh ticked missing before =
       let more : Lines = event_told (Told event earlier m d ds made said timed tells) in
       let extends = told-more network slave event earlier m d made said timed tells numbered in
       let one = step network slave master w apart watches event earlier m d ds accepted (event_told tells) more extends
       (told-in network slave (Told event earlier m d ds made said timed tells))
       (told-now network slave event earlier m d made said timed tells) said timed
-      (syncs_since_tick master w tells) (ticked-now tells ticked) before.stands fresh.0 made in
+      (syncs_since_tick master w tells) (ticked-now tells ticked) before.known (requests_missing w tells)
+      (missing-now tells missing) before.counted before.stands
+      fresh.0 made in
       record {
-        stands = one.stands.stands;
+        known = one.known;
+        counted = one.counted;
+        stands = one.stands;
         made = All-brought (IsMadeOf more slave master) (report_at w ds d) (reports w ds) one.reported
             (All-weaker (IsMadeOf (event_told tells) slave master) (IsMadeOf more slave master)
             (made-later (event_told tells) more slave master extends)
@@ -183,27 +252,33 @@ module _ (network : Network) (slave master : NodeName) (w : Watched) (apart : Is
   -- each of them in turn
   listened : {run : Run} {ds : List Recorded} (tells : Tells network slave run ds) → IsRun network run → AreNumbered ds
       → IsFresh 32768 w tells
-      → IsTicked 16384 master w tells → HoldsAfter tells
-  listened Nothing accepted numbered fresh ticked = start
-  listened (Untold event earlier ds no_request tells) accepted numbered fresh ticked =
-      untold event earlier ds no_request tells (listened tells accepted.1 numbered fresh ticked.1)
-  listened (Other run d ds nothing tells) accepted numbered fresh ticked =
-      other run d ds nothing tells (listened tells accepted (numbered-rest network slave d ds numbered) fresh ticked)
-  listened (Told event earlier m d ds made said timed tells) accepted numbered fresh ticked =
-      told event earlier m d ds made said timed tells accepted numbered fresh ticked.1
-      (listened tells accepted.1 (numbered-rest network slave d ds numbered) fresh.1 ticked.1)
+      → IsTicked 16384 master w tells → MissesFew 32768 w tells → HoldsAfter tells
+  listened Nothing accepted numbered fresh ticked missing = record {
+    known = 0;
+    counted = refl;
+    stands = at_start (event_told {network = network} {slave = slave} Nothing) 0 0 0;
+    made = All-nil (IsMadeOf (event_told {network = network} {slave = slave} Nothing) slave master);
+  }
+  listened (Untold event earlier ds tells) accepted numbered fresh ticked missing =
+      untold event earlier ds tells (listened tells accepted.1 numbered fresh ticked.1 missing.1)
+  listened (Other run d ds nothing tells) accepted numbered fresh ticked missing =
+      other run d ds nothing tells (listened tells accepted (numbered-rest network slave d ds numbered) fresh ticked
+      missing)
+  listened (Told event earlier m d ds made said timed tells) accepted numbered fresh ticked missing =
+      told event earlier m d ds made said timed tells accepted numbered fresh ticked missing
+      (listened tells accepted.1 (numbered-rest network slave d ds numbered) fresh.1 ticked missing)
 
   -- all reports
   pub each_exact : {run : Run} {ds : List Recorded} (tells : Tells network slave run ds) → IsRun network run
       → AreNumbered ds → IsFresh 32768 w tells
-      → IsTicked 16384 master w tells → All (IsExact master tells) (reports w ds)
-  each_exact {ds = ds} tells accepted numbered fresh ticked =
+      → IsTicked 16384 master w tells → MissesFew 32768 w tells → All (IsExact master tells) (reports w ds)
+  each_exact {ds = ds} tells accepted numbered fresh ticked missing =
       All-weaker (IsMadeOf (event_told tells) slave master) (IsExact master tells)
       (exact_of network slave master tells) (reports w ds)
-      (listened tells accepted numbered fresh ticked).made
+      (listened tells accepted numbered fresh ticked missing).made
 
 -- the law
 pub each_report : EachReportIsExact
 each_report network run slave master w ds premise watches tells asked =
     each_exact network slave master w premise.apart watches tells premise.accepted asked.numbered asked.fresh
-    asked.ticked
+    asked.ticked asked.missing

@@ -32,6 +32,7 @@ use Rattle.network_model.specs.Clock.{reading}
 use Rattle.network_model.specs.Numbering.{number_of, drawn_later}
 use Rattle.network_model.specs.Truth.{master_at, copy_of, origin_of, origin_heard}
 use Rattle.network_model.specs.Outcome.{IsRun}
+use Rattle.network_model.proofs.Sequences.{count-no}
 use Rattle.network_model.proofs.Identities.{same_name, identity_of_master}
 use Rattle.network_model.proofs.Journeys.{origin_of-journey}
 use Rattle.network_model.proofs.Masters.{waiting_sync-is}
@@ -82,9 +83,8 @@ module _ (network : Network) (slave master : NodeName) (w : Watched) (apart : Is
       (told : lines line ≡ Some (place event earlier)) (syncs sent slack : ℕ)
       (syncs_before : syncs ≡ count_by (is_at draws_sync master) earlier)
       (syncs_now : syncs ≡ count_by (is_at draws_sync master) (event ∷ earlier))
-      (sent_before : sent ≡ count_by (is_at is_request slave) earlier)
-      (sent_now : sent ≡ count_by (is_at is_request slave) (event ∷ earlier))
-      (setup : Setup) (own_is : setup.config.identity ≡ w.slave) (few : setup.capacities.requests ≤ 65535)
+      (setup : Setup) (own_is : setup.config.identity ≡ w.slave)
+      (few : count_by (is_at is_request slave) (event ∷ earlier) + setup.capacities.requests ≤ sent + 65536)
       (history : List Call) (holds : Holds network slave master watches.own watches.other w.master reach lines syncs
       sent slack setup history)
       (fits : reach.late + reach.between + slack ≤ 65536) (m : Contents) (copy : ℕ)
@@ -307,6 +307,7 @@ module _ (network : Network) (slave master : NodeName) (w : Watched) (apart : Is
             setup.capacities.requests (requests setup history)
             holds.last_requests done.found done.left in
             let within_held : sent < found.1 + setup.capacities.requests = found.3 in
+            let still = count-no (is_at is_request slave) event earlier (ap (is_at is_request slave) event_is) in
             let near = used_near_request slave earlier origin reach.late reply.drawn
             (fresh done.used origin (heard_origin origin reply.origin_is)) in
             answered slave watches.own network master lines (event ∷ earlier) accepted within found.1

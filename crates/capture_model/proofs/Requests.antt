@@ -1,6 +1,5 @@
 -- The requests of a listening port: each of which it is known when it left is the Delay_Req that its line tells, and
--- one of the slave's
--- last, as many as are held. So a Delay_Resp completes the one that it answers.
+-- one of the slave's last, as many as are held. So a Delay_Resp completes the one that it answers.
 use Rattle.std.proofs.Common.{◌≡◌, ◌∙◌, ℕ, zero, suc, ◌+◌, ◌-◌, ◌<◌, ◌≤◌, ℤ, pos, Bool, true, false, List, [], ◌∷◌}
 use Rattle.std.proofs.Common.{take, Some, None, refl, sym, ap, subst, arith, option_map, if◌then◌else◌, int_lt}
 use Rattle.std.specs.Prelude.{count_by, nat_eq, find, is_some}
@@ -181,22 +180,24 @@ next-draws setup number tag earlier low =
 module _ (slave : NodeName) (own : PortSetup) (setup : Setup) where
   -- requests of which nobody knows when they left
   pub requests-draws : (lines : Lines) (sent count tag : ℕ) (earlier : List Call)
-      → AreRequests slave own lines sent (requests setup earlier)
+      → AreRequests slave own lines (sent - count) (requests setup earlier)
       → AreRequests slave own lines sent (requests setup (draws count tag earlier))
-  requests-draws lines sent zero tag earlier are = are
+  requests-draws lines sent zero tag earlier are =
+      requests-later slave own lines lines (sent - 0) sent (requests setup earlier) (λ line p is. is) (omega arith) are
   requests-draws lines sent (suc count) tag earlier are = (
     λ t3 is. cc,
-    requests-later slave own lines lines sent (sent - 1) (requests setup (draws count tag earlier)) (λ line p is. is)
-        (omega arith)
-        (requests-draws lines sent count tag earlier are),
+    requests-draws lines (sent - 1) count tag earlier
+        (requests-later slave own lines lines (sent - suc count) (sent - 1 - count) (requests setup earlier)
+        (λ line p is. is) (omega arith) are),
   )
 
   -- a Delay_Req is asked for under its number, and departed
   pub requests-asked : (lines : Lines) (p : Place) (tag number t3 : ℕ) (earlier : List Call) → number < 65536
       → lines tag ≡ Some p → is_at is_request slave p.event ≡ true
       → number ≡ of_count (own.first + count_by (is_at is_request slave) p.earlier)
-      → t3 ≡ reading p → AreRequests slave own lines (count_by (is_at is_request slave) p.earlier)
-      (requests setup earlier)
+      → t3 ≡ reading p
+      → AreRequests slave own lines (count_by (is_at is_request slave) p.earlier - ahead number
+      (next_number setup earlier)) (requests setup earlier)
       → AreRequests slave own lines (count_by (is_at is_request slave) p.earlier + 1)
       (requests setup (calls.RequestLeft number t3 ∷ draws (ahead number (next_number setup earlier) + 1) tag earlier))
   requests-asked lines p tag number t3 earlier low told drawn number_is t3_is are =

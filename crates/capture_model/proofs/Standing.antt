@@ -1,9 +1,10 @@
 -- A listening port over a datagram: what holds of it goes on holding, and is as after a tick where the datagram brings
 -- one.
-use Rattle.std.proofs.Common.{◌≡◌, ◌∙◌, ℕ, zero, suc, ◌+◌, ◌<◌, ◌≤◌, Bool, true, false, List, ◌∷◌, Some, refl, sym, ap}
+use Rattle.std.proofs.Common.{◌≡◌, ◌∙◌, ℕ, zero, suc, ◌+◌, ◌-◌, ◌<◌, ◌≤◌, Bool, true, false, List, [], ◌∷◌, Some, refl}
+use Rattle.std.proofs.Common.{sym, ap}
 use Rattle.std.proofs.Common.{subst, arith, nat_lt, if◌then◌else◌}
 use Rattle.std.specs.Prelude.{◌==◌, ◌||◌, not, count_by}
-use Rattle.std.proofs.lemmas.Bool.{ne_eqb, eq-eqb}
+use Rattle.std.proofs.lemmas.Bool.{ne_eqb, eq-eqb, eqb-true}
 use Rattle.std.proofs.lemmas.List.Sums.{sum_by-cons}
 use Rattle.ptp_units.specs.Sequence.{of_count, ahead}
 use Rattle.event_codec.specs.Reading.{Reading}
@@ -22,7 +23,7 @@ use Rattle.capture_model.specs.Premises.{is_tick, ticks_in}
 use Rattle.capture_model.specs.Exact.{Watches}
 use Rattle.capture_model.proofs.Lines.{Lines}
 use Rattle.capture_model.proofs.Near.{Reach}
-use Rattle.capture_model.proofs.Requests.{AreRequests, drawn-draws, next-draws, requests-asked}
+use Rattle.capture_model.proofs.Requests.{AreRequests, requests-later, drawn-draws, next-draws, requests-asked}
 use Rattle.capture_model.proofs.Holding.{Holds, holds-ticked, holds-asked}
 
 -- one call more
@@ -69,6 +70,7 @@ module _ (network : Network) (slave master : NodeName) (w : Watched) (watches : 
     pub holds : Holds network slave master watches.own watches.other w.master reach lines syncs sent slack
         (setup_in w l) l.calls
     pub next : l.asked ≡ true → next_number (setup_in w l) l.calls ≡ of_count (watches.own.first + sent)
+    pub none : l.asked ≡ false → requests (setup_in w l) l.calls ≡ []
 
   -- the same after a datagram, before which the port had so many ticks
   pub record StandsAfter (before syncs sent slack : ℕ) (l : Listening) : Type 0 where
@@ -95,6 +97,7 @@ module _ (network : Network) (slave master : NodeName) (w : Watched) (watches : 
                 (since_tick before slack l) (setup_in w l) l.calls
                 after.stands.holds (omega (arith, since-low before slack l)));
             next = after.stands.next;
+            none = after.stands.none;
           };
         }
 
@@ -103,7 +106,7 @@ module _ (network : Network) (slave master : NodeName) (w : Watched) (watches : 
         → StandsAfter before syncs sent slack (record l { syncs = counted; stale = stale })
     recounted l counted stale after = record {
       more = after.more;
-      stands = record { holds = after.stands.holds; next = after.stands.next };
+      stands = record { holds = after.stands.holds; next = after.stands.next; none = after.stands.none };
     }
 
     rowed : (stale : Bool) (l : Listening) → StandsAfter before syncs sent slack l
@@ -140,9 +143,8 @@ module _ (network : Network) (slave master : NodeName) (w : Watched) (watches : 
     pub told-event : (heard : Reading) (t2 tag : ℕ)
         → Holds network slave master watches.own watches.other w.master reach lines syncs sent slack (setup_in w l)
         (calls.Event heard t2 tag ∷ l.calls)
-        → (l.asked ≡ true → next_number (setup_in w l) l.calls ≡ of_count (watches.own.first + sent))
-        → StandsAfter (ticks_in l) syncs sent slack (told (calls.Event heard t2 tag) l)
-    told-event heard t2 tag holds next =
+        → Stands syncs sent slack l → StandsAfter (ticks_in l) syncs sent slack (told (calls.Event heard t2 tag) l)
+    told-event heard t2 tag holds before =
         let same = count-other (calls.Event heard t2 tag) l.calls refl in
         record {
           more = omega arith;
@@ -150,16 +152,16 @@ module _ (network : Network) (slave master : NodeName) (w : Watched) (watches : 
             holds = subst (λ (s : ℕ). Holds network slave master watches.own watches.other w.master reach lines syncs
                 sent s (setup_in w l) (calls.Event heard t2 tag ∷ l.calls))
                 (sym (since-no_tick (ticks_in l) slack (told (calls.Event heard t2 tag) l) same)) holds;
-            next = next;
+            next = before.next;
+            none = before.none;
           };
         }
 
     pub told-general : (heard : Reading) (tag : ℕ)
         → Holds network slave master watches.own watches.other w.master reach lines syncs sent slack (setup_in w l)
         (calls.General heard tag ∷ l.calls)
-        → (l.asked ≡ true → next_number (setup_in w l) l.calls ≡ of_count (watches.own.first + sent))
-        → StandsAfter (ticks_in l) syncs sent slack (told (calls.General heard tag) l)
-    told-general heard tag holds next =
+        → Stands syncs sent slack l → StandsAfter (ticks_in l) syncs sent slack (told (calls.General heard tag) l)
+    told-general heard tag holds before =
         let same = count-other (calls.General heard tag) l.calls refl in
         record {
           more = omega arith;
@@ -167,70 +169,130 @@ module _ (network : Network) (slave master : NodeName) (w : Watched) (watches : 
             holds = subst (λ (s : ℕ). Holds network slave master watches.own watches.other w.master reach lines syncs
                 sent s (setup_in w l) (calls.General heard tag ∷ l.calls))
                 (sym (since-no_tick (ticks_in l) slack (told (calls.General heard tag) l) same)) holds;
-            next = next;
+            next = before.next;
+            none = before.none;
           };
         }
 
-    -- the slave's next Delay_Req is asked for, and the port begins anew at none
-    pub asked-stands : (p : Place) (line time number : ℕ) → Stands syncs sent slack l
-        → sent ≡ count_by (is_at is_request slave) p.earlier
-        → lines line ≡ Some p → is_at is_request slave p.event ≡ true → number ≡ of_count (watches.own.first + sent)
-        → time ≡ reading p
-        → StandsAfter (ticks_in l) syncs (sent + 1) slack (hears_request w line time number l)
-    asked-stands p line time number stands sent_is line_is drawn number_is time_is =
-        subst (λ (b : Bool). StandsAfter (ticks_in l) syncs (sent + 1) slack
-        (if b then asks w line time number l
-        else if ahead number next == 65535 then l else asks w line time number (anew w number l)))
-        (sym (goes_on l.asked stands.next)) after
+  -- a port that was told its master and nothing else
+  pub set-stands : (syncs sent slack : ℕ) (l : Listening) → l.calls ≡ calls.SetMaster w.master ∷ []
+      → Holds network slave master watches.own watches.other w.master reach lines syncs sent slack (setup_in w l)
+      l.calls
+  set-stands syncs sent slack l is =
+      subst (Holds network slave master watches.own watches.other w.master reach lines syncs sent slack (setup_in w l))
+      (sym is) (record {
+        follows_master = refl;
+        near_syncs = (λ k d low. absurd (omega arith), λ k d low. absurd (omega arith));
+        near_follows = (λ k d low. absurd (omega arith), λ k d low. absurd (omega arith));
+        near_completions = (λ k d low. absurd (omega arith), λ k d low. absurd (omega arith));
+        near_delays = (λ k d low. absurd (omega arith), λ k d low. absurd (omega arith));
+        last_requests = tt;
+      })
+
+  -- as long as no Delay_Req is told, nothing is said of them
+  pub unasked-stands : (syncs sent more slack : ℕ) (l : Listening) → l.asked ≡ false → Stands syncs sent slack l
+      → Stands syncs more slack l
+  unasked-stands syncs sent more slack l unasked stands = record {
+    holds = record {
+      follows_master = stands.holds.follows_master;
+      near_syncs = stands.holds.near_syncs;
+      near_follows = stands.holds.near_follows;
+      near_completions = stands.holds.near_completions;
+      near_delays = stands.holds.near_delays;
+      last_requests = subst (AreRequests slave watches.own lines more) (sym (stands.none unasked)) tt;
+    };
+    next = λ asked. let both : true ≡ false = sym asked ∙ unasked in cc;
+    none = stands.none;
+  }
+
+  -- a Delay_Req of the slave
+  module _ (syncs : ℕ) (p : Place) (line time number : ℕ) (line_is : lines line ≡ Some p)
+      (drawn : is_at is_request slave p.event ≡ true)
+      (number_is : number ≡ of_count (watches.own.first + count_by (is_at is_request slave) p.earlier))
+      (time_is : time ≡ reading p) where
+    low : number < 65536
+    low = omega (arith, number_is)
+
+    -- it is asked for, where what was asked for before is as many Delay_Reqs behind it as are drawn
+    asks-stands : (sent slack : ℕ) (l : Listening)
+        → Holds network slave master watches.own watches.other w.master reach lines syncs sent slack (setup_in w l)
+        l.calls
+        → AreRequests slave watches.own lines
+        (count_by (is_at is_request slave) p.earlier - ahead number (next_number (setup_in w l) l.calls))
+        (requests (setup_in w l) l.calls)
+        → Stands syncs (count_by (is_at is_request slave) p.earlier + 1) slack (asks w line time number l)
+    asks-stands sent slack l holds are =
+        let next : ℕ = next_number (setup_in w l) l.calls in
+        let count : ℕ = count_by (is_at is_request slave) p.earlier in
+        record {
+          holds = holds-asked network slave master watches.own watches.other w.master reach lines syncs sent slack
+              (setup_in w l) l.calls holds
+              (ahead number next + 1) line number time (count + 1)
+              (requests-asked slave watches.own (setup_in w l) lines p line number time l.calls low line_is drawn
+              number_is time_is are);
+          next = λ asked. omega (
+            arith,
+            number_is,
+            next-draws (setup_in w l) number line l.calls low,
+            drawn-draws (ahead number next + 1) line l.calls,
+            drawn-draws (ahead number next) line l.calls,
+          );
+          none = λ unasked. cc;
+        }
+
+    -- the slave's next Delay_Req that is told, and fewer than half a turn were missing
+    pub asked-stands : (sent missing slack : ℕ) (l : Listening) → Stands syncs sent slack l
+        → sent + missing ≡ count_by (is_at is_request slave) p.earlier
+        → missing < 32768
+        → Stands syncs (count_by (is_at is_request slave) p.earlier + 1)
+        (since_tick (ticks_in l) slack (hears_request w line time number l))
+        (hears_request w line time number l)
+    asked-stands sent missing slack l stands counted few =
+        by (not l.asked || nat_lt (ahead number next) table_capacity) refl (ahead number next == 65535) refl
       where
         next : ℕ
         next = next_number (setup_in w l) l.calls
 
-        low : number < 65536
-        low = omega (arith, number_is)
+        count : ℕ
+        count = count_by (is_at is_request slave) p.earlier
 
         same : ticks_in (asks w line time number l) ≡ ticks_in l
         same = count-other (calls.RequestLeft number time) (draws (ahead number next + 1) line l.calls) refl
             ∙ count-draws (ahead number next + 1) line l.calls
 
-        -- the number after this one is the next
-        after_it : next_number (setup_in w l) (asks w line time number l).calls ≡ of_count
-            (watches.own.first + (sent + 1))
-        after_it = omega (
-          arith,
-          number_is,
-          next-draws (setup_in w l) number line l.calls low,
-          drawn-draws (ahead number next + 1) line l.calls,
-          drawn-draws (ahead number next) line l.calls,
-        )
+        -- so many are missing as it is ahead
+        ahead_is : l.asked ≡ true → ahead number next ≡ missing
+        ahead_is asked = omega (arith, number_is, stands.next asked, counted)
 
-        after : StandsAfter (ticks_in l) syncs (sent + 1) slack (asks w line time number l)
-        after = record {
-          more = omega (arith, same);
-          stands = record {
-            holds = subst (λ (s : ℕ). Holds network slave master watches.own watches.other w.master reach lines syncs
-                (sent + 1) s (setup_in w l) (asks w line time number l).calls)
-                (sym (since-no_tick (ticks_in l) slack (asks w line time number l) same))
-                (holds-asked network slave master watches.own watches.other w.master reach lines syncs sent slack
-                (setup_in w l) l.calls stands.holds
-                (ahead number next + 1) line number time (sent + 1) (subst
-                (λ (n : ℕ). AreRequests slave watches.own lines (n + 1)
-                (requests (setup_in w l) (asks w line time number l).calls)) (sym sent_is)
-                (requests-asked slave watches.own (setup_in w l) lines p line number time l.calls low line_is drawn
-                (number_is ∙ ap (λ (n : ℕ). of_count (watches.own.first + n)) sent_is) time_is
-                (subst (λ (n : ℕ). AreRequests slave watches.own lines n (requests (setup_in w l) l.calls)) sent_is
-                stands.holds.last_requests))));
-            next = λ asked. after_it;
-          };
-        }
+        kept_requests : (asked : Bool) → l.asked ≡ asked
+            → AreRequests slave watches.own lines (count - ahead number next) (requests (setup_in w l) l.calls)
+        kept_requests true asked =
+            requests-later slave watches.own lines lines sent (count - ahead number next)
+            (requests (setup_in w l) l.calls) (λ line p is. is)
+            (omega (arith, ahead_is asked, counted)) stands.holds.last_requests
+        kept_requests false unasked = subst (AreRequests slave watches.own lines (count - ahead number next))
+            (sym (stands.none unasked)) tt
 
-        turn : (n : ℕ) → n < 65536 → ahead n n ≡ 0
-        turn n below = omega arith
+        asked_then : (asked near : Bool) → (not asked || near) ≡ false → asked ≡ true
+        asked_then true near is = refl
+        asked_then false near is = cc
 
-        goes_on : (asked : Bool) → (asked ≡ true → next ≡ of_count (watches.own.first + sent))
-            → (not asked || nat_lt (ahead number next) table_capacity) ≡ true
-        goes_on false is = refl
-        goes_on true is =
-            let one : next ≡ number = is refl ∙ sym number_is in
-            ap (λ (n : ℕ). nat_lt (ahead number n) table_capacity) one
-            ∙ ap (λ (n : ℕ). nat_lt n table_capacity) (turn number low)
+        by : (near : Bool) → (not l.asked || nat_lt (ahead number next) table_capacity) ≡ near → (again : Bool)
+            → (ahead number next == 65535) ≡ again
+            → Stands syncs (count + 1)
+            (since_tick (ticks_in l) slack
+            (if near then asks w line time number l else if again then l else asks w line time number
+            (anew w number l)))
+            (if near then asks w line time number l else if again then l else asks w line time number (anew w number l))
+        by true e again f =
+            subst (λ (s : ℕ). Stands syncs (count + 1) s (asks w line time number l))
+            (sym (since-no_tick (ticks_in l) slack (asks w line time number l) same))
+            (asks-stands sent slack l stands.holds (kept_requests l.asked refl))
+        by false e true f =
+            let asked = asked_then l.asked (nat_lt (ahead number next) table_capacity) e in
+            let turn : ahead number next ≡ 65535 = eqb-true (ahead number next) 65535 f in
+            absurd (omega (arith, ahead_is asked))
+        by false e false f =
+            asks-stands 0 (since_tick (ticks_in l) slack (asks w line time number (anew w number l))) (anew w number l)
+            (set-stands syncs 0 (since_tick (ticks_in l) slack (asks w line time number (anew w number l)))
+            (anew w number l) refl) tt

@@ -1,11 +1,12 @@
 -- A datagram that tells an event: what holds of the listening port holds after it, and what it reports then is made of
 -- events that lines tell.
 use Rattle.std.proofs.Common.{◌≡◌, ◌∙◌, ℕ, ◌+◌, ◌<◌, ◌≤◌, true, false, List, ◌∷◌, Some, None, Ok, refl, sym, ap, subst}
-use Rattle.std.proofs.Common.{arith, option_and_then, if◌then◌else◌}
+use Rattle.std.proofs.Common.{arith, Bool, option_and_then, if◌then◌else◌}
 use Rattle.std.specs.Prelude.{◌==◌, count_by, IfSome, IsTrue, Option}
 use Rattle.std.specs.Option.{option_map_or}
 use Rattle.std.specs.Result.{result_ok}
 use Rattle.std.proofs.lemmas.Bool.{and_from, eq-eqb}
+use Rattle.ptp_units.specs.Moment.{Stamp}
 use Rattle.ptp_units.specs.Sequence.{of_count}
 use Rattle.event_codec.specs.declared.message.Body.{Body}
 use Rattle.event_codec.specs.declared.message.Body.TheVariants as bodies
@@ -46,7 +47,7 @@ use Rattle.capture_model.proofs.ToldEvents as events
 use Rattle.capture_model.proofs.ToldEvents.{IsTold, IsGeneral, told_is}
 use Rattle.capture_model.proofs.Holding.{Holds, holds-later}
 use Rattle.capture_model.proofs.Messages.{IsFreshUse, arrived, heard}
-use Rattle.capture_model.proofs.Standing.{Stands, StandsAfter, hears_sync-stands, told-event, told-general}
+use Rattle.capture_model.proofs.Standing.{Stands, since_tick, hears_sync-stands, told-event, told-general}
 use Rattle.capture_model.proofs.Standing.{asked-stands}
 use Rattle.capture_model.proofs.Reported.{IsMadeOf, made_of}
 
@@ -77,10 +78,14 @@ module _ (network : Network) (slave master : NodeName) (w : Watched) (apart : Is
   abbrev pub sent_in : Run → ℕ
   sent_in run = count_by (is_at is_request slave) run
 
-  -- over a datagram: what holds of the port, and of a report that it brings
-  pub record IsStep (lines : Lines) (syncs sent slack : ℕ) (ds : List Recorded) (d : Recorded) : Type 0 where
-    pub stands : StandsAfter network slave master w watches within lines (ticks_in (after_all w ds)) syncs sent slack
-        (hear w d (after_all w ds))
+  -- over a datagram that tells an event: what holds of the port, how many requests of the slave it knows of and how
+  -- many are missing, and what a report is made of
+  pub record IsStep (lines : Lines) (event : Event) (earlier : Run) (missing slack : ℕ) (ds : List Recorded)
+      (d : Recorded) : Type 0 where
+    pub known : ℕ
+    pub counted : known + (if is_request event then 0 else missing) ≡ sent_in (event ∷ earlier)
+    pub stands : Stands network slave master w watches within lines (syncs_in (event ∷ earlier)) known
+        (since_tick (ticks_in (after_all w ds)) slack (hear w d (after_all w ds))) (hear w d (after_all w ds))
     pub reported : (report : Report) → report_at w ds d ≡ Some report → IsMadeOf lines slave master report
 
   module _ (event : Event) (earlier : Run) (m : Contents) (d : Recorded) (ds : List Recorded)
@@ -88,24 +93,23 @@ module _ (network : Network) (slave master : NodeName) (w : Watched) (apart : Is
       (lines more : Lines) (extends : Extends lines more) (inside : AreIn more (event ∷ earlier))
       (now : more d.line ≡ Some (place event earlier))
       (said : d.said ≡ Ok m) (timed : IsTimed event earlier d.time) (slack : ℕ) (few : slack ≤ 16384)
-      (before : Stands network slave master w watches within lines (syncs_in earlier) (sent_in earlier) slack
-      (after_all w ds))
+      (known missing : ℕ) (few_missing : missing < 32768)
+      (counted : known + missing ≡ sent_in earlier)
+      (before : Stands network slave master w watches within lines (syncs_in earlier) known slack (after_all w ds))
       (fresh : IsTrue (is_used w ds d) → IfSome (origin_heard (place event earlier))
       (λ origin. drawn_later origin earlier < 32768)) where
-    -- what the port was told before, with the lines of now
-    lifted : is_at draws_sync master event ≡ false → (sent : ℕ) → sent ≤ sent_in earlier
-        → Holds network slave master watches.own watches.other w.master within more (syncs_in (event ∷ earlier)) sent
-        slack (setup_in w (after_all w ds)) (after_all w ds).calls
-    lifted none sent less =
-        holds-later network slave master watches.own watches.other w.master within lines more (syncs_in earlier)
-        (syncs_in (event ∷ earlier)) (sent_in earlier) sent
-        slack slack (setup_in w (after_all w ds)) (after_all w ds).calls extends
-        (omega (arith, count-no (is_at draws_sync master) event earlier none)) less before.holds
-
-    -- the number of the next request stays
-    next_stays : (sent : ℕ) → sent ≡ sent_in earlier → (after_all w ds).asked ≡ true
-        → next_number (setup_in w (after_all w ds)) (after_all w ds).calls ≡ of_count (watches.own.first + sent)
-    next_stays sent same asked = before.next asked ∙ ap (λ (n : ℕ). of_count (watches.own.first + n)) (sym same)
+    -- what held before, with the lines of now
+    lifted : is_at draws_sync master event ≡ false
+        → Stands network slave master w watches within more (syncs_in (event ∷ earlier)) known slack (after_all w ds)
+    lifted none = record {
+      holds = holds-later network slave master watches.own watches.other w.master within lines more (syncs_in earlier)
+          (syncs_in (event ∷ earlier)) known known
+          slack slack (setup_in w (after_all w ds)) (after_all w ds).calls extends
+          (omega (arith, count-no (is_at draws_sync master) event earlier none))
+          (omega arith) before.holds;
+      next = before.next;
+      none = before.none;
+    }
 
     module _ (call : Call) (hearing_is : hearing_of d ≡ Some call) where
       -- what is used is fresh
@@ -140,16 +144,23 @@ module _ (network : Network) (slave master : NodeName) (w : Watched) (apart : Is
         ap (λ (r : Reading). option_and_then (λ m. hearing d.line d.time m m.body) (result_ok r)) said
         ∙ ap (λ (b : Body). hearing d.line d.time m b) is
 
+    -- no more requests are missing where the event is none
+    still_counted : is_request event ≡ false → is_at is_request slave event ≡ false
+        → known + (if is_request event then 0 else missing) ≡ sent_in (event ∷ earlier)
+    still_counted none asks_none =
+        ap (λ (b : Bool). known + (if b then 0 else missing)) none ∙ counted
+        ∙ sym (count-no (is_at is_request slave) event earlier asks_none)
+
     -- a Sync
-    sync_step : (copy moment : ℕ) (origin : _) → event ≡ Arrive slave copy moment
+    sync_step : (copy moment : ℕ) (origin : Stamp) → event ≡ Arrive slave copy moment
         → copy_of network earlier copy ≡ Some m → m.body ≡ bodies.Sync origin
-        → IsStep more (syncs_in (event ∷ earlier)) (sent_in (event ∷ earlier)) slack ds d
+        → IsStep more event earlier missing slack ds d
     sync_step copy moment origin event_is copy_is body =
         let l : Listening = after_all w ds in
+        let syncs : ℕ = syncs_in (event ∷ earlier) in
         let draws_none : is_at draws_sync master event ≡ false = ap (is_at draws_sync master) event_is in
         let asks_none : is_at is_request slave event ≡ false = ap (is_at is_request slave) event_is in
-        let same_syncs = count-no (is_at draws_sync master) event earlier draws_none in
-        let same_sent = count-no (is_at is_request slave) event earlier asks_none in
+        let stands = lifted draws_none in
         let call : Call = calls.Event (Ok m) (reading (place event earlier)) d.line in
         let time : d.time ≡ reading (place event earlier) =
         subst (λ (e : Event). IsTimed e earlier d.time) event_is timed
@@ -157,111 +168,108 @@ module _ (network : Network) (slave master : NodeName) (w : Watched) (apart : Is
         let hearing_is : hearing_of d ≡ Some call =
         hearing-is (bodies.Sync origin) body ∙ ap (λ (t : ℕ). Some (calls.Event (Ok m) t d.line)) time in
         let holds = arrived network slave master w apart watches within event earlier accepted more inside d.line now
-        (syncs_in (event ∷ earlier)) (sent_in (event ∷ earlier)) slack
-        same_syncs refl same_sent refl (setup_in w l) refl (omega arith) l.calls
-        (lifted draws_none (sent_in (event ∷ earlier)) (omega arith)) (omega arith) m copy
+        syncs known slack
+        (count-no (is_at draws_sync master) event earlier draws_none) refl (setup_in w l) refl
+        (omega (arith, counted, count-no (is_at is_request slave) event earlier asks_none)) l.calls stands.holds
+        (omega arith) m copy
         (ap heard_copy event_is) copy_is moment event_is (fresh_use call hearing_is) in
         record {
-          stands = subst (StandsAfter network slave master w watches within more (ticks_in l)
-              (syncs_in (event ∷ earlier)) (sent_in (event ∷ earlier)) slack)
+          known = known;
+          counted = still_counted (ap is_request event_is) asks_none;
+          stands = subst (λ (after : Listening). Stands network slave master w watches within more syncs known
+              (since_tick (ticks_in l) slack after) after)
               (ap (λ (t : ℕ). hears_sync w (is_of w w.master m.header) (calls.Event (Ok m) t d.line) l) (sym time)
               ∙ sym (hears_it (bodies.Sync origin) body))
-              (hears_sync-stands network slave master w watches within more (ticks_in l) (syncs_in (event ∷ earlier))
-              (sent_in (event ∷ earlier)) slack few
+              (hears_sync-stands network slave master w watches within more (ticks_in l) syncs known slack few
               (is_of w w.master m.header) call l
-              (told-event network slave master w watches within more (syncs_in (event ∷ earlier))
-              (sent_in (event ∷ earlier)) slack l (Ok m) (reading (place event earlier)) d.line
-              holds (next_stays (sent_in (event ∷ earlier)) same_sent)));
-          reported = reported_by call hearing_is (syncs_in (event ∷ earlier)) (sent_in (event ∷ earlier)) holds;
+              (told-event network slave master w watches within more syncs known slack l (Ok m)
+              (reading (place event earlier)) d.line holds stands)).stands;
+          reported = reported_by call hearing_is syncs known holds;
         }
 
     -- a Follow_Up or a Delay_Resp
     general_step : (copy : ℕ) → event ≡ Hear slave copy → copy_of network earlier copy ≡ Some m
         → hearing_of d ≡ Some (calls.General (Ok m) d.line)
         → hear w d (after_all w ds) ≡ told (calls.General (Ok m) d.line) (after_all w ds)
-        → IsStep more (syncs_in (event ∷ earlier)) (sent_in (event ∷ earlier)) slack ds d
+        → IsStep more event earlier missing slack ds d
     general_step copy event_is copy_is hearing_is heard_is =
         let l : Listening = after_all w ds in
+        let syncs : ℕ = syncs_in (event ∷ earlier) in
         let draws_none : is_at draws_sync master event ≡ false = ap (is_at draws_sync master) event_is in
         let asks_none : is_at is_request slave event ≡ false = ap (is_at is_request slave) event_is in
-        let same_syncs = count-no (is_at draws_sync master) event earlier draws_none in
-        let same_sent = count-no (is_at is_request slave) event earlier asks_none in
+        let stands = lifted draws_none in
         let call : Call = calls.General (Ok m) d.line in
         let holds = heard network slave master w apart watches within event earlier accepted more inside d.line now
-        (syncs_in (event ∷ earlier)) (sent_in (event ∷ earlier)) slack
-        same_syncs refl same_sent refl (setup_in w l) refl (omega arith) l.calls
-        (lifted draws_none (sent_in (event ∷ earlier)) (omega arith)) (omega arith) m copy
+        syncs known slack
+        (count-no (is_at draws_sync master) event earlier draws_none) refl (setup_in w l) refl
+        (omega (arith, counted, count-no (is_at is_request slave) event earlier asks_none)) l.calls stands.holds
+        (omega arith) m copy
         (ap heard_copy event_is) copy_is event_is (fresh_use call hearing_is) in
         record {
-          stands = subst (StandsAfter network slave master w watches within more (ticks_in l)
-              (syncs_in (event ∷ earlier)) (sent_in (event ∷ earlier)) slack) (sym heard_is)
-              (told-general network slave master w watches within more (syncs_in (event ∷ earlier))
-              (sent_in (event ∷ earlier)) slack l (Ok m) d.line
-              holds (next_stays (sent_in (event ∷ earlier)) same_sent));
-          reported = reported_by call hearing_is (syncs_in (event ∷ earlier)) (sent_in (event ∷ earlier)) holds;
+          known = known;
+          counted = still_counted (ap is_request event_is) asks_none;
+          stands = subst (λ (after : Listening). Stands network slave master w watches within more syncs known
+              (since_tick (ticks_in l) slack after) after)
+              (sym heard_is)
+              (told-general network slave master w watches within more syncs known slack l (Ok m) d.line holds
+              stands).stands;
+          reported = reported_by call hearing_is syncs known holds;
         }
 
     -- a Delay_Req
     request_step : (moment : ℕ) (port : PortSetup) → event ≡ Request slave moment → slave_at network slave ≡ Some port
         → m ≡ delay_req port.config (of_count (number_of port (place event earlier)))
-        → IsStep more (syncs_in (event ∷ earlier)) (sent_in (event ∷ earlier)) slack ds d
+        → IsStep more event earlier missing slack ds d
     request_step moment port event_is port_is m_is =
         let l : Listening = after_all w ds in
+        let syncs : ℕ = syncs_in (event ∷ earlier) in
         let ports : Some port ≡ Some watches.own = sym port_is ∙ watches.slave_port in
         let own : port ≡ watches.own = cc in
-        let draws_none : is_at draws_sync master event ≡ false = ap (is_at draws_sync master) event_is in
         let asks : is_at is_request slave event ≡ true = ap (is_at is_request slave) event_is ∙ named-self slave in
-        let one_more : sent_in (event ∷ earlier) ≡ sent_in earlier + 1 = count-yes (is_at is_request slave) event
-        earlier asks in
         let number : ℕ = m.header.sequence.0 in
+        let said_is : Contents = delay_req port.config (of_count (number_of port (place event earlier))) in
         let number_is : number ≡ of_count (watches.own.first + sent_in earlier) =
         ap (λ (m : Contents). m.header.sequence.0) m_is
         ∙ ap (λ (o : PortSetup). of_count (number_of o (place event earlier))) own
-        ∙ ap (λ (kind : Event → _). of_count (watches.own.first + count_by kind earlier))
+        ∙ ap (λ (kind : Event → Bool). of_count (watches.own.first + count_by kind earlier))
         (draws_with-request slave event asks) in
         let time : d.time ≡ reading (place event earlier) =
         subst (λ (e : Event). IsTimed e earlier d.time) event_is timed
         ∙ ap (λ (e : Event). reading (place e earlier)) (sym event_is) in
-        let body : m.body ≡ (delay_req port.config (of_count (number_of port (place event earlier)))).body = ap
-        (λ (m : Contents). m.body) m_is in
-        let header : m.header ≡ (delay_req port.config (of_count (number_of port (place event earlier)))).header = ap
-        (λ (m : Contents). m.header) m_is in
+        let body : m.body ≡ said_is.body = ap (λ (m : Contents). m.body) m_is in
         let identity : port.config.identity ≡ w.slave = ap (λ (o : PortSetup). o.config.identity) own
         ∙ sym watches.slave_is in
         let domain : port.config.domain ≡ w.domain = ap (λ (o : PortSetup). o.config.domain) own
         ∙ sym watches.domain_is in
         let is_own : is_of w w.slave m.header ≡ true =
-        ap (is_of w w.slave) header
+        ap (λ (m : Contents). is_of w w.slave m.header) m_is
         ∙ and_from (port.config.domain == w.domain) (is_same_port port.config.identity w.slave)
         (eq-eqb port.config.domain w.domain domain)
         (ap (λ (i : PortIdentity). is_same_port i w.slave) identity ∙ same_identity w.slave) in
         let heard_is : hear w d l ≡ hears_request w d.line d.time number l =
-        hears_it (delay_req port.config (of_count (number_of port (place event earlier)))).body body
-        ∙ ap (λ b. if b then hears_request w d.line d.time number l else l) is_own in
-        let hearing_none : hearing_of d ≡ None = hearing-is
-        (delay_req port.config (of_count (number_of port (place event earlier)))).body body in
+        hears_it said_is.body body ∙ ap (λ (b : Bool). if b then hears_request w d.line d.time number l else l) is_own
+        in
         let none : report_at w ds d ≡ None = ap (option_and_then (λ (c : Call). report_in (answer_in w l c)))
-        hearing_none in
+        (hearing-is said_is.body body) in
         record {
-          stands = subst (StandsAfter network slave master w watches within more (ticks_in l)
-              (syncs_in (event ∷ earlier)) (sent_in (event ∷ earlier)) slack) (sym heard_is)
-              (subst (λ (n : ℕ). StandsAfter network slave master w watches within more (ticks_in l)
-              (syncs_in (event ∷ earlier)) n slack
-              (hears_request w d.line d.time number l)) (sym one_more)
-              (asked-stands network slave master w watches within more (syncs_in (event ∷ earlier)) (sent_in earlier)
-              slack l (place event earlier) d.line d.time number
-              (record { holds = lifted draws_none (sent_in earlier) (omega arith); next = before.next }) refl now asks
-              number_is time));
+          known = sent_in earlier + 1;
+          counted = ap (λ (b : Bool). sent_in earlier + 1 + (if b then 0 else missing)) (ap is_request event_is)
+              ∙ omega (arith, count-yes (is_at is_request slave) event earlier asks);
+          stands = subst (λ (after : Listening). Stands network slave master w watches within more syncs
+              (sent_in earlier + 1) (since_tick (ticks_in l) slack after) after)
+              (sym heard_is)
+              (asked-stands network slave master w watches within more syncs (place event earlier) d.line d.time number
+              now asks number_is time known missing slack l
+              (lifted (ap (is_at draws_sync master) event_is)) counted few_missing);
           reported = λ report is. let same : Some report ≡ None = sym is ∙ none in cc;
         }
 
     -- each of them
-    pub step : told_at network slave event earlier ≡ Some m
-        → IsStep more (syncs_in (event ∷ earlier)) (sent_in (event ∷ earlier)) slack ds d
+    pub step : told_at network slave event earlier ≡ Some m → IsStep more event earlier missing slack ds d
     step made = by (told_is network slave earlier m event made)
       where
         general : (copy : ℕ) → event ≡ Hear slave copy → copy_of network earlier copy ≡ Some m → IsGeneral m.body
-            → IsStep more (syncs_in (event ∷ earlier)) (sent_in (event ∷ earlier)) slack ds d
+            → IsStep more event earlier missing slack ds d
         general copy event_is copy_is (events.FollowUp precise body) =
             general_step copy event_is copy_is (hearing-is (bodies.FollowUp precise) body)
             (hears_it (bodies.FollowUp precise) body)
@@ -269,8 +277,7 @@ module _ (network : Network) (slave master : NodeName) (w : Watched) (apart : Is
             general_step copy event_is copy_is (hearing-is (bodies.DelayResp receive requesting) body)
             (hears_it (bodies.DelayResp receive requesting) body)
 
-        by : IsTold network slave event earlier m
-            → IsStep more (syncs_in (event ∷ earlier)) (sent_in (event ∷ earlier)) slack ds d
+        by : IsTold network slave event earlier m → IsStep more event earlier missing slack ds d
         by (events.Arrived copy moment origin event_is copy_is body) = sync_step copy moment origin event_is copy_is
             body
         by (events.Heard copy event_is copy_is body) = general copy event_is copy_is body

@@ -1,6 +1,5 @@
 -- A worked recording: of the exchange through a clock of a slave that leads by 1,000 ns. It tells a run that meets the
--- premises, and the
--- port that listens to it reports once.
+-- premises, and the port that listens to it reports once.
 use Rattle.std.proofs.Common.{◌≡◌, ℕ, pos, refl, arith, List, [], ◌∷◌, Some, Ok, Err}
 use Rattle.ptp_units.specs.Moment.{stamp}
 use Rattle.event_codec.specs.declared.message.Body.TheVariants.{DelayResp}
@@ -22,7 +21,7 @@ use Rattle.capture_model.specs.Listening.{reports}
 use Rattle.capture_model.specs.Told.{Tells, Nothing, Untold, Told, Other}
 use Rattle.capture_model.specs.Premises.{IsFreshAndTicked}
 use Rattle.capture_model.specs.Exact.{Watches}
-use Rattle.capture_model.proofs.Short.{IsFresh-short, IsTicked-short}
+use Rattle.capture_model.proofs.Short.{IsFresh-short, IsTicked-short, MissesFew-short}
 
 -- the slave S, which follows M
 abbrev watched : Watched
@@ -80,25 +79,26 @@ one_report = refl
 abbrev tells : Tells small_network s whole recording
 tells =
     Told (Hear s 11) (after 13) response_said (line 5 0 (Ok response_said)) _ refl refl tt
-    (Untold (Stamped s) (after 12) _ refl
-    (Untold (Arrive m 10 (at 2 4500 16384)) (after 11) _ refl
-    (Untold (Leave t 9 (at 2 4000 16384)) (after 10) _ refl
-    (Untold (Enter t 8 (at 2 500 0)) (after 9) _ refl
+    (Untold (Stamped s) (after 12) _
+    (Untold (Arrive m 10 (at 2 4500 16384)) (after 11) _
+    (Untold (Leave t 9 (at 2 4000 16384)) (after 10) _
+    (Untold (Enter t 8 (at 2 500 0)) (after 9) _
     (Told (Request s (at 2 0 0)) (after 8) request_said _ _ refl refl refl
     (Told (Hear s 6) (after 7) follow_said _ _ refl refl tt
-    (Untold (Follow m) (after 6) _ refl
+    (Untold (Follow m) (after 6) _
     (Other (after 6) _ _ refl
     (Told (Arrive s 4 (at 1 3000 0)) (after 5) sync_said _ _ refl refl refl
-    (Untold (Leave t 3 (at 1 2500 0)) (after 4) _ refl
-    (Untold (Enter t 2 (at 1 500 0)) (after 3) _ refl
-    (Untold (Sync m (at 1 0 0)) (after 2) _ refl
-    (Untold (SetMaster s m) (after 1) _ refl
-    (Untold (StepClock s (pos 65536000)) (after 0) _ refl Nothing))))))))))))))
+    (Untold (Leave t 3 (at 1 2500 0)) (after 4) _
+    (Untold (Enter t 2 (at 1 500 0)) (after 3) _
+    (Untold (Sync m (at 1 0 0)) (after 2) _
+    (Untold (SetMaster s m) (after 1) _
+    (Untold (StepClock s (pos 65536000)) (after 0) _ Nothing))))))))))))))
 
 -- it meets the premises
 fresh_and_ticked : IsFreshAndTicked exact_limits m watched tells
 fresh_and_ticked = record {
   numbered = (omega arith, (omega arith, (omega arith, (omega arith, tt))));
   fresh = IsFresh-short small_network s m watched 32768 tells (omega arith);
+  missing = MissesFew-short small_network s m watched 32768 tells (omega arith);
   ticked = IsTicked-short small_network s m watched 16384 tells (omega arith);
 }

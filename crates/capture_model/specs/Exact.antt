@@ -15,7 +15,7 @@ use Rattle.capture_model.specs.Listening.{reports}
 use Rattle.capture_model.specs.Told.{Tells, event_told}
 use Rattle.capture_model.specs.Premises.{IsFreshAndTicked}
 
--- a slave's port and a master of its domain
+-- a slave and a master by their identities, and the domain of the slave
 pub record Watches (network : Network) (slave master : NodeName) (w : Watched) : Type 0 where
   pub own : PortSetup
   pub other : PortSetup
@@ -27,21 +27,18 @@ pub record Watches (network : Network) (slave master : NodeName) (w : Watched) :
 
 -- a tag is that of the event which the line of this number tells
 abbrev pub TellsTag : {network : Network} {slave : NodeName} {run : Run} {ds : List Recorded}
-    → Tells network slave run ds
-    → (line tag : ℕ) → Type 0
+    → Tells network slave run ds → (line tag : ℕ) → Type 0
 TellsTag tells line tag = option_map tag_of (event_told tells line) ≡ Some tag
 
 -- the same where there is a line, and none where there is none
 abbrev pub TellsTags : {network : Network} {slave : NodeName} {run : Run} {ds : List Recorded}
-    → Tells network slave run ds
-    → (line tag : Option ℕ) → Type 0
+    → Tells network slave run ds → (line tag : Option ℕ) → Type 0
 TellsTags tells None tag = tag ≡ None
 TellsTags tells (Some line) tag = (event : ℕ) × TellsTag tells line event × (tag ≡ Some event)
 
 -- a report with the tags of the events that its lines tell, and its own results
 pub record IsOfEvents {network : Network} {slave : NodeName} {run : Run} {ds : List Recorded}
-    (tells : Tells network slave run ds)
-    (report told : Report) : Type 0 where
+    (tells : Tells network slave run ds) (report told : Report) : Type 0 where
   pub offset : told.offset2 ≡ report.offset2
   pub path : told.path2 ≡ report.path2
   pub sync : TellsTag tells report.sync_tag told.sync_tag
@@ -50,8 +47,7 @@ pub record IsOfEvents {network : Network} {slave : NodeName} {run : Run} {ds : L
   pub response : TellsTag tells report.response_tag told.response_tag
 
 -- the report is exact for the events that its lines tell: of one Sync of this master and of one Delay_Req to it, and
--- exactly
--- twice the standard's two results over them
+-- exactly twice the standard's two results over them
 pub record IsExact {network : Network} {slave : NodeName} {run : Run} {ds : List Recorded} (master : NodeName)
     (tells : Tells network slave run ds) (report : Report) : Type 0 where
   pub told : Report
@@ -65,7 +61,7 @@ pub record IsExact {network : Network} {slave : NodeName} {run : Run} {ds : List
   pub exact : IsTwice sync_arrival sync request_arrival request told
 
 -- Over any accepted run of a network and a recording that tells it at one of its slaves: each report is exact, where no
--- number is too old when it is used and ticks come often enough.
+-- number is too old when it is used, ticks come often enough, and few Delay_Reqs are missing in a row.
 abbrev pub EachReportIsExact : Type 0
 EachReportIsExact =
     (network : Network) (run : Run) (slave master : NodeName) (w : Watched) (ds : List Recorded)

@@ -1,8 +1,7 @@
 -- What a slave port is told that listens to a recording, and what it reports. A list of datagrams has the newest in
 -- front.
 use Rattle.std.specs.Prelude.{ℕ, zero, suc, ◌+◌, pos, Bool, true, false, ◌&&◌, ◌||◌, not, List, [], ◌∷◌, ◌++◌, ◌==◌}
-use Rattle.std.specs.Prelude.{nat_lt}
-use Rattle.std.specs.Prelude.{if◌then◌else◌, Option, Some, None, option_and_then, option_to_list, Ok}
+use Rattle.std.specs.Prelude.{nat_lt, if◌then◌else◌, Option, Some, None, option_and_then, option_to_list, Ok}
 use Rattle.std.specs.Option.{option_map_or}
 use Rattle.std.specs.Result.{result_ok}
 use Rattle.ptp_units.specs.Sequence.{ahead}
@@ -33,9 +32,8 @@ setup_with w first =
     table_capacity
 
 -- The port: the number of its first request, and its calls, newest first; whether a Delay_Req of the slave came; how
--- many
--- Syncs of the master came since the last tick that these brought; and how many of these in a row, up to the last one,
--- weren't newer than the last Sync that completed.
+-- many Syncs of the master came since the last tick that these brought; and how many of these in a row, up to the last
+-- one, weren't newer than the last Sync that completed.
 pub record Listening : Type 0 where
   pub first : ℕ
   pub calls : List Call
@@ -111,8 +109,7 @@ abbrev pub anew : Watched → (number : ℕ) → Listening → Listening
 anew w number l = record l { first = number; calls = calls.SetMaster w.master ∷ [] }
 
 -- A Delay_Req of the slave: the first, or one that is 1 to 256 ahead of the last, is asked for; the last one's number
--- again
--- says nothing; any other says that the slave began anew.
+-- again says nothing; any other says that the slave began anew.
 abbrev pub hears_request : Watched → (line time number : ℕ) → Listening → Listening
 hears_request w line time number l =
     if not l.asked || nat_lt (ahead number (next_number (setup_in w l) l.calls)) table_capacity

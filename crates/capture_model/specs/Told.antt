@@ -1,7 +1,6 @@
 -- Which recordings tell what came to a slave in a run, and what it sent.
 use Rattle.std.specs.Prelude.{◌≡◌, ℕ, ◌<◌, ◌==◌, Bool, true, false, ⊤, List, [], ◌∷◌, if◌then◌else◌, Option, Some, None}
-use Rattle.std.specs.Prelude.{Ok, Err}
-use Rattle.std.specs.Prelude.{option_and_then, not, IsTrue}
+use Rattle.std.specs.Prelude.{Ok, Err, option_and_then, not, IsTrue}
 use Rattle.std.specs.Option.{option_map_or}
 use Rattle.event_codec.specs.declared.message.Body.{Body}
 use Rattle.event_codec.specs.declared.message.Body.TheVariants.{Sync, DelayReq, FollowUp, DelayResp}
@@ -13,7 +12,6 @@ use Rattle.network_model.specs.declared.event.Event.{Event}
 use Rattle.network_model.specs.declared.event.Event.TheVariants.{Arrive, Hear, Request}
 use Rattle.network_model.specs.Network.{Network, NodeName, is_named}
 use Rattle.network_model.specs.Run.{Run, Place, place, site_of}
-use Rattle.network_model.specs.Kinds.{is_at, is_request}
 use Rattle.network_model.specs.Clock.{reading}
 use Rattle.network_model.specs.Truth.{slave_at, copy_of, drawn}
 use Rattle.capture_model.specs.Recorded.{Recorded}
@@ -34,8 +32,7 @@ abbrev pub where_is : (Body → Bool) → Contents → Option Contents
 where_is kind m = if kind m.body then Some m else None
 
 -- the message that an event of a slave tells: a Sync that arrives, a Follow_Up or a Delay_Resp that it hears, a
--- Delay_Req
--- that it sends
+-- Delay_Req that it sends
 abbrev pub told_by : Network → Event → Run → Option Contents
 told_by network (Arrive node copy at) earlier = option_and_then (where_is is_sync) (copy_of network earlier copy)
 told_by network (Hear node copy) earlier = option_and_then (where_is is_general) (copy_of network earlier copy)
@@ -63,13 +60,13 @@ abbrev pub IsTimed : Event → Run → ℕ → Type 0
 IsTimed (Hear node copy) earlier time = ⊤
 IsTimed event earlier time = time ≡ reading (place event earlier)
 
--- The datagrams tell, in order, Syncs that arrived at a slave and Follow_Ups and Delay_Resps that it heard, of which some
--- may be missing, and each Delay_Req that it sent, with its clock's readings. Datagrams that say nothing to it may stand
--- between. Both are newest first.
+-- The datagrams tell, in order, Syncs that arrived at a slave, Follow_Ups and Delay_Resps that it heard and Delay_Reqs
+-- that it sent, with its clock's readings. Some may be missing, and datagrams that say nothing to it may stand between.
+-- Both are newest first.
 pub data Tells (network : Network) (slave : NodeName) : Run → List Recorded → Type 0 where
   Nothing : Tells network slave [] []
-  Untold : (event : Event) (earlier : Run) (ds : List Recorded) → IsTrue (not (is_at is_request slave event))
-      → Tells network slave earlier ds → Tells network slave (event ∷ earlier) ds
+  Untold : (event : Event) (earlier : Run) (ds : List Recorded) → Tells network slave earlier ds
+      → Tells network slave (event ∷ earlier) ds
   Told : (event : Event) (earlier : Run) (m : Contents) (d : Recorded) (ds : List Recorded)
       → told_at network slave event earlier ≡ Some m → d.said ≡ Ok m → IsTimed event earlier d.time
       → Tells network slave earlier ds → Tells network slave (event ∷ earlier) (d ∷ ds)
@@ -84,10 +81,9 @@ AreNumbered (d ∷ (before ∷ earlier)) = (before.line < d.line) × AreNumbered
 
 -- the event that the line of this number tells
 abbrev pub event_told : {network : Network} {slave : NodeName} {run : Run} {ds : List Recorded}
-    → Tells network slave run ds
-    → (line : ℕ) → Option Place
+    → Tells network slave run ds → (line : ℕ) → Option Place
 event_told Nothing line = None
-event_told (Untold event earlier ds no_request tells) line = event_told tells line
+event_told (Untold event earlier ds tells) line = event_told tells line
 event_told (Told event earlier m d ds made said timed tells) line =
     if d.line == line then Some (place event earlier) else event_told tells line
 event_told (Other run d ds nothing tells) line = event_told tells line
