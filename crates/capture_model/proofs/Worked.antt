@@ -1,6 +1,6 @@
 -- A worked recording: of the exchange through a clock of a slave that leads by 1,000 ns. It tells a run that meets the
 -- premises, and the port that listens to it reports once.
-use Rattle.std.proofs.Common.{◌≡◌, ℕ, pos, refl, arith, List, [], ◌∷◌, Some, Ok, Err}
+use Rattle.std.proofs.Common.{true, ◌++◌, replicate, ◌≡◌, ℕ, pos, refl, arith, List, [], ◌∷◌, Some, Ok, Err}
 use Rattle.ptp_units.specs.Moment.{stamp}
 use Rattle.event_codec.specs.declared.message.Body.TheVariants.{DelayResp}
 use Rattle.event_codec.specs.declared.refusal.DecodeRefusal.TheVariants.{OtherType}
@@ -8,18 +8,20 @@ use Rattle.event_codec.specs.Correction.{with_correction}
 use Rattle.event_codec.specs.Packet.{Contents}
 use Rattle.event_codec.specs.Profile.{header_of}
 use Rattle.event_codec.specs.Reading.{Reading}
-use Rattle.master_port.specs.Written.{sync, follow_up}
+use Rattle.master_port.specs.Written.{sync, one_step_sync, follow_up}
 use Rattle.slave_port.specs.Written.{delay_req}
+use Rattle.slave_port.specs.History as calls
+use Rattle.slave_port.specs.History.{requests_drawn}
 use Rattle.network_model.specs.declared.event.Event.TheVariants.{Sync, Follow, Enter, Leave, Arrive, Hear, Request}
 use Rattle.network_model.specs.declared.event.Event.TheVariants.{Stamped, SetMaster, StepClock}
 use Rattle.network_model.specs.Premises.{exact_limits}
-use Rattle.network_model.proofs.Worked.{small_network, m_config, s_config, m, s, t, at}
+use Rattle.network_model.proofs.Worked.{small_network, m_config, b_config, s_config, m, s, t, at}
 use Rattle.network_model.proofs.WorkedExchange.{after, whole}
 use Rattle.capture_model.specs.declared.watched.Watched.{Watched}
 use Rattle.capture_model.specs.Recorded.{Recorded}
-use Rattle.capture_model.specs.Listening.{reports}
+use Rattle.capture_model.specs.Listening.{after_all, reports}
 use Rattle.capture_model.specs.Told.{Tells, Nothing, Untold, Told, Other}
-use Rattle.capture_model.specs.Premises.{IsFreshAndTicked}
+use Rattle.capture_model.specs.Premises.{IsFreshAndTicked, ticks_in}
 use Rattle.capture_model.specs.Exact.{Watches}
 use Rattle.capture_model.proofs.Short.{IsFresh-short, IsTicked-short, MissesFew-short}
 
@@ -102,3 +104,50 @@ fresh_and_ticked = record {
   missing = MissesFew-short small_network s m watched 32768 tells (omega arith);
   ticked = IsTicked-short small_network s m watched 16384 tells (omega arith);
 }
+
+-- Delay_Reqs of S
+abbrev asked : (number sequence : ℕ) → Recorded
+asked number sequence = line number (at 3 0 0) (Ok (delay_req s_config sequence))
+
+-- the first draws up to its number, wherever the port stands
+first_request : (after_all watched (asked 1 2 ∷ [])).calls
+    ≡ calls.RequestLeft 2 (at 3 0 0) ∷ calls.NextRequest 1 ∷ calls.NextRequest 1 ∷ calls.NextRequest 1
+    ∷ calls.SetMaster m_config.identity ∷ []
+first_request = refl
+
+-- one that was missed is drawn too, 256 ahead is the most, and beyond it a new port begins
+after_one_that_is_missing : (after_all watched (asked 2 4 ∷ asked 1 2 ∷ [])).calls
+    ≡ calls.RequestLeft 4 (at 3 0 0) ∷ calls.NextRequest 2 ∷ calls.NextRequest 2
+    ∷ (after_all watched (asked 1 2 ∷ [])).calls
+after_one_that_is_missing = refl
+
+far_ahead : requests_drawn (after_all watched (asked 2 258 ∷ asked 1 2 ∷ [])).calls ≡ 259
+far_ahead = refl
+
+begins_anew : after_all watched (asked 2 259 ∷ asked 1 2 ∷ []) ≡ record {
+  first = 259;
+  calls = calls.RequestLeft 259 (at 3 0 0) ∷ calls.NextRequest 2 ∷ calls.SetMaster m_config.identity ∷ [];
+  asked = true;
+  syncs = 0;
+  stale = 0;
+}
+begins_anew = refl
+
+-- the same number again says nothing
+says_nothing_again : after_all watched (asked 2 2 ∷ asked 1 2 ∷ []) ≡ after_all watched (asked 1 2 ∷ [])
+says_nothing_again = refl
+
+-- nor does a Delay_Req of another port
+says_nothing_of_another : after_all watched (line 2 0 (Ok (delay_req b_config 7)) ∷ asked 1 2 ∷ []) ≡ after_all watched
+    (asked 1 2 ∷ [])
+says_nothing_of_another = refl
+
+-- one-step Syncs of M, and how many ticks come of 15 and of 16 that aren't newer than one that completed
+abbrev one_step : ℕ → Recorded
+one_step sequence = line 1 (at 3 0 0) (Ok (one_step_sync m_config sequence (at 2 0 0)))
+
+fifteen_are_refused : ticks_in (after_all watched (replicate 15 (one_step 4) ++ one_step 5 ∷ [])) ≡ 0
+fifteen_are_refused = refl
+
+sixteen_bring_ticks : ticks_in (after_all watched (replicate 16 (one_step 4) ++ one_step 5 ∷ [])) ≡ 2
+sixteen_bring_ticks = refl
