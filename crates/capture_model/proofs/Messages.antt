@@ -103,8 +103,8 @@ module _ (network : Network) (slave master : NodeName) (w : Watched) (apart : Is
 
     near_of : (origin : Place) → is_at draws_sync master origin.event ≡ true → drawn_later origin earlier < reach.late
         → IsNear network slave master watches.other syncs (reach.late + slack) origin
-    near_of origin drawn low = let near = used_near master earlier origin reach.late drawn low in omega
-        (arith, syncs_before)
+    near_of origin drawn low =
+        let near = used_near master earlier origin reach.late drawn low in omega (arith, syncs_before)
 
     held_sync : (call : Call) (h : HeardSync (criteria setup history) call) (moment : ℕ)
         → event ≡ Arrive slave copy moment → h.m ≡ m → h.t2 ≡ reading (place event earlier)
@@ -118,8 +118,8 @@ module _ (network : Network) (slave master : NodeName) (w : Watched) (apart : Is
         let origin : Place = drawn.journey.origin in
         let from = of_master drawn.node drawn.port drawn.port_is
         (sym (ap (λ (m : Contents). m.header.source) drawn.is) ∙ source_is h.m.header h.passes) in
-        let is_its : is_at is_sync master origin.event ≡ true = subst
-        (λ (n : NodeName). is_at is_sync n origin.event ≡ true) from.0 drawn.drawn in
+        let is_its : is_at is_sync master origin.event ≡ true =
+        subst (λ (n : NodeName). is_at is_sync n origin.event ≡ true) from.0 drawn.drawn in
         record {
           arrival = place event earlier;
           m = h.m;
@@ -149,8 +149,8 @@ module _ (network : Network) (slave master : NodeName) (w : Watched) (apart : Is
         let from = of_master made.node made.port made.port_is
         (sym (ap (λ (m : Contents). m.header.source) made.is) ∙ source_is h.m.header h.passes) in
         let waited = waiting_sync-is made.node made.made.earlier made.origin made.waiting in
-        let is_its : is_at is_sync master made.origin.event ≡ true = subst
-        (λ (n : NodeName). is_at is_sync n made.origin.event ≡ true) from.0 waited.1 in
+        let is_its : is_at is_sync master made.origin.event ≡ true =
+        subst (λ (n : NodeName). is_at is_sync n made.origin.event ≡ true) from.0 waited.1 in
         record {
           hearing = place event earlier;
           m = h.m;

@@ -65,10 +65,13 @@ since-low before slack l = by (ticks_in l == before)
 
 module _ (network : Network) (slave master : NodeName) (w : Watched) (watches : Watches network slave master w)
     (reach : Reach) (lines : Lines) where
+  -- what holds of the port's calls
+  abbrev pub HoldsIn : (syncs sent slack : ℕ) → Setup → List Call → Type 0
+  HoldsIn = Holds network slave master watches.own watches.other w.master reach lines
+
   -- what holds of a listening port, the next number of its requests among it
   pub record Stands (syncs sent slack : ℕ) (l : Listening) : Type 0 where
-    pub holds : Holds network slave master watches.own watches.other w.master reach lines syncs sent slack
-        (setup_in w l) l.calls
+    pub holds : HoldsIn syncs sent slack (setup_in w l) l.calls
     pub next : l.asked ≡ true → next_number (setup_in w l) l.calls ≡ of_count (watches.own.first + sent)
     pub none : l.asked ≡ false → requests (setup_in w l) l.calls ≡ []
 
@@ -77,25 +80,25 @@ module _ (network : Network) (slave master : NodeName) (w : Watched) (watches : 
     pub more : before ≤ ticks_in l
     pub stands : Stands syncs sent (since_tick before slack l) l
 
+  -- with a tick more, and other counts
+  abbrev with_tick : (counted stale : ℕ) → Listening → Listening
+  with_tick counted stale l = record l { calls = calls.Tick ∷ l.calls; syncs = counted; stale = stale }
+
   module _ (before syncs sent slack : ℕ) (few : slack ≤ reach.between) where
     -- over a tick
     ticked : (l : Listening) (counted stale : ℕ) → StandsAfter before syncs sent slack l
-        → StandsAfter before syncs sent slack (record l
-        { calls = calls.Tick ∷ l.calls; syncs = counted; stale = stale })
+        → StandsAfter before syncs sent slack (with_tick counted stale l)
     ticked l counted stale after =
-        let grown : before < ticks_in (record l { calls = calls.Tick ∷ l.calls; syncs = counted; stale = stale }) =
+        let grown : before < ticks_in (with_tick counted stale l) =
         (let more = after.more in omega (arith, count-tick l.calls)) in
-        let none = since-tick before slack (record l { calls = calls.Tick ∷ l.calls; syncs = counted; stale = stale })
-        grown in
+        let none = since-tick before slack (with_tick counted stale l) grown in
         record {
           more = omega arith;
           stands = record {
-            holds = subst
-                (λ (s : ℕ). Holds network slave master watches.own watches.other w.master reach lines syncs sent s
-                (setup_in w l) (calls.Tick ∷ l.calls)) (sym none)
+            holds = subst (λ (s : ℕ). HoldsIn syncs sent s (setup_in w l) (calls.Tick ∷ l.calls)) (sym none)
                 (holds-ticked network slave master watches.own watches.other w.master reach lines syncs sent
-                (since_tick before slack l) (setup_in w l) l.calls
-                after.stands.holds (omega (arith, since-low before slack l)));
+                (since_tick before slack l) (setup_in w l) l.calls after.stands.holds
+                (omega (arith, since-low before slack l)));
             next = after.stands.next;
             none = after.stands.none;
           };
@@ -115,9 +118,9 @@ module _ (network : Network) (slave master : NodeName) (w : Watched) (watches : 
     rowed true l after = by (l.stale + 1 == stale_most)
       where
         by : (full : Bool) → StandsAfter before syncs sent slack
-            (if full then record l { calls = calls.Tick ∷ calls.Tick ∷ l.calls; stale = 0 } else record l
-            { stale = l.stale + 1 })
-        by true = ticked (record l { calls = calls.Tick ∷ l.calls }) l.syncs 0 (ticked l l.syncs l.stale after)
+            (if full then record l { calls = calls.Tick ∷ calls.Tick ∷ l.calls; stale = 0 }
+            else record l { stale = l.stale + 1 })
+        by true = ticked (with_tick l.syncs l.stale l) l.syncs 0 (ticked l l.syncs l.stale after)
         by false = recounted l l.syncs (l.stale + 1) after
 
     counted : (l : Listening) → StandsAfter before syncs sent slack l
@@ -141,16 +144,14 @@ module _ (network : Network) (slave master : NodeName) (w : Watched) (watches : 
   module _ (syncs sent slack : ℕ) (l : Listening) where
     -- a message that the port is told
     pub told-event : (heard : Reading) (t2 tag : ℕ)
-        → Holds network slave master watches.own watches.other w.master reach lines syncs sent slack (setup_in w l)
-        (calls.Event heard t2 tag ∷ l.calls)
-        → Stands syncs sent slack l → StandsAfter (ticks_in l) syncs sent slack (told (calls.Event heard t2 tag) l)
+        → HoldsIn syncs sent slack (setup_in w l) (calls.Event heard t2 tag ∷ l.calls) → Stands syncs sent slack l
+        → StandsAfter (ticks_in l) syncs sent slack (told (calls.Event heard t2 tag) l)
     told-event heard t2 tag holds before =
         let same = count-other (calls.Event heard t2 tag) l.calls refl in
         record {
           more = omega arith;
           stands = record {
-            holds = subst (λ (s : ℕ). Holds network slave master watches.own watches.other w.master reach lines syncs
-                sent s (setup_in w l) (calls.Event heard t2 tag ∷ l.calls))
+            holds = subst (λ (s : ℕ). HoldsIn syncs sent s (setup_in w l) (calls.Event heard t2 tag ∷ l.calls))
                 (sym (since-no_tick (ticks_in l) slack (told (calls.Event heard t2 tag) l) same)) holds;
             next = before.next;
             none = before.none;
@@ -158,16 +159,14 @@ module _ (network : Network) (slave master : NodeName) (w : Watched) (watches : 
         }
 
     pub told-general : (heard : Reading) (tag : ℕ)
-        → Holds network slave master watches.own watches.other w.master reach lines syncs sent slack (setup_in w l)
-        (calls.General heard tag ∷ l.calls)
-        → Stands syncs sent slack l → StandsAfter (ticks_in l) syncs sent slack (told (calls.General heard tag) l)
+        → HoldsIn syncs sent slack (setup_in w l) (calls.General heard tag ∷ l.calls) → Stands syncs sent slack l
+        → StandsAfter (ticks_in l) syncs sent slack (told (calls.General heard tag) l)
     told-general heard tag holds before =
         let same = count-other (calls.General heard tag) l.calls refl in
         record {
           more = omega arith;
           stands = record {
-            holds = subst (λ (s : ℕ). Holds network slave master watches.own watches.other w.master reach lines syncs
-                sent s (setup_in w l) (calls.General heard tag ∷ l.calls))
+            holds = subst (λ (s : ℕ). HoldsIn syncs sent s (setup_in w l) (calls.General heard tag ∷ l.calls))
                 (sym (since-no_tick (ticks_in l) slack (told (calls.General heard tag) l) same)) holds;
             next = before.next;
             none = before.none;
@@ -176,11 +175,9 @@ module _ (network : Network) (slave master : NodeName) (w : Watched) (watches : 
 
   -- a port that was told its master and nothing else
   pub set-stands : (syncs sent slack : ℕ) (l : Listening) → l.calls ≡ calls.SetMaster w.master ∷ []
-      → Holds network slave master watches.own watches.other w.master reach lines syncs sent slack (setup_in w l)
-      l.calls
+      → HoldsIn syncs sent slack (setup_in w l) l.calls
   set-stands syncs sent slack l is =
-      subst (Holds network slave master watches.own watches.other w.master reach lines syncs sent slack (setup_in w l))
-      (sym is) (record {
+      subst (HoldsIn syncs sent slack (setup_in w l)) (sym is) (record {
         follows_master = refl;
         near_syncs = (λ k d low. absurd (omega arith), λ k d low. absurd (omega arith));
         near_follows = (λ k d low. absurd (omega arith), λ k d low. absurd (omega arith));
@@ -215,8 +212,7 @@ module _ (network : Network) (slave master : NodeName) (w : Watched) (watches : 
 
     -- it is asked for, where what was asked for before is as many Delay_Reqs behind it as are drawn
     asks-stands : (sent slack : ℕ) (l : Listening)
-        → Holds network slave master watches.own watches.other w.master reach lines syncs sent slack (setup_in w l)
-        l.calls
+        → HoldsIn syncs sent slack (setup_in w l) l.calls
         → AreRequests slave watches.own lines
         (count_by (is_at is_request slave) p.earlier - ahead number (next_number (setup_in w l) l.calls))
         (requests (setup_in w l) l.calls)
@@ -239,6 +235,11 @@ module _ (network : Network) (slave master : NodeName) (w : Watched) (watches : 
           );
           none = λ unasked. cc;
         }
+
+    -- the port after it, where it is near or the last one's again
+    abbrev after : Listening → (near again : Bool) → Listening
+    after l near again =
+        if near then asks w line time number l else if again then l else asks w line time number (anew w number l)
 
     -- the slave's next Delay_Req that is told, and fewer than half a turn were missing
     pub asked-stands : (sent missing slack : ℕ) (l : Listening) → Stands syncs sent slack l
@@ -279,11 +280,7 @@ module _ (network : Network) (slave master : NodeName) (w : Watched) (watches : 
 
         by : (near : Bool) → (not l.asked || nat_lt (ahead number next) table_capacity) ≡ near → (again : Bool)
             → (ahead number next == 65535) ≡ again
-            → Stands syncs (count + 1)
-            (since_tick (ticks_in l) slack
-            (if near then asks w line time number l else if again then l else asks w line time number
-            (anew w number l)))
-            (if near then asks w line time number l else if again then l else asks w line time number (anew w number l))
+            → Stands syncs (count + 1) (since_tick (ticks_in l) slack (after l near again)) (after l near again)
         by true e again f =
             subst (λ (s : ℕ). Stands syncs (count + 1) s (asks w line time number l))
             (sym (since-no_tick (ticks_in l) slack (asks w line time number l) same))
