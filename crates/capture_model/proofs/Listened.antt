@@ -2,29 +2,32 @@
 use Rattle.std.proofs.Common.{◌≡◌, ◌∙◌, ℕ, ◌+◌, ◌-◌, ◌<◌, ◌≤◌, Bool, true, false, List, [], ◌∷◌, Option, Some, None, Ok}
 use Rattle.std.proofs.Common.{Err, refl}
 use Rattle.std.proofs.Common.{sym, ap, subst, arith, option_and_then, if◌then◌else◌}
-use Rattle.std.specs.Prelude.{◌&&◌, ◌==◌, not, IsTrue}
-use Rattle.std.specs.Option.{option_map_or}
+use Rattle.std.specs.Prelude.{◌&&◌, ◌||◌, ◌==◌, not, nat_lt, IsTrue}
+use Rattle.std.specs.Option.{option_map_or, option_or}
 use Rattle.std.specs.Result.{result_ok}
 use Rattle.std.specs.List.{All}
-use Rattle.std.proofs.lemmas.Bool.{and_right, not-true}
+use Rattle.std.proofs.lemmas.Bool.{and_right, eqb-true}
 use Rattle.std.proofs.lemmas.List.Elements.{All-nil, All-weaker}
+use Rattle.ptp_units.specs.Sequence.{next, ahead}
 use Rattle.event_codec.specs.declared.message.Body.{Body}
 use Rattle.event_codec.specs.declared.message.Body.TheVariants as bodies
 use Rattle.event_codec.specs.Packet.{Contents}
 use Rattle.event_codec.specs.Port.{is_same_port}
 use Rattle.event_codec.specs.Reading.{Reading}
+use Rattle.slave_port.specs.History.{next_number}
 use Rattle.network_model.specs.declared.event.Event.{Event}
 use Rattle.network_model.specs.Network.{Network, NodeName, PortSetup, IsNetwork}
 use Rattle.network_model.specs.Run.{Run}
 use Rattle.network_model.specs.Kinds.{is_at, draws_sync, is_request}
-use Rattle.network_model.specs.Truth.{slave_at}
 use Rattle.network_model.specs.Outcome.{IsRun}
 use Rattle.network_model.proofs.Sequences.{count-yes, count-no, count-more}
 use Rattle.capture_model.specs.declared.watched.Watched.{Watched}
 use Rattle.capture_model.specs.Recorded.{Recorded}
 use Rattle.capture_model.specs.Listening.{Listening, setup_in, start, is_of, hears, hears_request, after_all, hearing}
-use Rattle.capture_model.specs.Listening.{answer_in, report_in, report_at, reports}
-use Rattle.capture_model.specs.Told.{Tells, Nothing, Untold, Told, Other, told_at, is_others_request, says_nothing}
+use Rattle.capture_model.specs.Listening.{asks, anew, table_capacity, answer_in, report_in, report_at, reports}
+use Rattle.capture_model.specs.Told.{Tells, Nothing, Untold, Told, Other, told_at, is_own, own_request, last_request}
+use Rattle.capture_model.specs.Told.{asks_nothing}
+use Rattle.capture_model.specs.Told.{says_nothing}
 use Rattle.capture_model.specs.Told.{IsTimed, AreNumbered, event_told}
 use Rattle.capture_model.specs.Premises.{IsFresh, IsTicked, MissesFew, syncs_since_tick, requests_missing, brings_tick}
 use Rattle.capture_model.specs.Exact.{Watches, IsExact, EachReportIsExact}
@@ -33,7 +36,7 @@ use Rattle.capture_model.proofs.Near.{All-brought}
 use Rattle.capture_model.proofs.Holding.{holds-later}
 use Rattle.capture_model.proofs.Standing.{Stands, set-stands, unasked-stands}
 use Rattle.capture_model.proofs.Reported.{IsMadeOf, made-later, exact_of}
-use Rattle.capture_model.proofs.Steps.{within, syncs_in, sent_in, step}
+use Rattle.capture_model.proofs.Steps.{within, syncs_in, sent_in, FollowsLast, step}
 
 module _ (network : Network) (slave master : NodeName) (w : Watched) (apart : IsNetwork network)
     (watches : Watches network slave master w) where
@@ -77,6 +80,7 @@ module _ (network : Network) (slave master : NodeName) (w : Watched) (apart : Is
     pub counted : known + requests_missing w tells ≡ sent_of run
     pub stands : Stands network slave master w watches within (event_told tells) (syncs_of run) known
         (syncs_since_tick master w tells) (after_all w ds)
+    pub last : FollowsLast network slave master w apart watches ds known (after_all w ds)
     pub made : All (IsMadeOf (event_told tells) slave master) (reports w ds)
 
   -- a port that was told its master alone, of whatever run
@@ -127,6 +131,7 @@ module _ (network : Network) (slave master : NodeName) (w : Watched) (apart : Is
         known = one.0;
         counted = one.1;
         stands = one.2;
+        last = one.3;
         made = All-weaker (IsMadeOf (event_told tells) slave master) (IsMadeOf more slave master)
             (made-later (event_told tells) more slave master (λ line p is. is)) (reports w ds) before.made;
       }
@@ -142,67 +147,110 @@ module _ (network : Network) (slave master : NodeName) (w : Watched) (apart : Is
           × Stands network slave master w watches within (event_told (Untold event earlier ds tells))
           (syncs_of (event ∷ earlier)) n
           (syncs_since_tick master w (Untold event earlier ds tells)) (after_all w ds)
+          × FollowsLast network slave master w apart watches ds n (after_all w ds)
       requested true true e f = (
         before.known,
-        (let counted = before.counted in omega
-            (arith, count-yes (is_at is_request slave) event earlier f)),
+        let counted = before.counted in omega (arith, count-yes (is_at is_request slave) event earlier f),
         stands,
+        before.last,
       )
       requested true false e f = (
         before.known,
-        (let counted = before.counted in omega
-            (arith, count-no (is_at is_request slave) event earlier f)),
+        let counted = before.counted in omega (arith, count-no (is_at is_request slave) event earlier f),
         stands,
+        before.last,
       )
       requested false drew e f = (
         sent_of (event ∷ earlier) - requests_missing w tells,
-        (let counted = before.counted in omega (arith, count-more (is_at is_request slave) event earlier)),
+        let counted = before.counted in omega (arith, count-more (is_at is_request slave) event earlier),
         unasked-stands network slave master w watches within (event_told (Untold event earlier ds tells))
             (syncs_of (event ∷ earlier)) before.known
             (sent_of (event ∷ earlier) - requests_missing w tells)
             (syncs_since_tick master w (Untold event earlier ds tells)) (after_all w ds) e stands,
+        λ n last. let both : false ≡ true = sym e ∙ (before.last n last).0 in cc,
       )
 
-  -- a datagram that says nothing changes nothing
-  unheard : (line time : ℕ) (r : Reading) (l : Listening) → says_nothing network slave r ≡ true
+  -- what says nothing new changes nothing
+  unheard : (line time : ℕ) (r : Reading) (ds : List Recorded) (l : Listening)
+      → ((n : ℕ) → last_request network slave ds ≡ Some n
+      → (l.asked ≡ true) × (n < 65536) × (next_number (setup_in w l) l.calls ≡ next n))
+      → says_nothing network slave ds r ≡ true
       → (option_map_or (λ m. hears w line time m m.body l) (result_ok r) l ≡ l)
       × (option_and_then (λ m. hearing line time m m.body) (result_ok r) ≡ None)
-  unheard line time (Err refusal) l nothing = (refl, refl)
-  unheard line time (Ok m) l nothing = by m.body nothing
+      × (option_or (option_and_then (λ m. own_request network slave m.header m.body) (result_ok r))
+      (last_request network slave ds) ≡ last_request network slave ds)
+  unheard line time (Err refusal) ds l follows nothing = (refl, refl, refl)
+  unheard line time (Ok m) ds l follows nothing = by m.body nothing
     where
-      others : (port : Option PortSetup) → slave_at network slave ≡ port
-          → option_map_or (λ port. not (is_same_port m.header.source port.config.identity)) port false ≡ true
-          → is_of w w.slave m.header ≡ false
-      others None at nothing = cc
-      others (Some port) at nothing =
-          let ports : Some port ≡ Some watches.own = sym at ∙ watches.slave_port in
-          let own : port ≡ watches.own = cc in
-          let identity : port.config.identity ≡ w.slave = ap (λ (o : PortSetup). o.config.identity) own
-          ∙ sym watches.slave_is in
-          and_right (m.header.domain == w.domain) (is_same_port m.header.source w.slave)
-          (ap (is_same_port m.header.source) (sym identity)
-          ∙ not-true (is_same_port m.header.source port.config.identity) nothing)
+      number : ℕ
+      number = m.header.sequence.0
 
-      by : (body : Body) → is_others_request network slave m.header body ≡ true → (hears w line time m body l ≡ l)
-          × (hearing line time m body ≡ None)
-      by (bodies.DelayReq origin) nothing = (
-        ap (λ b. if b then hears_request w line time m.header.sequence.0 l else l)
-            (others (slave_at network slave) refl nothing),
+      -- a message of the slave is of its port
+      of_slave : is_own network slave m.header ≡ is_same_port m.header.source w.slave
+      of_slave =
+          ap (λ (o : Option PortSetup). option_map_or (λ port. is_same_port m.header.source port.config.identity) o
+          false) watches.slave_port
+          ∙ ap (is_same_port m.header.source) (sym watches.slave_is)
+
+      -- the last one's number is 65,535 ahead of the next
+      again : last_request network slave ds ≡ Some number → hears_request w line time number l ≡ l
+      again last =
+          let known = follows number last in
+          let low : number < 65536 = known.1 in
+          let turn : ahead number (next number) ≡ 65535 = omega arith in
+          let behind : ahead number (next_number (setup_in w l) l.calls) ≡ 65535 = ap (ahead number) known.2 ∙ turn in
+          ap (λ (asked : Bool).
+          if not asked || nat_lt (ahead number (next_number (setup_in w l) l.calls)) table_capacity then asks w
+          line time number l
+          else if ahead number (next_number (setup_in w l) l.calls) == 65535 then l else asks w line time number
+          (anew w number l)) known.0
+          ∙ ap (λ (n : ℕ). if nat_lt n table_capacity then asks w line time number l else if n == 65535 then l
+          else asks w line time number (anew w number l)) behind
+
+      last_is : (last : Option ℕ) → option_map_or (λ last. last == number) last false ≡ true → last ≡ Some number
+      last_is None is = cc
+      last_is (Some last) is = ap (λ (n : ℕ). Some n) (eqb-true last number is)
+
+      request : (own : Bool) → is_own network slave m.header ≡ own
+          → (if own then option_map_or (λ last. last == number) (last_request network slave ds) false else true) ≡ true
+          → ((if is_of w w.slave m.header then hears_request w line time number l else l) ≡ l)
+          × (option_or (if own then Some number else None) (last_request network slave ds) ≡ last_request network slave
+          ds)
+      request false e nothing = (
+        ap (λ (b : Bool). if b then hears_request w line time number l else l)
+            (and_right (m.header.domain == w.domain) (is_same_port m.header.source w.slave) (sym of_slave ∙ e)),
         refl,
       )
+      request true e nothing =
+          let last = last_is (last_request network slave ds) nothing in
+          (where_heard (is_of w w.slave m.header) (again last), sym last)
+        where
+          where_heard : (heard : Bool) → hears_request w line time number l ≡ l
+              → (if heard then hears_request w line time number l else l) ≡ l
+          where_heard true same = same
+          where_heard false same = refl
+
+      by : (body : Body) → asks_nothing network slave ds m.header body ≡ true
+          → (hears w line time m body l ≡ l) × (hearing line time m body ≡ None)
+          × (option_or (own_request network slave m.header body) (last_request network slave ds) ≡ last_request network
+          slave ds)
+      by (bodies.DelayReq origin) nothing =
+          let one = request (is_own network slave m.header) refl nothing in (one.0, refl, one.1)
       by (bodies.Sync origin) nothing = cc
       by (bodies.FollowUp precise) nothing = cc
       by (bodies.DelayResp receive requesting) nothing = cc
 
   -- so it leaves all as it was
-  other : (run : Run) (d : Recorded) (ds : List Recorded) (nothing : IsTrue (says_nothing network slave d.said))
+  other : (run : Run) (d : Recorded) (ds : List Recorded) (nothing : IsTrue (says_nothing network slave ds d.said))
       (tells : Tells network slave run ds)
       → HoldsAfter tells → HoldsAfter (Other run d ds nothing tells)
   other run d ds nothing tells before =
       let more : Lines = event_told (Other run d ds nothing tells) in
       let slack : ℕ = syncs_since_tick master w tells in
       let l : Listening = after_all w ds in
-      let still = unheard d.line d.time d.said l nothing in
+      let still = unheard d.line d.time d.said ds l (λ n last.
+      let follows = before.last n last in
+      (follows.0, follows.1, before.stands.next follows.0 ∙ sym follows.2)) nothing in
       let none : report_at w ds d ≡ None = ap (option_and_then (λ call. report_in (answer_in w l call))) still.1 in
       record {
         known = before.known;
@@ -216,6 +264,9 @@ module _ (network : Network) (slave master : NodeName) (w : Watched) (apart : Is
               next = before.stands.next;
               none = before.stands.none;
             });
+        last = λ n last.
+            let follows = before.last n (sym still.2 ∙ last) in
+            (ap (λ (l : Listening). l.asked) still.0 ∙ follows.0, follows.1, follows.2);
         made = All-brought (IsMadeOf more slave master) (report_at w ds d) (reports w ds)
             (λ r is. let same : Some r ≡ None = sym is ∙ none in cc)
             (All-weaker (IsMadeOf (event_told tells) slave master) (IsMadeOf more slave master)
@@ -237,12 +288,13 @@ module _ (network : Network) (slave master : NodeName) (w : Watched) (apart : Is
       (told-in network slave (Told event earlier m d ds made said timed tells))
       (told-now network slave event earlier m d made said timed tells) said timed
       (syncs_since_tick master w tells) (ticked-now tells ticked) before.known (requests_missing w tells)
-      (missing-now tells missing) before.counted before.stands
+      (missing-now tells missing) before.counted before.stands before.last
       fresh.0 made in
       record {
         known = one.known;
         counted = one.counted;
         stands = one.stands;
+        last = one.last;
         made = All-brought (IsMadeOf more slave master) (report_at w ds d) (reports w ds) one.reported
             (All-weaker (IsMadeOf (event_told tells) slave master) (IsMadeOf more slave master)
             (made-later (event_told tells) more slave master extends)
@@ -257,6 +309,7 @@ module _ (network : Network) (slave master : NodeName) (w : Watched) (apart : Is
     known = 0;
     counted = refl;
     stands = at_start (event_told {network = network} {slave = slave} Nothing) 0 0 0;
+    last = λ n last. cc;
     made = All-nil (IsMadeOf (event_told {network = network} {slave = slave} Nothing) slave master);
   }
   listened (Untold event earlier ds tells) accepted numbered fresh ticked missing =

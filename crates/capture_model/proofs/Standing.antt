@@ -141,6 +141,33 @@ module _ (network : Network) (slave master : NodeName) (w : Watched) (watches : 
         counted (with_row (is_stale (answer_in w l call)) (told call l))
         (rowed (is_stale (answer_in w l call)) (told call l) after)
 
+  -- a Sync is no Delay_Req
+  rowed-asked : (stale : Bool) (l : Listening) → (with_row stale l).asked ≡ l.asked
+  rowed-asked false l = refl
+  rowed-asked true l = by (l.stale + 1 == stale_most)
+    where
+      by : (full : Bool)
+          → (if full then record l { calls = calls.Tick ∷ calls.Tick ∷ l.calls; stale = 0 }
+          else record l { stale = l.stale + 1 }).asked ≡ l.asked
+      by true = refl
+      by false = refl
+
+  counted-asked : (l : Listening) → (with_count l).asked ≡ l.asked
+  counted-asked l = by (l.syncs + 1 == ticks_every)
+    where
+      by : (full : Bool)
+          → (if full then record l { calls = calls.Tick ∷ l.calls; syncs = 0 }
+          else record l { syncs = l.syncs + 1 }).asked ≡ l.asked
+      by true = refl
+      by false = refl
+
+  pub hears_sync-asked : (of_master : Bool) (call : Call) (l : Listening)
+      → (hears_sync w of_master call l).asked ≡ l.asked
+  hears_sync-asked false call l = refl
+  hears_sync-asked true call l =
+      counted-asked (with_row (is_stale (answer_in w l call)) (told call l))
+      ∙ rowed-asked (is_stale (answer_in w l call)) (told call l)
+
   module _ (syncs sent slack : ℕ) (l : Listening) where
     -- a message that the port is told
     pub told-event : (heard : Reading) (t2 tag : ℕ)
@@ -248,6 +275,7 @@ module _ (network : Network) (slave master : NodeName) (w : Watched) (watches : 
         → Stands syncs (count_by (is_at is_request slave) p.earlier + 1)
         (since_tick (ticks_in l) slack (hears_request w line time number l))
         (hears_request w line time number l)
+        × ((hears_request w line time number l).asked ≡ true)
     asked-stands sent missing slack l stands counted few =
         by (not l.asked || nat_lt (ahead number next) table_capacity) refl (ahead number next == 65535) refl
       where
@@ -281,15 +309,20 @@ module _ (network : Network) (slave master : NodeName) (w : Watched) (watches : 
         by : (near : Bool) → (not l.asked || nat_lt (ahead number next) table_capacity) ≡ near → (again : Bool)
             → (ahead number next == 65535) ≡ again
             → Stands syncs (count + 1) (since_tick (ticks_in l) slack (after l near again)) (after l near again)
-        by true e again f =
-            subst (λ (s : ℕ). Stands syncs (count + 1) s (asks w line time number l))
-            (sym (since-no_tick (ticks_in l) slack (asks w line time number l) same))
-            (asks-stands sent slack l stands.holds (kept_requests l.asked refl))
+            × ((after l near again).asked ≡ true)
+        by true e again f = (
+          subst (λ (s : ℕ). Stands syncs (count + 1) s (asks w line time number l))
+              (sym (since-no_tick (ticks_in l) slack (asks w line time number l) same))
+              (asks-stands sent slack l stands.holds (kept_requests l.asked refl)),
+          refl,
+        )
         by false e true f =
             let asked = asked_then l.asked (nat_lt (ahead number next) table_capacity) e in
             let turn : ahead number next ≡ 65535 = eqb-true (ahead number next) 65535 f in
             absurd (omega (arith, ahead_is asked))
-        by false e false f =
-            asks-stands 0 (since_tick (ticks_in l) slack (asks w line time number (anew w number l))) (anew w number l)
-            (set-stands syncs 0 (since_tick (ticks_in l) slack (asks w line time number (anew w number l)))
-            (anew w number l) refl) tt
+        by false e false f = (
+          asks-stands 0 (since_tick (ticks_in l) slack (asks w line time number (anew w number l))) (anew w number l)
+              (set-stands syncs 0 (since_tick (ticks_in l) slack (asks w line time number (anew w number l)))
+              (anew w number l) refl) tt,
+          refl,
+        )

@@ -3,11 +3,11 @@
 use Rattle.std.proofs.Common.{◌≡◌, ◌∙◌, ℕ, ◌+◌, ◌<◌, ◌≤◌, true, false, List, ◌∷◌, Some, None, Ok, refl, sym, ap, subst}
 use Rattle.std.proofs.Common.{arith, Bool, option_and_then, if◌then◌else◌}
 use Rattle.std.specs.Prelude.{◌==◌, count_by, IfSome, IsTrue, Option}
-use Rattle.std.specs.Option.{option_map_or}
+use Rattle.std.specs.Option.{option_map_or, option_or}
 use Rattle.std.specs.Result.{result_ok}
 use Rattle.std.proofs.lemmas.Bool.{and_from, eq-eqb}
 use Rattle.ptp_units.specs.Moment.{Stamp}
-use Rattle.ptp_units.specs.Sequence.{of_count}
+use Rattle.ptp_units.specs.Sequence.{of_count, next}
 use Rattle.event_codec.specs.declared.message.Body.{Body}
 use Rattle.event_codec.specs.declared.message.Body.TheVariants as bodies
 use Rattle.event_codec.specs.declared.port.PortIdentity.{PortIdentity}
@@ -38,7 +38,7 @@ use Rattle.capture_model.specs.declared.watched.Watched.{Watched}
 use Rattle.capture_model.specs.Recorded.{Recorded}
 use Rattle.capture_model.specs.Listening.{Listening, setup_in, is_of, hears, hear, hears_sync, hears_request, told}
 use Rattle.capture_model.specs.Listening.{after_all, hearing, hearing_of, answer_in, report_in, report_at}
-use Rattle.capture_model.specs.Told.{told_at, IsTimed}
+use Rattle.capture_model.specs.Told.{told_at, is_own, own_request, last_request, IsTimed}
 use Rattle.capture_model.specs.Premises.{is_used, ticks_in}
 use Rattle.capture_model.specs.Exact.{Watches}
 use Rattle.capture_model.proofs.Lines.{Lines, Extends, AreIn}
@@ -47,7 +47,8 @@ use Rattle.capture_model.proofs.ToldEvents as events
 use Rattle.capture_model.proofs.ToldEvents.{IsTold, IsGeneral, told_is}
 use Rattle.capture_model.proofs.Holding.{Holds, holds-later}
 use Rattle.capture_model.proofs.Messages.{IsFreshUse, arrived, heard}
-use Rattle.capture_model.proofs.Standing.{Stands, since_tick, hears_sync-stands, told-event, told-general}
+use Rattle.capture_model.proofs.Standing.{Stands, since_tick, hears_sync-stands, hears_sync-asked, told-event}
+use Rattle.capture_model.proofs.Standing.{told-general}
 use Rattle.capture_model.proofs.Standing.{asked-stands}
 use Rattle.capture_model.proofs.Reported.{IsMadeOf, made_of}
 
@@ -78,6 +79,12 @@ module _ (network : Network) (slave master : NodeName) (w : Watched) (apart : Is
   abbrev pub sent_in : Run → ℕ
   sent_in run = count_by (is_at is_request slave) run
 
+  -- the number of the last Delay_Req that datagrams say is the last one that the port knows of
+  abbrev pub FollowsLast : List Recorded → (known : ℕ) → Listening → Type 0
+  FollowsLast ds known l =
+      (n : ℕ) → last_request network slave ds ≡ Some n
+      → (l.asked ≡ true) × (n < 65536) × (next n ≡ of_count (watches.own.first + known))
+
   -- over a datagram that tells an event: what holds of the port, how many requests of the slave it knows of and how
   -- many are missing, and what a report is made of
   pub record IsStep (lines : Lines) (event : Event) (earlier : Run) (missing slack : ℕ) (ds : List Recorded)
@@ -86,6 +93,7 @@ module _ (network : Network) (slave master : NodeName) (w : Watched) (apart : Is
     pub counted : known + (if is_request event then 0 else missing) ≡ sent_in (event ∷ earlier)
     pub stands : Stands network slave master w watches within lines (syncs_in (event ∷ earlier)) known
         (since_tick (ticks_in (after_all w ds)) slack (hear w d (after_all w ds))) (hear w d (after_all w ds))
+    pub last : FollowsLast (d ∷ ds) known (hear w d (after_all w ds))
     pub reported : (report : Report) → report_at w ds d ≡ Some report → IsMadeOf lines slave master report
 
   module _ (event : Event) (earlier : Run) (m : Contents) (d : Recorded) (ds : List Recorded)
@@ -96,6 +104,7 @@ module _ (network : Network) (slave master : NodeName) (w : Watched) (apart : Is
       (known missing : ℕ) (few_missing : missing < 32768)
       (counted : known + missing ≡ sent_in earlier)
       (before : Stands network slave master w watches within lines (syncs_in earlier) known slack (after_all w ds))
+      (last_before : FollowsLast ds known (after_all w ds))
       (fresh : IsTrue (is_used w ds d) → IfSome (origin_heard (place event earlier))
       (λ origin. drawn_later origin earlier < 32768)) where
     -- what held before, with the lines of now
@@ -151,6 +160,18 @@ module _ (network : Network) (slave master : NodeName) (w : Watched) (apart : Is
         ap (λ (b : Bool). known + (if b then 0 else missing)) none ∙ counted
         ∙ sym (count-no (is_at is_request slave) event earlier asks_none)
 
+    -- what is no Delay_Req leaves the last one as it was
+    still_last : (body : Body) → m.body ≡ body → own_request network slave m.header body ≡ None → (after : Listening)
+        → after.asked ≡ (after_all w ds).asked → hear w d (after_all w ds) ≡ after
+        → FollowsLast (d ∷ ds) known (hear w d (after_all w ds))
+    still_last body is none after same heard_is n last =
+        let own : option_and_then (λ m. own_request network slave m.header m.body) (result_ok d.said) ≡ None =
+        ap (λ (r : Reading). option_and_then (λ m. own_request network slave m.header m.body) (result_ok r)) said
+        ∙ ap (own_request network slave m.header) is ∙ none in
+        let before = last_before n (sym (ap (λ (o : Option ℕ). option_or o (last_request network slave ds)) own)
+        ∙ last) in
+        (ap (λ (l : Listening). l.asked) heard_is ∙ same ∙ before.0, before.1, before.2)
+
     -- a Sync
     sync_step : (copy moment : ℕ) (origin : Stamp) → event ≡ Arrive slave copy moment
         → copy_of network earlier copy ≡ Some m → m.body ≡ bodies.Sync origin
@@ -184,15 +205,21 @@ module _ (network : Network) (slave master : NodeName) (w : Watched) (apart : Is
               (is_of w w.master m.header) call l
               (told-event network slave master w watches within more syncs known slack l (Ok m)
               (reading (place event earlier)) d.line holds stands)).stands;
+          last = still_last (bodies.Sync origin) body refl
+              (hears_sync w (is_of w w.master m.header) (calls.Event (Ok m) d.time d.line) l)
+              (hears_sync-asked network slave master w watches within more (is_of w w.master m.header)
+              (calls.Event (Ok m) d.time d.line) l)
+              (hears_it (bodies.Sync origin) body);
           reported = reported_by call hearing_is syncs known holds;
         }
 
     -- a Follow_Up or a Delay_Resp
-    general_step : (copy : ℕ) → event ≡ Hear slave copy → copy_of network earlier copy ≡ Some m
+    general_step : (copy : ℕ) (body : Body) → m.body ≡ body → own_request network slave m.header body ≡ None
+        → event ≡ Hear slave copy → copy_of network earlier copy ≡ Some m
         → hearing_of d ≡ Some (calls.General (Ok m) d.line)
         → hear w d (after_all w ds) ≡ told (calls.General (Ok m) d.line) (after_all w ds)
         → IsStep more event earlier missing slack ds d
-    general_step copy event_is copy_is hearing_is heard_is =
+    general_step copy body body_is no_request event_is copy_is hearing_is heard_is =
         let l : Listening = after_all w ds in
         let syncs : ℕ = syncs_in (event ∷ earlier) in
         let draws_none : is_at draws_sync master event ≡ false = ap (is_at draws_sync master) event_is in
@@ -213,6 +240,7 @@ module _ (network : Network) (slave master : NodeName) (w : Watched) (apart : Is
               (sym heard_is)
               (told-general network slave master w watches within more syncs known slack l (Ok m) d.line holds
               stands).stands;
+          last = still_last body body_is no_request (told call l) refl heard_is;
           reported = reported_by call hearing_is syncs known holds;
         }
 
@@ -241,16 +269,29 @@ module _ (network : Network) (slave master : NodeName) (w : Watched) (apart : Is
         ∙ sym watches.slave_is in
         let domain : port.config.domain ≡ w.domain = ap (λ (o : PortSetup). o.config.domain) own
         ∙ sym watches.domain_is in
-        let is_own : is_of w w.slave m.header ≡ true =
+        let of_slave : is_of w w.slave m.header ≡ true =
         ap (λ (m : Contents). is_of w w.slave m.header) m_is
         ∙ and_from (port.config.domain == w.domain) (is_same_port port.config.identity w.slave)
         (eq-eqb port.config.domain w.domain domain)
         (ap (λ (i : PortIdentity). is_same_port i w.slave) identity ∙ same_identity w.slave) in
         let heard_is : hear w d l ≡ hears_request w d.line d.time number l =
-        hears_it said_is.body body ∙ ap (λ (b : Bool). if b then hears_request w d.line d.time number l else l) is_own
+        hears_it said_is.body body ∙ ap (λ (b : Bool). if b then hears_request w d.line d.time number l else l) of_slave
         in
         let none : report_at w ds d ≡ None = ap (option_and_then (λ (c : Call). report_in (answer_in w l c)))
         (hearing-is said_is.body body) in
+        let own_port : is_own network slave m.header ≡ true =
+        ap (λ (o : Option PortSetup). option_map_or (λ port. is_same_port m.header.source port.config.identity) o
+        false) port_is
+        ∙ ap (λ (m : Contents). is_same_port m.header.source port.config.identity) m_is
+        ∙ same_identity port.config.identity in
+        let own_number : option_and_then (λ m. own_request network slave m.header m.body) (result_ok d.said) ≡ Some
+        number =
+        ap (λ (r : Reading). option_and_then (λ m. own_request network slave m.header m.body) (result_ok r)) said
+        ∙ ap (own_request network slave m.header) body ∙ ap (λ (b : Bool). if b then Some number else None) own_port in
+        let asked = asked-stands network slave master w watches within more syncs (place event earlier) d.line d.time
+        number
+        now asks number_is time known missing slack l (lifted (ap (is_at draws_sync master) event_is)) counted
+        few_missing in
         record {
           known = sent_in earlier + 1;
           counted = ap (λ (b : Bool). sent_in earlier + 1 + (if b then 0 else missing)) (ap is_request event_is)
@@ -258,9 +299,15 @@ module _ (network : Network) (slave master : NodeName) (w : Watched) (apart : Is
           stands = subst (λ (after : Listening). Stands network slave master w watches within more syncs
               (sent_in earlier + 1) (since_tick (ticks_in l) slack after) after)
               (sym heard_is)
-              (asked-stands network slave master w watches within more syncs (place event earlier) d.line d.time number
-              now asks number_is time known missing slack l
-              (lifted (ap (is_at draws_sync master) event_is)) counted few_missing);
+              asked.0;
+          last = λ n last.
+              let same : Some number ≡ Some n =
+              sym (ap (λ (o : Option ℕ). option_or o (last_request network slave ds)) own_number) ∙ last in
+              let one : number ≡ n = cc in (
+                ap (λ (l : Listening). l.asked) heard_is ∙ asked.1,
+                omega (arith, one, number_is),
+                omega (arith, one, number_is),
+              );
           reported = λ report is. let same : Some report ≡ None = sym is ∙ none in cc;
         }
 
@@ -271,10 +318,12 @@ module _ (network : Network) (slave master : NodeName) (w : Watched) (apart : Is
         general : (copy : ℕ) → event ≡ Hear slave copy → copy_of network earlier copy ≡ Some m → IsGeneral m.body
             → IsStep more event earlier missing slack ds d
         general copy event_is copy_is (events.FollowUp precise body) =
-            general_step copy event_is copy_is (hearing-is (bodies.FollowUp precise) body)
+            general_step copy (bodies.FollowUp precise) body refl event_is copy_is
+            (hearing-is (bodies.FollowUp precise) body)
             (hears_it (bodies.FollowUp precise) body)
         general copy event_is copy_is (events.DelayResp receive requesting body) =
-            general_step copy event_is copy_is (hearing-is (bodies.DelayResp receive requesting) body)
+            general_step copy (bodies.DelayResp receive requesting) body refl event_is copy_is
+            (hearing-is (bodies.DelayResp receive requesting) body)
             (hears_it (bodies.DelayResp receive requesting) body)
 
         by : IsTold network slave event earlier m → IsStep more event earlier missing slack ds d

@@ -57,14 +57,15 @@ response_said = record {
   suffix = [];
 }
 
--- line by line: an Announce stands between, and what is heard has any time
+-- line by line: an Announce stands between, another slave's Delay_Req and its own again; what is heard has any time
 abbrev line : ℕ → ℕ → Reading → Recorded
 line number time said = record { line = number; time = time; said = said }
 
 abbrev recording : List Recorded
 recording =
-    line 5 0 (Ok response_said) ∷ line 4 (at 2 1000 0) (Ok request_said) ∷ line 3 (at 1 5000 0) (Ok follow_said)
-    ∷ line 2 (at 1 4500 0) (Err (OtherType 11)) ∷ line 1 (at 1 4000 0) (Ok sync_said) ∷ []
+    line 7 0 (Ok response_said) ∷ line 6 (at 2 1000 1) (Ok request_said) ∷ line 5 0 (Ok (delay_req b_config 7))
+    ∷ line 4 (at 2 1000 0) (Ok request_said) ∷ line 3 (at 1 5000 0) (Ok follow_said) ∷ line 2 (at 1 4500 0)
+    (Err (OtherType 11)) ∷ line 1 (at 1 4000 0) (Ok sync_said) ∷ []
 
 -- twice 1,000 ns and twice 1,000 ns
 one_report : reports watched recording ≡ record {
@@ -73,18 +74,20 @@ one_report : reports watched recording ≡ record {
   sync_tag = 1;
   follow_tag = Some 3;
   request_tag = 4;
-  response_tag = 5;
+  response_tag = 7;
 } ∷ []
 one_report = refl
 
 -- event by event
 abbrev tells : Tells small_network s whole recording
 tells =
-    Told (Hear s 11) (after 13) response_said (line 5 0 (Ok response_said)) _ refl refl tt
+    Told (Hear s 11) (after 13) response_said (line 7 0 (Ok response_said)) _ refl refl tt
+    (Other (after 13) _ _ refl
     (Untold (Stamped s) (after 12) _
     (Untold (Arrive m 10 (at 2 4500 16384)) (after 11) _
     (Untold (Leave t 9 (at 2 4000 16384)) (after 10) _
     (Untold (Enter t 8 (at 2 500 0)) (after 9) _
+    (Other (after 9) _ _ refl
     (Told (Request s (at 2 0 0)) (after 8) request_said _ _ refl refl refl
     (Told (Hear s 6) (after 7) follow_said _ _ refl refl tt
     (Untold (Follow m) (after 6) _
@@ -94,12 +97,12 @@ tells =
     (Untold (Enter t 2 (at 1 500 0)) (after 3) _
     (Untold (Sync m (at 1 0 0)) (after 2) _
     (Untold (SetMaster s m) (after 1) _
-    (Untold (StepClock s (pos 65536000)) (after 0) _ Nothing))))))))))))))
+    (Untold (StepClock s (pos 65536000)) (after 0) _ Nothing))))))))))))))))
 
 -- it meets the premises
 fresh_and_ticked : IsFreshAndTicked exact_limits m watched tells
 fresh_and_ticked = record {
-  numbered = (omega arith, (omega arith, (omega arith, (omega arith, tt))));
+  numbered = (omega arith, (omega arith, (omega arith, (omega arith, (omega arith, (omega arith, tt))))));
   fresh = IsFresh-short small_network s m watched 32768 tells (omega arith);
   missing = MissesFew-short small_network s m watched 32768 tells (omega arith);
   ticked = IsTicked-short small_network s m watched 16384 tells (omega arith);

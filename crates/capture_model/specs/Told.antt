@@ -1,7 +1,8 @@
 -- Which recordings tell what came to a slave in a run, and what it sent.
 use Rattle.std.specs.Prelude.{◌≡◌, ℕ, ◌<◌, ◌==◌, Bool, true, false, ⊤, List, [], ◌∷◌, if◌then◌else◌, Option, Some, None}
-use Rattle.std.specs.Prelude.{Ok, Err, option_and_then, not, IsTrue}
-use Rattle.std.specs.Option.{option_map_or}
+use Rattle.std.specs.Prelude.{Ok, Err, option_and_then, IsTrue}
+use Rattle.std.specs.Option.{option_map_or, option_or}
+use Rattle.std.specs.Result.{result_ok}
 use Rattle.event_codec.specs.declared.message.Body.{Body}
 use Rattle.event_codec.specs.declared.message.Body.TheVariants.{Sync, DelayReq, FollowUp, DelayResp}
 use Rattle.event_codec.specs.declared.message.Header.{Header}
@@ -44,16 +45,36 @@ abbrev pub told_at : Network → NodeName → Event → Run → Option Contents
 told_at network slave event earlier =
     if is_named (site_of event) slave then told_by network event earlier else None
 
--- a Delay_Req of another port than a slave's
-abbrev pub is_others_request : Network → NodeName → Header → Body → Bool
-is_others_request network slave header (DelayReq origin) =
-    option_map_or (λ port. not (is_same_port header.source port.config.identity)) (slave_at network slave) false
-is_others_request network slave header _ = false
+-- a message from the port of a slave
+abbrev pub is_own : Network → NodeName → Header → Bool
+is_own network slave header =
+    option_map_or (λ port. is_same_port header.source port.config.identity) (slave_at network slave) false
 
--- what says nothing to a slave: no message, or the Delay_Req of another port
-abbrev pub says_nothing : Network → NodeName → Reading → Bool
-says_nothing network slave (Ok m) = is_others_request network slave m.header m.body
-says_nothing network slave (Err refusal) = true
+-- the number of a slave's Delay_Req
+abbrev pub own_request : Network → NodeName → Header → Body → Option ℕ
+own_request network slave header (DelayReq origin) =
+    if is_own network slave header then Some header.sequence.0 else None
+own_request network slave header _ = None
+
+-- the number of the last Delay_Req of a slave that these datagrams say
+abbrev pub last_request : Network → NodeName → List Recorded → Option ℕ
+last_request network slave [] = None
+last_request network slave (d ∷ earlier) =
+    option_or (option_and_then (λ m. own_request network slave m.header m.body) (result_ok d.said))
+    (last_request network slave earlier)
+
+-- a Delay_Req of another port, or the last one again
+abbrev pub asks_nothing : Network → NodeName → List Recorded → Header → Body → Bool
+asks_nothing network slave earlier header (DelayReq origin) =
+    if is_own network slave header
+    then option_map_or (λ last. last == header.sequence.0) (last_request network slave earlier) false
+    else true
+asks_nothing network slave earlier header _ = false
+
+-- what says nothing new to a slave after these: no message, the Delay_Req of another port, or its own last one again
+abbrev pub says_nothing : Network → NodeName → List Recorded → Reading → Bool
+says_nothing network slave earlier (Ok m) = asks_nothing network slave earlier m.header m.body
+says_nothing network slave earlier (Err refusal) = true
 
 -- what is recorded of a message that is heard has any time; a Sync and a Delay_Req have the clock's reading
 abbrev pub IsTimed : Event → Run → ℕ → Type 0
@@ -61,8 +82,8 @@ IsTimed (Hear node copy) earlier time = ⊤
 IsTimed event earlier time = time ≡ reading (place event earlier)
 
 -- The datagrams tell, in order, Syncs that arrived at a slave, Follow_Ups and Delay_Resps that it heard and Delay_Reqs
--- that it sent, with its clock's readings. Some may be missing, and datagrams that say nothing to it may stand between.
--- Both are newest first.
+-- that it sent, with its clock's readings. Some may be missing, and datagrams that say nothing new to it may stand
+-- between. Both are newest first.
 pub data Tells (network : Network) (slave : NodeName) : Run → List Recorded → Type 0 where
   Nothing : Tells network slave [] []
   Untold : (event : Event) (earlier : Run) (ds : List Recorded) → Tells network slave earlier ds
@@ -70,7 +91,7 @@ pub data Tells (network : Network) (slave : NodeName) : Run → List Recorded �
   Told : (event : Event) (earlier : Run) (m : Contents) (d : Recorded) (ds : List Recorded)
       → told_at network slave event earlier ≡ Some m → d.said ≡ Ok m → IsTimed event earlier d.time
       → Tells network slave earlier ds → Tells network slave (event ∷ earlier) (d ∷ ds)
-  Other : (run : Run) (d : Recorded) (ds : List Recorded) → IsTrue (says_nothing network slave d.said)
+  Other : (run : Run) (d : Recorded) (ds : List Recorded) → IsTrue (says_nothing network slave ds d.said)
       → Tells network slave run ds → Tells network slave run (d ∷ ds)
 
 -- each line has a greater number than those before it
