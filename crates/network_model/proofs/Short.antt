@@ -12,7 +12,7 @@ use Rattle.network_model.specs.Premises.{draws_present, syncs_since_tick, IsTick
 drawn_later-lt : (origin : Place) (run : Run) (late : ℕ) → length run < late → drawn_later origin run < late
 drawn_later-lt origin run late short = omega (arith, count_by-le-length (draws_with origin.event) run)
 
-each_origin : (heard : Option Place) (run : Run) (late : ℕ) → length run < late → IfSome heard (λ origin. drawn_later origin run < late)
+pub each_origin : (heard : Option Place) (run : Run) (late : ℕ) → length run < late → IfSome heard (λ origin. drawn_later origin run < late)
 each_origin None run late short = tt
 each_origin (Some origin) run late short = drawn_later-lt origin run late short
 

@@ -95,14 +95,14 @@ pub record IsTimedSync (run : Run) (slave : NodeName) (c : SyncCompletion) : Typ
 follow_parts : {precise other : Stamp} → ◌≡◌ {A = Body} (bodies.FollowUp precise) (bodies.FollowUp other) → precise ≡ other
 follow_parts same = cc
 
-sync_parts : {origin other : Stamp} → ◌≡◌ {A = Body} (bodies.Sync origin) (bodies.Sync other) → origin ≡ other
+pub sync_parts : {origin other : Stamp} → ◌≡◌ {A = Body} (bodies.Sync origin) (bodies.Sync other) → origin ≡ other
 sync_parts same = cc
 
 -- a bracket of these parts
-of_parts : (t2 t2' : ℕ) (stamp stamp' : Stamp) (c c' d d' : ℤ) → t2 ≡ t2' → stamp ≡ stamp' → c ≡ c' → d ≡ d' → sync_bracket t2 stamp c d ≡ sync_bracket t2' stamp' c' d'
+pub of_parts : (t2 t2' : ℕ) (stamp stamp' : Stamp) (c c' d d' : ℤ) → t2 ≡ t2' → stamp ≡ stamp' → c ≡ c' → d ≡ d' → sync_bracket t2 stamp c d ≡ sync_bracket t2' stamp' c' d'
 of_parts t2 t2' stamp stamp' c c' d d' e f g h = cc
 
-two_step_bracket : (network : Network) (run other : Run) (copy copy' : ℕ) (m m' : Contents) (t2 t2' : ℕ) (precise : Stamp) → (drawn : IsTwoStep network run copy m)
+pub two_step_bracket : (network : Network) (run other : Run) (copy copy' : ℕ) (m m' : Contents) (t2 t2' : ℕ) (precise : Stamp) → (drawn : IsTwoStep network run copy m)
     → (made : IsFollowUp network other copy' m') → m'.body ≡ bodies.FollowUp precise → int_lt m.header.correction.0 too_big ≡ true → t2 ≡ t2'
     → sync_bracket t2 precise m'.header.correction.0 m.header.correction.0 ≡ (pos t2' -ℤ pos (reading made.origin)) -ℤ pos (residence drawn.journey)
 two_step_bracket network run other copy copy' m m' t2 t2' precise drawn made body small same =

@@ -1,0 +1,14 @@
+mod Lines
+mod Near
+mod HeldMessages
+mod Completions
+mod Requests
+mod Holding
+mod Messages
+mod ToldEvents
+mod Standing
+mod Reported
+mod Steps
+mod Listened
+mod Short
+mod Worked

@@ -1,0 +1,333 @@
+-- A datagram that tells an event: what holds of the listening port holds after it, and what it reports then is made of
+-- events that lines tell.
+use Rattle.std.proofs.Common.{◌≡◌, ◌∙◌, ℕ, ◌+◌, ◌<◌, ◌≤◌, true, false, List, ◌∷◌, Some, None, Ok, refl, sym, ap, subst}
+use Rattle.std.proofs.Common.{arith, Bool, option_and_then, if◌then◌else◌}
+use Rattle.std.specs.Prelude.{◌==◌, count_by, IfSome, IsTrue, Option}
+use Rattle.std.specs.Option.{option_map_or, option_or}
+use Rattle.std.specs.Result.{result_ok}
+use Rattle.std.proofs.lemmas.Bool.{and_from, eq-eqb}
+use Rattle.ptp_units.specs.Moment.{Stamp}
+use Rattle.ptp_units.specs.Sequence.{of_count, next}
+use Rattle.event_codec.specs.declared.message.Body.{Body}
+use Rattle.event_codec.specs.declared.message.Body.TheVariants as bodies
+use Rattle.event_codec.specs.declared.port.PortIdentity.{PortIdentity}
+use Rattle.event_codec.specs.Packet.{Contents}
+use Rattle.event_codec.specs.Port.{is_same_port}
+use Rattle.event_codec.specs.Reading.{Reading}
+use Rattle.slave_port.specs.declared.heard.Heard.{Heard}
+use Rattle.slave_port.specs.declared.heard.Heard.TheVariants as answers
+use Rattle.slave_port.specs.declared.heard.Report.{Report}
+use Rattle.slave_port.specs.History as calls
+use Rattle.slave_port.specs.History.{Call, next_number}
+use Rattle.slave_port.specs.Written.{delay_req}
+use Rattle.network_model.specs.declared.event.Event.{Event}
+use Rattle.network_model.specs.declared.event.Event.TheVariants.{Arrive, Hear, Request}
+use Rattle.network_model.specs.Network.{Network, NodeName, PortSetup, IsNetwork, is_named}
+use Rattle.network_model.specs.Run.{Run, Place, place}
+use Rattle.network_model.specs.Kinds.{is_at, draws_sync, is_request, heard_copy}
+use Rattle.network_model.specs.Clock.{reading}
+use Rattle.network_model.specs.Numbering.{number_of, drawn_later}
+use Rattle.network_model.specs.Truth.{slave_at, copy_of, origin_heard}
+use Rattle.network_model.specs.Outcome.{IsRun}
+use Rattle.network_model.specs.Premises.{is_of_use}
+use Rattle.network_model.proofs.Sequences.{count-yes, count-no}
+use Rattle.network_model.proofs.Sites.{named-self}
+use Rattle.network_model.proofs.Reach.{draws_with-request}
+use Rattle.network_model.proofs.Hearing.{used_of_use}
+use Rattle.capture_model.specs.declared.watched.Watched.{Watched}
+use Rattle.capture_model.specs.Recorded.{Recorded}
+use Rattle.capture_model.specs.Listening.{Listening, setup_in, is_of, hears, hear, hears_sync, hears_request, told}
+use Rattle.capture_model.specs.Listening.{after_all, hearing, hearing_of, answer_in, report_in, report_at}
+use Rattle.capture_model.specs.Told.{told_at, is_own, own_request, last_request, IsTimed}
+use Rattle.capture_model.specs.Premises.{is_used, ticks_in}
+use Rattle.capture_model.specs.Exact.{Watches}
+use Rattle.capture_model.proofs.Lines.{Lines, Extends, AreIn}
+use Rattle.capture_model.proofs.Near.{Reach}
+use Rattle.capture_model.proofs.ToldEvents as events
+use Rattle.capture_model.proofs.ToldEvents.{IsTold, IsGeneral, told_is}
+use Rattle.capture_model.proofs.Holding.{Holds, holds-later}
+use Rattle.capture_model.proofs.Messages.{IsFreshUse, arrived, heard}
+use Rattle.capture_model.proofs.Standing.{Stands, since_tick, hears_sync-stands, hears_sync-asked, told-event}
+use Rattle.capture_model.proofs.Standing.{told-general}
+use Rattle.capture_model.proofs.Standing.{asked-stands}
+use Rattle.capture_model.proofs.Reported.{IsMadeOf, made_of}
+
+-- how far behind what is held may be
+abbrev pub within : Reach
+within = record { late = 32768; between = 16384 }
+
+-- a port is of one identity
+same_identity : (identity : PortIdentity) → is_same_port identity identity ≡ true
+same_identity identity =
+    and_from (is_named identity.clock identity.clock) (identity.port == identity.port) (named-self identity.clock)
+    (eq-eqb identity.port identity.port refl)
+
+-- an answer that is a report
+report-in : (heard : Heard) (report : Report) → report_in heard ≡ Some report → heard ≡ answers.Report report
+report-in (answers.Report given) report is = let same : given ≡ report = cc in ap (λ (r : Report). answers.Report r)
+    same
+report-in answers.Held report is = cc
+report-in answers.Completed report is = cc
+report-in (answers.Ignored reason) report is = cc
+
+module _ (network : Network) (slave master : NodeName) (w : Watched) (apart : IsNetwork network)
+    (watches : Watches network slave master w) where
+  -- how many Syncs the master drew, and how many requests the slave
+  abbrev pub syncs_in : Run → ℕ
+  syncs_in run = count_by (is_at draws_sync master) run
+
+  abbrev pub sent_in : Run → ℕ
+  sent_in run = count_by (is_at is_request slave) run
+
+  -- the number of the last Delay_Req that datagrams say is the last one that the port knows of
+  abbrev pub FollowsLast : List Recorded → (known : ℕ) → Listening → Type 0
+  FollowsLast ds known l =
+      (n : ℕ) → last_request network slave ds ≡ Some n
+      → (l.asked ≡ true) × (n < 65536) × (next n ≡ of_count (watches.own.first + known))
+
+  -- over a datagram that tells an event: what holds of the port, how many requests of the slave it knows of and how
+  -- many are missing, and what a report is made of
+  pub record IsStep (lines : Lines) (event : Event) (earlier : Run) (missing slack : ℕ) (ds : List Recorded)
+      (d : Recorded) : Type 0 where
+    pub known : ℕ
+    pub counted : known + (if is_request event then 0 else missing) ≡ sent_in (event ∷ earlier)
+    pub stands : Stands network slave master w watches within lines (syncs_in (event ∷ earlier)) known
+        (since_tick (ticks_in (after_all w ds)) slack (hear w d (after_all w ds))) (hear w d (after_all w ds))
+    pub last : FollowsLast (d ∷ ds) known (hear w d (after_all w ds))
+    pub reported : (report : Report) → report_at w ds d ≡ Some report → IsMadeOf lines slave master report
+
+  module _ (event : Event) (earlier : Run) (m : Contents) (d : Recorded) (ds : List Recorded)
+      (accepted : IsRun network (event ∷ earlier))
+      (lines more : Lines) (extends : Extends lines more) (inside : AreIn more (event ∷ earlier))
+      (now : more d.line ≡ Some (place event earlier))
+      (said : d.said ≡ Ok m) (timed : IsTimed event earlier d.time) (slack : ℕ) (few : slack ≤ 16384)
+      (known missing : ℕ) (few_missing : missing < 32768)
+      (counted : known + missing ≡ sent_in earlier)
+      (before : Stands network slave master w watches within lines (syncs_in earlier) known slack (after_all w ds))
+      (last_before : FollowsLast ds known (after_all w ds))
+      (fresh : IsTrue (is_used w ds d) → IfSome (origin_heard (place event earlier))
+      (λ origin. drawn_later origin earlier < 32768)) where
+    -- what held before, with the lines of now
+    lifted : is_at draws_sync master event ≡ false
+        → Stands network slave master w watches within more (syncs_in (event ∷ earlier)) known slack (after_all w ds)
+    lifted none = record {
+      holds = holds-later network slave master watches.own watches.other w.master within lines more (syncs_in earlier)
+          (syncs_in (event ∷ earlier)) known known
+          slack slack (setup_in w (after_all w ds)) (after_all w ds).calls extends
+          (omega (arith, count-no (is_at draws_sync master) event earlier none))
+          (omega arith) before.holds;
+      next = before.next;
+      none = before.none;
+    }
+
+    module _ (call : Call) (hearing_is : hearing_of d ≡ Some call) where
+      -- what is used is fresh
+      fresh_use : IsFreshUse (setup_in w (after_all w ds)) (after_all w ds).calls 32768 (place event earlier) call
+      fresh_use uses origin is =
+          let of_use : is_used w ds d ≡ true =
+          ap (λ (c : Option Call). option_map_or (λ call. is_of_use (answer_in w (after_all w ds) call)) c false)
+          hearing_is
+          ∙ ap is_of_use uses ∙ used_of_use (setup_in w (after_all w ds)) (after_all w ds).calls call in
+          subst (λ (o : Option Place). IfSome o (λ origin. drawn_later origin earlier < 32768)) is (fresh of_use)
+
+      -- a report that is answered is made of events that lines tell
+      reported_by : (syncs sent : ℕ)
+          → Holds network slave master watches.own watches.other w.master within more syncs sent slack
+          (setup_in w (after_all w ds)) (call ∷ (after_all w ds).calls)
+          → (report : Report) → report_at w ds d ≡ Some report → IsMadeOf more slave master report
+      reported_by syncs sent holds report is =
+          made_of network slave master watches.own watches.other w.master within more syncs sent slack
+          (setup_in w (after_all w ds)) (after_all w ds).calls call report holds
+          (report-in (answer_in w (after_all w ds) call) report
+          (sym (ap (option_and_then (λ (c : Call). report_in (answer_in w (after_all w ds) c))) hearing_is) ∙ is))
+
+    -- what is heard of a message
+    hears_it : (body : Body) → m.body ≡ body → hear w d (after_all w ds) ≡ hears w d.line d.time m body (after_all w ds)
+    hears_it body is =
+        ap (λ (r : Reading). option_map_or (λ m. hears w d.line d.time m m.body (after_all w ds)) (result_ok r)
+        (after_all w ds)) said
+        ∙ ap (λ (b : Body). hears w d.line d.time m b (after_all w ds)) is
+
+    hearing-is : (body : Body) → m.body ≡ body → hearing_of d ≡ hearing d.line d.time m body
+    hearing-is body is =
+        ap (λ (r : Reading). option_and_then (λ m. hearing d.line d.time m m.body) (result_ok r)) said
+        ∙ ap (λ (b : Body). hearing d.line d.time m b) is
+
+    -- no more requests are missing where the event is none
+    still_counted : is_request event ≡ false → is_at is_request slave event ≡ false
+        → known + (if is_request event then 0 else missing) ≡ sent_in (event ∷ earlier)
+    still_counted none asks_none =
+        ap (λ (b : Bool). known + (if b then 0 else missing)) none ∙ counted
+        ∙ sym (count-no (is_at is_request slave) event earlier asks_none)
+
+    -- what is no Delay_Req leaves the last one as it was
+    still_last : (body : Body) → m.body ≡ body → own_request network slave m.header body ≡ None → (after : Listening)
+        → after.asked ≡ (after_all w ds).asked → hear w d (after_all w ds) ≡ after
+        → FollowsLast (d ∷ ds) known (hear w d (after_all w ds))
+    still_last body is none after same heard_is n last =
+        let own : option_and_then (λ m. own_request network slave m.header m.body) (result_ok d.said) ≡ None =
+        ap (λ (r : Reading). option_and_then (λ m. own_request network slave m.header m.body) (result_ok r)) said
+        ∙ ap (own_request network slave m.header) is ∙ none in
+        let before = last_before n (sym (ap (λ (o : Option ℕ). option_or o (last_request network slave ds)) own)
+        ∙ last) in
+        (ap (λ (l : Listening). l.asked) heard_is ∙ same ∙ before.0, before.1, before.2)
+
+    -- a Sync
+    sync_step : (copy moment : ℕ) (origin : Stamp) → event ≡ Arrive slave copy moment
+        → copy_of network earlier copy ≡ Some m → m.body ≡ bodies.Sync origin
+        → IsStep more event earlier missing slack ds d
+    sync_step copy moment origin event_is copy_is body =
+        let l : Listening = after_all w ds in
+        let syncs : ℕ = syncs_in (event ∷ earlier) in
+        let draws_none : is_at draws_sync master event ≡ false = ap (is_at draws_sync master) event_is in
+        let asks_none : is_at is_request slave event ≡ false = ap (is_at is_request slave) event_is in
+        let stands = lifted draws_none in
+        let call : Call = calls.Event (Ok m) (reading (place event earlier)) d.line in
+        let time : d.time ≡ reading (place event earlier) =
+        subst (λ (e : Event). IsTimed e earlier d.time) event_is timed
+        ∙ ap (λ (e : Event). reading (place e earlier)) (sym event_is) in
+        let hearing_is : hearing_of d ≡ Some call =
+        hearing-is (bodies.Sync origin) body ∙ ap (λ (t : ℕ). Some (calls.Event (Ok m) t d.line)) time in
+        let holds = arrived network slave master w apart watches within event earlier accepted more inside d.line now
+        syncs known slack
+        (count-no (is_at draws_sync master) event earlier draws_none) refl (setup_in w l) refl
+        (omega (arith, counted, count-no (is_at is_request slave) event earlier asks_none)) l.calls stands.holds
+        (omega arith) m copy
+        (ap heard_copy event_is) copy_is moment event_is (fresh_use call hearing_is) in
+        record {
+          known = known;
+          counted = still_counted (ap is_request event_is) asks_none;
+          stands = subst (λ (after : Listening). Stands network slave master w watches within more syncs known
+              (since_tick (ticks_in l) slack after) after)
+              (ap (λ (t : ℕ). hears_sync w (is_of w w.master m.header) (calls.Event (Ok m) t d.line) l) (sym time)
+              ∙ sym (hears_it (bodies.Sync origin) body))
+              (hears_sync-stands network slave master w watches within more (ticks_in l) syncs known slack few
+              (is_of w w.master m.header) call l
+              (told-event network slave master w watches within more syncs known slack l (Ok m)
+              (reading (place event earlier)) d.line holds stands)).stands;
+          last = still_last (bodies.Sync origin) body refl
+              (hears_sync w (is_of w w.master m.header) (calls.Event (Ok m) d.time d.line) l)
+              (hears_sync-asked network slave master w watches within more (is_of w w.master m.header)
+              (calls.Event (Ok m) d.time d.line) l)
+              (hears_it (bodies.Sync origin) body);
+          reported = reported_by call hearing_is syncs known holds;
+        }
+
+    -- a Follow_Up or a Delay_Resp
+    general_step : (copy : ℕ) (body : Body) → m.body ≡ body → own_request network slave m.header body ≡ None
+        → event ≡ Hear slave copy → copy_of network earlier copy ≡ Some m
+        → hearing_of d ≡ Some (calls.General (Ok m) d.line)
+        → hear w d (after_all w ds) ≡ told (calls.General (Ok m) d.line) (after_all w ds)
+        → IsStep more event earlier missing slack ds d
+    general_step copy body body_is no_request event_is copy_is hearing_is heard_is =
+        let l : Listening = after_all w ds in
+        let syncs : ℕ = syncs_in (event ∷ earlier) in
+        let draws_none : is_at draws_sync master event ≡ false = ap (is_at draws_sync master) event_is in
+        let asks_none : is_at is_request slave event ≡ false = ap (is_at is_request slave) event_is in
+        let stands = lifted draws_none in
+        let call : Call = calls.General (Ok m) d.line in
+        let holds = heard network slave master w apart watches within event earlier accepted more inside d.line now
+        syncs known slack
+        (count-no (is_at draws_sync master) event earlier draws_none) refl (setup_in w l) refl
+        (omega (arith, counted, count-no (is_at is_request slave) event earlier asks_none)) l.calls stands.holds
+        (omega arith) m copy
+        (ap heard_copy event_is) copy_is event_is (fresh_use call hearing_is) in
+        record {
+          known = known;
+          counted = still_counted (ap is_request event_is) asks_none;
+          stands = subst (λ (after : Listening). Stands network slave master w watches within more syncs known
+              (since_tick (ticks_in l) slack after) after)
+              (sym heard_is)
+              (told-general network slave master w watches within more syncs known slack l (Ok m) d.line holds
+              stands).stands;
+          last = still_last body body_is no_request (told call l) refl heard_is;
+          reported = reported_by call hearing_is syncs known holds;
+        }
+
+    -- a Delay_Req
+    request_step : (moment : ℕ) (port : PortSetup) → event ≡ Request slave moment → slave_at network slave ≡ Some port
+        → m ≡ delay_req port.config (of_count (number_of port (place event earlier)))
+        → IsStep more event earlier missing slack ds d
+    request_step moment port event_is port_is m_is =
+        let l : Listening = after_all w ds in
+        let syncs : ℕ = syncs_in (event ∷ earlier) in
+        let ports : Some port ≡ Some watches.own = sym port_is ∙ watches.slave_port in
+        let own : port ≡ watches.own = cc in
+        let asks : is_at is_request slave event ≡ true = ap (is_at is_request slave) event_is ∙ named-self slave in
+        let number : ℕ = m.header.sequence.0 in
+        let said_is : Contents = delay_req port.config (of_count (number_of port (place event earlier))) in
+        let number_is : number ≡ of_count (watches.own.first + sent_in earlier) =
+        ap (λ (m : Contents). m.header.sequence.0) m_is
+        ∙ ap (λ (o : PortSetup). of_count (number_of o (place event earlier))) own
+        ∙ ap (λ (kind : Event → Bool). of_count (watches.own.first + count_by kind earlier))
+        (draws_with-request slave event asks) in
+        let time : d.time ≡ reading (place event earlier) =
+        subst (λ (e : Event). IsTimed e earlier d.time) event_is timed
+        ∙ ap (λ (e : Event). reading (place e earlier)) (sym event_is) in
+        let body : m.body ≡ said_is.body = ap (λ (m : Contents). m.body) m_is in
+        let identity : port.config.identity ≡ w.slave = ap (λ (o : PortSetup). o.config.identity) own
+        ∙ sym watches.slave_is in
+        let domain : port.config.domain ≡ w.domain = ap (λ (o : PortSetup). o.config.domain) own
+        ∙ sym watches.domain_is in
+        let of_slave : is_of w w.slave m.header ≡ true =
+        ap (λ (m : Contents). is_of w w.slave m.header) m_is
+        ∙ and_from (port.config.domain == w.domain) (is_same_port port.config.identity w.slave)
+        (eq-eqb port.config.domain w.domain domain)
+        (ap (λ (i : PortIdentity). is_same_port i w.slave) identity ∙ same_identity w.slave) in
+        let heard_is : hear w d l ≡ hears_request w d.line d.time number l =
+        hears_it said_is.body body ∙ ap (λ (b : Bool). if b then hears_request w d.line d.time number l else l) of_slave
+        in
+        let none : report_at w ds d ≡ None = ap (option_and_then (λ (c : Call). report_in (answer_in w l c)))
+        (hearing-is said_is.body body) in
+        let own_port : is_own network slave m.header ≡ true =
+        ap (λ (o : Option PortSetup). option_map_or (λ port. is_same_port m.header.source port.config.identity) o
+        false) port_is
+        ∙ ap (λ (m : Contents). is_same_port m.header.source port.config.identity) m_is
+        ∙ same_identity port.config.identity in
+        let own_number : option_and_then (λ m. own_request network slave m.header m.body) (result_ok d.said) ≡ Some
+        number =
+        ap (λ (r : Reading). option_and_then (λ m. own_request network slave m.header m.body) (result_ok r)) said
+        ∙ ap (own_request network slave m.header) body ∙ ap (λ (b : Bool). if b then Some number else None) own_port in
+        let asked = asked-stands network slave master w watches within more syncs (place event earlier) d.line d.time
+        number
+        now asks number_is time known missing slack l (lifted (ap (is_at draws_sync master) event_is)) counted
+        few_missing in
+        record {
+          known = sent_in earlier + 1;
+          counted = ap (λ (b : Bool). sent_in earlier + 1 + (if b then 0 else missing)) (ap is_request event_is)
+              ∙ omega (arith, count-yes (is_at is_request slave) event earlier asks);
+          stands = subst (λ (after : Listening). Stands network slave master w watches within more syncs
+              (sent_in earlier + 1) (since_tick (ticks_in l) slack after) after)
+              (sym heard_is)
+              asked.0;
+          last = λ n last.
+              let same : Some number ≡ Some n =
+              sym (ap (λ (o : Option ℕ). option_or o (last_request network slave ds)) own_number) ∙ last in
+              let one : number ≡ n = cc in (
+                ap (λ (l : Listening). l.asked) heard_is ∙ asked.1,
+                omega (arith, one, number_is),
+                omega (arith, one, number_is),
+              );
+          reported = λ report is. let same : Some report ≡ None = sym is ∙ none in cc;
+        }
+
+    -- each of them
+    pub step : told_at network slave event earlier ≡ Some m → IsStep more event earlier missing slack ds d
+    step made = by (told_is network slave earlier m event made)
+      where
+        general : (copy : ℕ) → event ≡ Hear slave copy → copy_of network earlier copy ≡ Some m → IsGeneral m.body
+            → IsStep more event earlier missing slack ds d
+        general copy event_is copy_is (events.FollowUp precise body) =
+            general_step copy (bodies.FollowUp precise) body refl event_is copy_is
+            (hearing-is (bodies.FollowUp precise) body)
+            (hears_it (bodies.FollowUp precise) body)
+        general copy event_is copy_is (events.DelayResp receive requesting body) =
+            general_step copy (bodies.DelayResp receive requesting) body refl event_is copy_is
+            (hearing-is (bodies.DelayResp receive requesting) body)
+            (hears_it (bodies.DelayResp receive requesting) body)
+
+        by : IsTold network slave event earlier m → IsStep more event earlier missing slack ds d
+        by (events.Arrived copy moment origin event_is copy_is body) = sync_step copy moment origin event_is copy_is
+            body
+        by (events.Heard copy event_is copy_is body) = general copy event_is copy_is body
+        by (events.Asked moment port event_is port_is m_is) = request_step moment port event_is port_is m_is

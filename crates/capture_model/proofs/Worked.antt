@@ -1,0 +1,156 @@
+-- A worked recording: of the exchange through a clock of a slave that leads by 1,000 ns. It tells a run that meets the
+-- premises, and the port that listens to it reports once.
+use Rattle.std.proofs.Common.{true, ◌++◌, replicate, ◌≡◌, ℕ, pos, refl, arith, List, [], ◌∷◌, Some, Ok, Err}
+use Rattle.ptp_units.specs.Moment.{stamp}
+use Rattle.event_codec.specs.declared.message.Body.TheVariants.{DelayResp}
+use Rattle.event_codec.specs.declared.refusal.DecodeRefusal.TheVariants.{OtherType}
+use Rattle.event_codec.specs.Correction.{with_correction}
+use Rattle.event_codec.specs.Packet.{Contents}
+use Rattle.event_codec.specs.Profile.{header_of}
+use Rattle.event_codec.specs.Reading.{Reading}
+use Rattle.master_port.specs.Written.{sync, one_step_sync, follow_up}
+use Rattle.slave_port.specs.Written.{delay_req}
+use Rattle.slave_port.specs.History as calls
+use Rattle.slave_port.specs.History.{requests_drawn}
+use Rattle.network_model.specs.declared.event.Event.TheVariants.{Sync, Follow, Enter, Leave, Arrive, Hear, Request}
+use Rattle.network_model.specs.declared.event.Event.TheVariants.{Stamped, SetMaster, StepClock}
+use Rattle.network_model.specs.Premises.{exact_limits}
+use Rattle.network_model.proofs.Worked.{small_network, m_config, b_config, s_config, m, s, t, at}
+use Rattle.network_model.proofs.WorkedExchange.{after, whole}
+use Rattle.capture_model.specs.declared.watched.Watched.{Watched}
+use Rattle.capture_model.specs.Recorded.{Recorded}
+use Rattle.capture_model.specs.Listening.{after_all, reports}
+use Rattle.capture_model.specs.Told.{Tells, Nothing, Untold, Told, Other}
+use Rattle.capture_model.specs.Premises.{IsFreshAndTicked, ticks_in}
+use Rattle.capture_model.specs.Exact.{Watches}
+use Rattle.capture_model.proofs.Short.{IsFresh-short, IsTicked-short, MissesFew-short}
+
+-- the slave S, which follows M
+abbrev watched : Watched
+watched = record { slave = s_config.identity; master = m_config.identity; domain = 0 }
+
+abbrev watches : Watches small_network s m watched
+watches = record {
+  own = record { config = s_config; first = 0 };
+  other = record { config = m_config; first = 0 };
+  slave_port = refl;
+  master_port = refl;
+  slave_is = refl;
+  master_is = refl;
+  domain_is = refl;
+}
+
+-- the messages that came to S, and the one that it sent
+abbrev sync_said : Contents
+sync_said = with_correction (sync m_config 0) (record { 0 = pos 131072000 })
+
+abbrev follow_said : Contents
+follow_said = follow_up m_config 0 (at 1 0 0)
+
+abbrev request_said : Contents
+request_said = delay_req s_config 0
+
+abbrev response_said : Contents
+response_said = record {
+  header = header_of m_config (0 ∷ 0 ∷ []) (pos 229376000) 0 3 (pos 0);
+  body = DelayResp (stamp 2 4500) s_config.identity;
+  suffix = [];
+}
+
+-- line by line: an Announce stands between, another slave's Delay_Req and its own again; what is heard has any time
+abbrev line : ℕ → ℕ → Reading → Recorded
+line number time said = record { line = number; time = time; said = said }
+
+abbrev recording : List Recorded
+recording =
+    line 7 0 (Ok response_said) ∷ line 6 (at 2 1000 1) (Ok request_said) ∷ line 5 0 (Ok (delay_req b_config 7))
+    ∷ line 4 (at 2 1000 0) (Ok request_said) ∷ line 3 (at 1 5000 0) (Ok follow_said) ∷ line 2 (at 1 4500 0)
+    (Err (OtherType 11)) ∷ line 1 (at 1 4000 0) (Ok sync_said) ∷ []
+
+-- twice 1,000 ns and twice 1,000 ns
+one_report : reports watched recording ≡ record {
+  offset2 = pos 131072000;
+  path2 = pos 131072000;
+  sync_tag = 1;
+  follow_tag = Some 3;
+  request_tag = 4;
+  response_tag = 7;
+} ∷ []
+one_report = refl
+
+-- event by event
+abbrev tells : Tells small_network s whole recording
+tells =
+    Told (Hear s 11) (after 13) response_said (line 7 0 (Ok response_said)) _ refl refl tt
+    (Other (after 13) _ _ refl
+    (Untold (Stamped s) (after 12) _
+    (Untold (Arrive m 10 (at 2 4500 16384)) (after 11) _
+    (Untold (Leave t 9 (at 2 4000 16384)) (after 10) _
+    (Untold (Enter t 8 (at 2 500 0)) (after 9) _
+    (Other (after 9) _ _ refl
+    (Told (Request s (at 2 0 0)) (after 8) request_said _ _ refl refl refl
+    (Told (Hear s 6) (after 7) follow_said _ _ refl refl tt
+    (Untold (Follow m) (after 6) _
+    (Other (after 6) _ _ refl
+    (Told (Arrive s 4 (at 1 3000 0)) (after 5) sync_said _ _ refl refl refl
+    (Untold (Leave t 3 (at 1 2500 0)) (after 4) _
+    (Untold (Enter t 2 (at 1 500 0)) (after 3) _
+    (Untold (Sync m (at 1 0 0)) (after 2) _
+    (Untold (SetMaster s m) (after 1) _
+    (Untold (StepClock s (pos 65536000)) (after 0) _ Nothing))))))))))))))))
+
+-- it meets the premises
+fresh_and_ticked : IsFreshAndTicked exact_limits m watched tells
+fresh_and_ticked = record {
+  numbered = (omega arith, (omega arith, (omega arith, (omega arith, (omega arith, (omega arith, tt))))));
+  fresh = IsFresh-short small_network s m watched 32768 tells (omega arith);
+  missing = MissesFew-short small_network s m watched 32768 tells (omega arith);
+  ticked = IsTicked-short small_network s m watched 16384 tells (omega arith);
+}
+
+-- Delay_Reqs of S
+abbrev asked : (number sequence : ℕ) → Recorded
+asked number sequence = line number (at 3 0 0) (Ok (delay_req s_config sequence))
+
+-- the first draws up to its number, wherever the port stands
+first_request : (after_all watched (asked 1 2 ∷ [])).calls
+    ≡ calls.RequestLeft 2 (at 3 0 0) ∷ calls.NextRequest 1 ∷ calls.NextRequest 1 ∷ calls.NextRequest 1
+    ∷ calls.SetMaster m_config.identity ∷ []
+first_request = refl
+
+-- one that was missed is drawn too, 256 ahead is the most, and beyond it a new port begins
+after_one_that_is_missing : (after_all watched (asked 2 4 ∷ asked 1 2 ∷ [])).calls
+    ≡ calls.RequestLeft 4 (at 3 0 0) ∷ calls.NextRequest 2 ∷ calls.NextRequest 2
+    ∷ (after_all watched (asked 1 2 ∷ [])).calls
+after_one_that_is_missing = refl
+
+far_ahead : requests_drawn (after_all watched (asked 2 258 ∷ asked 1 2 ∷ [])).calls ≡ 259
+far_ahead = refl
+
+begins_anew : after_all watched (asked 2 259 ∷ asked 1 2 ∷ []) ≡ record {
+  first = 259;
+  calls = calls.RequestLeft 259 (at 3 0 0) ∷ calls.NextRequest 2 ∷ calls.SetMaster m_config.identity ∷ [];
+  asked = true;
+  syncs = 0;
+  stale = 0;
+}
+begins_anew = refl
+
+-- the same number again says nothing
+says_nothing_again : after_all watched (asked 2 2 ∷ asked 1 2 ∷ []) ≡ after_all watched (asked 1 2 ∷ [])
+says_nothing_again = refl
+
+-- nor does a Delay_Req of another port
+says_nothing_of_another : after_all watched (line 2 0 (Ok (delay_req b_config 7)) ∷ asked 1 2 ∷ []) ≡ after_all watched
+    (asked 1 2 ∷ [])
+says_nothing_of_another = refl
+
+-- one-step Syncs of M, and how many ticks come of 15 and of 16 that aren't newer than one that completed
+abbrev one_step : ℕ → Recorded
+one_step sequence = line 1 (at 3 0 0) (Ok (one_step_sync m_config sequence (at 2 0 0)))
+
+fifteen_are_refused : ticks_in (after_all watched (replicate 15 (one_step 4) ++ one_step 5 ∷ [])) ≡ 0
+fifteen_are_refused = refl
+
+sixteen_bring_ticks : ticks_in (after_all watched (replicate 16 (one_step 4) ++ one_step 5 ∷ [])) ≡ 2
+sixteen_bring_ticks = refl

@@ -1,0 +1,5 @@
+pub mod Recorded
+pub mod Listening
+pub mod Told
+pub mod Premises
+pub mod Exact

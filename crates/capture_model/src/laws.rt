@@ -1,0 +1,13 @@
+//! Laws of recordings, each the contract of a function that does nothing: a caller that needs the law in its
+//! proof calls it.
+
+ghost use Rattle.capture_model.specs.Exact.{EachReportIsExact};
+
+/// What a port reports that listens to a recording at a slave is exact: of one Sync of the master and of one
+/// Delay_Req to it, those that its lines tell, and twice the standard's two results for them, without any
+/// error. This holds over every accepted run of a network, of whatever length, that the recording tells at
+/// the slave, and in which no number is too old when it is used, ticks come often enough, and few
+/// Delay_Reqs are missing in a row.
+pub fn each_report_is_exact()
+    ensures { EachReportIsExact }
+{}
