@@ -1,5 +1,5 @@
 -- Lines, numbers and measurements, worked by hand.
-use Rattle.std.proofs.Common.{◌≡◌, ◌++◌, ◌-◌, ◌*◌, ℕ, List, Bor, pos, negsuc, [], codes, Some, None, refl}
+use Rattle.std.proofs.Common.{◌≡◌, ◌++◌, ◌-◌, ◌*◌, ℕ, List, pos, negsuc, [], codes, Some, None, refl}
 use Rattle.std.specs.Fmt.{digits}
 use Rattle.slave_port.specs.declared.heard.Report.{Report}
 use Rattle.capture_lines.specs.declared.measurement.Half.TheVariants.{Sync, Response}
@@ -81,16 +81,14 @@ report = record {
   response_tag = 11;
 }
 
-json : (time : Bor (List ℕ)) → time.now ≡ codes "1795328934.357259633"
-    → json_text (record { by = Sync; line = 17; time = time; report = report })
+json : json_text (record { by = Sync; line = 17; time = codes "1795328934.357259633"; report = report })
     ≡ codes "{\"by\":\"sync\",\"line\":17,\"offset\":\"-12.5\",\"offset2\":\"-1638400\",\"path\":\"1000\""
     ++ codes ",\"path2\":\"131072000\",\"tags\":[12,13,9,11],\"time\":\"1795328934.357259633\"}\n"
 unfolding digits decimals report
-json time is = rw is
+json = refl
 
 -- the same of a one-step Sync, which a Delay_Resp completed, as a row
-row : (time : Bor (List ℕ)) → time.now ≡ codes "7"
-    → row_text (record { by = Response; line = 11; time = time; report = record report { follow_tag = None } })
+row : row_text (record { by = Response; line = 11; time = codes "7"; report = record report { follow_tag = None } })
     ≡ codes "7,-12.5,1000,response,11\n"
 unfolding digits decimals report
-row time is = rw is
+row = refl

@@ -1,6 +1,6 @@
 ghost use Rattle.std.specs.Prelude.{◌≡◌, ◌++◌, OnOk, Some};
 ghost use Rattle.std.specs.String.{string_bytes};
-ghost use Rattle.capture_lines.specs.Measurement.{half_text, follow_text, json_text, table_head, row_text};
+ghost use Rattle.capture_lines.specs.Measurement.{measured_of, half_text, follow_text, json_text, table_head, row_text};
 
 use crate::decimal::Nanoseconds;
 use slave_port::Report;
@@ -58,7 +58,7 @@ impl Display for Follow {
 
 /// Appends a measurement as JSON, in one line.
 pub fn push_json(text: &mut String, measured: &Measurement<'_>) -> Result<(), AllocError>
-    ensures { OnOk result (string_bytes text.new ≡ string_bytes text.old ++ json_text measured.now) }
+    ensures { OnOk result (string_bytes text.new ≡ string_bytes text.old ++ json_text (measured_of measured.now)) }
 {
     let Measurement {
         by,
@@ -93,7 +93,7 @@ pub fn table_head() -> &'static str
 
 /// Appends a measurement as a row of the table.
 pub fn push_row(text: &mut String, measured: &Measurement<'_>) -> Result<(), AllocError>
-    ensures { OnOk result (string_bytes text.new ≡ string_bytes text.old ++ row_text measured.now) }
+    ensures { OnOk result (string_bytes text.new ≡ string_bytes text.old ++ row_text (measured_of measured.now)) }
 {
     let Measurement {
         by,
