@@ -153,6 +153,9 @@ def sections():
 def main():
     if sys.argv[1:2] == ["rests"]:
         definitions = read_specs()
+        for name in sys.argv[2:]:
+            if not any(key[2] == name for key in definitions):
+                sys.exit(f"no definition is called {name}")
         for crate, file, name in sorted(rests_on(definitions, [key for key in definitions if key[2] in sys.argv[2:]])):
             print(crate, file, name)
         return 0
