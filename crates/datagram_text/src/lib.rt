@@ -4,4 +4,4 @@
 pub mod laws;
 mod shown;
 
-pub use shown::push_datagram;
+pub use shown::{Identity, push_datagram};

@@ -43,7 +43,7 @@ fn digit_of(value: u8) -> char
 
 /// clockIdentity in hexadecimal, a slash, and portNumber.
 #[derive(Clone, Copy)]
-struct Identity<'a>(&'a PortIdentity);
+pub struct Identity<'a>(pub &'a PortIdentity);
 
 impl Display for Identity<'_> {
     ghost output = { λ identity. Some (identity_text identity.0.now) };

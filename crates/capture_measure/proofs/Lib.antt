@@ -1,0 +1,11 @@
+pub mod Bodies
+pub mod Goes
+pub mod Heard
+pub mod Kept
+pub mod Listeners
+pub mod Readings
+pub mod Reports
+pub mod Rows
+pub mod Taken
+pub mod Told
+pub mod Watches

@@ -1,0 +1,39 @@
+-- What a listener stands for after its port was told of a message.
+use Rattle.std.proofs.Common.{◌≡◌, ◌∙◌, ◌+◌, ◌%◌, ◌∷◌, Ok, Err, sym, ap}
+use Rattle.std.specs.Option.{option_map_or}
+use Rattle.std.specs.Result.{result_ok}
+use Rattle.event_codec.specs.declared.refusal.DecodeRefusal.{DecodeRefusal}
+use Rattle.event_codec.specs.Packet.{Contents}
+use Rattle.slave_port.specs.History.{Call, requests_drawn}
+use Rattle.slave_port.specs.StandsFor.{Port, StandsFor}
+use Rattle.capture_model.specs.declared.watched.Watched.{Watched}
+use Rattle.capture_model.specs.Listening.{Listening, setup_in, told, hears, hear}
+use Rattle.capture_model.specs.Recorded.{Recorded}
+use Rattle.capture_measure.specs.declared.listener.Listener.{Listener}
+use Rattle.capture_measure.specs.Inner.Listener.{IsListener}
+
+-- a call that draws no request
+pub IsListener-told : (w : Watched) (listener : Listener) (l : Listening) (call : Call) (port : Port)
+    → requests_drawn (call ∷ l.calls) ≡ requests_drawn l.calls → StandsFor (setup_in w l) port (call ∷ l.calls)
+    → IsListener w listener l → IsListener w (record listener { port = port }) (told call l)
+IsListener-told w listener l call port same stood is = record {
+  watched = is.watched;
+  port = stood;
+  next = is.next ∙ ap (λ n. (l.first + n) % 65536) (sym same);
+  asked = is.asked;
+  syncs = is.syncs;
+  few_syncs = is.few_syncs;
+  stale = is.stale;
+  few_stale = is.few_stale;
+}
+
+-- what a listener stands for after a datagram, by what its octets say
+pub hear-said : (w : Watched) (d : Recorded) (l : Listening) (m : Contents) → d.said ≡ Ok m
+    → hear w d l ≡ hears w d.line d.time m m.body l
+hear-said w d l m said =
+    ap (λ s. option_map_or (λ (x : Contents). hears w d.line d.time x x.body l) (result_ok s) l) said
+
+pub hear-untold : (w : Watched) (d : Recorded) (l : Listening) (refusal : DecodeRefusal) → d.said ≡ Err refusal
+    → hear w d l ≡ l
+hear-untold w d l refusal said =
+    ap (λ s. option_map_or (λ (x : Contents). hears w d.line d.time x x.body l) (result_ok s) l) said

@@ -1,0 +1,156 @@
+-- Rows of a recording, and what is written of them.
+use Rattle.std.proofs.Common.{◌≡◌, ◌∙◌, ◌≤◌, ◌<◌, ◌/◌, ◌+◌, ℕ, Bool, List, [], ◌∷◌, ◌++◌, length, take}
+use Rattle.std.proofs.Common.{Option, Some, None, Result, Ok, Err, refl, sym, ap, subst, arith}
+use Rattle.std.specs.Prelude.{IfOk, MatchResult, nat_le, not, is_some, if◌then◌else◌}
+use Rattle.std.specs.Option.{option_map_or}
+use Rattle.std.specs.Result.{result_ok}
+use Rattle.std.proofs.lemmas.List.{append_assoc, append-nil}
+use Rattle.std.proofs.lemmas.Bool.{le-leb, lt-leb}
+use Rattle.hex.specs.Hex.{decode_of}
+use Rattle.event_codec.specs.declared.message.Message.{Message}
+use Rattle.event_codec.specs.declared.refusal.DecodeRefusal.{DecodeRefusal}
+use Rattle.event_codec.specs.Packet.{Packet, contents}
+use Rattle.event_codec.specs.Refusal.{decode_refusal}
+use Rattle.event_codec.specs.Reading.{Reading, IsReading}
+use Rattle.capture_lines.specs.Timed.{parts_of}
+use Rattle.capture_lines.specs.declared.timed.Timed.{Timed}
+use Rattle.capture_model.specs.declared.watched.Watched.{Watched}
+use Rattle.capture_measure.specs.declared.measuring.Form.{Form}
+use Rattle.capture_measure.specs.declared.watch.Wanted.{Wanted}
+use Rattle.capture_measure.specs.Watch.{watched_in}
+use Rattle.capture_measure.specs.Row.{Row, datagrams, is_known, heard, kept_most, IsRow}
+use Rattle.capture_measure.specs.Measured.{report_text, reports_text, written}
+use Rattle.capture_measure.specs.Inner.Measuring.{IsLine, AreRows}
+use Rattle.capture_measure.proofs.Readings.{IsReading-read}
+use Rattle.capture_measure.proofs.Told.{watched-stays}
+
+-- the row of a line has what was read of it
+pub row_parts : (number : ℕ) (line room : List ℕ) (row : Row) (timed : Timed) → IsRow number line row
+    → IsLine line room timed
+    → (row.time ≡ timed.text.now) × (row.datagram.time ≡ timed.time)
+    × IsReading (take (length timed.digits.now / 2) room) row.datagram.said
+row_parts number line room row timed is read =
+    let parts : is.parts ≡ parts_of timed =
+    ap (λ o. option_map_or (λ p. p) o is.parts) (sym is.there ∙ read.there) in
+    let octets : is.octets ≡ take (length timed.digits.now / 2) room =
+    ap (λ r. option_map_or (λ o. o) (result_ok r) is.octets)
+    (sym is.decoded ∙ ap (λ p. decode_of p.digits) parts ∙ read.decoded) in (
+      is.time ∙ ap (λ p. p.text) parts,
+      is.moment ∙ ap (λ p. p.time) parts,
+      subst (λ o. IsReading o row.datagram.said) octets is.said,
+    )
+
+-- one more row after the last
+pub AreRows-more : (earlier rows : List Row) (lines : List (List ℕ)) (line : List ℕ) (row : Row)
+    → AreRows earlier lines rows → IsRow (length rows + 1) line row
+    → AreRows earlier (lines ++ line ∷ []) (row ∷ rows)
+AreRows-more earlier rows [] line row are is =
+    (row, subst (λ (r : List Row). IsRow (length r + 1) line row) are is, ap (λ (r : List Row). row ∷ r) are)
+AreRows-more earlier rows (x ∷ lines) line row are is =
+    (are.0, are.1, AreRows-more (are.0 ∷ earlier) rows lines line row are.2 is)
+
+-- the texts of rows go before those of the rows after them
+pub reports_ahead : (form : Form) (watched : Watched) (earlier rows : List Row) (lines : List (List ℕ))
+    → AreRows earlier lines rows
+    → (rest : List ℕ) × (reports_text form watched rows ≡ reports_text form watched earlier ++ rest)
+reports_ahead form watched earlier rows [] are =
+    ([], ap (reports_text form watched) are ∙ sym (append-nil (reports_text form watched earlier)))
+reports_ahead form watched earlier rows (line ∷ lines) are =
+    let (rest, same) = reports_ahead form watched (are.0 ∷ earlier) rows lines are.2 in
+    let text = report_text form watched earlier are.0 in
+    (text ++ rest, same ∙ append_assoc (reports_text form watched earlier) text rest)
+
+module _ (w : Wanted) (rows : List Row) (row : Row) (watched : Watched) where
+  -- where it was known whom to watch, one line more is heard
+  pub heard-known : watched_in w (datagrams rows) ≡ Some watched → heard w (row ∷ rows) ≡ row ∷ heard w rows
+  heard-known known = ap (λ (b : Bool). if b then row ∷ heard w rows
+      else if not (is_known w (row ∷ rows)) then []
+      else if nat_le (length (row ∷ rows)) kept_most then row ∷ rows
+      else row ∷ []) (ap is_some known)
+
+  -- the line by which it is known whom to watch
+  heard-first : watched_in w (datagrams rows) ≡ None → watched_in w (datagrams (row ∷ rows)) ≡ Some watched
+      → heard w (row ∷ rows) ≡ (if nat_le (length (row ∷ rows)) kept_most then row ∷ rows else row ∷ [])
+  heard-first unknown known =
+      ap (λ (b : Bool). if b then row ∷ heard w rows
+      else if not (is_known w (row ∷ rows)) then []
+      else if nat_le (length (row ∷ rows)) kept_most then row ∷ rows
+      else row ∷ []) (ap is_some unknown)
+      ∙ ap (λ (b : Bool). if not b then []
+      else if nat_le (length (row ∷ rows)) kept_most then row ∷ rows
+      else row ∷ []) (ap is_some known)
+
+  pub heard-few : watched_in w (datagrams rows) ≡ None → watched_in w (datagrams (row ∷ rows)) ≡ Some watched
+      → length rows < kept_most → heard w (row ∷ rows) ≡ row ∷ rows
+  heard-few unknown known few =
+      heard-first unknown known
+      ∙ ap (λ (b : Bool). if b then row ∷ rows else row ∷ []) (le-leb (length (row ∷ rows)) kept_most few)
+
+  pub heard-many : watched_in w (datagrams rows) ≡ None → watched_in w (datagrams (row ∷ rows)) ≡ Some watched
+      → kept_most ≤ length rows → heard w (row ∷ rows) ≡ row ∷ []
+  heard-many unknown known many =
+      heard-first unknown known
+      ∙ ap (λ (b : Bool). if b then row ∷ rows else row ∷ []) (lt-leb (length (row ∷ rows)) kept_most (omega (arith, many)))
+
+  -- what is written where it is known whom to watch
+  pub written-known : (form : Form) → watched_in w (datagrams rows) ≡ Some watched
+      → written form w rows ≡ reports_text form watched (heard w rows)
+  written-known form known =
+      ap (λ o. option_map_or (λ watched. reports_text form watched (heard w rows)) o []) known
+
+pub written-unknown : (form : Form) (w : Wanted) (rows : List Row) → watched_in w (datagrams rows) ≡ None
+    → written form w rows ≡ []
+written-unknown form w rows unknown =
+    ap (λ o. option_map_or (λ watched. reports_text form watched (heard w rows)) o []) unknown
+
+-- what one more line adds where it was known whom to watch
+pub written-more : (form : Form) (w : Wanted) (rows : List Row) (row : Row) (watched : Watched)
+    → watched_in w (datagrams rows) ≡ Some watched
+    → written form w (row ∷ rows) ≡ written form w rows ++ report_text form watched (heard w rows) row
+written-more form w rows row watched known =
+    written-known w (row ∷ rows) row watched form (watched-stays w row.datagram (datagrams rows) watched known)
+    ∙ ap (reports_text form watched) (heard-known w rows row watched known)
+    ∙ ap (λ (t : List ℕ). t ++ report_text form watched (heard w rows) row)
+    (sym (written-known w rows row watched form known))
+
+-- what was written stays in front
+grows_by : (form : Form) (w : Wanted) (rows : List Row) (row : Row) (known : Option Watched)
+    → watched_in w (datagrams rows) ≡ known
+    → (rest : List ℕ) × (written form w (row ∷ rows) ≡ written form w rows ++ rest)
+grows_by form w rows row None unknown =
+    let all = written form w (row ∷ rows) in
+    (all, ap (λ (t : List ℕ). t ++ all) (sym (written-unknown form w rows unknown)))
+grows_by form w rows row (Some watched) known =
+    (report_text form watched (heard w rows) row, written-more form w rows row watched known)
+
+pub grows : (form : Form) (w : Wanted) (rows : List Row) (row : Row)
+    → (rest : List ℕ) × (written form w (row ∷ rows) ≡ written form w rows ++ rest)
+grows form w rows row = grows_by form w rows row (watched_in w (datagrams rows)) refl
+
+-- the row of a line that was read, whose octets say this
+abbrev pub row_of : (number : ℕ) → Timed → Reading → Row
+row_of number timed said = record {
+  time = timed.text.now;
+  datagram = record { line = number; time = timed.time; said = said };
+}
+
+pub row_read : (number : ℕ) (line room : List ℕ) (timed : Timed) (said : Reading) → IsLine line room timed
+    → IsReading (take (length timed.digits.now / 2) room) said → IsRow number line (row_of number timed said)
+row_read number line room timed said read reads = record {
+  parts = parts_of timed;
+  there = read.there;
+  octets = take (length timed.digits.now / 2) room;
+  decoded = read.decoded;
+  time = refl;
+  numbered = refl;
+  moment = refl;
+  said = reads;
+}
+
+-- octets say something
+pub some_reading : (octets : List ℕ) (result : Result (Message × ℕ) DecodeRefusal)
+    → IfOk result (λ r. (r.1 ≤ length octets) × Packet (contents r.0) (take r.1 octets))
+    → MatchResult result (λ r. decode_refusal octets ≡ None) (λ e. decode_refusal octets ≡ Some e)
+    → (said : Reading) × IsReading octets said
+some_reading octets (Ok r) read refused = (Ok (contents r.0), IsReading-read (contents r.0) r.1 octets read.0 read.1)
+some_reading octets (Err refusal) read refused = (Err refusal, refused)

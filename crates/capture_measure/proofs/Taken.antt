@@ -1,0 +1,89 @@
+-- Lines that are taken.
+use Rattle.std.proofs.Common.{◌≡◌, ◌≢◌, ◌∙◌, ℕ, List, [], ◌∷◌, ◌++◌, true≢false, Option, Some, None, Result, Ok, Err}
+use Rattle.std.proofs.Common.{refl, sym, ap, subst}
+use Rattle.std.specs.Prelude.{⊤, MatchResult, OnOk, is_some}
+use Rattle.std.proofs.KnownBytes.{Appends-nil}
+use Rattle.text_lines.specs.declared.counted.Counted.{Counted}
+use Rattle.text_lines.specs.Counted.{HasNotFailed, HasFailedIf}
+use Rattle.capture_model.specs.declared.watched.Watched.{Watched}
+use Rattle.capture_measure.specs.declared.listener.Listener.{Listener}
+use Rattle.capture_measure.specs.declared.measuring.Form.{Form}
+use Rattle.capture_measure.specs.declared.measuring.MeasureFault.{MeasureFault}
+use Rattle.capture_measure.specs.declared.measuring.MeasureFault.TheVariants.{Memory}
+use Rattle.capture_measure.specs.declared.measuring.Stage.{Stage}
+use Rattle.capture_measure.specs.declared.measuring.Stage.TheVariants.{Kept, Passed, Hearing}
+use Rattle.capture_measure.specs.declared.watch.Wanted.{Wanted}
+use Rattle.capture_measure.specs.Watch.{watched_in}
+use Rattle.capture_measure.specs.Row.{Row, datagrams, heard}
+use Rattle.capture_measure.specs.Measured.{reports_text, written}
+use Rattle.capture_measure.specs.Measure.{is_of_writer}
+use Rattle.capture_measure.specs.Inner.Measuring.{Goes, GoesUntil, AreWithin, AreKept, IsHearing, IsStage}
+use Rattle.capture_measure.proofs.Rows.{heard-few, heard-many, written-known, written-unknown}
+use Rattle.capture_measure.proofs.Told.{watched-stays}
+
+-- what follows of an answer that is there
+pub on_ok_then : {T E P Q : Type 0} (r : Result T E) → (P → Q) → OnOk r P → OnOk r Q
+on_ok_then (Ok x) f p = f p
+on_ok_then (Err e) f p = tt
+
+-- where nothing is written
+pub nothing_goes : {T : Type 0} (r : Result T MeasureFault) (a : Option (List ℕ))
+    → MatchResult r (λ _. ⊤) (λ fault. fault ≡ Memory) → Goes r [] a a
+nothing_goes (Ok x) a is = Appends-nil a
+nothing_goes (Err fault) a is =
+    subst (λ (f : MeasureFault). GoesUntil f [] a a) (sym is) (tt, [], [], refl, Appends-nil a)
+
+pub nothing_fails : {T W : Type 0} (r : Result T MeasureFault) (o : Counted W)
+    → MatchResult r (λ _. ⊤) (λ fault. fault ≡ Memory)
+    → MatchResult r (λ _. HasNotFailed o o) (λ fault. HasFailedIf (is_of_writer fault) o o)
+nothing_fails (Ok x) o is = refl
+nothing_fails (Err fault) o is = subst (λ (f : MeasureFault). HasFailedIf (is_of_writer f) o o) (sym is) refl
+
+-- no line that is kept is too long
+pub are_within : (w : Wanted) (rows : List Row) (stage : Stage) → IsStage w rows stage → AreWithin stage
+are_within w rows (Kept kept) is = is.2
+are_within w rows Passed is = tt
+are_within w rows (Hearing listener) is = tt
+
+-- the lines that are heard before the one by which it is known whom to watch
+pub heard_before : (w : Wanted) (rows : List Row) (row : Row) (watched : Watched) (stage : Stage) → IsStage w rows stage
+    → ((listener : Listener) → stage ≢ Hearing listener) → watched_in w (datagrams (row ∷ rows)) ≡ Some watched
+    → (earlier : List Row) × AreKept stage earlier × (heard w (row ∷ rows) ≡ row ∷ earlier)
+    × (watched_in w (datagrams rows) ≡ None)
+heard_before w rows row watched (Kept kept) is other known =
+    (rows, is.3, heard-few w rows row watched is.0 known is.1, is.0)
+heard_before w rows row watched Passed is other known =
+    ([], refl, heard-many w rows row watched is.0 known is.1, is.0)
+heard_before w rows row watched (Hearing listener) is other known = absurd (other listener refl)
+
+-- what is written by the line by which it is known whom to watch
+pub written-first : (form : Form) (w : Wanted) (rows : List Row) (row : Row) (watched : Watched) (earlier : List Row)
+    → watched_in w (datagrams (row ∷ rows)) ≡ Some watched → heard w (row ∷ rows) ≡ row ∷ earlier
+    → watched_in w (datagrams rows) ≡ None
+    → written form w (row ∷ rows) ≡ written form w rows ++ reports_text form watched (row ∷ earlier)
+written-first form w rows row watched earlier known first unknown =
+    written-known w (row ∷ rows) row watched form known ∙ ap (reports_text form watched) first
+    ∙ ap (λ (t : List ℕ). t ++ reports_text form watched (row ∷ earlier)) (sym (written-unknown form w rows unknown))
+
+-- a port heard these lines
+pub stage_heard : (w : Wanted) (rows : List Row) (watched : Watched) (those : List Row) (stage : Stage)
+    → watched_in w (datagrams rows) ≡ Some watched → heard w rows ≡ those → IsHearing watched those stage
+    → IsStage w rows stage
+stage_heard w rows watched those (Kept kept) known same is = absurd is
+stage_heard w rows watched those Passed known same is = absurd is
+stage_heard w rows watched those (Hearing listener) known same is =
+    (watched, known, subst (λ (r : List Row). IsHearing watched r (Hearing listener)) (sym same) is)
+
+unknown_by : (w : Wanted) (rows : List Row) (row : Row) (known : Option Watched) → watched_in w (datagrams rows) ≡ known
+    → watched_in w (datagrams (row ∷ rows)) ≡ None → watched_in w (datagrams rows) ≡ None
+unknown_by w rows row None is unknown = is
+unknown_by w rows row (Some watched) is unknown =
+    absurd (true≢false (ap is_some (sym (watched-stays w row.datagram (datagrams rows) watched is) ∙ unknown)))
+
+-- while it isn't known whom to watch nothing is written
+pub written-still : (form : Form) (w : Wanted) (rows : List Row) (row : Row)
+    → watched_in w (datagrams (row ∷ rows)) ≡ None → written form w (row ∷ rows) ≡ written form w rows ++ []
+written-still form w rows row unknown =
+    written-unknown form w (row ∷ rows) unknown
+    ∙ ap (λ (t : List ℕ). t ++ [])
+    (sym (written-unknown form w rows (unknown_by w rows row (watched_in w (datagrams rows)) refl unknown)))

@@ -1,0 +1,15 @@
+use Rattle.std.proofs.Common.{◌∙◌, sym, None}
+use Rattle.std.specs.Option.{option_or}
+use Rattle.capture_measure.proofs.Told.{or-none, or-nothing}
+use Rattle.capture_measure.proofs.Watches.{nothing_in}
+use Rattle.capture_measure.proofs.watch.Watch.new.Goals as goal
+
+pub returns : goal.returns
+returns c =
+    let w = c.args.wanted.now in
+    record {
+      domain = c.asked-3.ensures ∙ sym (or-none w.domain);
+      master = c.asked-2.ensures ∙ sym (or-nothing w.master (option_or w.domain None));
+      slave = c.asked.ensures ∙ sym (or-nothing w.slave (option_or w.domain None));
+      requests = nothing_in;
+    }

@@ -1,0 +1,96 @@
+-- What is kept while a recording is measured, and what goes out of it.
+use Rattle.std.specs.Prelude.{◌≡◌, ℕ, ◌+◌, ◌<◌, ◌≤◌, ◌/◌, ⊤, List, [], ◌∷◌, ◌++◌, length, take, map, Some, None, Ok}
+use Rattle.std.specs.Prelude.{Option, Result, MatchResult}
+use Rattle.std.specs.List.{All}
+use Rattle.std.specs.Io.KnownBytes.{Appends}
+use Rattle.hex.specs.Hex.{decode_of}
+use Rattle.text_lines.specs.Lines.{line_limit}
+use Rattle.text_lines.specs.Task.{WentOut}
+use Rattle.capture_lines.specs.Timed.{parts_of, timed_in}
+use Rattle.capture_lines.specs.declared.timed.Timed.{Timed}
+use Rattle.capture_model.specs.declared.watched.Watched.{Watched}
+use Rattle.capture_model.specs.Listening.{after_all}
+use Rattle.capture_measure.specs.declared.measuring.MeasureFault.{MeasureFault}
+use Rattle.capture_measure.specs.declared.measuring.MeasureFault.TheVariants.{Write, Field, Memory}
+use Rattle.capture_measure.specs.declared.measuring.Measuring.{Measuring}
+use Rattle.capture_measure.specs.declared.measuring.Stage.{Stage}
+use Rattle.capture_measure.specs.declared.measuring.Stage.TheVariants.{Kept, Passed, Hearing}
+use Rattle.capture_measure.specs.declared.watch.Wanted.{Wanted}
+use Rattle.capture_measure.specs.Watch.{watched_in}
+use Rattle.capture_measure.specs.Row.{Row, datagrams, kept_most, heard, IsRow}
+use Rattle.capture_measure.specs.Measure.{Recording, is_of_writer}
+use Rattle.capture_measure.specs.Inner.Listener.{IsListener}
+use Rattle.capture_measure.specs.Inner.Watching.{IsWatch}
+
+-- a line has these parts, and the octets of its datagram stand at the front of this room
+pub record IsLine (line room : List ℕ) (timed : Timed) : Type 0 where
+  pub there : timed_in line ≡ Some (parts_of timed)
+  pub within : length timed.digits.now / 2 ≤ length room
+  pub decoded : decode_of timed.digits.now ≡ Ok (take (length timed.digits.now / 2) room)
+
+-- a line is none of a recording, whatever its number
+abbrev pub NoRow : List ℕ → Type 0
+NoRow line = (number : ℕ) → (row : Row) → IsRow number line row → ⊥
+
+-- why a line of this number isn't read
+abbrev pub IsUnread : MeasureFault → (number : ℕ) → List ℕ → Type 0
+IsUnread Write number line = ⊥
+IsUnread Field number line = NoRow line
+IsUnread Memory number line = (row : Row) × IsRow number line row
+
+-- a fault of what is written, not of a line
+abbrev pub IsOfOutput : MeasureFault → Type 0
+IsOfOutput Write = ⊤
+IsOfOutput Field = ⊥
+IsOfOutput Memory = ⊤
+
+-- a part of a text went out before this fault
+abbrev pub GoesUntil : MeasureFault → List ℕ → (before after : Option (List ℕ)) → Type 0
+GoesUntil fault text before after =
+    IsOfOutput fault × (out : List ℕ) × (rest : List ℕ) × (text ≡ out ++ rest)
+    × WentOut (is_of_writer fault) (Appends before after out)
+
+-- a text went out, or a part of it before a fault
+abbrev pub Goes : {T : Type 0} → Result T MeasureFault → List ℕ → (before after : Option (List ℕ)) → Type 0
+Goes result text before after =
+    MatchResult result (λ _. Appends before after text) (λ fault. GoesUntil fault text before after)
+
+-- after these rows come such lines up to those rows; lists of rows have the newest in front
+abbrev pub AreRows : (earlier : List Row) → List (List ℕ) → List Row → Type 0
+AreRows earlier [] rows = rows ≡ earlier
+AreRows earlier (line ∷ lines) rows =
+    (row : Row) × IsRow (length earlier + 1) line row × AreRows (row ∷ earlier) lines rows
+
+-- no line that is kept is too long
+abbrev pub AreWithin : Stage → Type 0
+AreWithin (Kept kept) = All (λ line. length line.items ≤ line_limit) kept.items
+AreWithin stage = ⊤
+
+-- these lines are kept
+abbrev pub AreKept : Stage → List Row → Type 0
+AreKept (Kept kept) rows = AreRows [] (map (λ line. line.items) kept.items) rows
+AreKept Passed rows = rows ≡ []
+AreKept (Hearing listener) rows = ⊥
+
+-- a port heard these lines
+abbrev pub IsHearing : Watched → List Row → Stage → Type 0
+IsHearing watched rows (Hearing listener) = IsListener watched listener (after_all watched (datagrams rows))
+IsHearing watched rows stage = ⊥
+
+-- what is done with the next line, after these
+abbrev pub IsStage : Wanted → List Row → Stage → Type 0
+IsStage w rows (Kept kept) =
+    (watched_in w (datagrams rows) ≡ None) × (length rows < kept_most)
+    × All (λ line. length line.items ≤ line_limit) kept.items
+    × AreRows [] (map (λ line. line.items) kept.items) rows
+IsStage w rows Passed = (watched_in w (datagrams rows) ≡ None) × (kept_most ≤ length rows)
+IsStage w rows (Hearing listener) =
+    (watched : Watched) × (watched_in w (datagrams rows) ≡ Some watched)
+    × IsListener watched listener (after_all watched (datagrams (heard w rows)))
+
+-- what is kept is that of these lines
+pub record IsMeasuring (task : Measuring) (r : Recording) : Type 0 where
+  pub form : task.reports.form ≡ r.form
+  pub counted : task.lines ≡ length r.rows
+  pub watch : IsWatch r.wanted (datagrams r.rows) task.watch
+  pub stage : IsStage r.wanted r.rows task.stage

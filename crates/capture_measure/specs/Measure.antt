@@ -1,0 +1,99 @@
+-- What `measure` makes of the lines that it reads.
+use Rattle.std.specs.Prelude.{◌≡◌, ℕ, ◌+◌, ◌-◌, ◌^◌, Bool, true, false, List, [], ◌∷◌, ◌++◌, length, Option, Result}
+use Rattle.std.specs.Prelude.{Err}
+use Rattle.std.specs.Prelude.{◌⊎◌}
+use Rattle.std.specs.Option.{ForSome}
+use Rattle.std.specs.Io.KnownBytes.{Appends}
+use Rattle.text_lines.specs.declared.counted.Counted.{Counted}
+use Rattle.text_lines.specs.declared.fault.Cause.{Cause}
+use Rattle.text_lines.specs.declared.fault.Cause.TheVariants.{Task}
+use Rattle.text_lines.specs.declared.fault.Stopped.{Stopped}
+use Rattle.text_lines.specs.Counted.{device_of, HasFailed}
+use Rattle.text_lines.specs.Task.{Rules, Answers}
+use Rattle.capture_lines.specs.Measurement.{table_head}
+use Rattle.capture_measure.specs.declared.measuring.Form.{Form}
+use Rattle.capture_measure.specs.declared.measuring.Form.TheVariants.{Json, Table}
+use Rattle.capture_measure.specs.declared.measuring.MeasureFault.{MeasureFault}
+use Rattle.capture_measure.specs.declared.measuring.MeasureFault.TheVariants.{Write, Field}
+use Rattle.capture_measure.specs.declared.watch.Wanted.{Wanted}
+use Rattle.capture_measure.specs.Row.{Row, IsRow}
+use Rattle.capture_measure.specs.Measured.{written}
+
+-- what is asked for, and the lines that were read, newest first
+pub record Recording : Type 0 where
+  pub form : Form
+  pub wanted : Wanted
+  pub rows : List Row
+
+-- before the first line
+abbrev pub begun : Form → Wanted → Recording
+begun form w = record { form = form; wanted = w; rows = [] }
+
+-- all that is written once these lines were read
+abbrev pub written_of : Recording → List ℕ
+written_of r = written r.form r.wanted r.rows
+
+-- after one more line
+abbrev pub with_row : Row → Recording → Recording
+with_row row r = record r { rows = row ∷ r.rows }
+
+-- the next line is this one of a recording
+abbrev pub IsNext : Recording → List ℕ → Row → Type 0
+IsNext r line row = IsRow (length r.rows + 1) line row
+
+-- A line is one of a recording, and what it adds to all that is written goes out.
+abbrev pub Takes : List ℕ → Recording → Recording → List ℕ → Type 0
+Takes line r later out =
+    (row : Row) × IsNext r line row × (later ≡ with_row row r) × (written_of later ≡ written_of r ++ out)
+
+-- why a line isn't taken: it is none of a recording, or memory or the writer failed; then a part of what it adds went out
+abbrev pub Stops : List ℕ → Recording → MeasureFault → List ℕ → Type 0
+Stops line r Field out = ((row : Row) → IsNext r line row → ⊥) × (out ≡ [])
+Stops line r fault out =
+    (row : Row) × IsNext r line row × (rest : List ℕ) × (written_of (with_row row r) ≡ written_of r ++ (out ++ rest))
+
+-- whether this fault says that the writer failed
+abbrev pub is_of_writer : MeasureFault → Bool
+is_of_writer Write = true
+is_of_writer fault = false
+
+-- each line that is taken adds to a recording, and the number of lines is answered at the end; as many lines are allowed
+-- as can be counted
+abbrev pub measure_rules : Rules Recording ℕ MeasureFault
+measure_rules = record {
+  lines_limit = 2 ^ 64 - 2;
+  Takes = Takes;
+  Stops = Stops;
+  Ends = λ lines r answer out. (answer ≡ lines) × (out ≡ []);
+  StopsAtEnd = λ r fault out. ⊥;
+  is_of_writer = is_of_writer;
+}
+
+-- what goes out before the first line is read
+abbrev pub head_text : Form → List ℕ
+head_text Json = []
+head_text Table = table_head
+
+-- what an answer of `measure` over these octets says: the head went out, and then what the lines bring
+abbrev pub Measures : Form → Wanted → List ℕ → (left before after : Option (List ℕ))
+    → Result ℕ (Stopped (Cause MeasureFault)) → Type 0
+Measures form w octets left before after answer =
+    (headed : Option (List ℕ)) × Appends before headed (head_text form)
+    × Answers measure_rules (begun form w) octets left headed after answer
+
+-- the head couldn't be written, and nothing was read
+pub record HasNoHead {R W : Type 0} (answer : Result ℕ (Stopped (Cause MeasureFault)))
+    (input input' : Counted R) (output output' : Counted W) : Type 0 where
+  pub stopped : answer ≡ Err (record { line = 0; what = Task Write })
+  pub unread : input' ≡ input
+  pub failed : HasFailed output output'
+
+-- what an answer of `measure` says where the reader tells its octets, and where the writer does
+abbrev pub MeasuresAnswer : {R W : Type 0} → Form → Wanted → (R → Option (List ℕ)) → (W → Option (List ℕ))
+    → Result ℕ (Stopped (Cause MeasureFault))
+    → (input input' : Counted R) (output output' : Counted W) → Type 0
+MeasuresAnswer form w remaining contents answer input input' output output' =
+    HasNoHead answer input input' output output'
+    ⊎ ForSome (remaining (device_of input)) (λ octets.
+    Measures form w octets (remaining (device_of input')) (contents (device_of output)) (contents (device_of output'))
+    answer)

@@ -1,0 +1,10 @@
+//! Offsets and delays from a recording at a slave: a slave port hears the datagrams of each line.
+#![tactic(auto)]
+
+mod listener;
+mod measuring;
+mod tally;
+mod watch;
+
+pub use measuring::{Form, MeasureFault, Summary, measure};
+pub use watch::Wanted;
