@@ -46,15 +46,24 @@ unknown_argument = (some_kind _ _, λ among. elim among [ inl e ↦ cc | inr e �
 pub unneeded_value : IsMistake (kind.TooManyValues ∷ [])
 unneeded_value = (some_kind _ _, λ among. elim among [ inl e ↦ cc | inr e ↦ absurd e ])
 
+pub repeated_option : IsMistake (kind.ArgumentConflict ∷ [])
+repeated_option = (some_kind _ _, λ among. elim among [ inl e ↦ cc | inr e ↦ absurd e ])
+
+pub wanted_value : IsMistake (kind.InvalidValue ∷ [])
+wanted_value = (some_kind _ _, λ among. elim among [ inl e ↦ cc | inr e ↦ absurd e ])
+
 pub missing_subcommand : IsMistake (kind.MissingSubcommand ∷ [])
 missing_subcommand = (some_kind _ _, λ among. elim among [ inl e ↦ cc | inr e ↦ absurd e ])
 
 pub unknown_name : IsMistake (kind.UnknownArgument ∷ kind.InvalidSubcommand ∷ [])
-unknown_name = (some_kind _ _, λ among. elim among [ inl e ↦ cc | inr others ↦ elim others [ inl e ↦ cc | inr e ↦ absurd e ] ])
+unknown_name =
+    (some_kind _ _, λ among. elim among [ inl e ↦ cc | inr others ↦ elim others [ inl e ↦ cc | inr e ↦ absurd e ] ])
 
 pub stray_word : (level : Shape) → IsMistake (stray_fault level)
 stray_word level = by_leaf level.is_leaf
   where
-    by_leaf : (is_leaf : Bool) → IsMistake (if is_leaf then kind.UnknownArgument ∷ [] else kind.UnknownArgument ∷ kind.InvalidSubcommand ∷ [])
+    by_leaf : (is_leaf : Bool)
+        → IsMistake
+        (if is_leaf then kind.UnknownArgument ∷ [] else kind.UnknownArgument ∷ kind.InvalidSubcommand ∷ [])
     by_leaf true = unknown_argument
     by_leaf false = unknown_name

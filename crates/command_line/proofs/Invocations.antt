@@ -1,11 +1,12 @@
 -- What a parse of the words answers is what they ask for.
-use Rattle.std.proofs.Common.{◌≡◌, ◌≢◌, ◌∙◌, ◌⊎◌, inl, inr, true, refl, sym, ap, subst, List, [], ◌∷◌, Option, Some, None, codes, drop, option_map}
+use Rattle.std.proofs.Common.{◌≡◌, ◌≢◌, ◌∙◌, ◌⊎◌, inl, inr, ℕ, Bool, true, refl, sym, ap, subst, List, [], ◌∷◌}
+use Rattle.std.proofs.Common.{Option, Some, None, codes, drop, option_map}
 use Rattle.std.specs.Prelude.{Box, IfOk, Result, find, slice_get}
 use Rattle.std.specs.Str.{bytes_eq}
 use Rattle.std.specs.Box.{box_value}
 use Rattle.std.proofs.lemmas.Result.{IfOk-weaker}
-use Rattle.clap.specs.Walk.{Text}
-use Rattle.clap.specs.Simple.{App, HasMatchesOf, subcommand_rows, subcommand_rows_of}
+use Rattle.clap.specs.Walk.{Row, Text}
+use Rattle.clap.specs.Simple.{App, HasMatchesOf, subcommand_of, subcommand_rows, subcommand_rows_of}
 use Rattle.clap.specs.Kinds.{HasKind, IsAmong, Kinds}
 use Rattle.clap.specs.Faults.{fault_of, is_simple_and_free}
 use Rattle.clap.specs.Matches.{subcommand_name_of}
@@ -16,48 +17,160 @@ use Rattle.clap.specs.declared.error.kind.ErrorKind.TheVariants as kind
 use Rattle.clap.specs.declared.parser.matches.ArgMatches.{ArgMatches}
 use Rattle.clap.specs.declared.parser.matches.ArgMatches.TheViews.{out-ArgMatches, out-SubCommand}
 use Rattle.clap.specs.declared.parser.matches.SubCommand.{SubCommand}
-use Rattle.command_line.specs.Arguments.{Asks, BeginsWithHelp, HasHelpFlag, Names, name_of}
-use Rattle.command_line.specs.Inner.Clap.{ShowsKind, program, subcommands}
+use Rattle.command_line.specs.Arguments.{Asks, BeginsWithHelp, BeginsWithMeasure, HasHelpFlag, Names, NamesAlone}
+use Rattle.command_line.specs.Arguments.{NamesNothing, name_of}
+use Rattle.command_line.specs.Number.{domain_of}
+use Rattle.command_line.specs.Options.{IsSaid, Makes, Use, reading_of, uses_of}
+use Rattle.command_line.specs.PortText.{port_identity_of}
+use Rattle.command_line.specs.declared.measure.MeasureOptions.{MeasureOptions}
+use Rattle.event_codec.specs.declared.port.PortIdentity.{PortIdentity}
+use Rattle.command_line.specs.Inner.Clap.{Chooses, RowsSay, ShowsKind, no_options, program, subcommands}
 use Rattle.command_line.specs.declared.arguments.Invocation.{Invocation}
 use Rattle.command_line.specs.declared.arguments.Invocation.TheVariants.{Run, Help, Mistake}
 use Rattle.command_line.specs.declared.arguments.Subcommand.{Subcommand}
-use Rattle.command_line.specs.declared.arguments.Subcommand.TheVariants.{Show, Replay, Check}
+use Rattle.command_line.specs.declared.arguments.Subcommand.TheVariants.{Show, Replay, Check, Measure}
 use Rattle.command_line.proofs.ErrorKinds.{some_kind}
 use Rattle.command_line.proofs.FlagWords.{same_in}
-use Rattle.command_line.proofs.CommandLines.{Verdict, Runs, Helps, Begins, Mistakes, flags_help, help_first, is_free_program, is_simple_program, names_run, verdict}
+use Rattle.command_line.proofs.MeasureRows.{made_says, rows_found, said_makes}
+use Rattle.command_line.proofs.SubcommandNames.{HasNoOptions}
+use Rattle.command_line.proofs.CommandLines.{Verdict, Runs, Measures, Helps, Begins, Mistakes, flags_help, help_first}
+use Rattle.command_line.proofs.CommandLines.{is_free_program, is_simple_program, names_run, verdict}
 
 -- ---- a parse that succeeds
 
-name_met : {Z : Type 0} (met : Option (Box SubCommand Z)) → option_map (λ b. (out-SubCommand (box_value b)).name.now) met ≡ option_map (λ p. p.0) (subcommand_rows met)
+name_met : {Z : Type 0} (met : Option (Box SubCommand Z))
+    → option_map (λ b. (out-SubCommand (box_value b)).name.now) met ≡ option_map (λ p. p.0) (subcommand_rows met)
 name_met None = refl
 name_met (Some met) = refl
 
 name_is : (m : ArgMatches) → subcommand_name_of m ≡ option_map (λ p. p.0) (subcommand_rows_of m)
 name_is m = name_met (out-ArgMatches m).subcommand
 
-run_of : (words : List Text) (m : ArgMatches) → fault_of program words ≡ [] → HasMatchesOf program words m
-    → (s : Subcommand) × Names words s × (subcommand_name_of m ≡ Some (name_of s))
-run_of words m none has = by_verdict (verdict words)
+-- two subcommands of one name, which have no options
+names_same : (words : List Text) (s t : Subcommand) → name_of s ≡ name_of t → NamesAlone words s → NamesAlone words t
+names_same words s t is = subst (λ name. (drop 1 words ≡ name ∷ []) ⊎ (drop 1 words ≡ name ∷ codes "--" ∷ [])) is
+
+-- what clap met: one name with its rows
+abbrev Met : Type 0
+Met = Option (Text × List Row)
+
+-- `measure` has another name than a subcommand without options
+other_name : (s : Subcommand) → HasNoOptions s → name_of s ≡ codes "measure" → ⊥
+other_name Show none is = cc
+other_name Replay none is = cc
+other_name Check none is = cc
+other_name (Measure options) none is = absurd none
+
+-- words that name a subcommand without options don't begin with `measure`
+alone_is_other : (words rest : List Text) (s : Subcommand) → HasNoOptions s → NamesAlone words s
+    → BeginsWithMeasure words rest → ⊥
+alone_is_other words rest s none (inl is) begins = other_name s none
+    (same_in _ _ (ap (λ ws. slice_get ws 0) (sym is ∙ begins)))
+alone_is_other words rest s none (inr is) begins = other_name s none
+    (same_in _ _ (ap (λ ws. slice_get ws 0) (sym is ∙ begins)))
+
+same_rest : (words rest others : List Text) → BeginsWithMeasure words rest → BeginsWithMeasure words others
+    → rest ≡ others
+same_rest words rest others one other = ap (drop 1) (sym one ∙ other)
+
+same_uses : (words rest others : List Text) (uses more : List Use) → BeginsWithMeasure words rest
+    → BeginsWithMeasure words others
+    → uses_of (reading_of rest) ≡ Some uses → uses_of (reading_of others) ≡ Some more → uses ≡ more
+same_uses words rest others uses more one other are also =
+    same_in uses more (sym are ∙ ap (λ ws. uses_of (reading_of ws)) (same_rest words rest others one other) ∙ also)
+
+-- words of `measure` whose options write nothing name no subcommand
+names_nothing : (words rest : List Text) (uses : List Use) → BeginsWithMeasure words rest
+    → uses_of (reading_of rest) ≡ Some uses
+    → ((options : MeasureOptions) → RowsSay (rows_found uses) options → ⊥) → NamesNothing words
+names_nothing words rest uses begins are none Show named = alone_is_other words rest Show tt named begins
+names_nothing words rest uses begins are none Replay named = alone_is_other words rest Replay tt named begins
+names_nothing words rest uses begins are none Check named = alone_is_other words rest Check tt named begins
+names_nothing words rest uses begins are none (Measure options) (others, also, (more, has, makes)) =
+    none options (subst (λ us. RowsSay (rows_found us) options)
+    (sym (same_uses words rest others uses more begins also are has)) (made_says more options makes))
+
+-- what is chosen of a subcommand without options
+alone_chosen : (words : List Text) (s : Subcommand) → HasNoOptions s → NamesAlone words s → (met : Met)
+    → option_map (λ m. m.0) met ≡ Some (name_of s)
+    → (r : Invocation) → Chooses met r → Asks words r
+alone_chosen words s none named met is (Run Show) chooses = names_same words s Show
+    (same_in _ _ (sym is ∙ chooses)) named
+alone_chosen words s none named met is (Run Replay) chooses = names_same words s Replay
+    (same_in _ _ (sym is ∙ chooses)) named
+alone_chosen words s none named met is (Run Check) chooses = names_same words s Check
+    (same_in _ _ (sym is ∙ chooses)) named
+alone_chosen words s none named met is (Run (Measure options)) (rows, at, says) =
+    absurd (other_name s none (same_in (name_of s) (codes "measure") (sym is ∙ ap (option_map (λ m. m.0)) at)))
+alone_chosen words s none named met is (Help text) chooses = absurd chooses
+alone_chosen words s none named met is (Mistake text) (rows, at, says) =
+    absurd (other_name s none (same_in (name_of s) (codes "measure") (sym is ∙ ap (option_map (λ m. m.0)) at)))
+
+-- what is chosen of `measure`
+measure_chosen : (words rest : List Text) (uses : List Use) → BeginsWithMeasure words rest
+    → uses_of (reading_of rest) ≡ Some uses
+    → fault_of program words ≡ [] → (met : Met) → met ≡ Some (codes "measure", rows_found uses) → (r : Invocation)
+    → Chooses met r → Asks words r
+measure_chosen words rest uses begins are none met is (Run Show) chooses =
+    absurd (other_name Show tt (same_in (codes "show") (codes "measure")
+    (sym chooses ∙ ap (option_map (λ m. m.0)) is)))
+measure_chosen words rest uses begins are none met is (Run Replay) chooses =
+    absurd (other_name Replay tt (same_in (codes "replay") (codes "measure")
+    (sym chooses ∙ ap (option_map (λ m. m.0)) is)))
+measure_chosen words rest uses begins are none met is (Run Check) chooses =
+    absurd (other_name Check tt (same_in (codes "check") (codes "measure")
+    (sym chooses ∙ ap (option_map (λ m. m.0)) is)))
+measure_chosen words rest uses begins are none met is (Run (Measure options)) (rows, at, says) =
+    let same : rows ≡ rows_found uses = ap (λ m. m.1) (same_in _ _ (sym at ∙ is)) in
+    (rest, begins, (uses, are, said_makes uses options (subst (λ rs. RowsSay rs options) same says)))
+measure_chosen words rest uses begins are none met is (Help text) chooses = absurd chooses
+measure_chosen words rest uses begins are none met is (Mistake text) (rows, at, says) =
+    let same : rows ≡ rows_found uses = ap (λ m. m.1) (same_in _ _ (sym at ∙ is)) in (
+      names_nothing words rest uses begins are (λ options h. says options
+          (subst (λ rs. RowsSay rs options) (sym same) h)),
+      λ flag. some_kind _ _ (sym (flags_help words flag) ∙ none),
+    )
+
+-- what clap met, and what is made of it
+met_of : (words : List Text) (m : ArgMatches) → fault_of program words ≡ [] → HasMatchesOf program words m
+    → ((s : Subcommand) × (subcommand_name_of m ≡ Some (name_of s)))
+    × ((r : Invocation) → Chooses (subcommand_rows_of m) r → Asks words r)
+met_of words m none has = by_verdict (verdict words)
   where
-    by_verdict : Verdict words → (s : Subcommand) × Names words s × (subcommand_name_of m ≡ Some (name_of s))
-    by_verdict (Runs s is meets) = (s, is, name_is m ∙ ap (option_map (λ p. p.0)) (has is_simple_program).1 ∙ meets.1)
+    met : subcommand_rows_of m ≡ subcommand_of program words
+    met = (has is_simple_program).1
+
+    named : (name : Text) → option_map (λ m. m.0) (subcommand_of program words) ≡ Some name
+        → subcommand_name_of m ≡ Some name
+    named name is = name_is m ∙ ap (option_map (λ p. p.0)) met ∙ is
+
+    by_verdict : Verdict words → ((s : Subcommand) × (subcommand_name_of m ≡ Some (name_of s)))
+        × ((r : Invocation) → Chooses (subcommand_rows_of m) r → Asks words r)
+    by_verdict (Runs s no_option is meets) = (
+      (s, named (name_of s) meets.1),
+      alone_chosen words s no_option is (subcommand_rows_of m) (ap (option_map (λ p. p.0)) met ∙ meets.1),
+    )
+    by_verdict (Measures rest uses begins are passes meets) = (
+      (Measure no_options, named (codes "measure") (ap (option_map (λ p. p.0)) meets)),
+      measure_chosen words rest uses begins are none (subcommand_rows_of m) (met ∙ meets),
+    )
     by_verdict (Helps help flag) = absurd (some_kind _ _ (sym help ∙ none))
     by_verdict (Begins first help) = absurd (some_kind _ _ (sym help ∙ none))
     by_verdict (Mistakes mistake) = absurd (mistake.0 none)
 
 -- the same, of the command that was built
-pub run_from : (a : App) → a ≡ program → (words : List Text) (m : ArgMatches) → (is_simple_and_free a ≡ true → fault_of a words ≡ []) → HasMatchesOf a words m
-    → (s : Subcommand) × Names words s × (subcommand_name_of m ≡ Some (name_of s))
-run_from a is words m none has =
-    run_of words m (subst (λ x. is_simple_and_free x ≡ true → fault_of x words ≡ []) is none is_free_program) (subst (λ x. HasMatchesOf x words m) is has)
-
--- two subcommands of one name
-pub names_same : (words : List Text) (s t : Subcommand) → name_of s ≡ name_of t → Names words s → Names words t
-names_same words s t is = subst (λ name. (drop 1 words ≡ name ∷ []) ⊎ (drop 1 words ≡ name ∷ codes "--" ∷ [])) is
+pub met_from : (a : App) → a ≡ program → (words : List Text) (m : ArgMatches)
+    → (is_simple_and_free a ≡ true → fault_of a words ≡ []) → HasMatchesOf a words m
+    → ((s : Subcommand) × (subcommand_name_of m ≡ Some (name_of s)))
+    × ((r : Invocation) → Chooses (subcommand_rows_of m) r → Asks words r)
+met_from a is words m none has =
+    met_of words m (subst (λ x. is_simple_and_free x ≡ true → fault_of x words ≡ []) is none is_free_program)
+    (subst (λ x. HasMatchesOf x words m) is has)
 
 -- ---- a parse that fails, but for want of memory
 
-text_of : (words : List Text) (k : ErrorKind) (r : Invocation) → (k ≡ kind.OutOfMemory) ⊎ IsAmong k (fault_of program words) → ShowsKind k r → Asks words r
+text_of : (words : List Text) (k : ErrorKind) (r : Invocation)
+    → (k ≡ kind.OutOfMemory) ⊎ IsAmong k (fault_of program words) → ShowsKind k r → Asks words r
 text_of words k r among shows = by_verdict r (verdict words) shows
   where
     kinds : Kinds
@@ -71,26 +184,34 @@ text_of words k r among shows = by_verdict r (verdict words) shows
 
     by_verdict : (r : Invocation) → Verdict words → ShowsKind k r → Asks words r
     by_verdict (Run s) judged h = absurd h
-    by_verdict (Help t) (Runs s is meets) h = absurd (among_these [] meets.0 (λ e. help_is_no_memory (sym h ∙ e)))
+    by_verdict (Help t) (Measures rest uses begins are passes meets) h = absurd
+        (among_these [] passes (λ e. help_is_no_memory (sym h ∙ e)))
+    by_verdict (Help t) (Runs s no_option is meets) h = absurd
+        (among_these [] meets.0 (λ e. help_is_no_memory (sym h ∙ e)))
     by_verdict (Help t) (Helps help flag) h = inl flag
     by_verdict (Help t) (Begins first help) h = inr first
     by_verdict (Help t) (Mistakes mistake) h =
-        absurd (mistake.1 (subst (λ x. IsAmong x kinds) h (among_these kinds refl (λ e. help_is_no_memory (sym h ∙ e)))))
-    by_verdict (Mistake t) (Runs s is meets) h = absurd (among_these [] meets.0 h.1)
+        absurd (mistake.1 (subst (λ x. IsAmong x kinds) h
+        (among_these kinds refl (λ e. help_is_no_memory (sym h ∙ e)))))
+    by_verdict (Mistake t) (Measures rest uses begins are passes meets) h = absurd (among_these [] passes h.1)
+    by_verdict (Mistake t) (Runs s no_option is meets) h = absurd (among_these [] meets.0 h.1)
     by_verdict (Mistake t) judged h = (
       λ s is. absurd (among_these [] (names_run words s is) h.1),
       λ flag. elim (among_these _ (flags_help words flag) h.1) [ inl e ↦ absurd (h.0 e) | inr e ↦ absurd e ],
     )
 
 -- the same, of the command that was built
-pub text_from : {E : Type 0} (a : App) → a ≡ program → (words : List Text) (e : Error) → (is_simple_and_free a ≡ true → HasKind (fault_of a words) e)
+pub text_from : {E : Type 0} (a : App) → a ≡ program → (words : List Text) (e : Error)
+    → (is_simple_and_free a ≡ true → HasKind (fault_of a words) e)
     → (r : Result Invocation E) → IfOk r (ShowsKind (kind_of e)) → IfOk r (Asks words)
 text_from a is words e has r shows =
-    IfOk-weaker r _ _ (λ q. text_of words (kind_of e) q (subst (λ x. is_simple_and_free x ≡ true → HasKind (fault_of x words) e) is has is_free_program)) shows
+    IfOk-weaker r _ _ (λ q. text_of words (kind_of e) q
+    (subst (λ x. is_simple_and_free x ≡ true → HasKind (fault_of x words) e) is has is_free_program)) shows
 
 -- ---- words that name a subcommand ask for no help
 
-pub named_asks_no_help : (words : List Text) (s : Subcommand) → Names words s → HasHelpFlag words ⊎ BeginsWithHelp words → ⊥
+pub named_asks_no_help : (words : List Text) (s : Subcommand) → Names words s
+    → HasHelpFlag words ⊎ BeginsWithHelp words → ⊥
 named_asks_no_help words s named (inl flag) =
     let none : fault_of program words ≡ [] = names_run words s named in
     let help : fault_of program words ≡ kind.DisplayHelp ∷ [] = flags_help words flag in
@@ -107,19 +228,64 @@ named_asks_no_help (program_name ∷ word ∷ rest) s named (inr begins) =
 -- ---- no words name two subcommands
 
 -- the subcommand of this name
-abbrev known_as : Text → Option Subcommand
+abbrev pub known_as : Text → Option Subcommand
 known_as name = find (λ s. bytes_eq (name_of s) name) subcommands
 
-own_name : (s : Subcommand) → known_as (name_of s) ≡ Some s
-own_name Show = refl
-own_name Replay = refl
-own_name Check = refl
+own_name : (s : Subcommand) → HasNoOptions s → known_as (name_of s) ≡ Some s
+own_name Show none = refl
+own_name Replay none = refl
+own_name Check none = refl
+own_name (Measure options) none = absurd none
 
-first_is : (words : List Text) (s : Subcommand) → Names words s → slice_get (drop 1 words) 0 ≡ Some (name_of s)
+first_is : (words : List Text) (s : Subcommand) → NamesAlone words s → slice_get (drop 1 words) 0 ≡ Some (name_of s)
 first_is words s (inl is) = ap (λ rest. slice_get rest 0) is
 first_is words s (inr is) = ap (λ rest. slice_get rest 0) is
 
-pub names_one : (words : List Text) (s t : Subcommand) → Names words s → Names words t → s ≡ t
-names_one words s t one other =
+alone_one : (words : List Text) (s t : Subcommand) → HasNoOptions s → HasNoOptions t → NamesAlone words s
+    → NamesAlone words t → s ≡ t
+alone_one words s t none also one other =
     let same : name_of s ≡ name_of t = cc (first_is words s one, first_is words t other) in
-    cc (own_name s, own_name t, ap known_as same)
+    cc (own_name s none, own_name t also, ap known_as same)
+
+-- an option says one thing
+one_said : {X : Type 0} (read : Text → Option X) (value : Option Text) (said other : Option X)
+    → IsSaid read value said → IsSaid read value other → said ≡ other
+one_said read None said other one two = one ∙ sym two
+one_said read (Some value) said other one two = one.0 ∙ sym two.0
+
+same_options : (s s' m m' : Option PortIdentity) (d d' : Option ℕ) (c c' : Bool) → s ≡ s' → m ≡ m' → d ≡ d' → c ≡ c'
+    → ◌≡◌ {A = MeasureOptions} (record { slave = s; master = m; domain = d; csv = c })
+    (record { slave = s'; master = m'; domain = d'; csv = c' })
+same_options s s' m m' d d' c c' slave master domain csv = cc
+
+makes_one : (uses : List Use) (one other : MeasureOptions) → Makes uses one → Makes uses other → one ≡ other
+makes_one uses one other a b =
+    same_options one.slave other.slave one.master other.master one.domain other.domain one.csv other.csv
+    (one_said port_identity_of _ one.slave other.slave a.slave b.slave)
+    (one_said port_identity_of _ one.master other.master a.master b.master)
+    (one_said domain_of _ one.domain other.domain a.domain b.domain) (a.csv ∙ sym b.csv)
+
+-- two readings of options are one
+measure_one : (words : List Text) (one other : MeasureOptions) → Names words (Measure one)
+    → Names words (Measure other) → one ≡ other
+measure_one words one other (rest, begins, (uses, are, makes)) (others, also, (more, has, make)) =
+    let same = same_uses words rest others uses more begins also are has in
+    makes_one uses one other makes (subst (λ us. Makes us other) (sym same) make)
+
+pub names_one : (words : List Text) (s t : Subcommand) → Names words s → Names words t → s ≡ t
+names_one words Show Show one other = refl
+names_one words Show Replay one other = alone_one words Show Replay tt tt one other
+names_one words Show Check one other = alone_one words Show Check tt tt one other
+names_one words Show (Measure options) one other = absurd (alone_is_other words other.0 Show tt one other.1)
+names_one words Replay Show one other = alone_one words Replay Show tt tt one other
+names_one words Replay Replay one other = refl
+names_one words Replay Check one other = alone_one words Replay Check tt tt one other
+names_one words Replay (Measure options) one other = absurd (alone_is_other words other.0 Replay tt one other.1)
+names_one words Check Show one other = alone_one words Check Show tt tt one other
+names_one words Check Replay one other = alone_one words Check Replay tt tt one other
+names_one words Check Check one other = refl
+names_one words Check (Measure options) one other = absurd (alone_is_other words other.0 Check tt one other.1)
+names_one words (Measure options) Show one other = absurd (alone_is_other words one.0 Show tt other one.1)
+names_one words (Measure options) Replay one other = absurd (alone_is_other words one.0 Replay tt other one.1)
+names_one words (Measure options) Check one other = absurd (alone_is_other words one.0 Check tt other one.1)
+names_one words (Measure options) (Measure others) one other = ap Measure (measure_one words options others one other)

@@ -1,5 +1,12 @@
 pub mod ErrorKinds
+pub mod WordForms
+pub mod Turns
 pub mod FlagWords
+pub mod MeasureWords
+pub mod MeasureWalk
+pub mod MeasureRows
 pub mod SubcommandNames
+pub mod MeasureVerdict
 pub mod CommandLines
 pub mod Invocations
+pub mod WorkedOptions

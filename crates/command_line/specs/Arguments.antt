@@ -1,20 +1,30 @@
 -- What the arguments of `ptpx` ask for.
-use Rattle.std.specs.Prelude.{◌≡◌, ◌⊎◌, ◌++◌, ℕ, List, [], ◌∷◌, Some, codes, drop, slice_get}
-use Rattle.std.specs.Str.{chars}
+use Rattle.std.specs.Prelude.{◌≡◌, ◌⊎◌, ℕ, true, List, [], ◌∷◌, Some, codes, drop, slice_get}
 use Rattle.command_line.specs.declared.arguments.Invocation.{Invocation}
 use Rattle.command_line.specs.declared.arguments.Invocation.TheVariants.{Run, Help, Mistake}
 use Rattle.command_line.specs.declared.arguments.Subcommand.{Subcommand}
-use Rattle.command_line.specs.declared.arguments.Subcommand.TheVariants.{Show, Replay, Check}
+use Rattle.command_line.specs.declared.arguments.Subcommand.TheVariants.{Show, Replay, Check, Measure}
+use Rattle.command_line.specs.Options.{AreOptions, Asking, is_help_flag, reading_of}
 
 -- the argument that names a subcommand
 abbrev pub name_of : Subcommand → List ℕ
 name_of Show = codes "show"
 name_of Replay = codes "replay"
 name_of Check = codes "check"
+name_of (Measure options) = codes "measure"
 
 -- after the program's own name stands the subcommand's name, alone or with `--` after it
+abbrev pub NamesAlone : List (List ℕ) → Subcommand → Type 0
+NamesAlone words s = (drop 1 words ≡ name_of s ∷ []) ⊎ (drop 1 words ≡ name_of s ∷ codes "--" ∷ [])
+
+-- after the program's own name stands `measure`, and then these words
+abbrev pub BeginsWithMeasure : List (List ℕ) → List (List ℕ) → Type 0
+BeginsWithMeasure words rest = drop 1 words ≡ codes "measure" ∷ rest
+
+-- the arguments name the subcommand; after `measure` stand its options
 abbrev pub Names : List (List ℕ) → Subcommand → Type 0
-Names words s = (drop 1 words ≡ name_of s ∷ []) ⊎ (drop 1 words ≡ name_of s ∷ codes "--" ∷ [])
+Names words (Measure options) = (rest : List (List ℕ)) × BeginsWithMeasure words rest × AreOptions rest options
+Names words s = NamesAlone words s
 
 -- the arguments name no subcommand
 abbrev pub NamesNothing : List (List ℕ) → Type 0
@@ -22,14 +32,18 @@ NamesNothing words = (s : Subcommand) → Names words s → ⊥
 
 -- the argument is `--help`, or `-h` with anything after it
 abbrev pub AsksHelp : List ℕ → Type 0
-AsksHelp word = (word ≡ codes "--help")
-    ⊎ ((flags : List ℕ) × (word ≡ codes "-" ++ flags) × (slice_get (chars flags) 0 ≡ Some 104))
+AsksHelp word = is_help_flag word ≡ true
 
 -- help is asked for in the place of a subcommand's name, or right after it
-abbrev pub HasHelpFlag : List (List ℕ) → Type 0
-HasHelpFlag words = (word : List ℕ) × AsksHelp word
+abbrev pub HasEarlyHelpFlag : List (List ℕ) → Type 0
+HasEarlyHelpFlag words = (word : List ℕ) × AsksHelp word
     × ((slice_get words 1 ≡ Some word)
     ⊎ ((s : Subcommand) × (slice_get words 1 ≡ Some (name_of s)) × (slice_get words 2 ≡ Some word)))
+
+-- help is asked for there, or after options of `measure`
+abbrev pub HasHelpFlag : List (List ℕ) → Type 0
+HasHelpFlag words = HasEarlyHelpFlag words
+    ⊎ ((rest : List (List ℕ)) × BeginsWithMeasure words rest × (reading_of rest ≡ Asking))
 
 -- the first argument after the program's name is `help`
 abbrev pub BeginsWithHelp : List (List ℕ) → Type 0

@@ -2,12 +2,13 @@
 ghost use Rattle.std.specs.Prelude.{◌≡◌, false, IfOk, Some, map, string_bytes};
 ghost use Rattle.clap.specs.Matches.{subcommand_name_of};
 ghost use Rattle.clap.specs.declared.builder.command.Command.TheViews.{out-Command as fields_of};
-ghost use Rattle.clap.specs.Simple.{app_of, new_shape, shape_of};
+ghost use Rattle.clap.specs.Simple.{app_of, new_shape, shape_of, subcommand_rows_of};
 ghost use Rattle.clap.specs.Values.{kind_of};
 ghost use Rattle.command_line.specs.Arguments.{Asks, name_of};
-ghost use Rattle.command_line.specs.Inner.Clap.{ShowsKind, bare_program, program};
+ghost use Rattle.command_line.specs.Inner.Clap.{Chooses, ShowsKind, bare_program, program};
 
 use crate::help;
+use crate::measure::{MeasureOptions, measure, mistake, options_in};
 use clap::error::ErrorKind;
 use clap::{ArgMatches, Command, Error};
 use std::alloc::{AllocError, Global};
@@ -21,6 +22,8 @@ pub enum Subcommand {
     Replay,
     /// Print the verdict on the transcript that standard input gives.
     Check,
+    /// Print what the datagrams that standard input gives, recorded at a slave, say of its clock.
+    Measure(MeasureOptions),
 }
 
 /// What the arguments ask for.
@@ -35,7 +38,7 @@ pub enum Invocation {
 }
 
 /// A subcommand as `clap` has it, with a line that says what it does, and its help.
-fn with_help<'a>(
+pub(crate) fn with_help<'a>(
     alloc: Global,
     name: &'static str,
     about: &'static str,
@@ -84,7 +87,8 @@ fn program<'a>(alloc: Global) -> Result<Command<'a>, AllocError>
     bare_program(alloc)?
         .subcommand(show)?
         .subcommand(replay)?
-        .subcommand(check)
+        .subcommand(check)?
+        .subcommand(measure(alloc)?)
 }
 
 /// Reads the arguments, of which the first is the program's own name. Memory fails by `AllocError`.
@@ -92,22 +96,27 @@ pub fn parse(alloc: Global, words: &[String]) -> Result<Invocation, AllocError>
     ensures asked { IfOk result (Asks (map string_bytes words.now)) }
 {
     match program(alloc)?.try_get_matches_from(words) {
-        Ok(matches) => Ok(Invocation::Run(chosen(&matches))),
+        Ok(matches) => chosen(alloc, &matches),
         Err(error) => refusal(alloc, error),
     }
 }
 
-/// The subcommand that was met.
-fn chosen(matches: &ArgMatches<'_>) -> Subcommand
+/// The subcommand that was met, or the mistake in its options.
+fn chosen(alloc: Global, matches: &ArgMatches<'_>) -> Result<Invocation, AllocError>
     requires met { (s : Subcommand) × (subcommand_name_of matches.now ≡ Some (name_of s)) }
-    ensures name { subcommand_name_of matches.now ≡ Some (name_of result) }
+    ensures { IfOk result (Chooses (subcommand_rows_of matches.now)) }
 {
-    match matches.subcommand_name() {
-        Some("show") => Subcommand::Show,
-        Some("replay") => Subcommand::Replay,
-        Some("check") => Subcommand::Check,
+    let subcommand = match matches.subcommand() {
+        Some(("show", _)) => Subcommand::Show,
+        Some(("replay", _)) => Subcommand::Replay,
+        Some(("check", _)) => Subcommand::Check,
+        Some(("measure", options)) => match options_in(options) {
+            Ok(options) => Subcommand::Measure(options),
+            Err(wrong) => return refusal(alloc, mistake(alloc, wrong)?),
+        },
         _ => unreachable!(),
-    }
+    };
+    Ok(Invocation::Run(subcommand))
 }
 
 /// The text of an error of `clap`.

@@ -3,5 +3,9 @@
 
 mod arguments;
 mod help;
+mod measure;
+mod number;
+mod port_identity;
 
 pub use arguments::{Invocation, Subcommand, parse};
+pub use measure::MeasureOptions;

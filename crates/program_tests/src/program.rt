@@ -227,12 +227,14 @@ fn says_which_device_failed(rt: HostRuntime) -> Result<(), Fail> {
 }
 
 /// What stands in the help of the program, and of `show`.
-const WHOLE_HELP: &str = "Usage: ptpx <COMMAND>\n\nCommands:\n  show    Print the datagrams";
+const WHOLE_HELP: &str = "Usage: ptpx <COMMAND>\n\nCommands:\n  show     Print the datagrams";
 
 const SHOW_HELP: &str = "one a line\n\nUsage: ptpx show\n";
 
 /// Arguments that ask for help, and what stands in the text.
-const HELPS: [(&str, &str); 11] = [
+const MEASURE_HELP: &str = "Usage: ptpx measure [OPTIONS]\n\nOptions:\n      --slave <PORT> ";
+
+const HELPS: [(&str, &str); 14] = [
     ("ptpx --help", WHOLE_HELP),
     ("ptpx -h", WHOLE_HELP),
     ("ptpx help", WHOLE_HELP),
@@ -243,6 +245,9 @@ const HELPS: [(&str, &str); 11] = [
     ("other show -h", SHOW_HELP),
     ("ptpx help replay", "Usage: ptpx replay\n"),
     ("ptpx replay --help", "Usage: ptpx replay\n"),
+    ("ptpx help measure", MEASURE_HELP),
+    ("ptpx measure -h", MEASURE_HELP),
+    ("ptpx measure --csv --slave none --help", MEASURE_HELP),
     ("ptpx help help", "Usage: ptpx help [COMMAND]..."),
 ];
 
@@ -295,10 +300,10 @@ fn says_in_help_what_is_read_and_written(rt: HostRuntime) -> Result<(), Fail> {
 }
 
 /// Arguments that are no command, and what stands in the text.
-const MISTAKES: [(&str, &str); 15] = [
+const MISTAKES: [(&str, &str); 30] = [
     (
         "ptpx",
-        "'ptpx' requires a subcommand but one was not provided\n  [subcommands: show, replay, check, help]\n\nUsage: ptpx <COMMAND>\n",
+        "'ptpx' requires a subcommand but one was not provided\n  [subcommands: show, replay, check, measure, help]\n\nUsage: ptpx <COMMAND>\n",
     ),
     ("ptpx --", "'ptpx' requires a subcommand"),
     (
@@ -329,7 +334,63 @@ const MISTAKES: [(&str, &str); 15] = [
         "ptpx --help=yes",
         "unexpected value 'yes' for '--help' found",
     ),
+    ("ptpx measure --slave 00aabb/1", NO_SLAVE),
+    ("ptpx measure --csv --slave=00aabb/1", NO_SLAVE),
+    (
+        "ptpx measure --master 00aabb.fffe.ccddee/1",
+        "invalid value '00aabb.fffe.ccddee/1' for '--master <PORT>': wanted is a port",
+    ),
+    (
+        "ptpx measure --slave 00aabbfffeccddee/65536",
+        "invalid value '00aabbfffeccddee/65536' for '--slave <PORT>'",
+    ),
+    (
+        "ptpx measure --domain 256",
+        "invalid value '256' for '--domain <NUMBER>': wanted is a domain, a number from 0 to 255 in 1 to 3 digits\n",
+    ),
+    (
+        "ptpx measure --domain=+1",
+        "invalid value '+1' for '--domain <NUMBER>'",
+    ),
+    (
+        "ptpx measure --domain=",
+        "invalid value '' for '--domain <NUMBER>'",
+    ),
+    (
+        "ptpx measure --slave",
+        "a value is required for '--slave <PORT>' but none was supplied",
+    ),
+    (
+        "ptpx measure --slave --csv",
+        "a value is required for '--slave <PORT>' but none was supplied",
+    ),
+    (
+        "ptpx measure --csv --csv",
+        "the argument '--csv' cannot be used multiple times\n\nUsage: ptpx measure [OPTIONS]\n",
+    ),
+    (
+        "ptpx measure --domain 0 --domain=0",
+        "the argument '--domain <NUMBER>' cannot be used multiple times",
+    ),
+    (
+        "ptpx measure --csv=yes",
+        "unexpected value 'yes' for '--csv' found",
+    ),
+    (
+        "ptpx measure --mastre 1",
+        "tip: a similar argument exists: '--master'",
+    ),
+    (
+        "ptpx measure --csv extra",
+        "unexpected argument 'extra' found\n\nUsage: ptpx measure [OPTIONS]\n",
+    ),
+    ("ptpx measure -- extra", "unexpected argument 'extra' found"),
 ];
+
+/// A port that is none.
+const NO_SLAVE: &str =
+    "invalid value '00aabb/1' for '--slave <PORT>': wanted is a port, as 00aabbfffeccddee/1 or \
+    00aabb.fffe.ccddee-1, with a number of at most 65535\n\nUsage: ptpx measure [OPTIONS]\n";
 
 #[test]
 fn refuses_other_words_with_status_2(rt: HostRuntime) -> Result<(), Fail> {
