@@ -1,9 +1,10 @@
 """Gives `ptpx` 20,000 inputs that were made by a fixed seed, and holds each answer to what is promised of it:
 
-- the status is 0 or 3, of `check` also 1, and no signal ended the program;
+- the status is 0 or 3, of `check` also 1, of `measure` 2 where its arguments are none, and no signal ended the program;
 - what was written ends in LF, or is nothing, and has as many lines as were answered;
-- with status 3 standard error has the one line of a fault, at a line that is there, and nothing else;
-- what `show` writes, and its fault, are those of the reader below, which was written apart from it;
+- with status 3 standard error has the line of a fault, at a line that is there, and nothing else, but of `measure` what it tells at the end;
+- what `show` writes, and its fault, are those of shown.py, a reader that was written apart from it;
+- what `measure` writes, and its fault, are those of measured.py, another such reader, whatever its options are;
 - what `replay` writes is what told.py says, but for what came of each event. `check` accepts it with all its reports, and refuses it
   with 706 where one result is another;
 - what `check` accepts has as many reports as it says, and what it refuses is a report;
@@ -12,6 +13,7 @@
 At the end each fault, each reason and a report must have been seen."""
 import collections
 import concurrent.futures
+import functools
 import itertools
 import os
 import pathlib
@@ -22,19 +24,32 @@ import subprocess
 import sys
 
 import inputs
+import measured
+import recordings
+import shown
 import told
+from shown import lines_of
 
-SUBCOMMANDS = ['show', 'replay', 'check']
+SUBCOMMANDS = ['show', 'replay', 'check', 'measure']
 
 INPUTS = 20_000
 SEED = 1588
 MEMORY = 64 * 1024
 AT_ONCE = 4
 
+# What `measure` tells at the end takes no more octets than this.
+ERRORS = 8192
+
 TOP = pathlib.Path(__file__).resolve().parents[2]
 PROGRAM = os.environ.get('PTPX', TOP / 'crates/ptpx/out/ptpx')
 FAULT = re.compile(rb'ptpx: fault (80[1-8](?: \(60[1-8]\))?) at line ([1-9][0-9]*)\n')
 VERDICT = re.compile(rb'accepted ([0-9]+)\n|refused event ([0-9]+): (70[1-8])\n')
+
+# What `measure` must have heard, as its reader counts it.
+MEASURED = ['too early', 'refused 201', 'refused 202', 'refused 203 type 11', 'refused 204', 'refused 205', 'refused 206',
+            *['Delay_Req ' + what for what in ('departed', 'repeated', 'anew', 'of another')],
+            *[f'{kind} {what}' for kind in ('Sync', 'Follow_Up') for what in ('held', 'completed', 503, 505, 507, 512)],
+            *[f'Delay_Resp {what}' for what in ('completed', 503, 505, 507, 508, 509)]]
 
 # What must have been seen. 801, 802 and 808 don't come from inputs, and 804 needs a longer one.
 SEEN = {
@@ -42,70 +57,14 @@ SEEN = {
     'replay': ['status 0', 'with reports', *[f'fault {number}' for number in (803, 805, 806)], *[f'fault 807 ({number})' for number in range(601, 609)]],
     'check': ['accepted 0', 'accepted', *[f'refused {number}' for number in range(701, 709)],
               'fault 803', 'fault 805', 'fault 806', 'fault 807 (601)', 'fault 807 (602)'],
+    'measure': ['status 0', 'status 2', 'with reports', 'fault 803', 'fault 806', *MEASURED],
 }
+
+# How the files are called that a subcommand reads.
+ENDINGS = {'show': '.hex', 'replay': '.schedule.jsonl', 'check': '.transcript.jsonl', 'measure': '.lines'}
 
 # How many transcripts with reports `check` gets changed.
 TRANSCRIPTS = 40
-
-# What each message type is called, and how long its fields are.
-TYPES = {0: ('Sync', 44), 1: ('Delay_Req', 44), 8: ('Follow_Up', 44), 9: ('Delay_Resp', 54)}
-
-
-def lines_of(text):
-    """The lines of an input, without their ends."""
-    lines = text.split(b'\n')
-    return lines if lines[-1] else lines[:-1]
-
-
-def number(octets, signed=False):
-    return int.from_bytes(octets, 'big', signed=signed)
-
-
-def identity(octets):
-    return f'{octets[:8].hex()}/{number(octets[8:10])}'
-
-
-def refusal(octets):
-    """The first refusal that applies to a datagram, or None."""
-    if len(octets) < 34:
-        return 'refused 201'
-    if octets[1] % 16 != 2:
-        return 'refused 202'
-    if octets[0] % 16 not in TYPES:
-        return f'refused 203 type {octets[0] % 16}'
-    length = number(octets[2:4])
-    if length < TYPES[octets[0] % 16][1]:
-        return 'refused 204'
-    if length > len(octets):
-        return 'refused 205'
-    return 'refused 206' if number(octets[40:44]) >= 10**9 else None
-
-
-def fields(octets):
-    """The fields of a datagram that isn't refused."""
-    name, least = TYPES[octets[0] % 16]
-    length, correction = number(octets[2:4]), number(octets[8:16], signed=True)
-    requesting = f' requesting={identity(octets[44:54])}' if least == 54 else ''
-    return (f'{name} sdo={octets[0] // 16:x}{octets[5]:02x} version=2.{octets[1] // 16} domain={octets[4]} flags={octets[6:8].hex()}'
-            f' correction={"too-big" if correction == 2**63 - 1 else correction} specific={octets[16:20].hex()}'
-            f' source={identity(octets[20:30])} seq={number(octets[30:32])} control={octets[32]} log={number(octets[33:34], signed=True)}'
-            f' stamp={number(octets[34:40])}.{number(octets[40:44]):09}{requesting} suffix={length - least} used={length}')
-
-
-def shown(text):
-    """The status, standard output and standard error of `show`."""
-    written = []
-    for place, line in enumerate(lines_of(text), 1):
-        fault = 803 if len(line) > 4096 else None
-        line = line[:-1] if line.endswith(b'\r') else line
-        if not fault and not re.fullmatch(rb'(?:[0-9a-fA-F]{2})*', line):
-            fault = 806
-        if fault:
-            return 3, ''.join(written).encode(), f'ptpx: fault {fault} at line {place}\n'.encode()
-        octets = bytes.fromhex(line.decode())
-        written.append((refusal(octets) or fields(octets)) + '\n')
-    return 0, ''.join(written).encode(), b''
-
 
 def answered_before(subcommand, text, fault, line):
     """How many lines were written before a fault at this line."""
@@ -118,6 +77,9 @@ def answered_before(subcommand, text, fault, line):
 
 def faults(subcommand, text, status, output, errors):
     """What is wrong with an answer, in words."""
+    if subcommand == 'measure':
+        yield from mismeasured(text, status, output, errors)
+        return
     answers = lines_of(output)
     if status not in ([0, 1, 3] if subcommand == 'check' else [0, 3]):
         yield f'status {status}'
@@ -141,12 +103,31 @@ def faults(subcommand, text, status, output, errors):
             yield f'fault {number}'
         if len(answers) != answered_before(subcommand, text, number, line):
             yield f'{len(answers)} lines were written before fault {number} at line {line}'
-    if subcommand == 'show' and (status, output, errors) != shown(text):
+    if subcommand == 'show' and (status, output, errors) != shown.shown(text):
         yield 'another answer than that of the reader'
     if subcommand == 'replay':
         yield from told.mistold(lines_of(text), answers)
     if subcommand == 'check' and status != 3:
         yield from misjudged(text, status, output)
+
+
+@functools.lru_cache(2 * AT_ONCE)
+def owed(text):
+    """What `measure` owes for this input with its arguments, or None where these are no command."""
+    given = measured.options(recordings.arguments(text))
+    return given and measured.measured(text, given)
+
+
+def mismeasured(text, status, output, errors):
+    """What is wrong with the answer of `measure`, in words."""
+    wanted = owed(text)
+    if (status, output) != ((3 if wanted.fault else 0, wanted.output) if wanted else (2, b'')):
+        yield f'status {status} and {len(lines_of(output))} lines, another answer than that of the reader, with {recordings.arguments(text)}'
+    fault = FAULT.match(errors)
+    if (fault and (int(fault[1]), int(fault[2]))) != (wanted and wanted.fault):
+        yield f'standard error has {errors[:200]!r}'
+    if not errors.endswith(b'\n') or len(errors) > ERRORS:
+        yield f'standard error has {len(errors)} octets'
 
 
 def misjudged(text, status, output):
@@ -163,7 +144,8 @@ def misjudged(text, status, output):
 
 def start(subcommand, text):
     """The status, standard output and standard error of the program."""
-    ended = subprocess.run([PROGRAM, subcommand], input=text, capture_output=True, timeout=20)
+    arguments = recordings.arguments(text) if subcommand == 'measure' else []
+    ended = subprocess.run([PROGRAM, subcommand, *arguments], input=text, capture_output=True, timeout=20)
     return ended.returncode, ended.stdout, ended.stderr
 
 
@@ -184,53 +166,54 @@ def rejudged(transcript):
             yield f'check answers {answer} in place of {said!r} to what was replayed'
 
 
-def name_of(subcommand, answer):
-    """What an answer is called that is as it should be."""
+def names_of(subcommand, text, answer):
+    """What an answer is called that is as it should be, and what else is seen in it."""
     status, output, errors = answer
-    fault, verdict = FAULT.fullmatch(errors), VERDICT.fullmatch(output)
-    if fault:
-        return f'fault {fault[1].decode()}'
+    fault, verdict = FAULT.match(errors), VERDICT.fullmatch(output)
+    name = f'fault {fault[1].decode()}' if fault else f'status {status}'
+    if subcommand == 'measure':
+        counts = owed(text).counts if owed(text) else {}
+        return [name, *(['with reports'] if counts.get('reports') else []), *(kind for kind in MEASURED if kind in counts)]
     if verdict and subcommand == 'check':
-        return f'refused {verdict[3].decode()}' if verdict[2] else 'accepted' if int(verdict[1]) else 'accepted 0'
-    return 'with reports' if b'"out":"report"' in output else f'status {status}'
+        name = f'refused {verdict[3].decode()}' if verdict[2] else 'accepted' if int(verdict[1]) else 'accepted 0'
+    return ['with reports' if not fault and b'"out":"report"' in output else name]
 
 
 def run(subcommand, text):
-    """How the program answers this input: a name of the answer, what is wrong with it, and a transcript with reports, if it wrote one."""
+    """How the program answers this input: names of the answer, what is wrong with it, and a transcript with reports, if it wrote one."""
     try:
         answer = start(subcommand, text)
         wrong = list(faults(subcommand, text, *answer))
         if subcommand == 'replay' and not wrong and answer[0] == 0:
             wrong = list(rejudged(answer[1]))
     except subprocess.TimeoutExpired:
-        return 'no end', ['no end within 20 s'], b''
+        return ['no end'], ['no end within 20 s'], b''
     except (ArithmeticError, AttributeError, LookupError, TypeError, ValueError) as error:
-        return 'no answer', [f'lines that cannot be read: {error!r}'], b''
-    name = 'wrong' if wrong else name_of(subcommand, answer)
-    return name, wrong, answer[1] if name == 'with reports' else b''
+        return ['no answer'], [f'lines that cannot be read: {error!r}'], b''
+    names = ['wrong'] if wrong else names_of(subcommand, text, answer)
+    return names, wrong, answer[1] if subcommand == 'replay' and 'with reports' in names else b''
 
 
 def files_for(subcommand):
-    """The files of examples/ that the subcommand reads: datagrams, schedules or transcripts."""
-    texts = [file.read_bytes() for file in sorted((TOP / 'examples').iterdir())]
-    kinds = {'show': lambda text: b'{' not in text, 'replay': lambda text: b'"ev"' in text and b'"out"' not in text, 'check': lambda text: b'"out"' in text}
-    return [text for text in texts if kinds[subcommand](text)]
+    """The files that the subcommand reads, of examples/ and of the recorded measurement."""
+    files = [file for folder in ('examples', 'tests/recorded_measurement') for file in sorted((TOP / folder).iterdir())]
+    return [file.read_bytes() for file in files if file.name.endswith(ENDINGS[subcommand])]
 
 
 def try_all(subcommand, count, files):
     """Runs so many inputs, and answers how many had which answer, and some of what was written with reports."""
-    maker = {'show': inputs.datagrams, 'replay': inputs.schedules, 'check': inputs.transcripts}[subcommand]
+    maker = {'show': inputs.datagrams, 'replay': inputs.schedules, 'check': inputs.transcripts, 'measure': recordings.recordings}[subcommand]
     made = inputs.inputs(SEED, maker, files, count)
     seen, reported = collections.Counter(), []
     with concurrent.futures.ThreadPoolExecutor(AT_ONCE) as pool:
         # A few at a time, since a run's memory counts what this script holds when it begins.
         while batch := list(itertools.islice(made, 100)):
-            for text, (name, wrong, output) in zip(batch, pool.map(lambda text: run(subcommand, text), batch)):
+            for text, (names, wrong, output) in zip(batch, pool.map(lambda text: run(subcommand, text), batch)):
                 if wrong:
                     kept = TOP / 'crates/ptpx/out/hostile'
                     kept.write_bytes(text)
                     sys.exit(f'hostile: {subcommand}: {"; ".join(wrong[:3])}; the input is {kept}')
-                seen[name] += 1
+                seen.update(names)
                 if output and len(reported) < TRANSCRIPTS:
                     reported.append(output)
     unseen = [name for name in SEEN[subcommand] if name not in seen]
@@ -243,7 +226,7 @@ def main():
     reported = []
     for subcommand in SUBCOMMANDS:
         seen, reported = try_all(subcommand, INPUTS // len(SUBCOMMANDS), files_for(subcommand) + reported)
-        print(f'hostile: {subcommand}:', ', '.join(f'{count} {name}' for name, count in sorted(seen.items())))
+        print(f'hostile: {subcommand}:', ', '.join(f'{count} {name}' for name, count in sorted(seen.items()) if name not in MEASURED))
     memory = resource.getrusage(resource.RUSAGE_CHILDREN).ru_maxrss
     if memory > MEMORY:
         sys.exit(f'hostile: a run took {memory} KiB')

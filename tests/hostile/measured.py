@@ -1,0 +1,307 @@
+"""A reader of recordings that was written apart from the program: what `measure` owes for an input and its options.
+That is what goes to standard output, the fault if there is one, which lines told whom it watches, and how many
+datagrams there were of each kind."""
+import collections
+import itertools
+import re
+import typing
+
+import shown
+
+# How many lines wait until it is known whom to watch, and how many of each kind of message a port holds.
+KEPT = 1024
+HELD = 256
+
+# After so many Syncs of the master a tick falls, and after so many in a row that were refused by 512 two ticks.
+TICK = 4096
+ROW = 16
+
+# A line: seconds, their decimals and the octets.
+LINE = re.compile(rb'(0|[1-9][0-9]{0,14})(?:\.([0-9]{1,9}))? ((?:[0-9a-fA-F]{2})*)')
+
+# An identity as `show` prints it, and as pmc does.
+IDENTITIES = [re.compile(form) for form in (
+    r'([0-9a-fA-F]{16})/([0-9]{1,5})', r'([0-9a-fA-F]{6}\.[0-9a-fA-F]{4}\.[0-9a-fA-F]{6})-([0-9]{1,5})')]
+
+# A message; a line with what it said; and what completed on either side, with the tick at which it did.
+Message = collections.namedtuple('Message', 'kind domain two_step correction source sequence stamp requesting')
+Read = collections.namedtuple('Read', 'place time units said')
+Completed = collections.namedtuple('Completed', 'tick bracket tags sequence')
+
+
+class Options(typing.NamedTuple):
+    """What the arguments say, with None for what they leave to the recording."""
+    slave: bytes = None
+    master: bytes = None
+    domain: int = None
+    csv: bool = False
+
+
+class Measured(typing.NamedTuple):
+    """What is owed: the output, the fault with its line, the counts, the lines that told (0 for an option), and whether
+    all times are whole microseconds."""
+    output: bytes
+    fault: tuple
+    counts: collections.Counter
+    told: dict
+    whole_microseconds: bool
+
+
+def identity(text):
+    """The ten octets of an identity in an argument, or None."""
+    for form in IDENTITIES:
+        if (said := form.fullmatch(text)) and int(said[2]) < 2**16:
+            return bytes.fromhex(said[1].replace('.', '')) + int(said[2]).to_bytes(2, 'big')
+    return None
+
+
+def options(arguments):
+    """What these arguments after `measure` say, or None where they are no command."""
+    said, rest = {}, []
+    for one in arguments:
+        rest += one.split('=', 1) if re.match('--(slave|master|domain)=', one) else [one]
+    while rest:
+        name = rest.pop(0)
+        if name[2:] in said or name not in ('--slave', '--master', '--domain', '--csv'):
+            return None
+        value = True if name == '--csv' else rest.pop(0) if rest else ''
+        if name in ('--slave', '--master'):
+            value = identity(value)
+        elif name == '--domain':
+            value = int(value) if re.fullmatch('[0-9]{1,3}', value) and int(value) < 256 else None
+        if value is None:
+            return None
+        said[name[2:]] = value
+    return Options(**said)
+
+
+def message(octets):
+    """What a datagram says: a message, or the refusal in words."""
+    refused = shown.refusal(octets)
+    if refused:
+        return refused
+    kind, least = shown.TYPES[octets[0] % 16]
+    correction, sequence = shown.number(octets[8:16], signed=True), shown.number(octets[30:32])
+    stamp = (shown.number(octets[34:40]) * 10**9 + shown.number(octets[40:44])) * 2**16
+    requesting = octets[44:54] if least == 54 else None
+    return Message(kind, octets[4], bool(octets[6] & 2), correction, octets[20:30], sequence, stamp, requesting)
+
+
+def decimal(halves):
+    """A number of halves of 2^-16 ns in nanoseconds, with all its decimals."""
+    whole, rest = divmod(abs(halves), 2**17)
+    decimals = f'{rest * 5**17:017}'.rstrip('0')
+    return ('-' if halves < 0 else '') + str(whole) + ('.' + decimals if decimals else '')
+
+
+class Port:
+    """A slave port as docs/PROTOCOL.md has it."""
+
+    def __init__(self, watched):
+        self.watched = watched
+        self.ticks = 0
+        self.syncs = collections.deque(maxlen=HELD)
+        self.follow_ups = collections.deque(maxlen=HELD)
+        # The last request's number, how many were drawn since the first one that departed, and when each departed.
+        self.number, self.drawn, self.departed = None, 0, {}
+        self.synced = self.answered = None
+
+    def request(self, read):
+        """Requests are drawn up to this one, which departed."""
+        if self.number is not None:
+            self.drawn += (read.said.sequence - self.number) % 2**16
+        self.number = read.said.sequence
+        self.departed[self.number] = self.drawn, read
+
+    def requested(self, sequence):
+        """The request that is held under a number and known to have departed, or None."""
+        drawn, read = self.departed.get(sequence, (self.drawn - HELD, None))
+        return read if self.drawn - drawn < HELD else None
+
+    def in_window(self, tick):
+        return self.ticks - tick < 2
+
+    def reason(self, heard):
+        """Why a message is ignored, or None."""
+        domain, _, master = self.watched
+        if heard.domain != domain:
+            return 503
+        if heard.source != master:
+            return 505
+        if heard.correction == shown.TOO_BIG:
+            return 507
+        if heard.kind != 'Delay_Resp':
+            last = self.synced and self.in_window(self.synced.tick) and self.synced
+            return 512 if last and (heard.sequence - last.sequence) % 2**16 >= 2**15 else None
+        if heard.requesting != self.watched[1]:
+            return 508
+        return None if self.requested(heard.sequence) else 509
+
+    def newest(self, held, sequence):
+        """The newest message that is held under a number, or None."""
+        found = (read for tick, read in reversed(held) if read.said.sequence == sequence and self.in_window(tick))
+        return next(found, None)
+
+    def hear(self, read):
+        """What a message is answered: the number of a reason, `held`, `completed`, or a report's results and tags."""
+        heard = read.said
+        reason = self.reason(heard)
+        if reason:
+            return reason
+        if heard.kind == 'Delay_Resp':
+            request = self.requested(heard.sequence)
+            bracket = heard.stamp - heard.correction - request.units
+            self.answered = Completed(self.ticks, bracket, [request.place, read.place], heard.sequence)
+        elif not self.sync(read):
+            return 'held'
+        if not all(half and self.in_window(half.tick) for half in (self.synced, self.answered)):
+            return 'completed'
+        a, b = self.synced.bracket, self.answered.bracket
+        return a - b, a + b, self.synced.tags + self.answered.tags
+
+    def sync(self, read):
+        """Whether a Sync or a Follow_Up completes."""
+        heard, sync, follow_up = read.said, read, None
+        if heard.kind == 'Sync' and not heard.two_step:
+            bracket, tags = read.units - heard.stamp - heard.correction, [read.place, None]
+        else:
+            own, others = (self.syncs, self.follow_ups) if heard.kind == 'Sync' else (self.follow_ups, self.syncs)
+            own.append((self.ticks, read))
+            other = self.newest(others, heard.sequence)
+            if not other:
+                return False
+            sync, follow_up = (read, other) if heard.kind == 'Sync' else (other, read)
+            bracket = sync.units - (follow_up.said.stamp + follow_up.said.correction) - sync.said.correction
+            tags = [sync.place, follow_up.place]
+        self.synced = Completed(self.ticks, bracket, tags, heard.sequence)
+        return True
+
+
+class Watch:
+    """Whom to watch, as the options and the lines so far tell it."""
+
+    def __init__(self, given):
+        self.given = given
+        self.domain = (given.domain, 0)
+        # Of each domain the source of the first Sync and of the first Delay_Req, and its line.
+        self.syncs, self.requests = {}, {}
+
+    def look(self, read):
+        said = read.said
+        if isinstance(said, str):
+            return
+        if said.kind == 'Sync':
+            self.syncs.setdefault(said.domain, (said.source, read.place))
+            if self.domain[0] is None and self.given.master in (None, said.source):
+                self.domain = said.domain, read.place
+        elif said.kind == 'Delay_Req':
+            self.requests.setdefault(said.domain, (said.source, read.place))
+
+    def told(self):
+        """Domain, slave and master, each with the line that told it; None for what isn't known."""
+        slave = (self.given.slave, 0) if self.given.slave else self.requests.get(self.domain[0], (None, None))
+        master = (self.given.master, 0) if self.given.master else self.syncs.get(self.domain[0], (None, None))
+        return self.domain, slave, master
+
+    def known(self):
+        """Domain, slave and master, or None until all three are known."""
+        watched = [value for value, _ in self.told()]
+        return None if None in watched else watched
+
+
+class Measurer:
+    """Hears lines one after the other."""
+
+    def __init__(self, watched, csv):
+        self.watched, self.csv = watched, csv
+        self.port, self.last = Port(watched), None
+        self.syncs = self.row = 0
+        self.counts = collections.Counter()
+
+    def hear(self, read):
+        """What is written for a line."""
+        said = read.said
+        if isinstance(said, str):
+            self.counts[said] += 1
+        elif said.kind == 'Delay_Req':
+            self.counts['Delay_Req ' + self.request(read)] += 1
+        else:
+            answer = self.port.hear(read)
+            if said.kind == 'Sync' and [said.domain, said.source] == [self.watched[0], self.watched[2]]:
+                self.tick(answer)
+            if isinstance(answer, tuple):
+                self.counts['reports'] += 1
+                return self.report(read, *answer)
+            self.counts[f'{said.kind} {answer}'] += 1
+        return ''
+
+    def request(self, read):
+        """What became of a Delay_Req."""
+        if [read.said.domain, read.said.source] != self.watched[:2]:
+            return 'of another'
+        ahead = 1 if self.last is None else (read.said.sequence - self.last) % 2**16
+        self.last = read.said.sequence
+        if ahead == 0:
+            return 'repeated'
+        if ahead > HELD:
+            self.port = Port(self.watched)
+        self.port.request(read)
+        return 'departed' if ahead <= HELD else 'anew'
+
+    def tick(self, answer):
+        """The ticks that fall after a Sync of the master."""
+        self.syncs += 1
+        self.row = self.row + 1 if answer == 512 else 0
+        if self.syncs % TICK == 0:
+            self.port.ticks += 1
+        if self.row == ROW:
+            self.port.ticks += 2
+            self.row = 0
+
+    def report(self, read, offset2, path2, tags):
+        by = 'response' if read.said.kind == 'Delay_Resp' else 'sync'
+        if self.csv:
+            return f'{read.time},{decimal(offset2)},{decimal(path2)},{by},{read.place}\n'
+        tags = ','.join('null' if tag is None else str(tag) for tag in tags)
+        return (f'{{"by":"{by}","line":{read.place},"offset":"{decimal(offset2)}","offset2":"{offset2}",'
+                f'"path":"{decimal(path2)}","path2":"{path2}","tags":[{tags}],"time":"{read.time}"}}\n')
+
+
+def read(place, line):
+    """What a line says, and the fault if it has one."""
+    said, fault = shown.read(line, LINE)
+    if not fault and int(said[1]) >= 2**48:
+        fault = 806
+    if fault:
+        return None, fault
+    decimals = (said[2] or b'').decode().ljust(9, '0')
+    time = said[0].split(b' ')[0].decode()
+    units = (int(said[1]) * 10**9 + int(decimals)) * 2**16
+    return Read(place, time, units, message(bytes.fromhex(said[3].decode()))), None
+
+
+def measured(text, given=Options()):
+    """What `measure` owes for this input with these options."""
+    watch, kept, written, fault, whole = Watch(given), [], [], None, True
+    measurer = watch.known() and Measurer(watch.known(), given.csv)
+    early = 0
+    for place, line in enumerate(shown.lines_of(text), 1):
+        told, number = read(place, line)
+        if number:
+            fault = number, place
+            break
+        whole = whole and told.units % (1000 * 2**16) == 0
+        kept.append(told)
+        if not measurer:
+            watch.look(told)
+            if not watch.known():
+                continue
+            measurer = Measurer(watch.known(), given.csv)
+            early = place - 1 if place > KEPT else 0
+        written += [measurer.hear(one) for one in kept if one.place > early]
+        kept = []
+    counts = measurer.counts if measurer else collections.Counter()
+    counts += collections.Counter({'too early': early + len(kept)})
+    told = {name: line for name, (value, line) in zip(['domain', 'slave', 'master'], watch.told()) if value is not None}
+    head = ['time,offset_ns,path_ns,by,line\n'] if given.csv else []
+    return Measured(''.join(itertools.chain(head, written)).encode(), fault, counts, told, whole)
