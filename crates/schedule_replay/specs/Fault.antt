@@ -7,6 +7,8 @@ use Rattle.schedule_replay.specs.declared.fault.TaskFault.{TaskFault}
 use Rattle.schedule_replay.specs.declared.fault.TaskFault.TheVariants as tasks
 use Rattle.schedule_replay.specs.declared.fault.FaultKind.TheVariants.{Read, Write, LineTooLong, TooManyLines, Json}
 use Rattle.schedule_replay.specs.declared.fault.FaultKind.TheVariants.{Field, World, Memory}
+use Rattle.capture_measure.specs.declared.measuring.MeasureFault.{MeasureFault}
+use Rattle.capture_measure.specs.declared.measuring.MeasureFault.TheVariants as measuring
 use Rattle.text_lines.specs.declared.fault.Cause.{Cause}
 use Rattle.text_lines.specs.declared.fault.Cause.TheVariants.{Reading, Task}
 use Rattle.text_lines.specs.declared.fault.ReadingFault.{ReadingFault}
@@ -42,6 +44,13 @@ of_task tasks.Memory = Memory
 abbrev pub kind_of : Cause TaskFault → FaultKind
 kind_of (Reading fault) = of_reading fault
 kind_of (Task fault) = of_task fault
+
+-- the fault by which it is told why a recording was measured no further
+abbrev pub of_measuring : Cause MeasureFault → FaultKind
+of_measuring (Reading fault) = of_reading fault
+of_measuring (Task measuring.Write) = Write
+of_measuring (Task measuring.Field) = Field
+of_measuring (Task measuring.Memory) = Memory
 
 -- whether this fault says that the writer failed
 abbrev pub is_write : TaskFault → Bool

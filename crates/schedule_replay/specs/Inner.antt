@@ -3,4 +3,5 @@
 pub mod Fault
 pub mod Stage
 pub mod Replaying
+pub mod Allowed
 pub mod Checking

@@ -1,5 +1,5 @@
 -- What the program answers: its exit status, by what the arguments ask for.
-use Rattle.std.specs.Prelude.{◌≡◌, ◌⊎◌, ℕ, List, Option, Result, Ok, Err}
+use Rattle.std.specs.Prelude.{◌≡◌, ◌⊎◌, ℕ, List, Option, Result, Ok, Err, if◌then◌else◌}
 use Rattle.std.specs.Io.KnownBytes.{Appends}
 use Rattle.text_lines.specs.declared.counted.Counted.{Counted}
 use Rattle.text_lines.specs.Counted.{device_of, HasFailed, HasNotFailed}
@@ -8,7 +8,15 @@ use Rattle.schedule_replay.specs.declared.fault.Fault.{Fault}
 use Rattle.trace_model.specs.declared.verdict.Verdict.{Verdict}
 use Rattle.trace_model.specs.declared.verdict.Verdict.TheVariants.{Accepted, Refused}
 use Rattle.command_line.specs.declared.arguments.Subcommand.{Subcommand}
-use Rattle.command_line.specs.declared.arguments.Subcommand.TheVariants.{Show, Replay, Check}
+use Rattle.command_line.specs.declared.arguments.Subcommand.TheVariants.{Show, Replay, Check, Measure}
+use Rattle.command_line.specs.declared.measure.MeasureOptions.{MeasureOptions}
+use Rattle.text_lines.specs.declared.fault.Cause.{Cause}
+use Rattle.text_lines.specs.declared.fault.Stopped.{Stopped}
+use Rattle.capture_measure.specs.declared.measuring.Form.{Form}
+use Rattle.capture_measure.specs.declared.measuring.Form.TheVariants.{Json, Table}
+use Rattle.capture_measure.specs.declared.measuring.MeasureFault.{MeasureFault}
+use Rattle.capture_measure.specs.declared.watch.Wanted.{Wanted}
+use Rattle.capture_measure.specs.Measure.{MeasuresAnswer}
 use Rattle.schedule_replay.specs.Show.{ShowsAnswer}
 use Rattle.schedule_replay.specs.Replay.{ReplaysAnswer}
 use Rattle.schedule_replay.specs.CheckText.{ChecksAnswer}
@@ -23,6 +31,26 @@ abbrev pub check_status : Result Verdict Fault → ℕ
 check_status (Ok (Accepted count)) = 0
 check_status (Ok (Refused number why)) = 1
 check_status (Err fault) = 3
+
+-- the exit status of `measure`, by its answer
+abbrev pub measure_status : Result ℕ (Stopped (Cause MeasureFault)) → ℕ
+measure_status (Ok lines) = 0
+measure_status (Err stop) = 3
+
+-- whom `measure` is asked to watch
+abbrev pub wanted_of : MeasureOptions → Wanted
+wanted_of options = record { slave = options.slave; master = options.master; domain = options.domain }
+
+-- how measurements are asked for
+abbrev pub form_of : MeasureOptions → Form
+form_of options = if options.csv then Table else Json
+
+-- `measure` ran by these options: its answer gave the status, and says what was read and written
+abbrev pub RunsMeasure : {R W : Type 0} → (R → Option (List ℕ)) → (W → Option (List ℕ)) → MeasureOptions → ℕ
+    → (input input' : Counted R) (output output' : Counted W) → Type 0
+RunsMeasure remaining contents options status input input' output output' =
+    (answer : Result ℕ (Stopped (Cause MeasureFault))) × (status ≡ measure_status answer)
+    × MeasuresAnswer (form_of options) (wanted_of options) remaining contents answer input input' output output'
 
 -- what an answer means of what is read and written
 abbrev pub Meaning : (A R W : Type 0) → Type 1
@@ -41,6 +69,7 @@ abbrev pub Runs : {R W : Type 0} → (R → Option (List ℕ)) → (W → Option
 Runs remaining contents Show = EndsIn status_of (ShowsAnswer remaining contents)
 Runs remaining contents Replay = EndsIn status_of (ReplaysAnswer remaining contents)
 Runs remaining contents Check = EndsIn check_status (ChecksAnswer remaining contents)
+Runs remaining contents (Measure options) = RunsMeasure remaining contents options
 
 -- memory was refused before a subcommand ran
 abbrev pub EndsBefore : {R W : Type 0} → ℕ → (input input' : Counted R) (output output' : Counted W) → Type 0

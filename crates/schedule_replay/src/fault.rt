@@ -1,6 +1,7 @@
 ghost use Rattle.std.specs.Prelude.{◌≡◌};
 ghost use Rattle.schedule_replay.specs.declared.fault.TaskFault.TheVariants.{Memory};
 
+use capture_measure::MeasureFault;
 use exchange_check::CheckFault;
 use network_model::WorldRefusal;
 use std::alloc::{AllocError, AllocFailed};
@@ -144,6 +145,25 @@ impl From<Stopped<Cause<TaskFault>>> for Fault {
         let what = match stop.what {
             Cause::Reading(fault) => fault.into(),
             Cause::Task(fault) => fault.into(),
+        };
+        Fault {
+            line: stop.line,
+            what,
+        }
+    }
+}
+
+impl From<Stopped<Cause<MeasureFault>>> for Fault {
+    ghost use Rattle.schedule_replay.specs.Fault.{of_measuring};
+
+    ghost from_gives = { λ stop fault. (fault.line ≡ stop.line) × (fault.what ≡ of_measuring stop.what) };
+
+    fn from(stop: Stopped<Cause<MeasureFault>>) -> Fault {
+        let what = match stop.what {
+            Cause::Reading(fault) => fault.into(),
+            Cause::Task(MeasureFault::Write) => FaultKind::Write,
+            Cause::Task(MeasureFault::Field) => FaultKind::Field,
+            Cause::Task(MeasureFault::Memory) => FaultKind::Memory,
         };
         Fault {
             line: stop.line,

@@ -1,6 +1,10 @@
 ghost use Rattle.std.specs.Prelude.{◌≡◌, ◌≢◌, ◌⊎◌, map, string_bytes};
-ghost use Rattle.schedule_replay.specs.Program.{EndsBefore, EndsUnread, Runs, check_status, status_of};
+ghost use Rattle.command_line.specs.declared.measure.MeasureOptions.{MeasureOptions};
+ghost use Rattle.command_line.specs.declared.arguments.Subcommand.TheVariants.{Measure};
+ghost use Rattle.schedule_replay.specs.Program.{EndsBefore, EndsUnread, Runs, RunsMeasure, check_status, status_of};
 ghost use Rattle.command_line.specs.Arguments.{AsksNothing, HasHelpFlag, Names, NamesNothing};
+ghost use Rattle.capture_measure.specs.Measure.{measure_rules};
+ghost use Rattle.schedule_replay.specs.Inner.Allowed.{lines_allowed};
 ghost use Rattle.schedule_replay.specs.Lines.{lines_limit};
 ghost use Rattle.text_lines.specs.Lines.{input_limit, GivesWithin};
 
@@ -8,7 +12,8 @@ use crate::checking::check_text;
 use crate::fault::{Fault, FaultKind};
 use crate::replaying::replay;
 use crate::showing::show;
-use command_line::{Invocation, Subcommand, parse};
+use capture_measure::{Form, Wanted, measure};
+use command_line::{Invocation, MeasureOptions, Subcommand, parse};
 use exchange_check::Verdict;
 use std::alloc::Global;
 use std::io::{Read, Write};
@@ -32,8 +37,9 @@ pub fn command<R: Read, W: Write, E: Write>(
     ensures runs { (s : Subcommand) → Names (map string_bytes words.now) s →
         Runs R.remaining W.contents s result input.old input.new output.old output.new
         ⊎ EndsBefore result input.old input.new output.old output.new }
-    // Of any reader only so much is read, whatever the arguments and the writer are.
-    ensures bounded { GivesWithin R.remaining (input_limit lines_limit) input.old input.new }
+    // Of any reader only so much is read, whatever the arguments and the writer are, unless these name `measure`.
+    ensures bounded { ((options : MeasureOptions) → Names (map string_bytes words.now) (Measure options) → ⊥) →
+        GivesWithin R.remaining (input_limit lines_limit) input.old input.new }
     // Other arguments read nothing. Which text help is, and what comes of arguments that begin with `help`, is clap's.
     ensures unread { NamesNothing (map string_bytes words.now) →
         (input.new ≡ input.old) × EndsUnread W.contents result output.old output.new }
@@ -66,13 +72,40 @@ fn run<R: Read, W: Write, E: Write>(
     errors: &mut E,
 ) -> u8
     ensures runs { Runs R.remaining W.contents subcommand result input.old input.new output.old output.new }
-    ensures bounded { GivesWithin R.remaining (input_limit lines_limit) input.old input.new }
+    ensures bounded { GivesWithin R.remaining (input_limit (lines_allowed subcommand)) input.old input.new }
 {
     match subcommand {
         Subcommand::Show => finish(errors, show(alloc, input, output)),
         Subcommand::Replay => finish(errors, replay(alloc, input, output)),
         Subcommand::Check => finish_check(errors, check_text(alloc, input, output)),
+        Subcommand::Measure(options) => run_measure(alloc, options, input, output, errors),
     }
+}
+
+/// Measures a recording, tells what came of it beside the reports, and answers the exit status.
+fn run_measure<R: Read, W: Write, E: Write>(
+    alloc: Global,
+    options: MeasureOptions,
+    input: &mut Counted<R>,
+    output: &mut Counted<W>,
+    errors: &mut E,
+) -> u8
+    ensures runs { RunsMeasure R.remaining W.contents options result input.old input.new output.old output.new }
+    ensures bounded { GivesWithin R.remaining (input_limit measure_rules.lines_limit) input.old input.new }
+{
+    let wanted = Wanted {
+        slave: options.slave,
+        master: options.master,
+        domain: options.domain,
+    };
+    let form = if options.csv { Form::Table } else { Form::Json };
+    let (answer, summary) = measure(alloc, &wanted, form, input, output);
+    let status = match answer {
+        Ok(_) => 0,
+        Err(stop) => report(errors, stop.into()),
+    };
+    summary.tell(errors);
+    status
 }
 
 /// A fault before any line is read.
