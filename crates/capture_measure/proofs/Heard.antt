@@ -1,6 +1,6 @@
 -- What comes of a row that is heard.
 use Rattle.std.proofs.Common.{◌≡◌, ◌∙◌, ℕ, List, [], Option, Some, None, Result, Ok, Err, sym, ap}
-use Rattle.std.specs.Prelude.{OnOk}
+use Rattle.std.specs.Prelude.{OnOk, option_map}
 use Rattle.std.specs.Option.{option_map_or}
 use Rattle.std.specs.Result.{result_ok}
 use Rattle.event_codec.specs.declared.message.Message.{Message}
@@ -37,8 +37,8 @@ said_err refusal (Err first) answers = ap Err (sym answers)
 
 -- what is written of a row by its report
 abbrev text_of : Form → Half → (line : ℕ) → (time : List ℕ) → Option Report → List ℕ
-text_of form by line time report =
-    option_map_or (λ r. text_as form (record { by = by; line = line; time = time; report = r })) report []
+text_of form by line time report = option_map_or (text_as form)
+    (option_map (λ r. record { by = by; line = line; time = time; report = r }) report) []
 
 pub no_text : (form : Form) (watched : Watched) (earlier : List Row) (row : Row)
     → report_at watched (datagrams earlier) row.datagram ≡ None → report_text form watched earlier row ≡ []

@@ -1,4 +1,5 @@
 pub mod Bodies
+pub mod Exact
 pub mod Goes
 pub mod Heard
 pub mod Kept

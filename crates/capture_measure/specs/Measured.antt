@@ -1,5 +1,5 @@
 -- What is written of a recording: the reports of the lines that are heard, in order.
-use Rattle.std.specs.Prelude.{ℕ, List, [], ◌∷◌, ◌++◌}
+use Rattle.std.specs.Prelude.{ℕ, List, [], ◌∷◌, ◌++◌, Option, option_map}
 use Rattle.std.specs.Option.{option_map_or}
 use Rattle.std.specs.Result.{result_ok}
 use Rattle.event_codec.specs.declared.message.Body.{Body}
@@ -27,16 +27,20 @@ abbrev pub text_as : Form → Measured → List ℕ
 text_as Json m = json_text m
 text_as Table m = row_text m
 
--- the text of the report that a line brings, after these lines that were heard, if it brings one
-abbrev pub report_text : Form → Watched → List Row → Row → List ℕ
-report_text form watched earlier row = option_map_or
-    (λ report. text_as form (record {
+-- what is measured at a line, after these lines that were heard, if it brings a report
+abbrev pub measured_at : Watched → List Row → Row → Option Measured
+measured_at watched earlier row = option_map
+    (λ report. record {
       by = option_map_or (λ m. half_of m.body) (result_ok row.datagram.said) halves.Sync;
       line = row.datagram.line;
       time = row.time;
       report = report;
-    }))
-    (report_at watched (datagrams earlier) row.datagram) []
+    })
+    (report_at watched (datagrams earlier) row.datagram)
+
+-- the text of it
+abbrev pub report_text : Form → Watched → List Row → Row → List ℕ
+report_text form watched earlier row = option_map_or (text_as form) (measured_at watched earlier row) []
 
 -- the texts of all reports that lines bring
 abbrev pub reports_text : Form → Watched → List Row → List ℕ

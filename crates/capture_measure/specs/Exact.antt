@@ -1,0 +1,47 @@
+-- The law of what `measure` writes: each report is exact for the events that its lines tell.
+-- `laws::each_measurement_is_exact` promises it.
+use Rattle.std.specs.Prelude.{◌≡◌, ℕ, List, [], ◌∷◌, ◌++◌, Some}
+use Rattle.std.specs.List.{All}
+use Rattle.network_model.specs.Network.{Network, NodeName}
+use Rattle.network_model.specs.Run.{Run}
+use Rattle.network_model.specs.Premises.{IsAcceptedRun, exact_limits}
+use Rattle.text_lines.specs.Task.{TakesLines}
+use Rattle.capture_model.specs.declared.watched.Watched.{Watched}
+use Rattle.capture_model.specs.Recorded.{Recorded}
+use Rattle.capture_model.specs.Told.{Tells}
+use Rattle.capture_model.specs.Premises.{IsFresh, IsTicked, MissesFew}
+use Rattle.capture_model.specs.Exact.{Watches, IsExact}
+use Rattle.capture_lines.specs.Measurement.{Measured}
+use Rattle.capture_measure.specs.declared.measuring.Form.{Form}
+use Rattle.capture_measure.specs.declared.watch.Wanted.{Wanted}
+use Rattle.capture_measure.specs.Watch.{watched_in}
+use Rattle.capture_measure.specs.Row.{datagrams, heard}
+use Rattle.capture_measure.specs.Measured.{text_as}
+use Rattle.capture_measure.specs.Measure.{Recording, begun, measure_rules}
+
+-- the texts of measurements, which have the newest in front
+abbrev pub texts_as : Form → List Measured → List ℕ
+texts_as form [] = []
+texts_as form (m ∷ earlier) = texts_as form earlier ++ text_as form m
+
+-- a text is that of measurements whose reports are exact for the events that these datagrams tell
+pub record WritesExact {network : Network} {slave : NodeName} {run : Run} {ds : List Recorded}
+    (master : NodeName) (tells : Tells network slave run ds) (form : Form) (text : List ℕ) : Type 0 where
+  pub measured : List Measured
+  pub written : text ≡ texts_as form measured
+  pub exact : All (λ m. IsExact master tells m.report) measured
+
+-- Over any accepted run of a network, and lines of which those that are heard tell it at one of its slaves: what is
+-- written of the lines is the texts of reports that are exact, where no number is too old when it is used, ticks come
+-- often enough, and few Delay_Reqs are missing in a row.
+abbrev pub EachMeasurementIsExact : Type 0
+EachMeasurementIsExact =
+    (network : Network) (run : Run) (slave master : NodeName) (w : Watched) (form : Form) (wanted : Wanted)
+    (lines : List (List ℕ)) (read : Recording) (text : List ℕ)
+    → IsAcceptedRun network run → Watches network slave master w
+    → TakesLines measure_rules 1 lines (begun form wanted) read text
+    → watched_in wanted (datagrams read.rows) ≡ Some w
+    → (tells : Tells network slave run (datagrams (heard wanted read.rows)))
+    → IsFresh exact_limits.late w tells → IsTicked exact_limits.between_ticks master w tells
+    → MissesFew exact_limits.late w tells
+    → WritesExact master tells form text
