@@ -1,6 +1,6 @@
 """Runs each command of README that reads a file of examples/, and compares what it prints: with the comment behind it, or else with the
 block of code that comes next in README, which is the end of what it prints. Replays each schedule, which gives the transcript beside
-it octet for octet, and checks each transcript, which is accepted."""
+it octet for octet, and checks each transcript, which is accepted. Measures each recording, which gives the measurement beside it."""
 import os
 import pathlib
 import re
@@ -21,7 +21,8 @@ COMMANDS = 5
 def run(command):
     """What a command of a shell prints, of the program that is tried."""
     ended = subprocess.run(['sh', '-c', command.replace('./ptpx', f'"{PROGRAM}"')], cwd=TOP, capture_output=True, timeout=60)
-    if ended.stderr:
+    # `measure` tells at the end what came of the recording.
+    if ended.stderr and ' measure' not in command or b'fault' in ended.stderr:
         sys.exit(f'examples: {command}: {ended.stderr.decode()}')
     return ended.stdout.decode()
 
@@ -54,7 +55,11 @@ def main():
         reports = transcript.count('"out":"report"')
         if not reports or run(f'./ptpx replay < examples/{schedule.name} | ./ptpx check') != f'accepted {reports}\n':
             sys.exit(f'examples: {schedule.name}: another verdict')
-    print(f'examples: {len(found)} commands of README, {len(schedules)} schedules')
+    recordings = sorted((TOP / 'examples').glob('*.lines'))
+    for recording in recordings:
+        if run(f'./ptpx measure < examples/{recording.name}') != recording.with_suffix('.measurement.jsonl').read_text():
+            sys.exit(f'examples: {recording.name}: measure gives another measurement')
+    print(f'examples: {len(found)} commands of README, {len(schedules)} schedules, {len(recordings)} recordings')
 
 
 main()

@@ -46,8 +46,8 @@ FAULT = re.compile(rb'ptpx: fault (80[1-8](?: \(60[1-8]\))?) at line ([1-9][0-9]
 VERDICT = re.compile(rb'accepted ([0-9]+)\n|refused event ([0-9]+): (70[1-8])\n')
 
 # What `measure` must have heard, as its reader counts it.
-MEASURED = ['too early', 'refused 201', 'refused 202', 'refused 203 type 11', 'refused 204', 'refused 205', 'refused 206',
-            *['Delay_Req ' + what for what in ('departed', 'repeated', 'anew', 'of another')],
+MEASURED = [*[kind + ' too early' for kind in ('Sync', 'Delay_Req')], 'refused 201', 'refused 202', 'refused 203 type 11', 'refused 204', 'refused 205', 'refused 206',
+            *['Delay_Req ' + what for what in ('departed', 'repeated', 'anew', 'of another domain', 'of another slave')],
             *[f'{kind} {what}' for kind in ('Sync', 'Follow_Up') for what in ('held', 'completed', 503, 505, 507, 512)],
             *[f'Delay_Resp {what}' for what in ('completed', 503, 505, 507, 508, 509)]]
 
@@ -126,6 +126,8 @@ def mismeasured(text, status, output, errors):
     fault = FAULT.match(errors)
     if (fault and (int(fault[1]), int(fault[2]))) != (wanted and wanted.fault):
         yield f'standard error has {errors[:200]!r}'
+    if wanted and errors[fault.end() if fault else 0:] != wanted.summary:
+        yield f'standard error has {errors!r}, and what is told at the end is {wanted.summary!r}'
     if not errors.endswith(b'\n') or len(errors) > ERRORS:
         yield f'standard error has {len(errors)} octets'
 

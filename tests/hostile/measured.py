@@ -1,6 +1,6 @@
 """A reader of recordings that was written apart from the program: what `measure` owes for an input and its options.
-That is what goes to standard output, the fault if there is one, which lines told whom it watches, and how many
-datagrams there were of each kind."""
+That is what goes to standard output, the fault if there is one, what became of the datagrams of each kind, and what is
+told at the end."""
 import collections
 import itertools
 import re
@@ -38,13 +38,37 @@ class Options(typing.NamedTuple):
 
 
 class Measured(typing.NamedTuple):
-    """What is owed: the output, the fault with its line, the counts, the lines that told (0 for an option), and whether
-    all times are whole microseconds."""
+    """What is owed: the output, the fault with its line, the counts, and what is told at the end."""
     output: bytes
     fault: tuple
     counts: collections.Counter
-    told: dict
-    whole_microseconds: bool
+    summary: bytes
+
+
+# The kinds of datagrams in the order in which they are told, each as one and as several of it.
+KINDS = {kind: (kind, kind + 's') for kind in ('Sync', 'Follow_Up', 'Delay_Req', 'Delay_Resp')} | {
+    f'{name} message': (f'{name} message', f'{name} messages') for name in ('Pdelay', 'Announce', 'Signaling', 'Management')} | {
+    'reserved': ('message of a reserved type', 'messages of reserved types'),
+    'malformed': ('datagram that is no message', 'datagrams that are no messages')}
+
+# Why they gave no report, in the order in which that is told.
+REASONS = {
+    'held': ' that waited for the other half of the Sync',
+    'completed': " that completed while the other half of a report wasn't there",
+    'departed': ' of the slave', 'anew': ' of the slave',
+    'repeated': ' of the slave, with the number of the last one',
+    'of another domain': ' of another domain', '503': ' of another domain',
+    '505': ' of another master',
+    'of another slave': ' of another slave', '508': ' of another slave',
+    '507': ' with a correction that is too big to be represented',
+    '512': ' no newer than the last Sync that was completed',
+    '509': " to requests that weren't recorded",
+    'peer delay': ": peer delay isn't measured",
+    'too early': ' before it was known whom to watch',
+    'refused': ''}
+
+# The kinds of datagrams that aren't of the four messages, by messageType.
+OTHERS = {2: 'Pdelay message', 3: 'Pdelay message', 10: 'Pdelay message', 11: 'Announce message', 12: 'Signaling message', 13: 'Management message'}
 
 
 def identity(text):
@@ -237,8 +261,10 @@ class Measurer:
 
     def request(self, read):
         """What became of a Delay_Req."""
-        if [read.said.domain, read.said.source] != self.watched[:2]:
-            return 'of another'
+        if read.said.domain != self.watched[0]:
+            return 'of another domain'
+        if read.said.source != self.watched[1]:
+            return 'of another slave'
         ahead = 1 if self.last is None else (read.said.sequence - self.last) % 2**16
         self.last = read.said.sequence
         if ahead == 0:
@@ -280,28 +306,70 @@ def read(place, line):
     return Read(place, time, units, message(bytes.fromhex(said[3].decode()))), None
 
 
+def kind_of(said):
+    """What a datagram is that was refused for this, and why it gave no report."""
+    number = re.fullmatch(r'refused 203 type ([0-9]+)', said)
+    if not number:
+        return 'malformed', 'refused'
+    kind = OTHERS.get(int(number[1]), 'reserved')
+    return kind, 'peer delay' if kind == 'Pdelay message' else 'refused'
+
+
+def datagrams(counts):
+    """How many datagrams gave no report, in sentences."""
+    told = collections.Counter()
+    for what, count in counts.items():
+        kind, _, reason = what.partition(' ')
+        kind, reason = kind_of(what) if kind == 'refused' else (kind, reason)
+        told[list(KINDS).index(kind), REASONS[reason]] += count
+    order = list(REASONS.values())
+    for (place, words), count in sorted(told.items(), key=lambda one: (one[0][0], order.index(one[0][1]))):
+        yield f'{count} {list(KINDS.values())[place][count != 1]}{words}'
+
+
+def summary(watch, counts, times):
+    """What is told at the end, where times are all units, or where all are of whole microseconds."""
+    domain, slave, master = watch.told()
+    tellers = ['Sync of the master' if watch.given.master else 'Sync',
+               'Sync' if watch.given.domain is None else 'Sync of the domain', 'Delay_Req of the domain']
+    for name, (value, line), teller in zip(['domain', 'master', 'slave'], [domain, master, slave], tellers):
+        if value is None:
+            yield f'no {teller} tells the {name}'
+        else:
+            printed = value if name == 'domain' else f'{value[:8].hex()}/{int.from_bytes(value[8:], "big")}'
+            yield f'{name} {printed}, ' + (f'told by line {line}' if line else 'as asked for')
+    reports = counts.pop('reports', 0)
+    yield f'{reports or "no"} report{"s" if reports > 1 else ""}'
+    yield from datagrams(counts)
+    if counts['Delay_Req anew']:
+        yield 'the slave began anew ' + ('once' if counts['Delay_Req anew'] == 1 else f'{counts["Delay_Req anew"]} times')
+    if times and all(times):
+        yield 'all times are of whole microseconds'
+
+
 def measured(text, given=Options()):
     """What `measure` owes for this input with these options."""
-    watch, kept, written, fault, whole = Watch(given), [], [], None, True
+    watch, kept, written, fault, times = Watch(given), [], [], None, set()
     measurer = watch.known() and Measurer(watch.known(), given.csv)
-    early = 0
+    early = []
     for place, line in enumerate(shown.lines_of(text), 1):
         told, number = read(place, line)
         if number:
             fault = number, place
             break
-        whole = whole and told.units % (1000 * 2**16) == 0
+        times.add(told.units % (1000 * 2**16) == 0)
         kept.append(told)
         if not measurer:
             watch.look(told)
             if not watch.known():
                 continue
             measurer = Measurer(watch.known(), given.csv)
-            early = place - 1 if place > KEPT else 0
-        written += [measurer.hear(one) for one in kept if one.place > early]
+            if place > KEPT:
+                early, kept = kept[:-1], kept[-1:]
+        written += [measurer.hear(one) for one in kept]
         kept = []
     counts = measurer.counts if measurer else collections.Counter()
-    counts += collections.Counter({'too early': early + len(kept)})
-    told = {name: line for name, (value, line) in zip(['domain', 'slave', 'master'], watch.told()) if value is not None}
+    counts.update(one.said if isinstance(one.said, str) else f'{one.said.kind} too early' for one in early + kept)
     head = ['time,offset_ns,path_ns,by,line\n'] if given.csv else []
-    return Measured(''.join(itertools.chain(head, written)).encode(), fault, counts, told, whole)
+    told = ''.join(f'ptpx: {sentence}\n' for sentence in summary(watch, counts.copy(), times))
+    return Measured(''.join(itertools.chain(head, written)).encode(), fault, counts, told.encode())

@@ -18,14 +18,9 @@ use Rattle.capture_measure.specs.declared.measuring.Form.{Form}
 use Rattle.capture_measure.specs.declared.watch.Wanted.{Wanted}
 use Rattle.capture_measure.specs.Watch.{watched_in}
 use Rattle.capture_measure.specs.Row.{Row, datagrams, is_known, heard, kept_most}
-use Rattle.capture_measure.specs.Measured.{text_as, measured_at, reports_text, written}
+use Rattle.capture_measure.specs.Measured.{text_as, measured_at, measurements, reports_text, written}
 use Rattle.capture_measure.specs.Measure.{Recording, begun, written_of, measure_rules}
 use Rattle.capture_measure.specs.Exact.{texts_as, EachMeasurementIsExact}
-
--- all that is measured at lines that are heard, newest first
-abbrev pub measurements : Watched → List Row → List Measured
-measurements watched [] = []
-measurements watched (row ∷ earlier) = option_to_list (measured_at watched earlier row) ++ measurements watched earlier
 
 -- one more report, or none
 all_with : (P : Report → Type 0) (report : Option Report) (rest : List Report) (make : Report → Measured)
@@ -142,7 +137,6 @@ pub each_measurement : EachReportIsExact → EachMeasurementIsExact
 each_measurement each_report network run slave master w form wanted lines read text accepted watches taken known tells fresh ticked missing =
     let on = read_on 1 lines (begun form wanted) read text taken in
     let those = heard wanted read.rows in record {
-      measured = measurements w those;
       written = written_exactly form wanted w read text on known;
       exact = all_measured (IsExact master tells) w those
           (each_report network run slave master w (datagrams those) accepted watches tells (record {

@@ -7,7 +7,6 @@ use Rattle.network_model.specs.Run.{Run}
 use Rattle.network_model.specs.Premises.{IsAcceptedRun, exact_limits}
 use Rattle.text_lines.specs.Task.{TakesLines}
 use Rattle.capture_model.specs.declared.watched.Watched.{Watched}
-use Rattle.capture_model.specs.Recorded.{Recorded}
 use Rattle.capture_model.specs.Told.{Tells}
 use Rattle.capture_model.specs.Premises.{IsFresh, IsTicked, MissesFew}
 use Rattle.capture_model.specs.Exact.{Watches, IsExact}
@@ -15,8 +14,8 @@ use Rattle.capture_lines.specs.Measurement.{Measured}
 use Rattle.capture_measure.specs.declared.measuring.Form.{Form}
 use Rattle.capture_measure.specs.declared.watch.Wanted.{Wanted}
 use Rattle.capture_measure.specs.Watch.{watched_in}
-use Rattle.capture_measure.specs.Row.{datagrams, heard}
-use Rattle.capture_measure.specs.Measured.{text_as}
+use Rattle.capture_measure.specs.Row.{Row, datagrams, heard}
+use Rattle.capture_measure.specs.Measured.{text_as, measurements}
 use Rattle.capture_measure.specs.Measure.{Recording, begun, measure_rules}
 
 -- the texts of measurements, which have the newest in front
@@ -24,12 +23,11 @@ abbrev pub texts_as : Form → List Measured → List ℕ
 texts_as form [] = []
 texts_as form (m ∷ earlier) = texts_as form earlier ++ text_as form m
 
--- a text is that of measurements whose reports are exact for the events that these datagrams tell
-pub record WritesExact {network : Network} {slave : NodeName} {run : Run} {ds : List Recorded}
-    (master : NodeName) (tells : Tells network slave run ds) (form : Form) (text : List ℕ) : Type 0 where
-  pub measured : List Measured
-  pub written : text ≡ texts_as form measured
-  pub exact : All (λ m. IsExact master tells m.report) measured
+-- a text is that of what is measured at lines that are heard, whose reports are exact for the events that they tell
+pub record WritesExact {network : Network} {slave : NodeName} {run : Run} (master : NodeName) (w : Watched)
+    (rows : List Row) (tells : Tells network slave run (datagrams rows)) (form : Form) (text : List ℕ) : Type 0 where
+  pub written : text ≡ texts_as form (measurements w rows)
+  pub exact : All (λ m. IsExact master tells m.report) (measurements w rows)
 
 -- Over any accepted run of a network, and lines of which those that are heard tell it at one of its slaves: what is
 -- written of the lines is the texts of reports that are exact, where no number is too old when it is used, ticks come
@@ -44,4 +42,4 @@ EachMeasurementIsExact =
     → (tells : Tells network slave run (datagrams (heard wanted read.rows)))
     → IsFresh exact_limits.late w tells → IsTicked exact_limits.between_ticks master w tells
     → MissesFew exact_limits.late w tells
-    → WritesExact master tells form text
+    → WritesExact master w (heard wanted read.rows) tells form text

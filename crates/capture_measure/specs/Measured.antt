@@ -1,5 +1,5 @@
 -- What is written of a recording: the reports of the lines that are heard, in order.
-use Rattle.std.specs.Prelude.{ℕ, List, [], ◌∷◌, ◌++◌, Option, option_map}
+use Rattle.std.specs.Prelude.{ℕ, List, [], ◌∷◌, ◌++◌, Option, option_map, option_to_list}
 use Rattle.std.specs.Option.{option_map_or}
 use Rattle.std.specs.Result.{result_ok}
 use Rattle.event_codec.specs.declared.message.Body.{Body}
@@ -51,3 +51,8 @@ reports_text form watched (row ∷ earlier) = reports_text form watched earlier 
 abbrev pub written : Form → Wanted → List Row → List ℕ
 written form w rows =
     option_map_or (λ watched. reports_text form watched (heard w rows)) (watched_in w (datagrams rows)) []
+
+-- all that is measured at lines that are heard
+abbrev pub measurements : Watched → List Row → List Measured
+measurements watched [] = []
+measurements watched (row ∷ earlier) = option_to_list (measured_at watched earlier row) ++ measurements watched earlier

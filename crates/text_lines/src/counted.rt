@@ -1,4 +1,4 @@
-ghost use Rattle.std.specs.Prelude.{◌≡◌, ◌<◌, ◌^◌, MatchResult, OnOk, ◌==◌, if◌then◌else◌};
+ghost use Rattle.std.specs.Prelude.{◌≡◌, ◌<◌, ◌^◌, MatchResult, OnOk, ◌==◌, ◌&&◌, not, length};
 ghost use Rattle.std.specs.Io.{ReadsAtMost, WritesAtMost};
 ghost use Rattle.std.specs.Io.KnownBytes.{ReadConsumes, WriteAppends, Keeps, Appends};
 
@@ -85,7 +85,7 @@ impl<R: Read> Read for Counted<R> {
 }
 
 impl<W: Write> Write for Counted<W> {
-    ghost use Rattle.text_lines.specs.Counted.{device_of, failures_of, given_of, one_more, HasFailed, HasNotFailed};
+    ghost use Rattle.text_lines.specs.Counted.{device_of, given_of, HasFailed, HasNotFailed, HasFailedIf};
 
     ghost contents = { λ c. W.contents (device_of c) };
 
@@ -93,15 +93,16 @@ impl<W: Write> Write for Counted<W> {
         ensures bound { WritesAtMost result buf.now }
         ensures bytes { WriteAppends (W.contents (device_of self.old)) (W.contents (device_of self.new))
             result buf.now }
+        // An empty write takes nothing and hasn't failed.
         ensures count { MatchResult result
-            (λ taken. failures_of self.new
-            ≡ (if taken == 0 then one_more (failures_of self.old) else failures_of self.old))
+            (λ taken. HasFailedIf (taken == 0 && not (length buf.now == 0)) self.old self.new)
             (λ _. HasFailed self.old self.new) }
         ensures given { given_of self.new ≡ given_of self.old }
     {
         let answer = self.device.write(buf);
-        if !matches!(answer, Ok(1..)) {
-            self.count_failure();
+        match answer {
+            Ok(taken) if taken > 0 || buf.is_empty() => {}
+            _ => self.count_failure(),
         }
         answer
     }
