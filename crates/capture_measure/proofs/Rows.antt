@@ -85,7 +85,8 @@ module _ (w : Wanted) (rows : List Row) (row : Row) (watched : Watched) where
       → kept_most ≤ length rows → heard w (row ∷ rows) ≡ row ∷ []
   heard-many unknown known many =
       heard-first unknown known
-      ∙ ap (λ (b : Bool). if b then row ∷ rows else row ∷ []) (lt-leb (length (row ∷ rows)) kept_most (omega (arith, many)))
+      ∙ ap (λ (b : Bool). if b then row ∷ rows else row ∷ [])
+      (lt-leb (length (row ∷ rows)) kept_most (omega (arith, many)))
 
   -- what is written where it is known whom to watch
   pub written-known : (form : Form) → watched_in w (datagrams rows) ≡ Some watched

@@ -561,7 +561,7 @@ impl Summary {
 fn write_head<W: Write>(form: Form, output: &mut Counted<W>) -> Result<(), MeasureFault>
     ensures written { MatchResult result
         (λ _. Appends (W.contents (device_of output.old)) (W.contents (device_of output.new)) (head_text form))
-        (λ fault. fault ≡ MeasureFault.Write) }
+        (λ fault. (form ≡ Form.Table) × (fault ≡ MeasureFault.Write)) }
     ensures failures { MatchResult result
         (λ _. HasNotFailed output.old output.new)
         (λ _. HasFailed output.old output.new) }

@@ -1,6 +1,6 @@
 -- What is kept while a recording is measured, and what goes out of it.
-use Rattle.std.specs.Prelude.{◌≡◌, ℕ, ◌+◌, ◌<◌, ◌≤◌, ◌/◌, ⊤, List, [], ◌∷◌, ◌++◌, length, take, map, Some, None, Ok, Err}
-use Rattle.std.specs.Prelude.{Option, Result, MatchResult}
+use Rattle.std.specs.Prelude.{◌≡◌, ℕ, ◌+◌, ◌<◌, ◌≤◌, ◌/◌, ⊤, List, [], ◌∷◌, ◌++◌, length, take, map, Some, None, Ok}
+use Rattle.std.specs.Prelude.{Err, Option, Result, MatchResult}
 use Rattle.std.specs.List.{All}
 use Rattle.std.specs.Io.KnownBytes.{Appends}
 use Rattle.hex.specs.Hex.{decode_of}

@@ -74,7 +74,8 @@ returns-in-Some g c = record {
       let watch = c.notice.ensures r.wanted r.rows row of (at.watch still) in
       let known = sym (c.watched.ensures r.wanted (datagrams (row ∷ r.rows)) watch) ∙ c.in-Some.is in
       let (earlier, kept, first, unknown) =
-      heard_before r.wanted r.rows row c.in-Some.watched c.args.self.now.stage at.stage c.in_default.not-Hearing known in
+      heard_before r.wanted r.rows row c.in-Some.watched c.args.self.now.stage at.stage c.in_default.not-Hearing
+      known in
       let begun = c.begin.ensures.begun earlier row of kept in
       answered r c.args.line.now row c.begin.result c.begin.new.self
       (reports_text r.form c.in-Some.watched (row ∷ earlier)) _ _ next
@@ -83,10 +84,12 @@ returns-in-Some g c = record {
         form = c.begin.ensures.form ∙ at.form;
         counted = omega (arith, c.begin.ensures.lines, c.in-Ok.ensures.numbered, at.counted);
         watch = not_unknown r.wanted (row ∷ r.rows) c.in-Some.watched known;
-        stage = stage_heard r.wanted (row ∷ r.rows) c.in-Some.watched (row ∷ earlier) c.begin.new.self.stage known first is;
+        stage = stage_heard r.wanted (row ∷ r.rows) c.in-Some.watched (row ∷ earlier) c.begin.new.self.stage known first
+            is;
       }) begun.0)
       (subst (λ (f : Form). Goes c.begin.result (reports_text f c.in-Some.watched (row ∷ earlier))
-      (g.W.Write.contents (device_of c.args.output.now)) (g.W.Write.contents (device_of c.begin.new.output))) at.form begun.1);
+      (g.W.Write.contents (device_of c.args.output.now)) (g.W.Write.contents (device_of c.begin.new.output))) at.form
+      begun.1);
   failures = c.begin.ensures.failures;
 }
 

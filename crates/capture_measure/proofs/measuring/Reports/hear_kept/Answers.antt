@@ -11,7 +11,8 @@ returns-in_err-number-clause-heard g c = λ watched rows are begun.
     let e = err_from_is_err_and c.from_residual.result c.from_residual.ensures.1 in
     let (earlier, left, count, listens, appended) = c.loop-line.invariant.heard watched rows are begun in
     let within : c.loop-line.line-index < length c.args.kept.now = omega arith in
-    let next = are_next earlier rows c.args.kept.now c.loop-line.line-index c.line-item.result within c.line-item.is left in
+    let next = are_next earlier rows c.args.kept.now c.loop-line.line-index c.line-item.result within c.line-item.is
+    left in
     let numbered : length earlier + 1 ≡ c.loop-line.number + 1 =
     ap (λ (n : ℕ). n + 1) (count ∙ sym c.loop-line.invariant.number) in
     let row : IsRow (c.loop-line.number + 1) c.line-item.result.items next.0 =
@@ -28,7 +29,8 @@ loop-line-preserved g c = record {
   heard = λ watched rows are begun.
       let (earlier, left, count, listens, appended) = c.loop-line.invariant.heard watched rows are begun in
       let within : c.loop-line.line-index < length c.args.kept.now = omega arith in
-      let next = are_next earlier rows c.args.kept.now c.loop-line.line-index c.line-item.result within c.line-item.is left in
+      let next = are_next earlier rows c.args.kept.now c.loop-line.line-index c.line-item.result within c.line-item.is
+      left in
       let numbered : length earlier + 1 ≡ c.loop-line.number + 1 =
       ap (λ (n : ℕ). n + 1) (count ∙ sym c.loop-line.invariant.number) in
       let row : IsRow (c.loop-line.number + 1) c.line-item.result.items next.0 =

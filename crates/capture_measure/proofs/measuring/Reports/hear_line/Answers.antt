@@ -5,6 +5,7 @@ use Rattle.event_codec.specs.Packet.{Contents, contents}
 use Rattle.event_codec.specs.Reading.{Reading, IsReading}
 use Rattle.text_lines.specs.Counted.{device_of}
 use Rattle.capture_model.specs.Listening.{Listening, after_all}
+use Rattle.capture_measure.specs.declared.measuring.Line.{Line}
 use Rattle.capture_measure.specs.Row.{datagrams}
 use Rattle.capture_measure.specs.Inner.Listener.{IsListener}
 use Rattle.capture_measure.specs.Inner.Measuring.{reading_of, Goes}
@@ -19,14 +20,15 @@ hear-became-requires g c =
 
 pub returns-in_default-clause-heard : goal.returns-in_default-clause-heard
 returns-in_default-clause-heard g c = λ watched earlier row of listens.
+    let read : Line = c.args.read.now in
     let m : Contents = contents c.in-Ok.message in
     let l : Listening = after_all watched (datagrams earlier) in
     let said = of.said ∙ ap reading_of c.in-Ok.is in
-    let reported = row_reports watched earlier row m c.args.read.now.number c.args.read.now.timed.time said of.numbered
-    of.moment c.hear-became.result (c.hear-became.ensures.became watched l listens)
+    let reported = row_reports watched earlier row m read.number read.timed.time said of.numbered of.moment
+    c.hear-became.result (c.hear-became.ensures.became watched l listens)
     ∙ sym c.report_in.ensures ∙ c.in_default.is in (
       subst (IsListener watched c.hear-became.new.self)
-          (sym (row_heard watched earlier row m c.args.read.now.number c.args.read.now.timed.time said of.numbered of.moment))
+          (sym (row_heard watched earlier row m read.number read.timed.time said of.numbered of.moment))
           (c.hear-became.ensures.listens watched l listens),
       subst (λ (t : List ℕ). Appends (g.W.Write.contents (device_of c.args.output.now))
           (g.W.Write.contents (device_of c.args.output.now)) t)
@@ -37,7 +39,8 @@ pub returns-in-Err-clause-heard : goal.returns-in-Err-clause-heard
 returns-in-Err-clause-heard g c = λ watched earlier row of listens.
     let said = of.said ∙ ap reading_of c.in-Err.is in (
       subst (IsListener watched c.args.listener.now)
-          (sym (hear-untold watched row.datagram (after_all watched (datagrams earlier)) c.in-Err.refusal said)) listens,
+          (sym (hear-untold watched row.datagram (after_all watched (datagrams earlier)) c.in-Err.refusal said))
+          listens,
       subst (λ (t : List ℕ). Appends (g.W.Write.contents (device_of c.args.output.now))
           (g.W.Write.contents (device_of c.args.output.now)) t)
           (sym (no_text c.args.self.now.form watched earlier row
@@ -46,18 +49,19 @@ returns-in-Err-clause-heard g c = λ watched earlier row of listens.
 
 pub returns-clause-heard : goal.returns-clause-heard
 returns-clause-heard g c = λ watched earlier row of listens.
+    let read : Line = c.args.read.now in
     let m : Contents = contents c.in-Ok.message in
     let l : Listening = after_all watched (datagrams earlier) in
     let said = of.said ∙ ap reading_of c.in-Ok.is in
-    let reported = row_reports watched earlier row m c.args.read.now.number c.args.read.now.timed.time said of.numbered
-    of.moment c.hear-became.result (c.hear-became.ensures.became watched l listens)
+    let reported = row_reports watched earlier row m read.number read.timed.time said of.numbered of.moment
+    c.hear-became.result (c.hear-became.ensures.became watched l listens)
     ∙ sym c.report_in.ensures ∙ c.in-Some.is in (
       on_ok c.write.result (subst (IsListener watched c.hear-became.new.self)
-          (sym (row_heard watched earlier row m c.args.read.now.number c.args.read.now.timed.time said of.numbered of.moment))
+          (sym (row_heard watched earlier row m read.number read.timed.time said of.numbered of.moment))
           (c.hear-became.ensures.listens watched l listens)),
       subst (λ (t : List ℕ). Goes c.write.result t (g.W.Write.contents (device_of c.args.output.now))
           (g.W.Write.contents (device_of c.write.new.output)))
-          (sym (row_text_is watched earlier row m c.args.read.now.number c.args.read.now.timed.time said of.numbered of.moment
-          c.args.self.now.form c.args.read.now.timed.text.now c.in-Some.report of.time reported))
+          (sym (row_text_is watched earlier row m read.number read.timed.time said of.numbered of.moment
+          c.args.self.now.form read.timed.text.now c.in-Some.report of.time reported))
           (rw (c.half_of.ensures) at c.write.ensures.written),
     )
