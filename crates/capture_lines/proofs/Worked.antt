@@ -1,5 +1,5 @@
 -- Lines, numbers and measurements, worked by hand.
-use Rattle.std.proofs.Common.{◌≡◌, ◌++◌, ◌-◌, ◌*◌, ℕ, List, pos, negsuc, [], codes, Some, None, refl}
+use Rattle.std.proofs.Common.{◌≡◌, ◌++◌, ◌-◌, ◌*◌, pos, negsuc, [], codes, Some, None, refl}
 use Rattle.std.specs.Fmt.{digits}
 use Rattle.slave_port.specs.declared.heard.Report.{Report}
 use Rattle.capture_lines.specs.declared.measurement.Half.TheVariants.{Sync, Response}

@@ -10,10 +10,11 @@ use Rattle.capture_model.specs.declared.watched.Watched.{Watched}
 use Rattle.capture_measure.specs.declared.measuring.Form.{Form}
 use Rattle.capture_measure.specs.declared.measuring.MeasureFault.{MeasureFault}
 use Rattle.capture_measure.specs.declared.measuring.MeasureFault.TheVariants.{Write, Field, Memory}
-use Rattle.capture_measure.specs.Row.{Row}
+use Rattle.capture_measure.specs.Row.{Row, IsRow}
 use Rattle.capture_measure.specs.Measured.{report_text, reports_text}
 use Rattle.capture_measure.specs.Measure.{is_of_writer, measure_rules, Recording, with_row, written_of, IsNext}
-use Rattle.capture_measure.specs.Inner.Measuring.{Goes, GoesUntil, AreRows, IsMeasuring, IsUnread}
+use Rattle.capture_measure.specs.Inner.Measuring.{IsOfOutput, Goes, GoesUntil, AreRows, HasRow, StopsAt, IsMeasuring}
+use Rattle.capture_measure.specs.Inner.Measuring.{IsUnread}
 use Rattle.capture_measure.specs.declared.measuring.Measuring.{Measuring}
 use Rattle.capture_measure.proofs.Rows.{reports_ahead, grows}
 
@@ -60,8 +61,8 @@ kept_until fault form watched earlier rows row lines a b c are appended until =
     (reports_text form watched rows) a b c appended until same
 
 -- what an answer to a line is, by what goes out
-pub answered : {T : Type 0} (r : Recording) (line : List ℕ) (row : Row) (result : Result T MeasureFault) (new : Measuring)
-    (text : List ℕ) (a b : Option (List ℕ)) → IsNext r line row → written_of (with_row row r) ≡ written_of r ++ text
+pub answered : {T : Type 0} (r : Recording) (line : List ℕ) (row : Row) (result : Result T MeasureFault)
+    (new : Measuring) (text : List ℕ) (a b : Option (List ℕ)) → IsNext r line row → written_of (with_row row r) ≡ written_of r ++ text
     → OnOk result (IsMeasuring new (with_row row r)) → Goes result text a b
     → MatchResult result
     (λ _. (later : Recording) × (out : List ℕ) × IsMeasuring new later
@@ -76,6 +77,42 @@ answered r line row (Err Field) new text a b next grown is goes = absurd goes.0
 answered r line row (Err Memory) new text a b next grown is goes =
     let (of_output, out, rest, split, known) = goes in
     (out, (row, next, rest, grown ∙ ap (λ (t : List ℕ). written_of r ++ t) split), known)
+
+-- a line that wasn't read, though it has a row
+pub unread_until : (fault : MeasureFault) (number : ℕ) (line : List ℕ) (row : Row) (text : List ℕ)
+    (a : Option (List ℕ)) → IsRow number line row → IsUnread fault number line → GoesUntil fault text a a
+unread_until Write number line row text a is unread = absurd unread
+unread_until Field number line row text a is unread = absurd (unread number row is)
+unread_until Memory number line row text a is unread = (tt, [], text, refl, Appends-nil a)
+
+-- where it wasn't read nothing goes out
+pub stops_unread : (fault : MeasureFault) (number : ℕ) (line : List ℕ) (a : Option (List ℕ))
+    → IsUnread fault number line → StopsAt fault number line a a
+stops_unread Write number line a is = absurd is
+stops_unread Field number line a is = (is, Appends-nil a)
+stops_unread Memory number line a is = is
+
+-- where it was read it has a row
+pub stops_read : (fault : MeasureFault) (number : ℕ) (line : List ℕ) (a b : Option (List ℕ)) → IsOfOutput fault
+    → HasRow number line → StopsAt fault number line a b
+stops_read Write number line a b of_output has = has
+stops_read Field number line a b of_output has = absurd of_output
+stops_read Memory number line a b of_output has = has
+
+-- a line that a port hears stops it
+pub stopped : (r : Recording) (line : List ℕ) (fault : MeasureFault) (a b : Option (List ℕ)) (text : Row → List ℕ)
+    → StopsAt fault (length r.rows + 1) line a b
+    → ((row : Row) → written_of (with_row row r) ≡ written_of r ++ text row)
+    → ((row : Row) → IsNext r line row → GoesUntil fault (text row) a b)
+    → (out : List ℕ) × measure_rules.Stops line r fault out × WentOut (is_of_writer fault) (Appends a b out)
+stopped r line Write a b text (row, next) grown goes =
+    let (of_output, out, rest, split, known) = goes row next in
+    (out, (row, next, rest, grown row ∙ ap (λ (t : List ℕ). written_of r ++ t) split), known)
+stopped r line Field a b text (none, nothing) grown goes =
+    ([], (λ row. none (length r.rows + 1) row, refl), nothing)
+stopped r line Memory a b text (row, next) grown goes =
+    let (of_output, out, rest, split, known) = goes row next in
+    (out, (row, next, rest, grown row ∙ ap (λ (t : List ℕ). written_of r ++ t) split), known)
 
 -- a line that wasn't read
 pub unread : (r : Recording) (line : List ℕ) (fault : MeasureFault) (a : Option (List ℕ))

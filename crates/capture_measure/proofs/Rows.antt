@@ -1,16 +1,12 @@
 -- Rows of a recording, and what is written of them.
 use Rattle.std.proofs.Common.{◌≡◌, ◌∙◌, ◌≤◌, ◌<◌, ◌/◌, ◌+◌, ℕ, Bool, List, [], ◌∷◌, ◌++◌, length, take}
-use Rattle.std.proofs.Common.{Option, Some, None, Result, Ok, Err, refl, sym, ap, subst, arith}
-use Rattle.std.specs.Prelude.{IfOk, MatchResult, nat_le, not, is_some, if◌then◌else◌}
+use Rattle.std.proofs.Common.{Option, Some, None, refl, sym, ap, subst, arith}
+use Rattle.std.specs.Prelude.{nat_le, not, is_some, if◌then◌else◌}
 use Rattle.std.specs.Option.{option_map_or}
 use Rattle.std.specs.Result.{result_ok}
 use Rattle.std.proofs.lemmas.List.{append_assoc, append-nil}
 use Rattle.std.proofs.lemmas.Bool.{le-leb, lt-leb}
 use Rattle.hex.specs.Hex.{decode_of}
-use Rattle.event_codec.specs.declared.message.Message.{Message}
-use Rattle.event_codec.specs.declared.refusal.DecodeRefusal.{DecodeRefusal}
-use Rattle.event_codec.specs.Packet.{Packet, contents}
-use Rattle.event_codec.specs.Refusal.{decode_refusal}
 use Rattle.event_codec.specs.Reading.{Reading, IsReading}
 use Rattle.capture_lines.specs.Timed.{parts_of}
 use Rattle.capture_lines.specs.declared.timed.Timed.{Timed}
@@ -20,8 +16,7 @@ use Rattle.capture_measure.specs.declared.watch.Wanted.{Wanted}
 use Rattle.capture_measure.specs.Watch.{watched_in}
 use Rattle.capture_measure.specs.Row.{Row, datagrams, is_known, heard, kept_most, IsRow}
 use Rattle.capture_measure.specs.Measured.{report_text, reports_text, written}
-use Rattle.capture_measure.specs.Inner.Measuring.{IsLine, AreRows}
-use Rattle.capture_measure.proofs.Readings.{IsReading-read}
+use Rattle.capture_measure.specs.Inner.Measuring.{row_of, IsLine, AreRows}
 use Rattle.capture_measure.proofs.Told.{watched-stays}
 
 -- the row of a line has what was read of it
@@ -90,7 +85,8 @@ module _ (w : Wanted) (rows : List Row) (row : Row) (watched : Watched) where
       → kept_most ≤ length rows → heard w (row ∷ rows) ≡ row ∷ []
   heard-many unknown known many =
       heard-first unknown known
-      ∙ ap (λ (b : Bool). if b then row ∷ rows else row ∷ []) (lt-leb (length (row ∷ rows)) kept_most (omega (arith, many)))
+      ∙ ap (λ (b : Bool). if b then row ∷ rows else row ∷ [])
+      (lt-leb (length (row ∷ rows)) kept_most (omega (arith, many)))
 
   -- what is written where it is known whom to watch
   pub written-known : (form : Form) → watched_in w (datagrams rows) ≡ Some watched
@@ -127,13 +123,6 @@ pub grows : (form : Form) (w : Wanted) (rows : List Row) (row : Row)
     → (rest : List ℕ) × (written form w (row ∷ rows) ≡ written form w rows ++ rest)
 grows form w rows row = grows_by form w rows row (watched_in w (datagrams rows)) refl
 
--- the row of a line that was read, whose octets say this
-abbrev pub row_of : (number : ℕ) → Timed → Reading → Row
-row_of number timed said = record {
-  time = timed.text.now;
-  datagram = record { line = number; time = timed.time; said = said };
-}
-
 pub row_read : (number : ℕ) (line room : List ℕ) (timed : Timed) (said : Reading) → IsLine line room timed
     → IsReading (take (length timed.digits.now / 2) room) said → IsRow number line (row_of number timed said)
 row_read number line room timed said read reads = record {
@@ -147,10 +136,12 @@ row_read number line room timed said read reads = record {
   said = reads;
 }
 
--- octets say something
-pub some_reading : (octets : List ℕ) (result : Result (Message × ℕ) DecodeRefusal)
-    → IfOk result (λ r. (r.1 ≤ length octets) × Packet (contents r.0) (take r.1 octets))
-    → MatchResult result (λ r. decode_refusal octets ≡ None) (λ e. decode_refusal octets ≡ Some e)
-    → (said : Reading) × IsReading octets said
-some_reading octets (Ok r) read refused = (Ok (contents r.0), IsReading-read (contents r.0) r.1 octets read.0 read.1)
-some_reading octets (Err refusal) read refused = (Err refusal, refused)
+-- whatever row the line has, it is the one that was read
+pub row_only : (number : ℕ) (line room : List ℕ) (row : Row) (timed : Timed) (said : Reading)
+    → IsLine line room timed
+    → ((other : Reading) → IsReading (take (length timed.digits.now / 2) room) other → other ≡ said)
+    → IsRow number line row
+    → (row.time ≡ timed.text.now) × (row.datagram.time ≡ timed.time) × (row.datagram.said ≡ said)
+row_only number line room row timed said read only is =
+    let parts = row_parts number line room row timed is read in
+    (parts.0, parts.1, only row.datagram.said parts.2)

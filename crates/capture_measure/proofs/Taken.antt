@@ -45,6 +45,18 @@ are_within w rows (Kept kept) is = is.2
 are_within w rows Passed is = tt
 are_within w rows (Hearing listener) is = tt
 
+-- it isn't unknown whom to watch once it is known
+pub not_unknown : {P : Type 0} (w : Wanted) (rows : List Row) (watched : Watched)
+    → watched_in w (datagrams rows) ≡ Some watched → watched_in w (datagrams rows) ≡ None → P
+not_unknown w rows watched known unknown = absurd (true≢false (ap is_some (sym known ∙ unknown)))
+
+-- while no port hears it isn't known whom to watch
+pub not_known : (w : Wanted) (rows : List Row) (stage : Stage) → IsStage w rows stage
+    → ((listener : Listener) → stage ≢ Hearing listener) → watched_in w (datagrams rows) ≡ None
+not_known w rows (Kept kept) is other = is.0
+not_known w rows Passed is other = is.0
+not_known w rows (Hearing listener) is other = absurd (other listener refl)
+
 -- the lines that are heard before the one by which it is known whom to watch
 pub heard_before : (w : Wanted) (rows : List Row) (row : Row) (watched : Watched) (stage : Stage) → IsStage w rows stage
     → ((listener : Listener) → stage ≢ Hearing listener) → watched_in w (datagrams (row ∷ rows)) ≡ Some watched

@@ -46,7 +46,8 @@ abbrev pub Takes : List ℕ → Recording → Recording → List ℕ → Type 0
 Takes line r later out =
     (row : Row) × IsNext r line row × (later ≡ with_row row r) × (written_of later ≡ written_of r ++ out)
 
--- why a line isn't taken: it is none of a recording, or memory or the writer failed; then a part of what it adds went out
+-- why a line isn't taken: it is none of a recording, or memory or the writer failed; then a part of what it adds went
+-- out
 abbrev pub Stops : List ℕ → Recording → MeasureFault → List ℕ → Type 0
 Stops line r Field out = ((row : Row) → IsNext r line row → ⊥) × (out ≡ [])
 Stops line r fault out =
@@ -57,8 +58,8 @@ abbrev pub is_of_writer : MeasureFault → Bool
 is_of_writer Write = true
 is_of_writer fault = false
 
--- each line that is taken adds to a recording, and the number of lines is answered at the end; as many lines are allowed
--- as can be counted
+-- each line that is taken adds to a recording, and the number of lines is answered at the end; as many lines are
+-- allowed as can be counted
 abbrev pub measure_rules : Rules Recording ℕ MeasureFault
 measure_rules = record {
   lines_limit = 2 ^ 64 - 2;
@@ -81,9 +82,10 @@ Measures form w octets left before after answer =
     (headed : Option (List ℕ)) × Appends before headed (head_text form)
     × Answers measure_rules (begun form w) octets left headed after answer
 
--- the head couldn't be written, and nothing was read
-pub record HasNoHead {R W : Type 0} (answer : Result ℕ (Stopped (Cause MeasureFault)))
+-- the head of a table couldn't be written, and nothing was read
+pub record HasNoHead {R W : Type 0} (form : Form) (answer : Result ℕ (Stopped (Cause MeasureFault)))
     (input input' : Counted R) (output output' : Counted W) : Type 0 where
+  pub table : form ≡ Table
   pub stopped : answer ≡ Err (record { line = 0; what = Task Write })
   pub unread : input' ≡ input
   pub failed : HasFailed output output'
@@ -93,7 +95,7 @@ abbrev pub MeasuresAnswer : {R W : Type 0} → Form → Wanted → (R → Option
     → Result ℕ (Stopped (Cause MeasureFault))
     → (input input' : Counted R) (output output' : Counted W) → Type 0
 MeasuresAnswer form w remaining contents answer input input' output output' =
-    HasNoHead answer input input' output output'
+    HasNoHead form answer input input' output output'
     ⊎ ForSome (remaining (device_of input)) (λ octets.
     Measures form w octets (remaining (device_of input')) (contents (device_of output)) (contents (device_of output'))
     answer)

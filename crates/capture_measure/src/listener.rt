@@ -57,7 +57,7 @@ pub(crate) struct Listener {
     next: Seq,
     /// Whether a Delay_Req of the slave came.
     asked: bool,
-    /// Syncs of the master since the last tick that these brought.
+    /// Syncs of the master since the last tick that this count brought.
     syncs: u16,
     /// How many of these in a row, up to the last one, weren't newer than the last Sync that completed.
     stale: u8,

@@ -7,6 +7,7 @@ ghost use Rattle.text_lines.specs.Counted.{device_of, HasFailed, HasNotFailed, H
 ghost use Rattle.std.specs.Io.KnownBytes.{Appends};
 ghost use Rattle.text_lines.specs.Lines.{line_limit, input_limit, GivesWithin};
 ghost use Rattle.text_lines.specs.Task.{FailedAt};
+ghost use Rattle.event_codec.specs.Reading.{Reading, IsReading};
 ghost use Rattle.capture_model.specs.Listening.{after_all};
 ghost use Rattle.capture_lines.specs.Measurement.{measured_of};
 ghost use Rattle.capture_measure.specs.declared.measuring.MeasureFault.TheVariants.{Memory};
@@ -17,7 +18,8 @@ ghost use Rattle.capture_measure.specs.Measure.{Recording, begun, head_text, is_
 ghost use Rattle.capture_measure.specs.Measure.{MeasuresAnswer};
 ghost use Rattle.capture_measure.specs.Inner.Listener.{IsListener, report_by};
 ghost use Rattle.capture_measure.specs.Inner.Watching.{IsWatch};
-ghost use Rattle.capture_measure.specs.Inner.Measuring.{IsLine, NoRow, IsUnread, Goes, AreRows, AreWithin, AreKept};
+ghost use Rattle.capture_measure.specs.Inner.Measuring.{reading_of, IsLine, NoRow, HasRow, IsUnread, IsRead, IsRowOf};
+ghost use Rattle.capture_measure.specs.Inner.Measuring.{IsOfOutput, StopsAt, Goes, AreRows, AreWithin, AreKept};
 ghost use Rattle.capture_measure.specs.Inner.Measuring.{IsHearing, IsStage, IsMeasuring};
 
 use crate::listener::{Became, Listener};
@@ -26,7 +28,7 @@ use crate::watch::{Wanted, Watch};
 use capture_lines::{Half, Measurement, Timed, push_json, push_row, read_timed, table_head};
 use capture_model::Watched;
 use datagram_text::Identity;
-use event_codec::{Body, decode};
+use event_codec::{Body, DecodeRefusal, Message, decode};
 use slave_port::{Heard, Report};
 use std::alloc::{AllocError, AllocFailed, Global};
 use std::fmt;
@@ -128,8 +130,30 @@ struct Measuring {
     lines: u64,
 }
 
+/// A line that was read.
+#[derive(Clone, Copy)]
+struct Line<'line, 'room> {
+    number: u64,
+    timed: Timed<'line>,
+    /// The octets of its datagram.
+    octets: &'room [u8],
+    /// What these say.
+    said: Result<Message<'room>, DecodeRefusal>,
+}
+
+/// The message that octets begin with.
+fn message_in(octets: &[u8]) -> Result<Message<'_>, DecodeRefusal>
+    ensures says { IsReading octets.now (reading_of result) }
+    ensures only { (said : Reading) → IsReading octets.now said → said ≡ reading_of result }
+{
+    match decode(octets) {
+        Ok((message, _)) => Ok(message),
+        Err(refusal) => Err(refusal),
+    }
+}
+
 /// The parts of a line; the octets of its datagram come to stand at the front of the room.
-fn read_line<'a>(line: &'a [u8], room: &mut [u8; DATAGRAM_LIMIT]) -> Option<Timed<'a>>
+fn read_parts<'a>(line: &'a [u8], room: &mut [u8; DATAGRAM_LIMIT]) -> Option<Timed<'a>>
     requires { length line.now ≤ line_limit }
     ensures { MatchOption result (NoRow line.now) (λ timed. IsLine line.now room.new timed) }
 {
@@ -140,6 +164,44 @@ fn read_line<'a>(line: &'a [u8], room: &mut [u8; DATAGRAM_LIMIT]) -> Option<Time
     match hex::decode_to_slice(timed.digits, octets) {
         Ok(()) => Some(timed),
         Err(_) => None,
+    }
+}
+
+/// Reads the line after so many. More lines than can be counted are refused as want of memory.
+fn read_line<'line, 'room>(
+    earlier: u64,
+    line: &'line [u8],
+    room: &'room mut [u8; DATAGRAM_LIMIT],
+) -> Result<Line<'line, 'room>, MeasureFault>
+    requires { length line.now ≤ line_limit }
+    ensures { MatchResult result
+        (IsRead (earlier + 1) line.now)
+        (λ fault. IsUnread fault (earlier + 1) line.now) }
+{
+    let Some(timed) = read_parts(line, room) else {
+        return Err(MeasureFault::Field);
+    };
+    let octets = &room[..timed.digits.len() / 2];
+    let said = message_in(octets);
+    match earlier.checked_add(1) {
+        Some(number) => Ok(Line {
+            number,
+            timed,
+            octets,
+            said,
+        }),
+        None => Err(MeasureFault::Memory),
+    }
+}
+
+/// Takes what a line tells of whom to watch.
+fn notice(watch: &mut Watch, read: &Line<'_, '_>)
+    ensures { (w : Wanted) (rows : List Row) (row : Row) → IsRowOf read.now row
+        → IsWatch w (datagrams rows) watch.old → IsWatch w (datagrams (row ∷ rows)) watch.new }
+{
+    match &read.said {
+        Ok(message) => watch.notice(read.number, message),
+        Err(_) => {}
     }
 }
 
@@ -179,45 +241,88 @@ impl Reports {
         }
     }
 
-    /// A port hears the datagram of the line of this number, and its report goes out.
-    fn hear<W: Write>(
+    /// Counts a line by which it isn't known yet whom to watch.
+    fn count_early(&mut self, read: &Line<'_, '_>)
+        ensures { self.new.form ≡ self.old.form }
+    {
+        self.tally.count_time(read.timed.time);
+        match &read.said {
+            Ok(message) => self.tally.count_early(&message.body),
+            Err(refusal) => self.tally.count_refused(*refusal),
+        }
+    }
+
+    /// A port hears the datagram of a line, and its report goes out.
+    fn hear_line<W: Write>(
         &mut self,
         listener: &mut Listener,
-        number: u64,
-        line: &[u8],
+        read: &Line<'_, '_>,
         output: &mut Counted<W>,
     ) -> Result<(), MeasureFault>
-        requires { length line.now ≤ line_limit }
-        ensures heard { (watched : Watched) (earlier : List Row) (row : Row) → IsRow number line.now row
+        requires { IsReading read.now.octets.now (reading_of read.now.said) }
+        ensures heard { (watched : Watched) (earlier : List Row) (row : Row) → IsRowOf read.now row
             → IsListener watched listener.old (after_all watched (datagrams earlier))
             → OnOk result (IsListener watched listener.new (after_all watched (datagrams (row ∷ earlier))))
             × Goes result (report_text self.old.form watched earlier row)
             (W.contents (device_of output.old)) (W.contents (device_of output.new)) }
+        ensures of_output { MatchResult result (λ _. ⊤) IsOfOutput }
         ensures form { self.new.form ≡ self.old.form }
         ensures failures { MatchResult result
             (λ _. HasNotFailed output.old output.new)
             (λ fault. HasFailedIf (is_of_writer fault) output.old output.new) }
     {
-        let mut room = [0; DATAGRAM_LIMIT];
-        let Some(timed) = read_line(line, &mut room) else {
-            return Err(MeasureFault::Field);
+        self.tally.count_time(read.timed.time);
+        let message = match &read.said {
+            Ok(message) => message,
+            Err(refusal) => {
+                self.tally.count_refused(*refusal);
+                return Ok(());
+            }
         };
-        let octets = &room[..timed.digits.len() / 2];
-        let Ok((message, _)) = decode(octets) else {
-            return Ok(());
-        };
-        let became = listener.hear(number, timed.time, octets, &message);
+        let became = listener.hear(read.number, read.timed.time, read.octets, message);
         self.tally.count_heard(&message.body, became);
         let Some(report) = report_in(became) else {
             return Ok(());
         };
         let measured = Measurement {
             by: half_of(&message.body),
-            line: number,
-            time: timed.text,
+            line: read.number,
+            time: read.timed.text,
             report,
         };
         self.write(&measured, output)
+    }
+
+    /// A port hears the datagram of the line after so many, and its report goes out. Answers the line's number.
+    fn hear<W: Write>(
+        &mut self,
+        listener: &mut Listener,
+        earlier: u64,
+        line: &[u8],
+        output: &mut Counted<W>,
+    ) -> Result<u64, MeasureFault>
+        requires { length line.now ≤ line_limit }
+        ensures heard { (watched : Watched) (before : List Row) (row : Row) → IsRow (earlier + 1) line.now row
+            → IsListener watched listener.old (after_all watched (datagrams before))
+            → OnOk result (IsListener watched listener.new (after_all watched (datagrams (row ∷ before))))
+            × Goes result (report_text self.old.form watched before row)
+            (W.contents (device_of output.old)) (W.contents (device_of output.new)) }
+        ensures answered { MatchResult result
+            (λ number. (number ≡ earlier + 1) × HasRow (earlier + 1) line.now)
+            (λ fault. StopsAt fault (earlier + 1) line.now
+            (W.contents (device_of output.old)) (W.contents (device_of output.new))) }
+        ensures form { self.new.form ≡ self.old.form }
+        ensures failures { MatchResult result
+            (λ _. HasNotFailed output.old output.new)
+            (λ fault. HasFailedIf (is_of_writer fault) output.old output.new) }
+    {
+        let mut room = [0; DATAGRAM_LIMIT];
+        let read = match read_line(earlier, line, &mut room) {
+            Ok(read) => read,
+            Err(fault) => return Err(fault),
+        };
+        self.hear_line(listener, &read, output)?;
+        Ok(read.number)
     }
 
     /// A port hears all lines that were kept, the first of which is that of number 1.
@@ -240,15 +345,14 @@ impl Reports {
     {
         let mut number = 0;
         for line in kept {
-            number += 1;
-            self.hear(listener, number, line.as_slice(), output)?;
+            number = self.hear(listener, number, line.as_slice(), output)?;
         }
         Ok(())
     }
 }
 
 impl Reports {
-    /// A port hears the lines that were kept, if any were.
+    /// A port hears the lines that were kept, if any were, which are counted anew.
     fn hear_earlier<W: Write>(
         &mut self,
         listener: &mut Listener,
@@ -267,7 +371,10 @@ impl Reports {
             (λ fault. HasFailedIf (is_of_writer fault) output.old output.new) }
     {
         match stage {
-            Stage::Kept(kept) => self.hear_kept(listener, kept.as_slice(), output),
+            Stage::Kept(kept) => {
+                self.tally = Tally::new();
+                self.hear_kept(listener, kept.as_slice(), output)
+            }
             Stage::Passed => Ok(()),
             Stage::Hearing(_) => Ok(()),
         }
@@ -290,13 +397,20 @@ impl LineTask for Measuring {
     }
 
     fn take<W: Write>(&mut self, line: &[u8], output: &mut Counted<W>) -> Result<(), MeasureFault> {
-        self.notice(line)?;
         if let Stage::Hearing(listener) = &mut self.stage {
-            return self.reports.hear(listener, self.lines, line, output);
+            self.lines = self.reports.hear(listener, self.lines, line, output)?;
+            return Ok(());
         }
+        let mut room = [0; DATAGRAM_LIMIT];
+        let read = match read_line(self.lines, line, &mut room) {
+            Ok(read) => read,
+            Err(fault) => return Err(fault),
+        };
+        self.lines = read.number;
+        notice(&mut self.watch, &read);
         match self.watch.watched() {
-            Some(watched) => self.begin(watched, line, output),
-            None => self.keep(line),
+            Some(watched) => self.begin(watched, &read, output),
+            None => self.keep(&read, line),
         }
     }
 
@@ -330,51 +444,20 @@ impl Measuring {
         }
     }
 
-    /// Counts a line, and takes what it tells of whom to watch. More lines than can be counted are
-    /// refused as want of memory.
-    fn notice(&mut self, line: &[u8]) -> Result<(), MeasureFault>
-        requires { length line.now ≤ line_limit }
-        ensures noticed { (w : Wanted) (rows : List Row) → IsWatch w (datagrams rows) self.old.watch
-            → self.old.lines ≡ length rows → MatchResult result
-            (λ _. (row : Row) × IsRow (length rows + 1) line.now row × IsWatch w (datagrams (row ∷ rows)) self.new.watch
-            × (self.new.lines ≡ length rows + 1))
-            (λ fault. IsUnread fault (length rows + 1) line.now) }
-        ensures stage { self.new.stage ≡ self.old.stage }
-        ensures form { self.new.reports.form ≡ self.old.reports.form }
-    {
-        let mut room = [0; DATAGRAM_LIMIT];
-        let Some(timed) = read_line(line, &mut room) else {
-            return Err(MeasureFault::Field);
-        };
-        let said = decode(&room[..timed.digits.len() / 2]);
-        let Some(lines) = self.lines.checked_add(1) else {
-            return Err(MeasureFault::Memory);
-        };
-        self.lines = lines;
-        self.reports.tally.count_time(timed.time);
-        match said {
-            Ok((message, _)) => {
-                self.watch.notice(lines, &message);
-                self.reports.tally.count_early(&message.body);
-            }
-            Err(refusal) => self.reports.tally.count_refused(refusal),
-        }
-        Ok(())
-    }
-
-    /// Keeps a line, unless there are too many.
-    fn keep(&mut self, line: &[u8]) -> Result<(), MeasureFault>
+    /// Keeps a line by which it isn't known yet whom to watch, unless there are too many.
+    fn keep(&mut self, read: &Line<'_, '_>, line: &[u8]) -> Result<(), MeasureFault>
         requires { length line.now ≤ line_limit }
         ensures kept { (w : Wanted) (rows : List Row) (row : Row) → IsRow (length rows + 1) line.now row
-            → watched_in w (datagrams (row ∷ rows)) ≡ None → self.old.lines ≡ length rows + 1
+            → watched_in w (datagrams (row ∷ rows)) ≡ None → read.now.number ≡ length rows + 1
             → IsStage w rows self.old.stage → OnOk result (IsStage w (row ∷ rows) self.new.stage) }
         ensures memory { MatchResult result (λ _. ⊤) (λ fault. fault ≡ Memory) }
         ensures watch { self.new.watch ≡ self.old.watch }
         ensures lines { self.new.lines ≡ self.old.lines }
         ensures form { self.new.reports.form ≡ self.old.reports.form }
     {
+        self.reports.count_early(read);
         match &mut self.stage {
-            Stage::Kept(kept) if self.lines < KEPT_MOST => {
+            Stage::Kept(kept) if read.number < KEPT_MOST => {
                 let mut copy = Vec::new(self.alloc);
                 copy.extend_from_slice(line)?;
                 kept.push(copy)?;
@@ -390,18 +473,17 @@ impl Measuring {
     fn begin<W: Write>(
         &mut self,
         watched: Watched,
-        line: &[u8],
+        read: &Line<'_, '_>,
         output: &mut Counted<W>,
     ) -> Result<(), MeasureFault>
-        requires line { length line.now ≤ line_limit }
+        requires says { IsReading read.now.octets.now (reading_of read.now.said) }
         requires kept { AreWithin self.old.stage }
-        ensures begun { (earlier : List Row) (row : Row) → IsRow self.old.lines line.now row
+        ensures begun { (earlier : List Row) (row : Row) → IsRowOf read.now row
             → AreKept self.old.stage earlier
             → OnOk result (IsHearing watched (row ∷ earlier) self.new.stage)
             × Goes result (reports_text self.old.reports.form watched (row ∷ earlier))
             (W.contents (device_of output.old)) (W.contents (device_of output.new)) }
         ensures form { self.new.reports.form ≡ self.old.reports.form }
-        ensures watch { self.new.watch ≡ self.old.watch }
         ensures lines { self.new.lines ≡ self.old.lines }
         ensures failures { MatchResult result
             (λ _. HasNotFailed output.old output.new)
@@ -410,7 +492,7 @@ impl Measuring {
         let mut listener = Listener::new(watched);
         self.reports
             .hear_earlier(&mut listener, &self.stage, output)?;
-        self.reports.hear(&mut listener, self.lines, line, output)?;
+        self.reports.hear_line(&mut listener, read, output)?;
         self.stage = Stage::Hearing(listener);
         Ok(())
     }
@@ -479,7 +561,7 @@ impl Summary {
 fn write_head<W: Write>(form: Form, output: &mut Counted<W>) -> Result<(), MeasureFault>
     ensures written { MatchResult result
         (λ _. Appends (W.contents (device_of output.old)) (W.contents (device_of output.new)) (head_text form))
-        (λ fault. fault ≡ MeasureFault.Write) }
+        (λ fault. (form ≡ Form.Table) × (fault ≡ MeasureFault.Write)) }
     ensures failures { MatchResult result
         (λ _. HasNotFailed output.old output.new)
         (λ _. HasFailed output.old output.new) }

@@ -199,8 +199,8 @@ pub(crate) struct Tally {
     reports: u64,
     /// How often the slave began anew.
     anew: u64,
-    /// A time that isn't of whole microseconds came.
-    finer: bool,
+    /// Whether all times are of whole microseconds; None where none came.
+    whole: Option<bool>,
 }
 
 impl Tally {
@@ -210,7 +210,7 @@ impl Tally {
             counts: [[0; REASONS]; KINDS],
             reports: 0,
             anew: 0,
-            finer: false,
+            whole: None,
         }
     }
 
@@ -219,14 +219,9 @@ impl Tally {
         *count = count.saturating_add(1);
     }
 
-    fn take_back(&mut self, kind: Kind, why: Why) {
-        let count = &mut self.counts[usize::from(kind as u8)][usize::from(why as u8)];
-        *count = count.saturating_sub(1);
-    }
-
     /// Takes the time of a line.
     pub(crate) fn count_time(&mut self, time: ScaledTime) {
-        self.finer = self.finer || time.value() % MICROSECOND != 0;
+        self.whole = Some(self.whole.unwrap_or(true) && time.value() % MICROSECOND == 0);
     }
 
     /// Counts a report that was written.
@@ -234,9 +229,8 @@ impl Tally {
         self.reports = self.reports.saturating_add(1);
     }
 
-    /// Counts a message that is heard, and not as one that came too early.
+    /// Counts a message that is heard.
     pub(crate) fn count_heard(&mut self, body: &Body, became: Became) {
-        self.take_back(Kind::of(body), Why::TooEarly);
         if became == Became::Anew {
             self.anew = self.anew.saturating_add(1);
         }
@@ -251,7 +245,7 @@ impl Tally {
         }
     }
 
-    /// Counts a message that isn't heard yet, which is too early until it is.
+    /// Counts a message that isn't heard, or not yet, since it isn't known whom to watch.
     pub(crate) fn count_early(&mut self, body: &Body) {
         self.count(Kind::of(body), Why::TooEarly);
     }
@@ -282,7 +276,7 @@ impl Tally {
         if self.anew > 0 {
             let _ = writeln!(errors, "ptpx: {} times the slave began anew", self.anew);
         }
-        if !self.finer {
+        if self.whole == Some(true) {
             let _ = writeln!(errors, "ptpx: all times are of whole microseconds");
         }
     }

@@ -32,8 +32,9 @@ setup_with w first =
     table_capacity
 
 -- The port: the number of its first request, and its calls, newest first; whether a Delay_Req of the slave came; how
--- many Syncs of the master came since the last tick that these brought; and how many of these in a row, up to the last
--- one, weren't newer than the last Sync that completed.
+-- many Syncs of the master came since the last tick that this count brought, which the two ticks after Syncs that
+-- aren't newer leave as it is; and how many of these Syncs in a row, up to the last one, weren't newer than the last
+-- Sync that completed.
 pub record Listening : Type 0 where
   pub first : ℕ
   pub calls : List Call
@@ -104,7 +105,7 @@ asks w line time number l = record l {
   asked = true;
 }
 
--- the slave began anew: a new port, whose requests begin with this number
+-- the slave began anew: a new port, whose requests begin with this number; the Syncs stay counted
 abbrev pub anew : Watched → (number : ℕ) → Listening → Listening
 anew w number l = record l { first = number; calls = calls.SetMaster w.master ∷ [] }
 

@@ -40,7 +40,7 @@ is_tick _ = false
 abbrev pub ticks_in : Listening → ℕ
 ticks_in l = count_by is_tick l.calls
 
--- a datagram brings a tick
+-- after a datagram the port was given another number of ticks: more, or fewer where it is a new port
 abbrev pub brings_tick : Watched → List Recorded → Recorded → Bool
 brings_tick w earlier d = not (ticks_in (hear w d (after_all w earlier)) == ticks_in (after_all w earlier))
 

@@ -1,15 +1,20 @@
 -- What is kept while a recording is measured, and what goes out of it.
 use Rattle.std.specs.Prelude.{◌≡◌, ℕ, ◌+◌, ◌<◌, ◌≤◌, ◌/◌, ⊤, List, [], ◌∷◌, ◌++◌, length, take, map, Some, None, Ok}
-use Rattle.std.specs.Prelude.{Option, Result, MatchResult}
+use Rattle.std.specs.Prelude.{Err, Option, Result, MatchResult}
 use Rattle.std.specs.List.{All}
 use Rattle.std.specs.Io.KnownBytes.{Appends}
 use Rattle.hex.specs.Hex.{decode_of}
+use Rattle.event_codec.specs.declared.message.Message.{Message}
+use Rattle.event_codec.specs.declared.refusal.DecodeRefusal.{DecodeRefusal}
+use Rattle.event_codec.specs.Packet.{contents}
+use Rattle.event_codec.specs.Reading.{Reading, IsReading}
 use Rattle.text_lines.specs.Lines.{line_limit}
 use Rattle.text_lines.specs.Task.{WentOut}
 use Rattle.capture_lines.specs.Timed.{parts_of, timed_in}
 use Rattle.capture_lines.specs.declared.timed.Timed.{Timed}
 use Rattle.capture_model.specs.declared.watched.Watched.{Watched}
 use Rattle.capture_model.specs.Listening.{after_all}
+use Rattle.capture_measure.specs.declared.measuring.Line.{Line}
 use Rattle.capture_measure.specs.declared.measuring.MeasureFault.{MeasureFault}
 use Rattle.capture_measure.specs.declared.measuring.MeasureFault.TheVariants.{Write, Field, Memory}
 use Rattle.capture_measure.specs.declared.measuring.Measuring.{Measuring}
@@ -28,6 +33,36 @@ pub record IsLine (line room : List ℕ) (timed : Timed) : Type 0 where
   pub within : length timed.digits.now / 2 ≤ length room
   pub decoded : decode_of timed.digits.now ≡ Ok (take (length timed.digits.now / 2) room)
 
+-- what octets say, by the message or the refusal that was read of them
+abbrev pub reading_of : Result Message DecodeRefusal → Reading
+reading_of (Ok message) = Ok (contents message)
+reading_of (Err refusal) = Err refusal
+
+-- the row of a line with these parts, whose octets say this
+abbrev pub row_of : (number : ℕ) → Timed → Reading → Row
+row_of number timed said = record {
+  time = timed.text.now;
+  datagram = record { line = number; time = timed.time; said = said };
+}
+
+-- a row has what was read of a line
+pub record IsRowOf (read : Line) (row : Row) : Type 0 where
+  pub time : row.time ≡ read.timed.text.now
+  pub numbered : row.datagram.line ≡ read.number
+  pub moment : row.datagram.time ≡ read.timed.time
+  pub said : row.datagram.said ≡ reading_of read.said
+
+-- this was read of the line of this number, and whatever row it has is that
+pub record IsRead (number : ℕ) (line : List ℕ) (read : Line) : Type 0 where
+  pub numbered : read.number ≡ number
+  pub row : IsRow number line (row_of number read.timed (reading_of read.said))
+  pub only : (row : Row) → IsRow number line row → IsRowOf read row
+  pub says : IsReading read.octets.now (reading_of read.said)
+
+-- a line of this number is one of a recording
+abbrev pub HasRow : (number : ℕ) → List ℕ → Type 0
+HasRow number line = (row : Row) × IsRow number line row
+
 -- a line is none of a recording, whatever its number
 abbrev pub NoRow : List ℕ → Type 0
 NoRow line = (number : ℕ) → (row : Row) → IsRow number line row → ⊥
@@ -36,7 +71,7 @@ NoRow line = (number : ℕ) → (row : Row) → IsRow number line row → ⊥
 abbrev pub IsUnread : MeasureFault → (number : ℕ) → List ℕ → Type 0
 IsUnread Write number line = ⊥
 IsUnread Field number line = NoRow line
-IsUnread Memory number line = (row : Row) × IsRow number line row
+IsUnread Memory number line = HasRow number line
 
 -- a fault of what is written, not of a line
 abbrev pub IsOfOutput : MeasureFault → Type 0
@@ -49,6 +84,12 @@ abbrev pub GoesUntil : MeasureFault → List ℕ → (before after : Option (Lis
 GoesUntil fault text before after =
     IsOfOutput fault × (out : List ℕ) × (rest : List ℕ) × (text ≡ out ++ rest)
     × WentOut (is_of_writer fault) (Appends before after out)
+
+-- why a port stops at the line of this number: where it is none of a recording nothing goes out
+abbrev pub StopsAt : MeasureFault → (number : ℕ) → List ℕ → (before after : Option (List ℕ)) → Type 0
+StopsAt Write number line before after = HasRow number line
+StopsAt Field number line before after = NoRow line × Appends before after []
+StopsAt Memory number line before after = HasRow number line
 
 -- a text went out, or a part of it before a fault
 abbrev pub Goes : {T : Type 0} → Result T MeasureFault → List ℕ → (before after : Option (List ℕ)) → Type 0
@@ -88,9 +129,9 @@ IsStage w rows (Hearing listener) =
     (watched : Watched) × (watched_in w (datagrams rows) ≡ Some watched)
     × IsListener watched listener (after_all watched (datagrams (heard w rows)))
 
--- what is kept is that of these lines
+-- what is kept is that of these lines; the watch isn't asked any more once it is known whom to watch
 pub record IsMeasuring (task : Measuring) (r : Recording) : Type 0 where
   pub form : task.reports.form ≡ r.form
   pub counted : task.lines ≡ length r.rows
-  pub watch : IsWatch r.wanted (datagrams r.rows) task.watch
+  pub watch : watched_in r.wanted (datagrams r.rows) ≡ None → IsWatch r.wanted (datagrams r.rows) task.watch
   pub stage : IsStage r.wanted r.rows task.stage

@@ -5,25 +5,27 @@ use Rattle.capture_measure.proofs.Goes.{GoesUntil-after, kept_until}
 use Rattle.capture_measure.proofs.measuring.Measuring.begin.Goals as goal
 
 pub returns-in_err-hear_earlier-clause-begun : goal.returns-in_err-hear_earlier-clause-begun
-returns-in_err-hear_earlier-clause-begun g c = λ earlier row is kept.
+returns-in_err-hear_earlier-clause-begun g c = λ earlier row of kept.
     let e = err_from_is_err_and c.from_residual.result c.from_residual.ensures.1 in
     let heard = c.in_err-hear_earlier.ensures.heard c.args.watched earlier kept c.new-listener.ensures in
     rw (e.1, e.2)
     (tt, GoesUntil-after c.in_err-hear_earlier.field-0.0 [] _ _ _ _ _ _ (Appends-nil _) heard.1 refl)
 
-pub returns-in_err-hear-clause-begun : goal.returns-in_err-hear-clause-begun
-returns-in_err-hear-clause-begun g c = λ earlier row is kept.
-    let e = err_from_is_err_and c.from_residual-in_err-hear.result c.from_residual-in_err-hear.ensures.1 in
+pub returns-in_err-hear_line-clause-begun : goal.returns-in_err-hear_line-clause-begun
+returns-in_err-hear_line-clause-begun g c = λ earlier row of kept.
+    let e = err_from_is_err_and c.from_residual-in_err-hear_line.result c.from_residual-in_err-hear_line.ensures.1 in
     let before = c.in_ok-hear_earlier.ensures.heard c.args.watched earlier kept c.new-listener.ensures in
-    let heard = (rw c.in_ok-hear_earlier.ensures.form at c.in_err-hear.ensures.heard) c.args.watched earlier row is before.0 in
+    let heard = (rw c.in_ok-hear_earlier.ensures.form at c.in_err-hear_line.ensures.heard) c.args.watched earlier row of
+    before.0 in
     rw (e.1, e.2) (
       tt,
-      kept_until c.in_err-hear.field-0.0 c.args.self.now.reports.form c.args.watched earlier (row ∷ earlier) row [] _ _ _
-          refl before.1 heard.1,
+      kept_until c.in_err-hear_line.field-0.0 c.args.self.now.reports.form c.args.watched earlier (row ∷ earlier) row []
+          _ _ _ refl before.1 heard.1,
     )
 
 pub returns-clause-begun : goal.returns-clause-begun
-returns-clause-begun g c = λ earlier row is kept.
+returns-clause-begun g c = λ earlier row of kept.
     let before = c.in_ok-hear_earlier.ensures.heard c.args.watched earlier kept c.new-listener.ensures in
-    let heard = (rw c.in_ok-hear_earlier.ensures.form at c.in_ok-hear.ensures.heard) c.args.watched earlier row is before.0 in
+    let heard = (rw c.in_ok-hear_earlier.ensures.form at c.in_ok-hear_line.ensures.heard) c.args.watched earlier row of
+    before.0 in
     (heard.0, Appends-trans _ _ _ _ _ before.1 heard.1)

@@ -9,7 +9,7 @@ pub returns-in_ok-push-in-Kept-clause-kept : goal.returns-in_ok-push-in-Kept-cla
 returns-in_ok-push-in-Kept-clause-kept c = λ w rows row is unknown counted stage.
     let stood = rw c.in-Kept.is at stage in (
       unknown,
-      omega (arith, counted, c.if-self-lt-KEPT_MOST.true),
+      omega (arith, counted, c.if-read-lt-KEPT_MOST.true),
       within_more c.args.line.now c.in-Kept.kept.items c.push.new.self.items c.extend_from_slice.new.self
           c.in_ok-push-in-Kept.ensures.items (search rules) c.requires stood.2,
       kept_more rows row c.args.line.now c.in-Kept.kept.items c.push.new.self.items c.extend_from_slice.new.self

@@ -1,58 +1,30 @@
-use Rattle.std.proofs.Common.{◌∙◌, ℕ, List, sym, subst}
-use Rattle.std.proofs.KnownBytes.{Appends-nil}
-use Rattle.std.specs.Io.KnownBytes.{Appends}
-use Rattle.event_codec.specs.Packet.{Contents, contents}
-use Rattle.text_lines.specs.Counted.{device_of}
-use Rattle.capture_model.specs.Listening.{Listening, after_all}
-use Rattle.capture_measure.specs.Row.{datagrams}
-use Rattle.capture_measure.specs.Inner.Listener.{IsListener}
-use Rattle.capture_measure.specs.Inner.Measuring.{Goes}
-use Rattle.capture_measure.proofs.Heard.{on_ok, said_ok, no_text, row_heard, row_reports, row_text_is}
-use Rattle.capture_measure.proofs.Readings.{IsReading-read}
-use Rattle.capture_measure.proofs.Rows.{row_parts}
+use Rattle.std.proofs.Common.{◌+◌}
+use Rattle.std.proofs.lemmas.Result.{err_from_is_err_and}
+use Rattle.capture_measure.proofs.Goes.{unread_until, stops_unread, stops_read}
 use Rattle.capture_measure.proofs.measuring.Reports.hear.Goals as goal
 
-pub returns-in_default-clause-heard : goal.returns-in_default-clause-heard
-returns-in_default-clause-heard g c = λ watched earlier row is listens. absurd (c.in_default.ensures c.args.number row is)
+pub returns-in-Err-clause-heard : goal.returns-in-Err-clause-heard
+returns-in-Err-clause-heard g c = λ watched before row is listens.
+    (tt, unread_until c.in-Err.fault (c.args.earlier + 1) c.args.line.now row _ _ is c.in-Err.ensures)
 
-pub hear-became-requires : goal.hear-became-requires
-hear-became-requires g c =
-    IsReading-read (contents c.in-Ok.message) c.in-Ok.field-0-1 _ c.in-Ok.ensures.read.0 c.in-Ok.ensures.read.1
+pub returns-in-Err-clause-answered : goal.returns-in-Err-clause-answered
+returns-in-Err-clause-answered g c = stops_unread c.in-Err.fault (c.args.earlier + 1) c.args.line.now _ c.in-Err.ensures
 
-pub returns-in_default-report_in-clause-heard : goal.returns-in_default-report_in-clause-heard
-returns-in_default-report_in-clause-heard g c = λ watched earlier row is listens.
-    let m : Contents = contents c.in-Ok.message in
-    let l : Listening = after_all watched (datagrams earlier) in
-    let parts = row_parts c.args.number c.args.line.now _ row c.in-Some.timed is c.in-Some.ensures in
-    let said = said_ok c.in-Ok.message c.in-Ok.field-0-1 row.datagram.said
-    (c.in-Ok.ensures.reading row.datagram.said parts.2) in
-    let reported = row_reports watched earlier row m c.args.number c.in-Some.timed.time said is.numbered parts.1
-    c.hear-became.result (c.hear-became.ensures.became watched l listens)
-    ∙ sym c.report_in.ensures ∙ c.in_default-report_in.is in (
-      subst (IsListener watched c.hear-became.new.self)
-          (sym (row_heard watched earlier row m c.args.number c.in-Some.timed.time said is.numbered parts.1))
-          (c.hear-became.ensures.listens watched l listens),
-      subst (λ (t : List ℕ). Appends (g.W.Write.contents (device_of c.args.output.now))
-          (g.W.Write.contents (device_of c.args.output.now)) t)
-          (sym (no_text c.args.self.now.form watched earlier row reported)) (Appends-nil _),
-    )
+pub returns-in_err-hear_line-clause-heard : goal.returns-in_err-hear_line-clause-heard
+returns-in_err-hear_line-clause-heard g c = λ watched before row is listens.
+    let e = err_from_is_err_and c.from_residual.result c.from_residual.ensures.1 in
+    let heard = c.in_err-hear_line.ensures.heard watched before row (c.in-Ok.ensures.only row is) listens in
+    rw (e.1, e.2) (tt, heard.1)
+
+pub returns-in_err-hear_line-clause-answered : goal.returns-in_err-hear_line-clause-answered
+returns-in_err-hear_line-clause-answered g c =
+    let e = err_from_is_err_and c.from_residual.result c.from_residual.ensures.1 in
+    rw (e.1, e.2) (stops_read c.in_err-hear_line.field-0.0 (c.args.earlier + 1) c.args.line.now _ _
+    c.in_err-hear_line.ensures.of_output (_, c.in-Ok.ensures.row))
 
 pub returns-clause-heard : goal.returns-clause-heard
-returns-clause-heard g c = λ watched earlier row is listens.
-    let m : Contents = contents c.in-Ok.message in
-    let l : Listening = after_all watched (datagrams earlier) in
-    let parts = row_parts c.args.number c.args.line.now _ row c.in-Some.timed is c.in-Some.ensures in
-    let said = said_ok c.in-Ok.message c.in-Ok.field-0-1 row.datagram.said
-    (c.in-Ok.ensures.reading row.datagram.said parts.2) in
-    let reported = row_reports watched earlier row m c.args.number c.in-Some.timed.time said is.numbered parts.1
-    c.hear-became.result (c.hear-became.ensures.became watched l listens)
-    ∙ sym c.report_in.ensures ∙ c.in-Some-report_in.is in (
-      on_ok c.write.result (subst (IsListener watched c.hear-became.new.self)
-          (sym (row_heard watched earlier row m c.args.number c.in-Some.timed.time said is.numbered parts.1))
-          (c.hear-became.ensures.listens watched l listens)),
-      subst (λ (t : List ℕ). Goes c.write.result t (g.W.Write.contents (device_of c.args.output.now))
-          (g.W.Write.contents (device_of c.write.new.output)))
-          (sym (row_text_is watched earlier row m c.args.number c.in-Some.timed.time said is.numbered parts.1
-          c.args.self.now.form c.in-Some.timed.text.now c.in-Some-report_in.report parts.0 reported))
-          (rw (c.half_of.ensures) at c.write.ensures.written),
-    )
+returns-clause-heard g c = λ watched before row is listens.
+    c.in_ok-hear_line.ensures.heard watched before row (c.in-Ok.ensures.only row is) listens
+
+pub returns-clause-answered : goal.returns-clause-answered
+returns-clause-answered g c = (c.in-Ok.ensures.numbered, (_, c.in-Ok.ensures.row))
