@@ -1,7 +1,7 @@
 -- Octets leave one answer of `show`, `replay`, `check_text` and `measure` each, as `laws::octets_have_one_answer`
--- promises, but where a device failed or memory was refused. Free is at which octet the reader fails (801); at which line
--- the writer fails, and what went out (802); at which line memory is refused, and how many of the nodes' lines, or of the
--- reports of kept lines, went out then (808).
+-- promises, but where a device failed or memory was refused. Free is at which octet the reader fails (801); at which
+-- line the writer fails, and what went out (802); at which line memory is refused, and how many of the nodes' lines, or
+-- how much of what that line of a recording brings, went out then (808).
 use Rattle.std.specs.Prelude.{◌≡◌, List, ℕ, Option, Result, MatchResult, ⊤}
 use Rattle.std.specs.Io.KnownBytes.{Appends}
 use Rattle.schedule_replay.specs.declared.fault.FaultKind.{FaultKind}
