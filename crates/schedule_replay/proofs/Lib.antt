@@ -10,4 +10,5 @@ pub mod Replayed
 pub mod ReplayedRanges
 pub mod OneText
 pub mod OneLine
+pub mod OneRow
 pub mod OneAnswer

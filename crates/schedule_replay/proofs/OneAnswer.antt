@@ -1,6 +1,8 @@
--- Octets have one answer of `show`, `replay` and `check_text`, where no device failed and no memory was refused.
+-- Octets have one answer of `show`, `replay`, `check_text` and `measure`, where no device failed and no memory was refused.
 use Rattle.std.proofs.Common.{◌≡◌, ◌≢◌, ◌∙◌, inl, inr, ℕ, ◌+◌, ◌==◌, if◌then◌else◌, List, [], ◌∷◌, ◌++◌, length, true, false, Option, Some, None, Result, Ok, Err, refl, sym, ap, subst}
-use Rattle.std.specs.Prelude.{is_ok, option_map}
+use Rattle.std.specs.Prelude.{is_ok, option_map, MatchResult, ⊤}
+use Rattle.std.proofs.KnownBytes.{Appends-trans}
+use Rattle.std.proofs.lemmas.List.{append_cancel_left}
 use Rattle.std.proofs.lemmas.Bool.{ne_eqb, eq-eqb}
 use Rattle.hex.specs.Hex.{decode_of}
 use Rattle.network_model.specs.declared.refusal.WorldRefusal.{WorldRefusal}
@@ -16,13 +18,22 @@ use Rattle.schedule_lines.specs.declared.reading.transcript.TranscriptLine.TheVa
 use Rattle.text_lines.specs.declared.fault.Cause.{Cause}
 use Rattle.text_lines.specs.declared.fault.Cause.TheVariants.{Reading, Task}
 use Rattle.text_lines.specs.declared.fault.ReadingFault.TheVariants as reading
-use Rattle.text_lines.specs.Task.{Rules}
+use Rattle.text_lines.specs.declared.fault.Stopped.{Stopped}
+use Rattle.text_lines.specs.Task.{Rules, Answers}
 use Rattle.text_lines.proofs.OneAnswer.{HasOneCourse, AreOneAnswer, one_answer, course_of_all, course_until}
 use Rattle.text_lines.proofs.OneAnswer as courses
 use Rattle.schedule_replay.specs.declared.fault.TaskFault.{TaskFault}
 use Rattle.schedule_replay.specs.declared.fault.TaskFault.TheVariants.{Write, Json, Field, World, Memory}
 use Rattle.schedule_replay.specs.declared.fault.FaultKind.{FaultKind}
-use Rattle.schedule_replay.specs.Fault.{of_task, kind_of, is_write}
+use Rattle.capture_measure.specs.declared.measuring.Form.{Form}
+use Rattle.capture_measure.specs.declared.measuring.MeasureFault.{MeasureFault}
+use Rattle.capture_measure.specs.declared.measuring.MeasureFault.TheVariants as measuring
+use Rattle.capture_measure.specs.declared.watch.Wanted.{Wanted}
+use Rattle.capture_measure.specs.Row.{Row}
+use Rattle.capture_measure.specs.Measure as recordings
+use Rattle.capture_measure.specs.Measure.{Recording, IsNext, Takes, Stops, with_row, written_of, is_of_writer, measure_rules, head_text, Measures}
+use Rattle.schedule_replay.specs.declared.fault.Fault.{Fault}
+use Rattle.schedule_replay.specs.Fault.{of_task, kind_of, kind_at, of_measuring, measuring_kind, is_write}
 use Rattle.schedule_replay.specs.Answer.{Says}
 use Rattle.schedule_replay.specs.Schedule.{entry_in, refusal_of, FaultsIn, FaultsAtEnd}
 use Rattle.schedule_replay.specs.Show.{StopsShowing, show_rules, Shows}
@@ -31,9 +42,44 @@ use Rattle.schedule_replay.specs.Replay.{IsEventLine, NodesGoOut, GoesOut, repla
 use Rattle.schedule_replay.specs.CheckText as checks
 use Rattle.schedule_replay.specs.CheckText.{Recorded, recorded_in, IsOutOfPlace, FaultsInTranscript, FaultsAtTranscriptEnd, verdict_text, check_rules, Checks}
 use Rattle.schedule_replay.specs.Accepted.{IsOfDevice}
-use Rattle.schedule_replay.specs.OneAnswer.{HasOneAnswer}
+use Rattle.schedule_replay.specs.OneAnswer.{IsOfInput, WroteOneText, HasOneAnswer}
 use Rattle.schedule_replay.proofs.OneText as texts
 use Rattle.schedule_replay.proofs.OneLine.{one_line}
+use Rattle.schedule_replay.proofs.OneRow.{one_row}
+
+-- ---- from the answers of a task
+
+-- an answer that isn't a fault of a device or of memory
+abbrev IsSure : {A F : Type 0} → (F → Type 0) → Result A (Stopped (Cause F)) → Type 0
+IsSure Device answer = MatchResult answer (λ _. ⊤) (λ stop. courses.IsOfDevice Device stop.what → ⊥)
+
+answers_one : {S A F : Type 0} (rules : Rules S A F) (start : S) (Device : F → Type 0) → HasOneCourse rules Device → (octets : List ℕ) (left before after left' before' after' : Option (List ℕ))
+    (answer answer' : Result A (Stopped (Cause F))) → Answers rules start octets left before after answer → Answers rules start octets left' before' after' answer'
+    → IsSure Device answer → IsSure Device answer' → (answer' ≡ answer) × (left' ≡ left) × WroteOneText before after before' after'
+answers_one rules start Device sole octets left before after left' before' after' (Ok answer) (Ok answer') one other sure sure' =
+    let same = one_answer rules start Device sole octets left before after left' before' after' (Ok answer) (Ok answer')
+    (course_of_all rules start Device octets left before after answer one) (course_of_all rules start Device octets left' before' after' answer' other) in
+    let ends = same.end_is in
+    let answers : answer' ≡ answer = cc in
+    (ap Ok answers, same.left_is, (same.text, same.output, same.output'))
+answers_one rules start Device sole octets left before after left' before' after' (Ok answer) (Err stop) one until sure sure' =
+    let same = one_answer rules start Device sole octets left before after left' before' after' (Ok answer) (Err stop.what)
+    (course_of_all rules start Device octets left before after answer one) (course_until rules start Device sole octets left' before' after' stop.line stop.what sure' until) in
+    let ends = same.end_is in
+    absurd cc
+answers_one rules start Device sole octets left before after left' before' after' (Err stop) (Ok answer) until other sure sure' =
+    let same = one_answer rules start Device sole octets left before after left' before' after' (Err stop.what) (Ok answer)
+    (course_until rules start Device sole octets left before after stop.line stop.what sure until) (course_of_all rules start Device octets left' before' after' answer other) in
+    let ends = same.end_is in
+    absurd cc
+answers_one rules start Device sole octets left before after left' before' after' (Err stop) (Err stop') until until' sure sure' =
+    let same = one_answer rules start Device sole octets left before after left' before' after' (Err stop.what) (Err stop'.what)
+    (course_until rules start Device sole octets left before after stop.line stop.what sure until)
+    (course_until rules start Device sole octets left' before' after' stop'.line stop'.what sure' until') in
+    let ends = same.end_is in
+    let causes : stop'.what ≡ stop.what = cc in
+    let lines : stop'.line ≡ stop.line = until'.number ∙ ap (λ (n : ℕ). n + 1) same.place_is ∙ sym until.number in
+    (ap Err (λ i. record { line = lines i; what = causes i }), same.left_is, (same.text, same.output, same.output'))
 
 -- ---- from the rules of a task
 
@@ -54,36 +100,33 @@ of_writer Json is = absurd cc
 of_writer Field is = absurd cc
 of_writer (World why) is = absurd cc
 
-pub says_one : {S A : Type 0} (rules : Rules S A TaskFault) (start : S) → HasOneCourse rules IsDevices → HasOneAnswer (Says rules start)
-says_one {S} {A} rules start sole octets left before after left' before' after' (Ok answer) (Ok answer') one other sure sure' =
-    let same = one_answer rules start IsDevices sole octets left before after left' before' after' (Ok answer) (Ok answer')
-    (course_of_all rules start IsDevices octets left before after answer one) (course_of_all rules start IsDevices octets left' before' after' answer' other) in
-    let ends = same.end_is in
-    let answers : answer' ≡ answer = cc in
-    (ap Ok answers, same.left_is, (same.text, same.output, same.output'))
-says_one rules start sole octets left before after left' before' after' (Ok answer) (Err stop) one (what, is, until) sure sure' =
-    let known = sure_cause what (subst (λ (kind : FaultKind). IsOfDevice kind → ⊥) is sure') in
-    let same = one_answer rules start IsDevices sole octets left before after left' before' after' (Ok answer) (Err what)
-    (course_of_all rules start IsDevices octets left before after answer one) (course_until rules start IsDevices sole octets left' before' after' stop.line what known until) in
-    let ends = same.end_is in
-    absurd cc
-says_one rules start sole octets left before after left' before' after' (Err stop) (Ok answer) (what, is, until) other sure sure' =
-    let known = sure_cause what (subst (λ (kind : FaultKind). IsOfDevice kind → ⊥) is sure) in
-    let same = one_answer rules start IsDevices sole octets left before after left' before' after' (Err what) (Ok answer)
-    (course_until rules start IsDevices sole octets left before after stop.line what known until) (course_of_all rules start IsDevices octets left' before' after' answer other) in
-    let ends = same.end_is in
-    absurd cc
-says_one rules start sole octets left before after left' before' after' (Err stop) (Err stop') (what, is, until) (what', is', until') sure sure' =
-    let known = sure_cause what (subst (λ (kind : FaultKind). IsOfDevice kind → ⊥) is sure) in
-    let known' = sure_cause what' (subst (λ (kind : FaultKind). IsOfDevice kind → ⊥) is' sure') in
-    let same = one_answer rules start IsDevices sole octets left before after left' before' after' (Err what) (Err what')
-    (course_until rules start IsDevices sole octets left before after stop.line what known until)
-    (course_until rules start IsDevices sole octets left' before' after' stop'.line what' known' until') in
-    let ends = same.end_is in
-    let causes : what' ≡ what = cc in
-    let kinds : stop'.what ≡ stop.what = is' ∙ ap kind_of causes ∙ sym is in
-    let lines : stop'.line ≡ stop.line = until'.number ∙ ap (λ (n : ℕ). n + 1) same.place_is ∙ sym until.number in
-    (ap Err (λ i. record { line = lines i; what = kinds i }), same.left_is, (same.text, same.output, same.output'))
+-- an answer whose fault is told by its kind
+abbrev told_as : {A : Type 0} → Result A (Stopped (Cause TaskFault)) → Result A Fault
+told_as (Ok answer) = Ok answer
+told_as (Err stop) = Err (record { line = stop.line; what = kind_of stop.what })
+
+record IsTold {S A : Type 0} (rules : Rules S A TaskFault) (start : S) (octets : List ℕ) (left before after : Option (List ℕ)) (answer : Result A Fault) : Type 0 where
+  there : Result A (Stopped (Cause TaskFault))
+  told : told_as there ≡ answer
+  says : Answers rules start octets left before after there
+  sure : IsSure IsDevices there
+
+is_told : {S A : Type 0} (rules : Rules S A TaskFault) (start : S) (octets : List ℕ) (left before after : Option (List ℕ)) (answer : Result A Fault)
+    → Says rules start octets left before after answer → IsOfInput kind_at answer → IsTold rules start octets left before after answer
+is_told rules start octets left before after (Ok answer) all sure = record { there = Ok answer; told = refl; says = all; sure = tt }
+is_told rules start octets left before after (Err stop) (what, is, until) sure = record {
+  there = Err (record { line = stop.line; what = what });
+  told = λ i. Err (record { line = stop.line; what = sym is i });
+  says = until;
+  sure = sure_cause what (subst (λ (kind : FaultKind). IsOfDevice kind → ⊥) is sure);
+}
+
+pub says_one : {S A : Type 0} (rules : Rules S A TaskFault) (start : S) → HasOneCourse rules IsDevices → HasOneAnswer kind_at (Says rules start)
+says_one rules start sole octets left before after left' before' after' answer answer' says says' sure sure' =
+    let one = is_told rules start octets left before after answer says sure in
+    let other = is_told rules start octets left' before' after' answer' says' sure' in
+    let same = answers_one rules start IsDevices sole octets left before after left' before' after' one.there other.there one.says other.says one.sure other.sure in
+    (sym other.told ∙ ap told_as same.0 ∙ one.told, same.1, same.2)
 
 -- ---- `show`
 
@@ -251,11 +294,71 @@ check_course = record {
   writer = of_writer;
 }
 
-pub shows_one : HasOneAnswer Shows
+-- ---- `measure`
+
+-- a fault of the writer or of memory
+abbrev IsMeasuringDevices : MeasureFault → Type 0
+IsMeasuringDevices fault = IsOfDevice (of_measuring (Task fault))
+
+sure_measuring : (what : Cause MeasureFault) → (IsOfDevice (of_measuring what) → ⊥) → courses.IsOfDevice IsMeasuringDevices what → ⊥
+sure_measuring (Reading reading.Read) sure device = sure tt
+sure_measuring (Reading reading.LineTooLong) sure device = device
+sure_measuring (Reading reading.TooManyLines) sure device = device
+sure_measuring (Task kind) sure device = sure device
+
+is_sure : {A : Type 0} (answer : Result A (Stopped (Cause MeasureFault))) → IsOfInput measuring_kind answer → IsSure IsMeasuringDevices answer
+is_sure (Ok answer) sure = tt
+is_sure (Err stop) sure = sure_measuring stop.what sure
+
+of_measuring_writer : (fault : MeasureFault) → is_of_writer fault ≡ true → IsMeasuringDevices fault
+of_measuring_writer measuring.Write is = tt
+of_measuring_writer measuring.Memory is = tt
+of_measuring_writer measuring.Field is = absurd cc
+
+no_row : (line : List ℕ) (s : Recording) (kind : MeasureFault) (row : Row) (text : List ℕ) → (IsMeasuringDevices kind → ⊥) → IsNext s line row → Stops line s kind text → ⊥
+no_row line s measuring.Write row text sure next stops = sure tt
+no_row line s measuring.Memory row text sure next stops = sure tt
+no_row line s measuring.Field row text sure next stops = stops.0 row next
+
+one_stop : (line : List ℕ) (s : Recording) (text text' : List ℕ) (one other : MeasureFault) → (IsMeasuringDevices one → ⊥) → (IsMeasuringDevices other → ⊥)
+    → Stops line s one text → Stops line s other text' → (other ≡ one) × (text' ≡ text)
+one_stop line s text text' measuring.Field measuring.Field sure sure' h k = (refl, k.1 ∙ sym h.1)
+one_stop line s text text' measuring.Write other sure sure' h k = absurd (sure tt)
+one_stop line s text text' measuring.Memory other sure sure' h k = absurd (sure tt)
+one_stop line s text text' measuring.Field measuring.Write sure sure' h k = absurd (sure' tt)
+one_stop line s text text' measuring.Field measuring.Memory sure sure' h k = absurd (sure' tt)
+
+one_taken : (line : List ℕ) (s one other : Recording) (text text' : List ℕ) → Takes line s one text → Takes line s other text' → (other ≡ one) × (text' ≡ text)
+one_taken line s one other text text' (row, next, later, out) (row', next', later', out') =
+    let same : other ≡ one = later' ∙ ap (λ (r : Row). with_row r s) (one_row (length s.rows + 1) line row row' next next') ∙ sym later in
+    (same, append_cancel_left (written_of s) text' text (sym out' ∙ ap written_of same ∙ out))
+
+measure_course : HasOneCourse measure_rules IsMeasuringDevices
+measure_course = record {
+  one_step = one_taken;
+  no_fault = λ line s later text text' kind sure takes stops. no_row line s kind takes.0 text' sure takes.1 stops;
+  one_fault = one_stop;
+  one_end = λ lines s text text' one other h k. (k.0 ∙ sym h.0, k.1 ∙ sym h.1);
+  no_fault_at_end = λ lines s text text' answer kind sure ends stops. stops;
+  one_fault_at_end = λ s text text' one other sure sure' h k. absurd h;
+  writer = of_measuring_writer;
+}
+
+pub shows_one : HasOneAnswer kind_at Shows
 shows_one = says_one show_rules tt show_course
 
-pub replays_one : HasOneAnswer Replays
+pub replays_one : HasOneAnswer kind_at Replays
 replays_one = says_one replay_rules replays.nothing replay_course
 
-pub checks_one : HasOneAnswer Checks
+pub checks_one : HasOneAnswer kind_at Checks
 checks_one = says_one check_rules checks.nothing check_course
+
+pub measures_one : (form : Form) (wanted : Wanted) → HasOneAnswer measuring_kind (Measures form wanted)
+measures_one form wanted octets left before after left' before' after' answer answer' (headed, head, says) (headed', head', says') sure sure' =
+    let same = answers_one measure_rules (recordings.begun form wanted) IsMeasuringDevices measure_course octets left headed after left' headed' after' answer answer' says says'
+    (is_sure answer sure) (is_sure answer' sure') in
+    let (text, out, out') = same.2 in (
+      same.0,
+      same.1,
+      (head_text form ++ text, Appends-trans before headed after (head_text form) text head out, Appends-trans before' headed' after' (head_text form) text head' out'),
+    )

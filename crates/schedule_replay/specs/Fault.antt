@@ -13,6 +13,7 @@ use Rattle.text_lines.specs.declared.fault.Cause.{Cause}
 use Rattle.text_lines.specs.declared.fault.Cause.TheVariants.{Reading, Task}
 use Rattle.text_lines.specs.declared.fault.ReadingFault.{ReadingFault}
 use Rattle.text_lines.specs.declared.fault.ReadingFault.TheVariants as reading
+use Rattle.text_lines.specs.declared.fault.Stopped.{Stopped}
 use Rattle.text_lines.specs.Counted.{HasFailed, HasNotFailed}
 
 -- the number of a fault
@@ -51,6 +52,14 @@ of_measuring (Reading fault) = of_reading fault
 of_measuring (Task measuring.Write) = Write
 of_measuring (Task measuring.Field) = Field
 of_measuring (Task measuring.Memory) = Memory
+
+-- the kind of a fault
+abbrev pub kind_at : Fault → FaultKind
+kind_at fault = fault.what
+
+-- the kind of what stopped `measure`
+abbrev pub measuring_kind : Stopped (Cause MeasureFault) → FaultKind
+measuring_kind stop = of_measuring stop.what
 
 -- whether this fault says that the writer failed
 abbrev pub is_write : TaskFault → Bool

@@ -1,15 +1,15 @@
--- Octets leave one answer of `show`, `replay` and `check_text` each, as `laws::octets_have_one_answer` promises, but
--- where a device failed or memory was refused. Free is at which octet the reader fails (801); at which line the writer
--- fails, and what went out (802); at which line memory is refused, and how many of the nodes' lines went out then
--- (808).
+-- Octets leave one answer of `show`, `replay`, `check_text` and `measure` each, as `laws::octets_have_one_answer`
+-- promises, but where a device failed or memory was refused. Free is at which octet the reader fails (801); at which
+-- line the writer fails, and what went out (802); at which line memory is refused, and how many of the nodes' lines, or
+-- how much of what that line of a recording brings, went out then (808).
 use Rattle.std.specs.Prelude.{◌≡◌, List, ℕ, Option, Result, MatchResult, ⊤}
 use Rattle.std.specs.Io.KnownBytes.{Appends}
-use Rattle.schedule_replay.specs.declared.fault.Fault.{Fault}
+use Rattle.schedule_replay.specs.declared.fault.FaultKind.{FaultKind}
 use Rattle.schedule_replay.specs.Accepted.{IsOfDevice}
 
--- an answer that isn't a fault of a device or of memory
-abbrev pub IsOfInput : {A : Type 0} → Result A Fault → Type 0
-IsOfInput answer = MatchResult answer (λ _. ⊤) (λ stop. IsOfDevice stop.what → ⊥)
+-- an answer that isn't a fault of a device or of memory, by the kinds of faults
+abbrev pub IsOfInput : {A F : Type 0} → (F → FaultKind) → Result A F → Type 0
+IsOfInput kind answer = MatchResult answer (λ _. ⊤) (λ stop. IsOfDevice (kind stop) → ⊥)
 
 -- one text went out at both of two writers, where they tell their octets
 abbrev pub WroteOneText : (before after before' after' : Option (List ℕ)) → Type 0
@@ -17,10 +17,10 @@ WroteOneText before after before' after' = (text : List ℕ) × Appends before a
 
 -- Two such answers over the same octets are the same, leave the same octets, and wrote one text, whatever the writers
 -- held.
-abbrev pub HasOneAnswer : {A : Type 0} → (List ℕ → (left before after : Option (List ℕ)) → Result A Fault → Type 0)
-    → Type 0
-HasOneAnswer {A} Says =
-    (octets : List ℕ) (left before after left' before' after' : Option (List ℕ)) (answer answer' : Result A Fault)
+abbrev pub HasOneAnswer : {A F : Type 0} → (F → FaultKind)
+    → (List ℕ → (left before after : Option (List ℕ)) → Result A F → Type 0) → Type 0
+HasOneAnswer {A} {F} kind Says =
+    (octets : List ℕ) (left before after left' before' after' : Option (List ℕ)) (answer answer' : Result A F)
     → Says octets left before after answer
-    → Says octets left' before' after' answer' → IsOfInput answer → IsOfInput answer'
+    → Says octets left' before' after' answer' → IsOfInput kind answer → IsOfInput kind answer'
     → (answer' ≡ answer) × (left' ≡ left) × WroteOneText before after before' after'

@@ -1,5 +1,5 @@
 -- What the program answers: its exit status, by what the arguments ask for.
-use Rattle.std.specs.Prelude.{◌≡◌, ◌⊎◌, ℕ, List, Option, Result, Ok, Err, if◌then◌else◌}
+use Rattle.std.specs.Prelude.{◌≡◌, ◌⊎◌, ℕ, List, Option, Result, Ok, Err, MatchResult, if◌then◌else◌}
 use Rattle.std.specs.Io.KnownBytes.{Appends}
 use Rattle.text_lines.specs.declared.counted.Counted.{Counted}
 use Rattle.text_lines.specs.Counted.{device_of, HasFailed, HasNotFailed}
@@ -16,13 +16,14 @@ use Rattle.capture_measure.specs.declared.measuring.Form.{Form}
 use Rattle.capture_measure.specs.declared.measuring.Form.TheVariants.{Json, Table}
 use Rattle.capture_measure.specs.declared.measuring.MeasureFault.{MeasureFault}
 use Rattle.capture_measure.specs.declared.watch.Wanted.{Wanted}
-use Rattle.capture_measure.specs.Measure.{MeasuresAnswer}
+use Rattle.text_lines.specs.Task.{FailedAt}
+use Rattle.capture_measure.specs.Measure.{MeasuresAnswer, measure_rules}
 use Rattle.schedule_replay.specs.Show.{ShowsAnswer}
 use Rattle.schedule_replay.specs.Replay.{ReplaysAnswer}
 use Rattle.schedule_replay.specs.CheckText.{ChecksAnswer}
 
 -- the exit status of a subcommand that ended in this answer
-abbrev pub status_of : Result ℕ Fault → ℕ
+abbrev pub status_of : {F : Type 0} → Result ℕ F → ℕ
 status_of (Ok lines) = 0
 status_of (Err fault) = 3
 
@@ -32,11 +33,6 @@ check_status (Ok (Accepted count)) = 0
 check_status (Ok (Refused number why)) = 1
 check_status (Err fault) = 3
 
--- the exit status of `measure`, by its answer
-abbrev pub measure_status : Result ℕ (Stopped (Cause MeasureFault)) → ℕ
-measure_status (Ok lines) = 0
-measure_status (Err stop) = 3
-
 -- whom `measure` is asked to watch
 abbrev pub wanted_of : MeasureOptions → Wanted
 wanted_of options = record { slave = options.slave; master = options.master; domain = options.domain }
@@ -45,11 +41,19 @@ wanted_of options = record { slave = options.slave; master = options.master; dom
 abbrev pub form_of : MeasureOptions → Form
 form_of options = if options.csv then Table else Json
 
+-- which of the two devices failed at this answer of `measure`
+abbrev pub MeasureFailedWith : {R W : Type 0} → Result ℕ (Stopped (Cause MeasureFault))
+    → (input input' : Counted R) (output output' : Counted W) → Type 0
+MeasureFailedWith answer input input' output output' = MatchResult answer
+    (λ _. HasNotFailed input input' × HasNotFailed output output')
+    (λ stop. FailedAt measure_rules stop.what input input' output output')
+
 -- `measure` ran by these options: its answer gave the status, and says what was read and written
 abbrev pub RunsMeasure : {R W : Type 0} → (R → Option (List ℕ)) → (W → Option (List ℕ)) → MeasureOptions → ℕ
     → (input input' : Counted R) (output output' : Counted W) → Type 0
 RunsMeasure remaining contents options status input input' output output' =
-    (answer : Result ℕ (Stopped (Cause MeasureFault))) × (status ≡ measure_status answer)
+    (answer : Result ℕ (Stopped (Cause MeasureFault))) × (status ≡ status_of answer)
+    × MeasureFailedWith answer input input' output output'
     × MeasuresAnswer (form_of options) (wanted_of options) remaining contents answer input input' output output'
 
 -- what an answer means of what is read and written

@@ -5,6 +5,10 @@ ghost use Rattle.schedule_replay.specs.Accepted.{EachReplayIsAccepted};
 ghost use Rattle.schedule_replay.specs.Show.{Shows};
 ghost use Rattle.schedule_replay.specs.Replay.{Replays};
 ghost use Rattle.schedule_replay.specs.CheckText.{Checks};
+ghost use Rattle.capture_measure.specs.declared.measuring.Form.{Form};
+ghost use Rattle.capture_measure.specs.declared.watch.Wanted.{Wanted};
+ghost use Rattle.capture_measure.specs.Measure.{Measures};
+ghost use Rattle.schedule_replay.specs.Fault.{kind_at, measuring_kind};
 ghost use Rattle.schedule_replay.specs.OneAnswer.{HasOneAnswer};
 
 pub use datagram_text::laws::{shown_by_one_text, shown_by_some_text};
@@ -43,7 +47,8 @@ pub fn replays_are_accepted()
 /// or of memory, are the same answer, leave the same octets unread and have written the same. A fault
 /// is the same fault at the same line then.
 pub fn octets_have_one_answer()
-    ensures show { HasOneAnswer Shows }
-    ensures replay { HasOneAnswer Replays }
-    ensures check_text { HasOneAnswer Checks }
+    ensures show { HasOneAnswer kind_at Shows }
+    ensures replay { HasOneAnswer kind_at Replays }
+    ensures check_text { HasOneAnswer kind_at Checks }
+    ensures measure { (form : Form) (wanted : Wanted) → HasOneAnswer measuring_kind (Measures form wanted) }
 {}

@@ -100,10 +100,7 @@ fn run_measure<R: Read, W: Write, E: Write>(
     };
     let form = if options.csv { Form::Table } else { Form::Json };
     let (answer, summary) = measure(alloc, &wanted, form, input, output);
-    let status = match answer {
-        Ok(_) => 0,
-        Err(stop) => report(errors, stop.into()),
-    };
+    let status = finish(errors, answer);
     summary.tell(errors);
     status
 }
@@ -114,12 +111,12 @@ fn before_lines(what: FaultKind) -> Fault {
 }
 
 /// Answers the exit status of a subcommand that ended, and says its fault.
-fn finish<E: Write>(errors: &mut E, answer: Result<u64, Fault>) -> u8
+fn finish<F: Into<Fault>, E: Write>(errors: &mut E, answer: Result<u64, F>) -> u8
     ensures { result ≡ status_of answer }
 {
     match answer {
         Ok(_) => 0,
-        Err(fault) => report(errors, fault),
+        Err(fault) => report(errors, fault.into()),
     }
 }
 
