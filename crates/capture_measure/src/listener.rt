@@ -109,6 +109,11 @@ impl Listener {
         }
     }
 
+    /// The domain of the port.
+    pub(crate) fn domain(&self) -> u8 {
+        self.watched.domain
+    }
+
     /// Whether this is the header of a message of the domain, from this port.
     fn is_of(&self, port: PortIdentity, header: &Header) -> bool
         ensures { result ≡ is_of self.now.watched port header.now }

@@ -234,9 +234,11 @@ impl Reports {
             Form::Json => push_json(&mut self.text, measured)?,
             Form::Table => push_row(&mut self.text, measured)?,
         }
-        self.tally.count_report();
         match output.write_all(self.text.as_bytes()) {
-            Ok(()) => Ok(()),
+            Ok(()) => {
+                self.tally.count_report();
+                Ok(())
+            }
             Err(_) => Err(MeasureFault::Write),
         }
     }
@@ -280,7 +282,7 @@ impl Reports {
             }
         };
         let became = listener.hear(read.number, read.timed.time, read.octets, message);
-        self.tally.count_heard(&message.body, became);
+        self.tally.count_heard(message, listener.domain(), became);
         let Some(report) = report_in(became) else {
             return Ok(());
         };
@@ -534,6 +536,9 @@ impl Summary {
                 known.value,
                 Source(known.line)
             ),
+            None if watch.master.is_some() => {
+                writeln!(errors, "ptpx: no Sync of the master tells the domain")
+            }
             None => writeln!(errors, "ptpx: no Sync tells the domain"),
         };
         let _ = match watch.master {
@@ -543,6 +548,9 @@ impl Summary {
                 Identity(&known.value),
                 Source(known.line)
             ),
+            None if watch.domain.is_some() => {
+                writeln!(errors, "ptpx: no Sync of the domain tells the master")
+            }
             None => writeln!(errors, "ptpx: no Sync tells the master"),
         };
         let _ = match watch.slave {

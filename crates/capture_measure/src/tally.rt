@@ -1,7 +1,7 @@
 //! How many datagrams gave no report, by what they are and by why they gave none.
 
 use crate::listener::Became;
-use event_codec::{Body, DecodeRefusal};
+use event_codec::{Body, DecodeRefusal, Message};
 use ptp_units::ScaledTime;
 use slave_port::{Heard, Reason};
 use std::fmt;
@@ -229,8 +229,8 @@ impl Tally {
         self.reports = self.reports.saturating_add(1);
     }
 
-    /// Counts a message that is heard.
-    pub(crate) fn count_heard(&mut self, body: &Body, became: Became) {
+    /// Counts a message that is heard by a port of this domain.
+    pub(crate) fn count_heard(&mut self, message: &Message<'_>, domain: u8, became: Became) {
         if became == Became::Anew {
             self.anew = self.anew.saturating_add(1);
         }
@@ -238,10 +238,11 @@ impl Tally {
             Became::Heard(heard) => Why::of_heard(heard),
             Became::Asked | Became::Anew => Some(Why::OfSlave),
             Became::Repeated => Some(Why::Again),
+            Became::Foreign if message.header.domain != domain => Some(Why::OtherDomain),
             Became::Foreign => Some(Why::OtherSlave),
         };
         if let Some(why) = why {
-            self.count(Kind::of(body), why);
+            self.count(Kind::of(&message.body), why);
         }
     }
 
@@ -273,9 +274,11 @@ impl Tally {
                 self.tell_count(kind, why, errors);
             }
         }
-        if self.anew > 0 {
-            let _ = writeln!(errors, "ptpx: {} times the slave began anew", self.anew);
-        }
+        let _ = match self.anew {
+            0 => Ok(()),
+            1 => writeln!(errors, "ptpx: the slave began anew once"),
+            count => writeln!(errors, "ptpx: the slave began anew {count} times"),
+        };
         if self.whole == Some(true) {
             let _ = writeln!(errors, "ptpx: all times are of whole microseconds");
         }
