@@ -10,3 +10,4 @@ pub mod Rows
 pub mod Taken
 pub mod Told
 pub mod Watches
+pub mod Worked

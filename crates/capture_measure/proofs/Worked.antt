@@ -1,0 +1,81 @@
+-- A worked recording, of two masters and two slaves in two domains: whom it is of, which of its lines are heard, and
+-- what is written of them.
+use Rattle.std.proofs.Common.{◌≡◌, ℕ, ◌*◌, pos, refl, List, [], ◌∷◌, codes, Some, None, Ok, Err, true, false}
+use Rattle.ptp_units.specs.Moment.{stamp}
+use Rattle.event_codec.specs.declared.message.Body.{Body}
+use Rattle.event_codec.specs.declared.message.Body.TheVariants.{Sync, DelayReq, DelayResp}
+use Rattle.event_codec.specs.declared.port.PortConfig.{PortConfig}
+use Rattle.event_codec.specs.declared.refusal.DecodeRefusal.TheVariants.{OtherType}
+use Rattle.event_codec.specs.Profile.{header_of}
+use Rattle.event_codec.specs.Reading.{Reading}
+use Rattle.capture_lines.specs.Decimal.{decimals}
+use Rattle.std.specs.Fmt.{digits}
+use Rattle.capture_measure.specs.declared.measuring.Form.TheVariants.{Table}
+use Rattle.capture_measure.specs.declared.watch.Wanted.{Wanted}
+use Rattle.capture_measure.specs.Watch.{watched_in}
+use Rattle.capture_measure.specs.Row.{Row, datagrams, heard}
+use Rattle.capture_measure.specs.Measured.{written}
+
+-- a port of this number and domain
+abbrev port : (number domain : ℕ) → PortConfig
+port number domain = record {
+  identity = record { clock = 0 ∷ 17 ∷ 34 ∷ 255 ∷ 254 ∷ 51 ∷ 68 ∷ 85 ∷ []; port = number };
+  domain = domain;
+  log = pos 0;
+}
+
+abbrev said : PortConfig → (number : ℕ) → Body → Reading
+said config number body = Ok (record {
+  header = header_of config (0 ∷ 0 ∷ []) (pos 0) number 0 (pos 0);
+  body = body;
+  suffix = [];
+})
+
+-- a line with a time of so many seconds and microseconds
+abbrev row : (number : ℕ) → List ℕ → (nanoseconds : ℕ) → Reading → Row
+row number time nanoseconds reading = record {
+  time = time;
+  datagram = record { line = number; time = nanoseconds * 65536; said = reading };
+}
+
+-- nobody is asked for
+abbrev anybody : Wanted
+anybody = record { slave = None; master = None; domain = None }
+
+-- an Announce, the Delay_Req of a slave in another domain, a Sync of the master, and a Delay_Req of the slave
+abbrev first_rows : List Row
+first_rows =
+    row 3 (codes "7.000005") 7000005000 (said (port 1 0) 9 (Sync (stamp 7 0)))
+    ∷ row 2 (codes "6") 6000000000 (said (port 3 4) 1 (DelayReq (stamp 0 0)))
+    ∷ row 1 (codes "5") 5000000000 (Err (OtherType 11)) ∷ []
+
+abbrev rows : List Row
+rows =
+    row 5 (codes "8.1") 8100000000 (said (port 1 0) 5 (DelayResp (stamp 8 3000) (port 2 0).identity))
+    ∷ row 4 (codes "8") 8000000000 (said (port 2 0) 5 (DelayReq (stamp 0 0)))
+    ∷ first_rows
+
+-- the Sync tells domain and master, and a Delay_Req of this domain the slave
+not_yet : watched_in anybody (datagrams first_rows) ≡ None
+not_yet = refl
+
+told : watched_in anybody (datagrams rows)
+    ≡ Some (record { slave = (port 2 0).identity; master = (port 1 0).identity; domain = 0 })
+told = refl
+
+-- domain 4 is asked for, and its only Delay_Req came before; nobody is its master
+asked_for : watched_in (record { slave = None; master = None; domain = Some 4 }) (datagrams rows) ≡ None
+asked_for = refl
+
+-- the master is asked for, which sent no Sync, so nothing tells its domain
+no_sync : watched_in (record { slave = None; master = Some (port 9 0).identity; domain = None }) (datagrams rows) ≡ None
+no_sync = refl
+
+-- all lines are heard
+heard_all : heard anybody rows ≡ rows
+heard_all = refl
+
+-- (5,000 - 3,000) / 2 ns and (5,000 + 3,000) / 2 ns
+row_written : written Table anybody rows ≡ codes "8.1,1000,4000,response,5\n"
+unfolding digits decimals
+row_written = refl
