@@ -1,5 +1,6 @@
 -- What is written of lines is the texts of reports that are exact.
-use Rattle.std.proofs.Common.{◌≡◌, ◌∙◌, ◌≤◌, ◌+◌, ℕ, suc, Bool, true, false, List, [], ◌∷◌, ◌++◌, length, Option, Some, None}
+use Rattle.std.proofs.Common.{◌≡◌, ◌∙◌, ◌≤◌, ◌+◌, ℕ, suc, Bool, true, false, List, [], ◌∷◌, ◌++◌, length}
+use Rattle.std.proofs.Common.{Option, Some, None}
 use Rattle.std.proofs.Common.{refl, sym, ap, subst, arith}
 use Rattle.std.specs.Prelude.{⊤, not, nat_le, if◌then◌else◌, option_map, option_to_list}
 use Rattle.std.specs.List.{All}
@@ -32,8 +33,8 @@ all_with P (Some r) rest make ms same others all =
 all_with P None rest make ms same others all = others all
 
 -- what holds of all reports holds of those that are measured
-pub all_measured : (P : Report → Type 0) (watched : Watched) (rows : List Row) → All P (reports watched (datagrams rows))
-    → All (λ m. P m.report) (measurements watched rows)
+pub all_measured : (P : Report → Type 0) (watched : Watched) (rows : List Row)
+    → All P (reports watched (datagrams rows)) → All (λ m. P m.report) (measurements watched rows)
 all_measured P watched [] all = All-nil (λ m. P m.report)
 all_measured P watched (row ∷ earlier) all = all_with P (report_at watched (datagrams earlier) row.datagram) _ _ _
     (λ r holds. holds) (all_measured P watched earlier) all
@@ -134,7 +135,8 @@ written_exactly form wanted w read text on known =
     ∙ texts_measured form w (heard wanted read.rows)
 
 pub each_measurement : EachReportIsExact → EachMeasurementIsExact
-each_measurement each_report network run slave master w form wanted lines read text accepted watches taken known tells fresh ticked missing =
+each_measurement each_report network run slave master w form wanted lines read text accepted watches taken known tells
+    fresh ticked missing =
     let on = read_on 1 lines (begun form wanted) read text taken in
     let those = heard wanted read.rows in record {
       written = written_exactly form wanted w read text on known;

@@ -62,7 +62,8 @@ kept_until fault form watched earlier rows row lines a b c are appended until =
 
 -- what an answer to a line is, by what goes out
 pub answered : {T : Type 0} (r : Recording) (line : List ℕ) (row : Row) (result : Result T MeasureFault)
-    (new : Measuring) (text : List ℕ) (a b : Option (List ℕ)) → IsNext r line row → written_of (with_row row r) ≡ written_of r ++ text
+    (new : Measuring) (text : List ℕ) (a b : Option (List ℕ)) → IsNext r line row
+    → written_of (with_row row r) ≡ written_of r ++ text
     → OnOk result (IsMeasuring new (with_row row r)) → Goes result text a b
     → MatchResult result
     (λ _. (later : Recording) × (out : List ℕ) × IsMeasuring new later
