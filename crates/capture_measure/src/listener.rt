@@ -83,7 +83,7 @@ fn draw(port: &mut Port, count: u32, tag: u64)
         → StandsFor setup port.new (draws count tag history) }
 {
     for _ in 0..count {
-        let _ = port.next_request(tag);
+        let _ = port.draw_request(tag);
     }
 }
 
@@ -245,7 +245,8 @@ impl Listener {
     fn begin_anew(&mut self, number: Seq)
         ensures { Listens (λ w. anew w number.0) self.old self.new }
     {
-        self.port = port_of(&self.watched, number);
+        self.port.restart(number);
+        self.port.set_master(self.watched.master);
         self.next = number;
     }
 }

@@ -1,7 +1,7 @@
-ghost use Rattle.std.specs.Prelude.{◌≡◌, ◌≤◌, List, [], is_ok, OnErr, Some};
+ghost use Rattle.std.specs.Prelude.{◌≡◌, ◌≤◌, List, [], is_ok, OnErr, Some, None};
 ghost use Rattle.event_codec.specs.Packet.{Packet, contents};
 ghost use Rattle.event_codec.specs.Reading.{Reading, IsReading};
-ghost use Rattle.pairing.specs.Marked.{entry};
+ghost use Rattle.pairing.specs.Marked.{empty, entry};
 ghost use Rattle.slave_port.specs.declared.reason.Reason.{Reason};
 ghost use Rattle.slave_port.specs.History.{Setup, Call, setup_of, next_number, SetMaster, Tick, NextRequest};
 ghost use Rattle.slave_port.specs.History.{RequestLeft, Event, General};
@@ -90,12 +90,36 @@ where
         }
     }
 
+    /// As a new port of the same configuration, whose requests are numbered from `first` on: it has no
+    /// master and holds nothing.
+    pub fn restart(&mut self, first: Seq)
+        ensures { (setup : Setup) (history : List Call) → StandsFor setup self.old history
+            → StandsFor (record setup { first = first.0 }) self.new [] }
+    {
+        self.next = first;
+        self.master = None;
+        self.forget();
+    }
+
     /// From now on the present master is this one. Nothing that was held is kept, even where it was
     /// the master already.
     pub fn set_master(&mut self, master: PortIdentity)
         ensures { StandsAfter (SetMaster master) self.old self.new }
     {
         self.master = Some(master);
+        self.forget();
+    }
+
+    /// Keeps nothing that was held or completed.
+    fn forget(&mut self)
+        ensures { self.new ≡ record self.old {
+          syncs = empty;
+          follows = empty;
+          requests = empty;
+          last_sync = None;
+          last_delay = None;
+        } }
+    {
         self.syncs.clear();
         self.follows.clear();
         self.requests.clear();
@@ -122,10 +146,21 @@ where
             → result.1.0 ≡ next_number setup history }
         ensures stands { StandsAfter (NextRequest tag) self.old self.new }
     {
+        let number = self.draw_request(tag);
+        (delay_req(&self.config, number).octets(), number)
+    }
+
+    /// The same without the octets, for a request that somebody else wrote.
+    pub fn draw_request(&mut self, tag: u64) -> Seq
+        ensures number { (setup : Setup) (history : List Call) → StandsFor setup self.old history
+            → result.0 ≡ next_number setup history }
+        ensures stands { StandsAfter (NextRequest tag) self.old self.new }
+        ensures config { self.new.config ≡ self.old.config }
+    {
         let number = self.next;
         self.next = number.next();
         self.requests.push(number, HeldRequest { t3: None, tag });
-        (delay_req(&self.config, number).octets(), number)
+        number
     }
 
     /// The request of this number has left at `t3`: the newest that is held, also where it was known
