@@ -5,4 +5,4 @@ use Rattle.capture_measure.proofs.listener.draw.Goals as goal
 pub loop-preserved : goal.loop-preserved
 loop-preserved c = λ setup history stood.
     let drawn = c.loop.invariant setup history stood in
-    rw add-one (c.next_request.ensures.stands setup (draws c.loop.counter c.args.tag history) drawn)
+    rw add-one (c.draw_request.ensures.stands setup (draws c.loop.counter c.args.tag history) drawn)
