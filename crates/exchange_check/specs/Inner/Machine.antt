@@ -1,6 +1,6 @@
 -- What the checker keeps after lines, and its verdict on them. Its own functions cite these; what its callers are
 -- told is said by the lines alone.
-use Rattle.std.specs.Prelude.{◌≡◌, ℕ, ◌≤◌, [], ◌∷◌, length, ◌==◌, if◌then◌else◌, Option, Some, None, option_map}
+use Rattle.std.specs.Prelude.{◌≡◌, ℕ, ◌≤◌, [], ◌∷◌, length, ◌==◌, slice_get, if◌then◌else◌, Option, Some, None, option_map}
 use Rattle.std.specs.BTreeMap.{get}
 use Rattle.std.specs.Ordering.{nat_cmp}
 use Rattle.network_model.specs.Network.{Network}
@@ -8,6 +8,7 @@ use Rattle.exchange_check.specs.declared.facts.Fact.{Fact}
 use Rattle.exchange_check.specs.declared.kept.Kept.{Kept}
 use Rattle.trace_model.specs.declared.line.TraceLine.{TraceLine}
 use Rattle.trace_model.specs.declared.line.TraceOut.{TraceOut}
+use Rattle.trace_model.specs.declared.judgement.Judgement.{Judgement}
 use Rattle.trace_model.specs.declared.verdict.Verdict.{Verdict}
 use Rattle.trace_model.specs.declared.verdict.Verdict.TheVariants.{Accepted, Refused}
 use Rattle.trace_model.specs.Line.{Lines}
@@ -15,7 +16,7 @@ use Rattle.trace_model.specs.Verdict.{report_in, one_more}
 use Rattle.exchange_check.specs.Inner.Kept.{Facts, Sites, Leaves, Stamps, new_site, fact_in, site_in}
 use Rattle.exchange_check.specs.Inner.Kept.{fact_by, sites_after, leaves_after, stamps_after}
 use Rattle.exchange_check.specs.Inner.Stays.{Once, last_stays, once_of, AreStays}
-use Rattle.exchange_check.specs.Inner.Judged.{reason_by}
+use Rattle.exchange_check.specs.Inner.Judged.{judgement_by}
 
 -- what is kept
 pub record Machine : Type 0 where
@@ -54,10 +55,16 @@ abbrev pub stamps_told : Option Fact → ℕ → Sites → Stamps → Stamps
 stamps_told None n sites stamps = stamps
 stamps_told (Some fact) n sites stamps = stamps_after fact.event n sites stamps
 
+-- what the report of a line is judged to be, where the line has one
+abbrev pub answered : Network → Facts → Once → Stamps → Sites → Option Fact → TraceOut → Option Judgement
+answered network facts once stamps sites fact out =
+    option_map (judgement_by network facts once stamps sites fact) (report_in out)
+
 -- the verdict after one more line
 abbrev pub judged : Network → Facts → Once → Stamps → Sites → Option Fact → TraceOut → ℕ → Verdict → Verdict
 judged network facts once stamps sites fact out n (Accepted count) =
-    one_more count n (option_map (reason_by network facts once stamps sites fact) (report_in out))
+    one_more count n (option_map (λ judgement. slice_get judgement.reasons 0)
+    (answered network facts once stamps sites fact out))
 judged network facts once stamps sites fact out n (Refused line why) = Refused line why
 
 -- after a line with this fact
