@@ -1,18 +1,16 @@
 //! What is kept of lines and nodes, so that nothing is searched for again.
 
+use crate::residence::Residence;
 use network_model::{Event, Name};
 use ptp_units::{ScaledTime, Seq};
-
-/// The longest residence that is counted exactly is below this, in units of 2^-16 ns.
-pub(crate) const LONGEST: u64 = (1 << 63) - 1;
 
 /// What is kept of the journey of a copy of an event message, from the line that sent it.
 #[derive(Clone, Copy, Debug, PartialEq, Eq)]
 pub(crate) struct KeptJourney {
+    /// How long it was in clocks.
+    pub(crate) residence: Residence,
     /// The number of the line that sent it.
     pub(crate) origin: u64,
-    /// How long it was in clocks, in units of 2^-16 ns; [`LONGEST`] stands for more as well.
-    pub(crate) residence: u64,
     /// Whether all readings on it are right.
     pub(crate) reads_right: bool,
     /// Whether all octets on it are right.

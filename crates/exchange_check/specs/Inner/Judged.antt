@@ -1,7 +1,7 @@
 -- How the checker judges a report by what it keeps. Its own functions cite these; what its callers are told is said
 -- by the lines alone. A definition `x_by` is `x`, `x_line` or `are_x` of trace_model's `Sound` by what is kept, and
 -- `found_by` and `found_journey_to` are its `exchange_of` and `unbroken`: proofs/Exchanges and proofs/Standing show it.
-use Rattle.std.specs.Prelude.{ℕ, ◌+◌, ◌-◌, ◌^◌, ℤ, pos, ◌-ℤ◌, Bool, true, false, ◌&&◌, ◌||◌, nat_lt, ◌==◌, is_some}
+use Rattle.std.specs.Prelude.{ℕ, ◌+◌, ◌-◌, ◌^◌, ℤ, pos, negsuc, ◌-ℤ◌, ◌<ℤ◌, Bool, true, false, ◌&&◌, ◌||◌, nat_lt, ◌==◌, is_some}
 use Rattle.std.specs.Prelude.{if◌then◌else◌, [], ◌∷◌, Option, Some, None, option_map, option_and_then}
 use Rattle.std.specs.Option.{option_map_or}
 use Rattle.std.specs.Ordering.{int_eq}
@@ -132,6 +132,11 @@ fits_by journey = nat_lt (fraction_by journey.origin + journey.kept.residence) (
 
 abbrev pub bracket_by : Fact → FoundJourney → ℤ
 bracket_by arrival journey = (pos arrival.reading -ℤ pos journey.origin.reading) -ℤ pos journey.kept.residence
+
+-- more than -2^126 and less than 2^126, as every bracket is that is kept
+pub record IsElapsed (a : ℤ) : Type 0 where
+  pub above : negsuc (2 ^ 126 - 1) <ℤ a
+  pub below : a <ℤ pos (2 ^ 126)
 
 abbrev pub results_of_by : Found → (sync request : FoundJourney) → Results
 results_of_by found sync request = record {

@@ -173,12 +173,15 @@ abbrev pub fact_known : Network → Facts → TraceLine → Known → Option Kep
 fact_known network facts line known journey =
     fact_made line known (is_written (message_by network facts known journey line.event) line.out) journey
 
+-- the same, where the line counts
+abbrev pub fact_from : Network → Facts → TraceLine → Known → Option KeptJourney → Option Fact
+fact_from network facts line known journey =
+    if counts network line then Some (fact_known network facts line known journey) else None
+
 abbrev pub fact_by : Network → Facts → Sites → TraceLine → ℕ → Option Fact
 fact_by network facts sites line n =
-    if counts network line
-    then Some (fact_known network facts line (known_by network sites line n)
-    (kept_journey_by facts (known_by network sites line n) line.event))
-    else None
+    fact_from network facts line (known_by network sites line n)
+    (kept_journey_by facts (known_by network sites line n) line.event)
 
 -- what is kept of a node after an event of it at the line of this number
 abbrev pub moved : Event → ℕ → Site → Site
