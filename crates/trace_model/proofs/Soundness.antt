@@ -1,5 +1,5 @@
 -- A report line is sound exactly where there is no reason against it, and what verdicts say of that.
-use Rattle.std.proofs.Common.{◌≡◌, ◌∙◌, ℕ, ◌+◌, Bool, true, false, ◌&&◌, cond, [], ◌∷◌, ◌++◌, length}
+use Rattle.std.proofs.Common.{◌≡◌, ◌∙◌, ℕ, ◌+◌, Bool, true, false, ◌&&◌, cond, List, [], ◌∷◌, ◌++◌, length}
 use Rattle.std.proofs.Common.{Option, Some, None, slice_get, option_map, is_some, refl, sym, ap, subst, arith}
 use Rattle.std.proofs.lemmas.Bool.{and_parts}
 use Rattle.std.proofs.lemmas.List.Sums.{sum_by-cons}
@@ -15,7 +15,7 @@ use Rattle.trace_model.specs.declared.verdict.Why.TheVariants.{WrongReading, Wro
 use Rattle.trace_model.specs.Line.{Lines}
 use Rattle.trace_model.specs.Record.{LinePlace, line_place, line_number, site}
 use Rattle.trace_model.specs.Sound.{Sound, exchange_of, unbroken, are_paired, is_of_master, are_readings}
-use Rattle.trace_model.specs.Sound.{fits, are_results, are_octets, Conditions, needs, failing, reason}
+use Rattle.trace_model.specs.Sound.{fits, are_results, are_octets, Conditions, needs, failing, reasons, reason}
 use Rattle.trace_model.specs.Verdict.{report_in, one_more, with_line, verdict}
 use Rattle.trace_model.specs.Soundness.{ReasonsMissNothing, ReportLine, AllSound, report_count}
 use Rattle.trace_model.specs.Soundness.{FirstUnsound, TellsSoundness, VerdictsTellSoundness}
@@ -86,14 +86,21 @@ module _ (network : Network) (e : LinePlace) (report : Report) where
         octets = p.5;
       }
 
+-- without a first one there are none
+none_at_all : (whys : List Why) → slice_get whys 0 ≡ None → whys ≡ []
+none_at_all [] none = refl
+none_at_all (why ∷ whys) none = cc
+
 pub reasons_miss_nothing : ReasonsMissNothing
-reasons_miss_nothing network e report = (reason_sound network e report, sound_reason network e report)
+reasons_miss_nothing network e report = record {
+  none = (
+    λ h. reason_sound network e report (ap (λ (whys : List Why). slice_get whys 0) h),
+    λ sound. none_at_all (reasons network e report) (sound_reason network e report sound),
+  );
+  no_first = (reason_sound network e report, sound_reason network e report);
+}
 
 module _ (network : Network) where
-  -- the reason at a line that has a report
-  abbrev reasons : LinePlace → Option (Option Why)
-  reasons e = option_map (reason network e) (report_in e.line.out)
-
   counted : (line : TraceLine) (earlier : Lines) (o : Option Report) → report_in line.out ≡ o
       → report_count (line ∷ earlier) ≡ cond (is_some o) 1 0 + report_count earlier
   counted line earlier o h =
