@@ -17,8 +17,7 @@ use trace_model::{Judgement, TraceLine, Verdict};
 /// The verdict on a transcript of a network, its lines oldest first, whatever their origin: accepted
 /// exactly where every report line is sound, with their number, and refused exactly where one isn't,
 /// with the number of the first such line and the first condition that it fails. Refused with 709
-/// where memory was refused, and where a message was 2^125 units of 2^-16 ns or longer in clocks: that
-/// takes more than 2^31 stays.
+/// where there was no room, as [`CheckFault`] says.
 pub fn check(alloc: Global, nodes: &Nodes, lines: &[TraceLine]) -> Result<Verdict, CheckFault>
     ensures verdict { MatchResult result
         (λ answer. answer ≡ verdict nodes.now (reverse lines.now))
@@ -74,8 +73,8 @@ impl Checker {
         })
     }
 
-    /// Takes in the next line. Refused with 709 where memory was refused: the line is then dropped,
-    /// and the checker is as it was.
+    /// Takes in the next line. Refused with 709 where there was no room: the line is then dropped, and
+    /// the checker is as it was.
     pub fn feed(&mut self, line: TraceLine) -> Result<(), CheckFault>
         ensures { MatchResult result
             (λ _. self.new ≡ record { network = self.old.network; lines = self.old.lines ++ line ∷ [] })

@@ -23,10 +23,6 @@ pub(crate) struct KeptJourney {
 pub(crate) struct Fact {
     /// The line's number.
     pub(crate) line: u64,
-    /// The line's event.
-    pub(crate) event: Event,
-    /// The line's reading, 0 where there is none.
-    pub(crate) reading: ScaledTime,
     /// Whether it made a message.
     pub(crate) made: bool,
     /// Whether a message completed a pair.
@@ -37,6 +33,10 @@ pub(crate) struct Fact {
     pub(crate) reads_right: bool,
     /// Whether its octets are right.
     pub(crate) writes_right: bool,
+    /// The line's event.
+    pub(crate) event: Event,
+    /// The line's reading, 0 where there is none.
+    pub(crate) reading: ScaledTime,
     /// The number of the last line before it at which its node sent a two-step Sync.
     pub(crate) last_sync: Option<u64>,
     /// The journey of the copy that it made, where that is a Sync or a Delay_Req.
