@@ -1,6 +1,7 @@
 -- What the checker keeps after lines, and its verdict on them. Its own functions cite these; what its callers are
 -- told is said by the lines alone.
-use Rattle.std.specs.Prelude.{◌≡◌, ℕ, ◌≤◌, [], ◌∷◌, length, ◌==◌, slice_get, if◌then◌else◌, Option, Some, None, option_map}
+use Rattle.std.specs.Prelude.{◌≡◌, ℕ, ◌≤◌, [], ◌∷◌, length, ◌==◌, slice_get, if◌then◌else◌}
+use Rattle.std.specs.Prelude.{Option, Some, None, option_map}
 use Rattle.std.specs.BTreeMap.{get}
 use Rattle.std.specs.Ordering.{nat_cmp}
 use Rattle.network_model.specs.Network.{Network}
@@ -69,7 +70,8 @@ with_judgement answer n (Refused line why) = Refused line why
 -- what the report of the line of this number is judged to be, where its fact is this
 abbrev pub judgement_told : Network → TraceOut → ℕ → Machine → Option Fact → Option Judgement
 judgement_told network out n m fact =
-    line_judgement_by network (with_fact m.facts n fact) (once_of (last_stays m.facts) m.leaves) m.stamps m.sites fact out
+    line_judgement_by network (with_fact m.facts n fact) (once_of (last_stays m.facts) m.leaves) m.stamps m.sites fact
+    out
 
 -- after a line with this fact
 abbrev pub with_line_told : Network → TraceOut → ℕ → Machine → Option Fact → Machine

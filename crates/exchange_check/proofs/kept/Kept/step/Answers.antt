@@ -31,7 +31,8 @@ returns c =
     let journey : c.in_ok-journey.journey
     ≡ kept_journey_by (facts_of c.args.self.now) c.known-known.result c.args.line.now.event = c.in_ok-journey.ensures in
     let fact : c.fact-fact.result
-    ≡ fact_by c.args.nodes.now (facts_of c.args.self.now) (sites_of c.args.self.now) c.args.line.now c.len-number.result =
+    ≡ fact_by c.args.nodes.now (facts_of c.args.self.now) (sites_of c.args.self.now) c.args.line.now
+    c.len-number.result =
     c.fact-fact.ensures
     ∙ (λ i. fact_from c.args.nodes.now (facts_of c.args.self.now) c.args.line.now c.known-known.result (journey i))
     ∙ (λ i. fact_from c.args.nodes.now (facts_of c.args.self.now) c.args.line.now (known i)
@@ -49,7 +50,8 @@ returns c =
             IsKept-line c.args.nodes.now c.args.line.now count m c.args.self.now c.len-number.result c.fact-fact.result
                 c.push.new.self.items h number fact pushed after (c.len-total.result - 1) c.line_judgement-answer.result
                 last (λ i. (c.note_fact.ensures.facts i).items) sites stays_are stamps c.line_judgement-answer.ensures
-                (c.with_judgement-verdict.ensures (accepted-bound c.args.self.now count m c.len-total.result h below bound)),
+                (c.with_judgement-verdict.ensures
+                (accepted-bound c.args.self.now count m c.len-total.result h below bound)),
             judgement-line c.args.nodes.now c.args.line.now count m c.args.self.now c.len-number.result
                 c.fact-fact.result c.push.new.self.items h number fact pushed c.line_judgement-answer.result
                 c.line_judgement-answer.ensures,
