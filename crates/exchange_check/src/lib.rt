@@ -10,8 +10,9 @@ mod judging;
 mod kept;
 mod octets;
 mod refusal;
+mod residence;
 mod stays;
 
 pub use checker::{Checker, check};
 pub use refusal::CheckFault;
-pub use trace_model::{TraceLine, TraceOut, Verdict, Why, laws};
+pub use trace_model::{Judgement, Reasons, Results, TraceLine, TraceOut, Verdict, Why, laws};
