@@ -1,5 +1,5 @@
 //! The search for the flaw of a line that is JSON.
-ghost use Rattle.std.specs.Prelude.{◌≡◌, codes, is_some, IfSome, IsSome, IsNone, ℕ, None};
+ghost use Rattle.std.specs.Prelude.{◌≡◌, codes, is_some, IfSome, IsSome, ℕ, None};
 ghost use Rattle.serde_json.specs.View.{view};
 ghost use Rattle.serde_json.specs.Find.{get};
 ghost use Rattle.line_flaws.specs.Truth.{text_of, IsSoOfValue};
