@@ -364,7 +364,7 @@ impl Kept {
     }
 
     /// The lines of a report of the line of this number.
-    fn found(&self, slave: &Name, number: u64, report: &Report) -> Option<Found>
+    pub(crate) fn found(&self, slave: &Name, number: u64, report: &Report) -> Option<Found>
         ensures { result ≡ found_by (facts_of self.now) (stamps_of self.now) slave.now number report.now }
     {
         if !(is_of_line(number, report)
@@ -390,7 +390,7 @@ impl Kept {
     }
 
     /// The journey of the copy that arrives at a line, where it begins at an event of this kind.
-    fn journey_to(&self, kind: LineKind, arrival: &Fact) -> Option<FoundJourney>
+    pub(crate) fn journey_to(&self, kind: LineKind, arrival: &Fact) -> Option<FoundJourney>
         ensures { result ≡ found_journey_to (facts_of self.now) (once_in self.now.stays) (is_of_kind kind) arrival.now }
     {
         let copy = arrival.event.heard_copy()?;
