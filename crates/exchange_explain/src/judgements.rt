@@ -75,10 +75,14 @@ impl Judging {
     }
 }
 
-/// Judges each report of a transcript, as `check_text` reads it, or where `first` is asked for tells the first alone that is
-/// refused. For each report one line is written, before the next line is read: a JSON object with all
-/// reasons against the report, in their order, and with what the results are by the readings. Answers
-/// the verdict. The lines before a fault were answered then.
+/// Judges each report of a transcript, which is read as `ptpx check` reads it; where `first` is asked
+/// for, only the first that is refused is told. For each report one line is written, before the next
+/// line is read: a JSON object with all reasons against the report, in their order, and with what the
+/// results are by the readings. Answers the verdict. The lines before a fault were answered then.
+///
+/// The faults are those of reading; `Json` for a line that is no JSON; `Field` for one that is neither
+/// a node nor a recorded event, a node after an event, or an event whose number isn't its place among
+/// the events, from 0; `World` where the nodes are no network; `Write`, and `Memory`.
 pub fn write_judgements<R: Read, W: Write>(
     alloc: Global,
     first: bool,

@@ -63,10 +63,14 @@ impl Tally {
         } else {
             "reports"
         };
-        write!(text, "{} of {} {noun} sound\n", self.sound, self.reports)?;
+        write!(text, "{} {noun}: {} sound\n", self.reports, self.sound)?;
         for (count, reason) in self.failing.iter().zip(REASONS) {
             if *count > 0 {
-                write!(text, "  refused {count}: {}: {reason}\n", reason.code())?;
+                write!(
+                    text,
+                    "  {} stands against {count}: {reason}\n",
+                    reason.code()
+                )?;
             }
         }
         if self.failing[7] > 0 {

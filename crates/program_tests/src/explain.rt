@@ -2,23 +2,15 @@
 
 use crate::program::run;
 use crate::replay::{SCHEDULE, TRANSCRIPT, joined};
-use std::alloc::Global;
+use crate::transcripts::changed;
 use std::str;
 use std::test::Fail;
 
-/// The lines of the transcript, with a part of that at this place changed.
-fn changed(alloc: Global, place: usize, from: &str, to: &str) -> Result<String, Fail> {
-    let mut text = String::new(alloc);
-    for (index, line) in TRANSCRIPT.iter().enumerate() {
-        if index == place {
-            text.push_str(line.replacen(alloc, from, to, 1)?.as_str())?;
-        } else {
-            text.push_str(line)?;
-        }
-        text.push('\n')?;
-    }
-    Ok(text)
-}
+/// The line of the report, with one unit too much.
+const TOO_MUCH: &str = r#"{"copy":11,"ev":"hear","n":13,"node":"S","offset2":"131072001","out":"report","path2":"131072000","tags":[5,7,8,13]}"#;
+
+/// The line of the first event, at a node that no name can have.
+const NO_NAME: &str = r#"{"diff":"65536000","ev":"stepclock","n":0,"node":"S 1","out":"done"}"#;
 
 /// What is said of a report with one unit too much.
 const STORY: &str = "\
@@ -43,7 +35,7 @@ const JUDGED: &str = "{\"by_readings\":{\"offset2\":\"131072000\",\"path2\":\"13
 #[test]
 fn tells_by_how_much(rt: HostRuntime) -> Result<(), Fail> {
     let alloc = rt.alloc();
-    let input = changed(alloc, 16, "131072000", "131072001")?;
+    let input = changed(alloc, 16, TOO_MUCH)?;
     for (line, said) in [
         ("ptpx explain", STORY),
         ("ptpx explain --first", STORY),
@@ -80,7 +72,7 @@ fn tells_of_a_sound_report(rt: HostRuntime) -> Result<(), Fail> {
 #[test]
 fn tells_what_is_no_line(rt: HostRuntime) -> Result<(), Fail> {
     let alloc = rt.alloc();
-    let input = changed(alloc, 3, "\"node\":\"S\"", "\"node\":\"S 1\"")?;
+    let input = changed(alloc, 3, NO_NAME)?;
     let said = "line 4: \"node\" is \"S 1\"; wanted are 1 to 16 letters, digits, _ or -\n\
 no report was judged from line 4 on\n";
     let ended = run(alloc, "ptpx explain", input.as_bytes())?;
