@@ -63,11 +63,7 @@ impl LineTask for Explaining {
     }
 
     /// Takes one more line, and writes what there is to tell of it, in one write.
-    fn take<W: Write>(
-        &mut self,
-        line: &[u8],
-        output: &mut Counted<W>,
-    ) -> Result<(), ExplainFault> {
+    fn take<W: Write>(&mut self, line: &[u8], output: &mut Counted<W>) -> Result<(), ExplainFault> {
         self.lines = self.lines.saturating_add(1);
         self.text.clear();
         self.tell_line(line)?;
@@ -191,10 +187,12 @@ pub fn explain<R: Read, W: Write>(
         tally: Tally::new(),
     };
     let answer = answer_lines(&mut task, input, output);
-    if let Err(Stopped {
-        line,
-        what: Cause::Reading(what),
-    }) = answer
+    if let Err(
+        Stopped {
+            line,
+            what: Cause::Reading(what),
+        },
+    ) = answer
     {
         task.text.clear();
         let _ = push_unread(&mut task.text, line, what);

@@ -21,8 +21,7 @@ impl Display for ByReadings {
             Some(results) => write!(
                 f,
                 "{{\"offset2\":\"{}\",\"path2\":\"{}\"}}",
-                results.offset2,
-                results.path2
+                results.offset2, results.path2
             ),
             None => f.write_str("null"),
         }

@@ -43,11 +43,7 @@ impl LineTask for Judging {
     }
 
     /// Takes one more line, and writes what its report is judged to be, in one write.
-    fn take<W: Write>(
-        &mut self,
-        line: &[u8],
-        output: &mut Counted<W>,
-    ) -> Result<(), ExplainFault> {
+    fn take<W: Write>(&mut self, line: &[u8], output: &mut Counted<W>) -> Result<(), ExplainFault> {
         match self.transcript.take(line)? {
             Some(judged) if self.is_told(&judged) => {
                 self.text.clear();

@@ -32,10 +32,7 @@ pub(crate) fn read_recorded(alloc: Global, line: &[u8]) -> Result<TranscriptLine
 }
 
 /// Writes a text, in one write.
-pub(crate) fn write_text<W: Write>(
-    text: &str,
-    output: &mut Counted<W>,
-) -> Result<(), ExplainFault>
+pub(crate) fn write_text<W: Write>(text: &str, output: &mut Counted<W>) -> Result<(), ExplainFault>
     ensures written { MatchResult result
         (λ _. Appends (W.contents (device_of output.old)) (W.contents (device_of output.new)) text.now)
         (λ fault. fault ≡ ExplainFault.Write) }

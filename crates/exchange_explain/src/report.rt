@@ -51,7 +51,10 @@ impl Display for Difference {
 /// Appends the first line of a report, and where several reasons stand against it a line for each other.
 pub(crate) fn push_head(text: &mut String, judged: &Judged) -> Result<(), AllocError> {
     let Judged {
-        line, event, node, ..
+        line,
+        event,
+        node,
+        ..
     } = judged;
     write!(text, "event {event}, line {line}, slave {}: ", node.text())?;
     let mut lead = "refused, ";

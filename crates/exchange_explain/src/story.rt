@@ -112,7 +112,11 @@ fn push_leg(
         at: &leg.departed,
         nodes,
     };
-    write!(text, "{stamp}  {message} {} departs", leg.departed.sequence.0)?;
+    write!(
+        text,
+        "{stamp}  {message} {} departs",
+        leg.departed.sequence.0
+    )?;
     match told {
         Some(event) => write!(text, "; told by event {event}\n")?,
         None => text.push('\n')?,

@@ -7,7 +7,8 @@ use std::str;
 use std::test::Fail;
 
 /// The line of the report, with one unit too much.
-const TOO_MUCH: &str = r#"{"copy":11,"ev":"hear","n":13,"node":"S","offset2":"131072001","out":"report","path2":"131072000","tags":[5,7,8,13]}"#;
+const TOO_MUCH: &str =
+    r#"{"copy":11,"ev":"hear","n":13,"node":"S","offset2":"131072001","out":"report","path2":"131072000","tags":[5,7,8,13]}"#;
 
 /// The line of the first event, at a node that no name can have.
 const NO_NAME: &str = r#"{"diff":"65536000","ev":"stepclock","n":0,"node":"S 1","out":"done"}"#;
@@ -29,7 +30,8 @@ verdict: refused event 13: 706
 ";
 
 /// The same as JSON.
-const JUDGED: &str = "{\"by_readings\":{\"offset2\":\"131072000\",\"path2\":\"131072000\"},\"event\":13,\
+const JUDGED: &str =
+    "{\"by_readings\":{\"offset2\":\"131072000\",\"path2\":\"131072000\"},\"event\":13,\
 \"line\":17,\"node\":\"S\",\"offset2\":\"131072001\",\"path2\":\"131072000\",\"reasons\":[706]}\n";
 
 #[test]
@@ -55,7 +57,8 @@ fn tells_of_a_sound_report(rt: HostRuntime) -> Result<(), Fail> {
     let alloc = rt.alloc();
     let input = joined(alloc, &TRANSCRIPT)?;
     let sound = "event 13, line 17, slave S: sound\n1 report: 1 sound\nverdict: accepted 1\n";
-    let judged = "{\"by_readings\":{\"offset2\":\"131072000\",\"path2\":\"131072000\"},\"event\":13,\"line\":17,\
+    let judged =
+        "{\"by_readings\":{\"offset2\":\"131072000\",\"path2\":\"131072000\"},\"event\":13,\"line\":17,\
 \"node\":\"S\",\"offset2\":\"131072000\",\"path2\":\"131072000\",\"reasons\":[]}\n";
     for (line, said) in [
         ("ptpx explain", sound),
@@ -77,7 +80,10 @@ fn tells_what_is_no_line(rt: HostRuntime) -> Result<(), Fail> {
 no report was judged from line 4 on\n";
     let ended = run(alloc, "ptpx explain", input.as_bytes())?;
     assert_eq!(rt; str::from_utf8(ended.output.as_slice())?, said);
-    assert_eq!(rt; ended.errors.as_slice(), b"ptpx: fault 806 at line 4\n".as_slice());
+    assert_eq!(rt;
+        ended.errors.as_slice(),
+        b"ptpx: fault 806 at line 4\n".as_slice()
+    );
     assert_eq!(rt; ended.status, 3);
     Ok(())
 }
@@ -98,7 +104,10 @@ fn tells_of_input_of_other_kinds(rt: HostRuntime) -> Result<(), Fail> {
         (schedule.as_bytes(), "line 4: a schedule begins here; "),
     ] {
         let ended = run(alloc, "ptpx explain", input)?;
-        assert!(rt; str::from_utf8(ended.output.as_slice())?.starts_with(said), "{said}");
+        assert!(rt;
+            str::from_utf8(ended.output.as_slice())?.starts_with(said),
+            "{said}"
+        );
     }
     Ok(())
 }
