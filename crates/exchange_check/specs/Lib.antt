@@ -1,3 +1,4 @@
 pub mod Refusal
 pub mod Transcript
+pub mod Exchange
 pub mod Inner

@@ -1,7 +1,9 @@
-ghost use Rattle.std.specs.Prelude.{◌≡◌, reverse, MatchResult, IfOk, ◌++◌, ◌∷◌, [], length};
+ghost use Rattle.std.specs.Prelude.{◌≡◌, reverse, MatchOption, MatchResult, IfOk, ◌++◌, ◌∷◌, [], length, Some, None};
 ghost use Rattle.network_model.specs.Premises.{IsFreshAndTicked, IsWithinTurn, exact_limits};
-ghost use Rattle.trace_model.specs.Record.{line_place};
-ghost use Rattle.trace_model.specs.Verdict.{line_judgement, verdict};
+ghost use Rattle.trace_model.specs.Record.{LinePlace, line_number, line_place};
+ghost use Rattle.trace_model.specs.Sound.{by_readings, lines_to};
+ghost use Rattle.trace_model.specs.Verdict.{line_judgement, report_in, verdict};
+ghost use Rattle.exchange_check.specs.Exchange.{TellsExchange};
 ghost use Rattle.trace_model.specs.Soundness.{TellsSoundness};
 ghost use Rattle.trace_model.specs.Complete.{AcceptsTruth};
 ghost use Rattle.exchange_check.specs.declared.refusal.CheckFault.TheVariants.{Memory};
@@ -103,7 +105,13 @@ impl Checker {
     /// The lines that a report of the event of this number is of, where they are all there and the journeys of the
     /// Sync and of the Delay_Req can be followed: where neither 701 nor 704 stands against it. The time
     /// that it takes doesn't grow with the lines that were fed, but for looking one of them up.
-    pub fn exchange(&self, number: u64, report: &Report) -> Option<Exchange> {
+    pub fn exchange(&self, number: u64, report: &Report) -> Option<Exchange>
+        // Right after the line of the report was fed.
+        ensures { (e : LinePlace) → reverse self.now.lines ≡ lines_to e → line_number e ≡ number
+            → report_in e.line.out ≡ Some report.now → MatchOption result
+            (by_readings self.now.network e report.now ≡ None)
+            (TellsExchange self.now.network e report.now) }
+    {
         self.kept.exchange(number, report)
     }
 
