@@ -7,6 +7,7 @@ ghost use Rattle.clap.specs.Values.{kind_of};
 ghost use Rattle.command_line.specs.Arguments.{Asks, name_of};
 ghost use Rattle.command_line.specs.Inner.Clap.{Chooses, ShowsKind, bare_program, program};
 
+use crate::explain::{ExplainOptions, explain, explain_options};
 use crate::help;
 use crate::measure::{MeasureOptions, measure, mistake, options_in};
 use clap::error::ErrorKind;
@@ -24,6 +25,8 @@ pub enum Subcommand {
     Check,
     /// Print what the datagrams that standard input gives, recorded at a slave, say of its clock.
     Measure(MeasureOptions),
+    /// Print what is wrong with the transcript or the schedule that standard input gives.
+    Explain(ExplainOptions),
 }
 
 /// What the arguments ask for.
@@ -88,7 +91,8 @@ fn program<'a>(alloc: Global) -> Result<Command<'a>, AllocError>
         .subcommand(show)?
         .subcommand(replay)?
         .subcommand(check)?
-        .subcommand(measure(alloc)?)
+        .subcommand(measure(alloc)?)?
+        .subcommand(explain(alloc)?)
 }
 
 /// Reads the arguments, of which the first is the program's own name. Memory fails by `AllocError`.
@@ -114,6 +118,7 @@ fn chosen(alloc: Global, matches: &ArgMatches<'_>) -> Result<Invocation, AllocEr
             Ok(options) => Subcommand::Measure(options),
             Err(wrong) => return refusal(alloc, mistake(alloc, wrong)?),
         },
+        Some(("explain", options)) => Subcommand::Explain(explain_options(options)),
         _ => unreachable!(),
     };
     Ok(Invocation::Run(subcommand))

@@ -209,3 +209,35 @@ Exit statuses:
 
 Limits: a line has 4096 octets before its LF at the most, and there may be any number of lines. Of a line
 that ends in CR this one CR isn't read. The last line may lack its LF."#;
+
+/// The help of `explain`.
+pub(crate) const EXPLAIN: &str = "\
+Standard input is a transcript, in lines of JSON as 'ptpx replay' writes them, whoever wrote these. Standard
+output says, as text for a person: of each line that isn't one what is wrong with it and what is wanted (of
+the first 20 of them, and how many more there are); which kind of input it is where it is another one, and
+the command that makes of it what is wanted; of each report which reasons stand against it, by how much its
+results differ from those of the readings, and the journeys of its Sync and its Delay_Req. The last lines
+say how many reports there are for each reason, and the verdict of 'ptpx check'. A line of text
+  event 13, line 17, slave S: refused, 706: the two results aren't those of the readings
+is of the report with n 13 at line 17 of the input. Once a line is found that isn't one, no report is
+judged after it.
+
+With --json standard output has a line for each report, before the next line is read, and nothing else:
+  {\"by_readings\":{\"offset2\":\"131072000\",\"path2\":\"131072000\"},\"event\":13,\"line\":17,\"node\":\"S\",
+  \"offset2\":\"131072001\",\"path2\":\"131072000\",\"reasons\":[706]}
+in one line. reasons are all that stand against the report, none where it is sound: 701 alone, or else 704
+alone, or else each that applies of 702, 703, 705, 707, 706 and 708, in this order. by_readings is what
+the results are by the readings, null where 701 or 704 stands. offset2 and path2 are twice offsetFromMaster
+and meanPathDelay, in units of 2^-16 ns.
+
+The reasons and the faults are those of 'ptpx check', which 'ptpx check --help' lists. A fault goes as
+'ptpx: fault 806 at line 3' to standard error.
+
+Exit statuses:
+  0  each report is sound
+  1  a report is refused
+  2  the arguments aren't a command
+  3  a fault
+
+Limits: a line has 4096 octets before its LF at the most, and an input has 1048576 lines. Of a line
+that ends in CR this one CR isn't read. The last line may lack its LF.";

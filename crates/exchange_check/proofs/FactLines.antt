@@ -18,7 +18,7 @@ use Rattle.trace_model.specs.declared.line.TraceLine.{TraceLine}
 use Rattle.trace_model.specs.Line.{Lines, counts}
 use Rattle.trace_model.specs.Record.{LinePlace, line_place, line_number, event_of}
 use Rattle.trace_model.specs.Record.{line_at, last_line, reading, sequence}
-use Rattle.trace_model.specs.Journey.{LineJourney, line_residence, with_stay, copy_entered, line_left_from, line_journey_made, line_journey_of}
+use Rattle.trace_model.specs.Journey.{LineJourney, with_stay, copy_entered, line_left_from, line_journey_made, line_journey_of}
 use Rattle.trace_model.specs.Octets.{drawing_port, sent, sent_after, follow_up_sent, answered}
 use Rattle.trace_model.specs.Octets.{message_made, writes_right, is_written}
 use Rattle.exchange_check.specs.Inner.Kept.{Facts, kept_journey_at, kept_journey_by, sent_by, message_after_by, followed_by, answered_by}
@@ -31,7 +31,7 @@ use Rattle.network_model.specs.Kinds.{is_at}
 use Rattle.network_model.specs.Run.{site_of}
 use Rattle.exchange_check.specs.Inner.Machine.{with_fact}
 use Rattle.trace_model.proofs.Lines.{last_is}
-use Rattle.exchange_check.proofs.Messages.{origin_in, sent_is, message_after_is, min_min}
+use Rattle.exchange_check.proofs.Messages.{origin_in, sent_is, message_after_is}
 
 -- the port of a master sent its Syncs
 sync_port : (network : Network) (event : Event) (node : NodeName) (port : PortSetup) → is_at is_sync node event ≡ true
@@ -70,7 +70,7 @@ module _ (network : Network) (e : LinePlace) where
       ≡ option_and_then (sent_after network) o
   message_of None known = refl
   message_of (Some j) known =
-      message_after_is network e.earlier j (kept_journey_of network j) (known j refl) refl (min_min (line_residence j))
+      message_after_is network e.earlier j (known j refl)
 
   answer_of : (g : Contents → Contents) (o : Option LineJourney)
       → option_map g (option_and_then (sent_after network) o)

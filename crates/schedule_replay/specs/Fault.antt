@@ -9,6 +9,8 @@ use Rattle.schedule_replay.specs.declared.fault.FaultKind.TheVariants.{Read, Wri
 use Rattle.schedule_replay.specs.declared.fault.FaultKind.TheVariants.{Field, World, Memory}
 use Rattle.capture_measure.specs.declared.measuring.MeasureFault.{MeasureFault}
 use Rattle.capture_measure.specs.declared.measuring.MeasureFault.TheVariants as measuring
+use Rattle.exchange_explain.specs.declared.fault.ExplainFault.{ExplainFault}
+use Rattle.exchange_explain.specs.declared.fault.ExplainFault.TheVariants as explaining
 use Rattle.text_lines.specs.declared.fault.Cause.{Cause}
 use Rattle.text_lines.specs.declared.fault.Cause.TheVariants.{Reading, Task}
 use Rattle.text_lines.specs.declared.fault.ReadingFault.{ReadingFault}
@@ -52,6 +54,19 @@ of_measuring (Reading fault) = of_reading fault
 of_measuring (Task measuring.Write) = Write
 of_measuring (Task measuring.Field) = Field
 of_measuring (Task measuring.Memory) = Memory
+
+-- the fault by which a fault of `explain` is told
+abbrev pub of_explaining : ExplainFault → FaultKind
+of_explaining explaining.Write = Write
+of_explaining explaining.Json = Json
+of_explaining explaining.Field = Field
+of_explaining (explaining.World why) = World why
+of_explaining explaining.Memory = Memory
+
+-- the fault by which it is told why a transcript was explained no further
+abbrev pub explaining_kind : Cause ExplainFault → FaultKind
+explaining_kind (Reading fault) = of_reading fault
+explaining_kind (Task fault) = of_explaining fault
 
 -- the kind of a fault
 abbrev pub kind_at : Fault → FaultKind

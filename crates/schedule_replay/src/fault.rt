@@ -3,6 +3,7 @@ ghost use Rattle.schedule_replay.specs.declared.fault.TaskFault.TheVariants.{Mem
 
 use capture_measure::MeasureFault;
 use exchange_check::CheckFault;
+use exchange_explain::ExplainFault;
 use network_model::WorldRefusal;
 use std::alloc::{AllocError, AllocFailed};
 use std::fmt;
@@ -164,6 +165,39 @@ impl From<Stopped<Cause<MeasureFault>>> for Fault {
             Cause::Task(MeasureFault::Write) => FaultKind::Write,
             Cause::Task(MeasureFault::Field) => FaultKind::Field,
             Cause::Task(MeasureFault::Memory) => FaultKind::Memory,
+        };
+        Fault {
+            line: stop.line,
+            what,
+        }
+    }
+}
+
+impl From<ExplainFault> for FaultKind {
+    ghost use Rattle.schedule_replay.specs.Fault.{of_explaining};
+
+    ghost from_gives = { λ fault kind. kind ≡ of_explaining fault };
+
+    fn from(fault: ExplainFault) -> FaultKind {
+        match fault {
+            ExplainFault::Write => FaultKind::Write,
+            ExplainFault::Json => FaultKind::Json,
+            ExplainFault::Field => FaultKind::Field,
+            ExplainFault::World(why) => FaultKind::World(why),
+            ExplainFault::Memory => FaultKind::Memory,
+        }
+    }
+}
+
+impl From<Stopped<Cause<ExplainFault>>> for Fault {
+    ghost use Rattle.schedule_replay.specs.Fault.{explaining_kind};
+
+    ghost from_gives = { λ stop fault. (fault.line ≡ stop.line) × (fault.what ≡ explaining_kind stop.what) };
+
+    fn from(stop: Stopped<Cause<ExplainFault>>) -> Fault {
+        let what = match stop.what {
+            Cause::Reading(fault) => fault.into(),
+            Cause::Task(fault) => fault.into(),
         };
         Fault {
             line: stop.line,

@@ -1,7 +1,8 @@
 ghost use Rattle.std.specs.Prelude.{◌≡◌, ◌≢◌, ◌⊎◌, map, string_bytes};
 ghost use Rattle.command_line.specs.declared.measure.MeasureOptions.{MeasureOptions};
 ghost use Rattle.command_line.specs.declared.arguments.Subcommand.TheVariants.{Measure};
-ghost use Rattle.schedule_replay.specs.Program.{EndsBefore, EndsUnread, Runs, RunsMeasure, check_status, status_of};
+ghost use Rattle.schedule_replay.specs.Program.{EndsBefore, EndsUnread, Runs, RunsMeasure, RunsExplain};
+ghost use Rattle.schedule_replay.specs.Program.{check_status, status_of};
 ghost use Rattle.command_line.specs.Arguments.{AsksNothing, HasHelpFlag, Names, NamesNothing};
 ghost use Rattle.capture_measure.specs.Measure.{measure_rules};
 ghost use Rattle.schedule_replay.specs.Inner.Allowed.{lines_allowed};
@@ -13,8 +14,9 @@ use crate::fault::{Fault, FaultKind};
 use crate::replaying::replay;
 use crate::showing::show;
 use capture_measure::{Form, Wanted, measure};
-use command_line::{Invocation, MeasureOptions, Subcommand, parse};
+use command_line::{ExplainOptions, Invocation, MeasureOptions, Subcommand, parse};
 use exchange_check::Verdict;
+use exchange_explain::{Explained, explain, write_judgements};
 use std::alloc::Global;
 use std::io::{Read, Write};
 use text_lines::Counted;
@@ -79,6 +81,35 @@ fn run<R: Read, W: Write, E: Write>(
         Subcommand::Replay => finish(errors, replay(alloc, input, output)),
         Subcommand::Check => finish_check(errors, check_text(alloc, input, output)),
         Subcommand::Measure(options) => run_measure(alloc, options, input, output, errors),
+        Subcommand::Explain(options) => run_explain(alloc, options, input, output, errors),
+    }
+}
+
+/// Explains a transcript, and answers the exit status, which is that of `check`.
+fn run_explain<R: Read, W: Write, E: Write>(
+    alloc: Global,
+    options: ExplainOptions,
+    input: &mut Counted<R>,
+    output: &mut Counted<W>,
+    errors: &mut E,
+) -> u8
+    ensures runs { RunsExplain R.remaining W.contents options result input.old input.new output.old output.new }
+    ensures bounded { GivesWithin R.remaining (input_limit lines_limit) input.old input.new }
+{
+    if options.json {
+        let answer = write_judgements(alloc, options.first, input, output);
+        return finish_check(errors, answer);
+    }
+    match explain(alloc, options.first, input, output) {
+        Ok(Explained::Whole(verdict)) => finish_check(errors, Ok::<Verdict, Fault>(verdict)),
+        Ok(Explained::Flawed { line, what }) => report(
+            errors,
+            Fault {
+                line,
+                what: what.into(),
+            },
+        ),
+        Err(stop) => report(errors, stop.into()),
     }
 }
 
@@ -121,13 +152,13 @@ fn finish<F: Into<Fault>, E: Write>(errors: &mut E, answer: Result<u64, F>) -> u
 }
 
 /// Answers the exit status of `check`, and says its fault.
-fn finish_check<E: Write>(errors: &mut E, answer: Result<Verdict, Fault>) -> u8
+fn finish_check<F: Into<Fault>, E: Write>(errors: &mut E, answer: Result<Verdict, F>) -> u8
     ensures { result ≡ check_status answer }
 {
     match answer {
         Ok(Verdict::Accepted(_)) => 0,
         Ok(Verdict::Refused { .. }) => 1,
-        Err(fault) => report(errors, fault),
+        Err(fault) => report(errors, fault.into()),
     }
 }
 

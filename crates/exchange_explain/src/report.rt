@@ -1,0 +1,91 @@
+//! What a report is judged to be, for a person.
+
+use crate::transcript::Judged;
+use exchange_check::Why;
+use std::alloc::AllocError;
+use std::fmt;
+use std::fmt::{Display, Formatter};
+
+/// A reason by its number and in words.
+#[derive(Clone, Copy)]
+struct Reason(Why);
+
+impl Display for Reason {
+    fn fmt<W: fmt::Write>(&self, f: &mut Formatter<W>) -> fmt::Result {
+        write!(f, "{}: {}", self.0.code(), self.0)
+    }
+}
+
+/// By how much a reported number differs from the one by the readings.
+#[derive(Clone, Copy)]
+struct Difference {
+    reported: i128,
+    by_readings: i128,
+}
+
+impl Difference {
+    /// How many units, and whether they are too many.
+    fn units(self) -> (u128, bool) {
+        let too_much = self.reported > self.by_readings;
+        let difference = self.reported.wrapping_sub(self.by_readings);
+        if too_much {
+            (difference as u128, too_much)
+        } else {
+            (difference.wrapping_neg() as u128, too_much)
+        }
+    }
+}
+
+impl Display for Difference {
+    fn fmt<W: fmt::Write>(&self, f: &mut Formatter<W>) -> fmt::Result {
+        let (units, too_much) = self.units();
+        let noun = if units == 1 { "unit" } else { "units" };
+        let side = if too_much { "much" } else { "little" };
+        match units {
+            0 => Ok(()),
+            _ => write!(f, "  {units} {noun} of 2^-16 ns too {side}"),
+        }
+    }
+}
+
+/// Appends the first line of a report, and where several reasons stand against it a line for each other.
+pub(crate) fn push_head(text: &mut String, judged: &Judged) -> Result<(), AllocError> {
+    let Judged {
+        line,
+        event,
+        node,
+        ..
+    } = judged;
+    write!(text, "event {event}, line {line}, slave {}: ", node.text())?;
+    let mut lead = "refused, ";
+    for why in judged.judgement.reasons.as_slice() {
+        write!(text, "{lead}{}\n", Reason(*why))?;
+        lead = "  and ";
+    }
+    if judged.is_sound() {
+        text.push_str("sound\n")?;
+    }
+    Ok(())
+}
+
+/// Appends the two results, as they are reported and by the readings; nothing where no readings are found.
+pub(crate) fn push_results(text: &mut String, judged: &Judged) -> Result<(), AllocError> {
+    let Some(results) = judged.judgement.by_readings else {
+        return Ok(());
+    };
+    let rows = [
+        ("offset2", judged.report.offset2, results.offset2),
+        ("path2  ", judged.report.path2, results.path2),
+    ];
+    for (name, reported, by_readings) in rows {
+        write!(
+            text,
+            "  {name}  reported {reported}  by the readings {by_readings}{}\n",
+            Difference {
+                reported,
+                by_readings
+            }
+        )?;
+    }
+    Ok(())
+}
