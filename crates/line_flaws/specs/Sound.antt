@@ -1,19 +1,14 @@
 -- Which lines have no flaw: those that are read where they stand.
-use Rattle.std.specs.Prelude.{ℕ, List, Bool, true, false, ◌==◌, if◌then◌else◌, Option, None}
+use Rattle.std.specs.Prelude.{ℕ, List, Bool, true, false, ◌==◌}
 use Rattle.std.specs.Prelude.{option_map, unwrap_or}
-use Rattle.std.specs.Str.{is_utf8}
 use Rattle.serde_json.specs.Data.{Data}
-use Rattle.serde_json.specs.Read.{read}
+use Rattle.schedule_lines.specs.Json.{value_in}
 use Rattle.schedule_lines.specs.declared.reading.schedule.Line.{Line}
 use Rattle.schedule_lines.specs.declared.reading.transcript.TranscriptLine.{TranscriptLine}
 use Rattle.schedule_lines.specs.Line.{line_of}
 use Rattle.schedule_lines.specs.TranscriptLine.{transcript_line_of}
 use Rattle.schedule_lines.specs.declared.reading.schedule.Line.TheVariants as schedules
 use Rattle.schedule_lines.specs.declared.reading.transcript.TranscriptLine.TheVariants as transcripts
-
--- the JSON value that a line is; None where it isn't UTF-8 or isn't JSON
-abbrev pub value_in : List ℕ → Option Data
-value_in line = if is_utf8 line then read line else None
 
 -- whether a line of a schedule may stand after so many events: nodes come before all of them
 abbrev pub may_follow : ℕ → Line → Bool

@@ -2,14 +2,15 @@
 ghost use Rattle.std.specs.Prelude.{◌≡◌, ◌==◌, IfOk, IfSome, MatchResult, Some, None, is_none};
 ghost use Rattle.serde_json.specs.Data.{Data};
 ghost use Rattle.serde_json.specs.View.{view};
-ghost use Rattle.line_flaws.specs.Sound.{value_in, is_schedule_line, is_transcript_line};
+ghost use Rattle.schedule_lines.specs.Json.{value_in};
+ghost use Rattle.line_flaws.specs.Sound.{is_schedule_line, is_transcript_line};
 ghost use Rattle.line_flaws.specs.Sound.{is_schedule_value, is_transcript_value};
 ghost use Rattle.line_flaws.specs.Truth.{IsSo, IsSoOfOctets, IsSoOfValue};
 
 use crate::flaw::{Flaw, Form};
 use crate::json_fault::json_flaw;
 use crate::search::flaw_in;
-use schedule_lines::{Line, TranscriptLine};
+use schedule_lines::{Line, TranscriptLine, line_value};
 use serde_json::Value;
 use std::alloc::{AllocError, Global};
 
@@ -19,7 +20,7 @@ fn read_value<'a>(alloc: Global, line: &'a [u8]) -> Result<Result<Value, Flaw<'a
         (λ value. value_in line.now ≡ Some (view value))
         (λ flaw. (value_in line.now ≡ None) × IsSoOfOctets line.now flaw)) }
 {
-    match Value::from_slice(alloc, line) {
+    match line_value(alloc, line) {
         Ok(value) => Ok(Ok(value)),
         Err(error) if error.is_memory() => Err(AllocError),
         Err(error) => Ok(Err(json_flaw(line, error.column()))),
