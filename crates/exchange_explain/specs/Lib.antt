@@ -1,4 +1,4 @@
-pub mod Recorded
+pub mod Input
 pub mod Judged
 pub mod Judgements
 pub mod Explained

@@ -1,20 +1,17 @@
-//! What is wrong with a transcript, for a person.
-ghost use Rattle.std.specs.Prelude.{◌≡◌, MatchResult, ⊤};
+//! What is wrong with a transcript or a schedule, for a person.
+ghost use Rattle.std.specs.Prelude.{MatchResult};
+ghost use Rattle.schedule_reading.specs.Entry.{lines_limit};
 ghost use Rattle.text_lines.specs.Counted.{HasNotFailed};
 ghost use Rattle.text_lines.specs.Lines.{input_limit, GivesWithin};
-ghost use Rattle.text_lines.specs.Task.{FailedAt};
-ghost use Rattle.exchange_explain.specs.Recorded.{lines_limit};
-ghost use Rattle.exchange_explain.specs.Explained.{Seen, explain_rules, ExplainsAnswer};
-ghost use Rattle.exchange_explain.specs.Inner.Transcript.{IsExplaining};
+ghost use Rattle.exchange_explain.specs.Explained.{Seen, explain_rules, ExplainsAnswer, HasFailedReading};
+ghost use Rattle.exchange_explain.specs.Inner.Explaining.{IsExplaining};
 
-use crate::fault::ExplainFault;
 use crate::flaws::Flaws;
-use crate::lines::{LINES_LIMIT, write_text};
-use crate::report::{push_head, push_results};
-use crate::story::push_exchange;
-use crate::tally::{Tally, push_verdict};
-use crate::transcript::{Judged, Transcript};
-use exchange_check::Verdict;
+use crate::input::{Found, Input};
+use crate::report::{is_sound, push_head, push_results};
+use crate::tally::{Tally, push_found};
+use network_model::WorldRefusal;
+use schedule_reading::{Judged, LINES_LIMIT, TaskFault, Transcript, write_text};
 use std::alloc::{AllocError, Global};
 use std::io::{Read, Write};
 use text_lines::{Cause, Counted, LineTask, ReadingFault, Stopped, answer_lines};
@@ -22,14 +19,14 @@ use text_lines::{Cause, Counted, LineTask, ReadingFault, Stopped, answer_lines};
 /// What an input is found to be.
 #[derive(Clone, Copy, Debug, PartialEq, Eq)]
 pub enum Explained {
-    /// It is a whole transcript, with this verdict.
-    Whole(Verdict),
-    /// It isn't: its first fault, and the line where that is, counted from 1.
+    /// It is a whole transcript or a whole schedule.
+    Whole(Found),
+    /// It is neither.
     Flawed {
-        /// The line.
+        /// The line of its first fault, counted from 1.
         line: u64,
-        /// The fault.
-        what: ExplainFault,
+        /// This fault.
+        what: TaskFault,
     },
 }
 
@@ -37,20 +34,22 @@ pub enum Explained {
 #[derive(Drop)]
 struct Explaining {
     alloc: Global,
-    transcript: Transcript,
+    input: Input,
+    /// How many lines were read.
+    lines: u64,
+    /// The first fault, and what was seen of lines from there on.
+    flaws: Option<Flaws>,
     /// Whether only the first report that is refused is told.
     first: bool,
+    tally: Tally,
     /// What is told of the last line, in the one text that all share.
     text: String,
-    lines: u64,
-    flaws: Option<Flaws>,
-    tally: Tally,
 }
 
 impl LineTask for Explaining {
     type Answer = Explained;
 
-    type Fault = ExplainFault;
+    type Fault = TaskFault;
 
     ghost State = { Seen };
 
@@ -63,19 +62,18 @@ impl LineTask for Explaining {
     }
 
     /// Takes one more line, and writes what there is to tell of it, in one write.
-    fn take<W: Write>(&mut self, line: &[u8], output: &mut Counted<W>) -> Result<(), ExplainFault> {
-        self.lines = self.lines.saturating_add(1);
+    fn take<W: Write>(&mut self, line: &[u8], output: &mut Counted<W>) -> Result<(), TaskFault> {
         self.text.clear();
         self.tell_line(line)?;
         self.write(output)
     }
 
-    /// The verdict or the first fault, and what there is to tell at the end, in one write.
+    /// What the input is or its first fault, and what there is to tell at the end, in one write.
     fn finish<W: Write>(
         &mut self,
         _lines: u64,
         output: &mut Counted<W>,
-    ) -> Result<Explained, ExplainFault> {
+    ) -> Result<Explained, TaskFault> {
         self.text.clear();
         let found = self.tell_end()?;
         self.write(output)?;
@@ -85,63 +83,92 @@ impl LineTask for Explaining {
 
 impl Explaining {
     /// Writes what is to be told, where there is something.
-    fn write<W: Write>(&self, output: &mut Counted<W>) -> Result<(), ExplainFault> {
+    fn write<W: Write>(&self, output: &mut Counted<W>) -> Result<(), TaskFault> {
         match self.text.as_str() {
             "" => Ok(()),
             text => write_text(text, output),
         }
     }
 
-    /// Tells what there is to tell of a line.
-    fn tell_line(&mut self, line: &[u8]) -> Result<(), ExplainFault> {
+    /// Tells what there is to tell of one more line.
+    fn tell_line(&mut self, line: &[u8]) -> Result<(), TaskFault> {
+        let number = self.lines.checked_add(1).ok_or(TaskFault::Memory)?;
         if let Some(flaws) = &mut self.flaws {
-            return Ok(flaws.look(self.alloc, self.lines, line, &mut self.text)?);
+            flaws.look(self.alloc, number, line, &mut self.text)?;
+            self.lines = number;
+            return Ok(());
         }
-        match self.transcript.take(line) {
-            Ok(Some(judged)) => Ok(self.tell_report(&judged)?),
-            Ok(None) => Ok(()),
-            Err(ExplainFault::Memory) => Err(ExplainFault::Memory),
+        match self.input.take(self.alloc, line) {
+            Ok(judged) => {
+                self.lines = number;
+                self.tell_report(judged)
+            }
+            Err(TaskFault::Memory) => Err(TaskFault::Memory),
             Err(fault) => {
-                let mut flaws = Flaws::new(self.lines, fault, self.transcript.events());
-                flaws.begin(self.alloc, line, &mut self.text)?;
-                self.flaws = Some(flaws);
-                Ok(())
+                self.lines = number;
+                self.tell_fault(number, fault, line)
             }
         }
     }
 
     /// Tells what a report is judged to be, and where it is refused its exchange.
-    fn tell_report(&mut self, judged: &Judged) -> Result<(), AllocError> {
+    fn tell_report(&mut self, judged: Option<Judged>) -> Result<(), TaskFault> {
+        let Some(judged) = judged else {
+            return Ok(());
+        };
         self.tally.count(&judged.judgement.reasons);
-        if self.first && !self.transcript.is_first_refused(judged) {
+        if self.first && !self.input.is_first_refused(judged.event) {
             return Ok(());
         }
-        push_head(&mut self.text, judged)?;
-        if judged.is_sound() {
-            return Ok(());
+        push_head(&mut self.text, &judged)?;
+        if !is_sound(&judged) {
+            push_results(&mut self.text, &judged)?;
         }
-        if let Some(exchange) = self.transcript.exchange(judged.event, &judged.report) {
-            push_exchange(&mut self.text, self.transcript.nodes(), &exchange)?;
-        }
-        push_results(&mut self.text, judged)
+        Ok(())
+    }
+
+    /// Tells the first fault, which is at this line.
+    fn tell_fault(&mut self, number: u64, fault: TaskFault, line: &[u8]) -> Result<(), TaskFault> {
+        let mut flaws = Flaws::new(number, fault, &self.input);
+        flaws.begin(self.alloc, line, &mut self.text)?;
+        self.flaws = Some(flaws);
+        Ok(())
+    }
+
+    /// Tells why the nodes, after which there is no event, are no network.
+    fn tell_no_network(&mut self, why: WorldRefusal) -> Result<Explained, TaskFault> {
+        let line = self.lines.checked_add(1).ok_or(TaskFault::Memory)?;
+        write!(&mut self.text, "{}: {why}\n", why.code())?;
+        Ok(Explained::Flawed {
+            line,
+            what: TaskFault::World(why),
+        })
+    }
+
+    /// Writes why a line can't be read. What can't be written is lost.
+    fn tell_unread<W: Write>(&mut self, line: u64, what: ReadingFault, output: &mut Counted<W>) {
+        self.text.clear();
+        let _ = push_unread(&mut self.text, line, what);
+        let _ = self.write(output);
     }
 
     /// Tells what there is to tell at the end.
-    fn tell_end(&mut self) -> Result<Explained, ExplainFault> {
-        match self.flaws {
-            Some(flaws) => {
-                flaws.push_end(&mut self.text)?;
-                Ok(Explained::Flawed {
-                    line: flaws.line,
-                    what: flaws.what,
-                })
-            }
-            None => {
-                let verdict = self.transcript.verdict()?;
+    fn tell_end(&mut self) -> Result<Explained, TaskFault> {
+        if let Some(flaws) = &self.flaws {
+            flaws.push_end(&mut self.text)?;
+            return Ok(Explained::Flawed {
+                line: flaws.line,
+                what: flaws.what,
+            });
+        }
+        match self.input.found() {
+            Ok(found) => {
                 self.tally.push(&mut self.text)?;
-                push_verdict(&mut self.text, verdict)?;
-                Ok(Explained::Whole(verdict))
+                push_found(&mut self.text, found)?;
+                Ok(Explained::Whole(found))
             }
+            Err(TaskFault::World(why)) => self.tell_no_network(why),
+            Err(fault) => Err(fault),
         }
     }
 }
@@ -161,30 +188,35 @@ fn push_unread(text: &mut String, line: u64, what: ReadingFault) -> Result<(), A
     }
 }
 
-/// Says for a person what is wrong with a transcript: of each line that isn't read, of the first 20 of
+/// Says for a person what is wrong with a transcript or a schedule: of each line that isn't read, of the first 20 of
 /// them, what is wrong with it; of an input of another kind, which it is; of each report, or where
-/// `first` is asked for of the first alone that is refused, what it is judged to be; and at the end how
-/// many reports there are, and the verdict. What is told of a line is written before the next one is
-/// read. After the first line that isn't read no report is judged. Answers the verdict, or the first
+/// `first` is asked for of the first alone that is refused, what it is judged to be; of an event of a schedule that the
+/// network refuses, why; and at the end how many reports there are, and the verdict. What is told of a line is written
+/// before the next one is read. After the first fault no report is judged. Answers what the input is, or its first
 /// fault with its line.
+///
+/// The faults at which it stops are those of reading, `Write` and `Memory`.
 pub fn explain<R: Read, W: Write>(
     alloc: Global,
     first: bool,
     input: &mut Counted<R>,
     output: &mut Counted<W>,
-) -> Result<Explained, Stopped<Cause<ExplainFault>>>
-    ensures explained { ExplainsAnswer first R.remaining result input.old input.new }
+) -> Result<Explained, Stopped<Cause<TaskFault>>>
+    ensures explained { ExplainsAnswer R.remaining result input.old input.new }
     // Of any reader only so much is read, whatever the writer is.
     ensures bounded { GivesWithin R.remaining (input_limit lines_limit) input.old input.new }
+    ensures failures { MatchResult result
+        (λ _. HasNotFailed input.old input.new × HasNotFailed output.old output.new)
+        (λ stop. HasFailedReading stop.what input.old input.new) }
 {
     let mut task = Explaining {
         alloc,
-        transcript: Transcript::new(alloc),
-        first,
-        text: String::new(alloc),
+        input: Input::Transcript(Transcript::new(alloc)),
         lines: 0,
         flaws: None,
+        first,
         tally: Tally::new(),
+        text: String::new(alloc),
     };
     let answer = answer_lines(&mut task, input, output);
     if let Err(
@@ -194,9 +226,7 @@ pub fn explain<R: Read, W: Write>(
         },
     ) = answer
     {
-        task.text.clear();
-        let _ = push_unread(&mut task.text, line, what);
-        let _ = task.write(output);
+        task.tell_unread(line, what, output);
     }
     answer
 }

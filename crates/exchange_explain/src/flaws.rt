@@ -1,7 +1,9 @@
 //! The lines of an input that aren't what is asked for.
+ghost use Rattle.std.specs.Prelude.{◌≡◌};
 
-use crate::fault::ExplainFault;
+use crate::input::Input;
 use line_flaws::{Flaw, FlawAt, Foreign, schedule_flaw, transcript_flaw};
+use schedule_reading::TaskFault;
 use std::alloc::{AllocError, Global};
 
 /// The most lines whose flaw is told.
@@ -13,7 +15,7 @@ pub(crate) struct Flaws {
     /// The line of the first fault, counted from 1.
     pub(crate) line: u64,
     /// The first fault.
-    pub(crate) what: ExplainFault,
+    pub(crate) what: TaskFault,
     /// Whether the input is of another kind, so that flaws of lines say nothing.
     foreign: bool,
     /// Whether it is a schedule.
@@ -25,13 +27,19 @@ pub(crate) struct Flaws {
 }
 
 impl Flaws {
-    /// The first fault of an input is at this line, after so many events.
-    pub(crate) fn new(line: u64, what: ExplainFault, events: u64) -> Flaws {
+    /// The first fault of an input is at this line, after what was read so far.
+    pub(crate) fn new(line: u64, what: TaskFault, input: &Input) -> Flaws
+        ensures { (result.line ≡ line) × (result.what ≡ what) }
+    {
+        let (scheduled, events) = match input {
+            Input::Transcript(transcript) => (false, transcript.events()),
+            Input::Schedule(schedule) => (true, schedule.len()),
+        };
         Flaws {
             line,
             what,
             foreign: false,
-            scheduled: false,
+            scheduled,
             count: 0,
             events,
         }
@@ -43,16 +51,13 @@ impl Flaws {
         alloc: Global,
         line: &[u8],
         text: &mut String,
-    ) -> Result<(), AllocError> {
-        if let ExplainFault::World(why) = self.what {
+    ) -> Result<(), AllocError>
+        ensures { (self.new.line ≡ self.old.line) × (self.new.what ≡ self.old.what) }
+    {
+        if let TaskFault::World(why) = self.what {
             self.pass(line);
             self.count = 1;
-            return write!(
-                text,
-                "line {}: the nodes before it are no network: {}: {why}\n",
-                self.line,
-                why.code()
-            );
+            return write!(text, "line {}: {}: {why}\n", self.line, why.code());
         }
         match foreign_at(self.line, line) {
             Some(kind) => {
@@ -63,22 +68,15 @@ impl Flaws {
         }
     }
 
-    /// Appends what is wrong with the line of the first fault. An event without what came of it, at the
-    /// place of the first event, is one of a schedule.
+    /// Appends what is wrong with the line of the first fault.
     fn begin_lines(
         &mut self,
         alloc: Global,
         line: &[u8],
         text: &mut String,
-    ) -> Result<(), AllocError> {
-        if self.events == 0 && matches!(transcript_flaw(alloc, line, 0)?, Some(Flaw::NoOutcome)) {
-            self.scheduled = true;
-            write!(
-                text,
-                "line {}: a schedule begins here; wanted is a transcript, and 'ptpx replay' makes one of it\n",
-                self.line
-            )?;
-        }
+    ) -> Result<(), AllocError>
+        ensures { (self.new.line ≡ self.old.line) × (self.new.what ≡ self.old.what) }
+    {
         self.look(alloc, self.line, line, text)
     }
 
@@ -89,7 +87,9 @@ impl Flaws {
         number: u64,
         line: &[u8],
         text: &mut String,
-    ) -> Result<(), AllocError> {
+    ) -> Result<(), AllocError>
+        ensures { (self.new.line ≡ self.old.line) × (self.new.what ≡ self.old.what) }
+    {
         if self.foreign {
             return Ok(());
         }
@@ -114,7 +114,9 @@ impl Flaws {
     }
 
     /// Passes a line, which is an event's where there was one or it says so.
-    fn pass(&mut self, line: &[u8]) {
+    fn pass(&mut self, line: &[u8])
+        ensures { (self.new.line ≡ self.old.line) × (self.new.what ≡ self.old.what) }
+    {
         if self.events > 0 || names_event(line) {
             self.events = self.events.saturating_add(1);
         }

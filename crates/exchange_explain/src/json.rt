@@ -3,8 +3,8 @@ ghost use Rattle.std.specs.Prelude.{◌≡◌, ◌++◌, OnOk, Some};
 ghost use Rattle.std.specs.String.{string_bytes};
 ghost use Rattle.exchange_explain.specs.Judged.{by_readings_text, codes_text, judged_text};
 
-use crate::transcript::Judged;
 use exchange_check::{Results, Why};
+use schedule_reading::Judged;
 use std::alloc::AllocError;
 use std::fmt;
 use std::fmt::{Display, Formatter};

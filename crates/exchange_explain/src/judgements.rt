@@ -1,17 +1,14 @@
 //! A transcript whose reports are judged, a line of JSON each.
 ghost use Rattle.std.specs.Prelude.{◌≡◌, MatchResult};
+ghost use Rattle.schedule_reading.specs.Entry.{lines_limit};
 ghost use Rattle.text_lines.specs.Counted.{HasNotFailed};
 ghost use Rattle.text_lines.specs.Lines.{input_limit, GivesWithin};
 ghost use Rattle.text_lines.specs.Task.{FailedAt};
-ghost use Rattle.exchange_explain.specs.Recorded.{Recorded, lines_limit};
-ghost use Rattle.exchange_explain.specs.Judgements.{Told, judgement_rules, JudgesAnswer};
-ghost use Rattle.exchange_explain.specs.Inner.Transcript.{recorded_of, IsJudging};
+ghost use Rattle.exchange_explain.specs.Judgements.{Told, is_told, judgement_rules, JudgesAnswer};
 
-use crate::fault::ExplainFault;
+use crate::input::{Found, Input};
 use crate::json::push_judged;
-use crate::lines::{LINES_LIMIT, write_text};
-use crate::transcript::{Judged, Transcript};
-use exchange_check::Verdict;
+use schedule_reading::{Judged, LINES_LIMIT, TaskFault, Transcript, write_text};
 use std::alloc::Global;
 use std::io::{Read, Write};
 use text_lines::{Cause, Counted, LineTask, Stopped, answer_lines};
@@ -19,7 +16,8 @@ use text_lines::{Cause, Counted, LineTask, Stopped, answer_lines};
 /// Judges each report of a transcript.
 #[derive(Drop)]
 struct Judging {
-    transcript: Transcript,
+    alloc: Global,
+    input: Input,
     /// Whether only the first report that is refused is told.
     first: bool,
     /// The line of the last report, in the one text that all share.
@@ -27,25 +25,24 @@ struct Judging {
 }
 
 impl LineTask for Judging {
-    type Answer = Verdict;
+    type Answer = Found;
 
-    type Fault = ExplainFault;
+    type Fault = TaskFault;
 
     ghost State = { Told };
 
     ghost rules = { judgement_rules };
 
-    ghost is_at = { λ task told. (told ≡ record { first = task.first; recorded = recorded_of task.transcript })
-        × IsJudging task.transcript };
+    ghost is_at = { λ task told. told ≡ record { first = task.first; input = task.input } };
 
     fn lines_limit() -> u64 {
         LINES_LIMIT
     }
 
     /// Takes one more line, and writes what its report is judged to be, in one write.
-    fn take<W: Write>(&mut self, line: &[u8], output: &mut Counted<W>) -> Result<(), ExplainFault> {
-        match self.transcript.take(line)? {
-            Some(judged) if self.is_told(&judged) => {
+    fn take<W: Write>(&mut self, line: &[u8], output: &mut Counted<W>) -> Result<(), TaskFault> {
+        match self.input.take(self.alloc, line)? {
+            Some(judged) if self.is_told(judged.event) => {
                 self.text.clear();
                 push_judged(&mut self.text, &judged)?;
                 write_text(self.text.as_str(), output)
@@ -54,37 +51,41 @@ impl LineTask for Judging {
         }
     }
 
-    /// The verdict on all events; nothing is written.
+    /// What the input is; nothing is written.
     fn finish<W: Write>(
         &mut self,
         _lines: u64,
         _output: &mut Counted<W>,
-    ) -> Result<Verdict, ExplainFault> {
-        self.transcript.verdict()
+    ) -> Result<Found, TaskFault> {
+        self.input.found()
     }
 }
 
 impl Judging {
-    /// Whether a report is told.
-    fn is_told(&self, judged: &Judged) -> bool {
-        !self.first || self.transcript.is_first_refused(judged)
+    /// Whether the report of the event of this number is told.
+    fn is_told(&self, event: u64) -> bool
+        ensures { result ≡ is_told self.now.first event self.now.input }
+    {
+        !self.first || self.input.is_first_refused(event)
     }
 }
 
 /// Judges each report of a transcript, which is read as `ptpx check` reads it; where `first` is asked
 /// for, only the first that is refused is told. For each report one line is written, before the next
 /// line is read: a JSON object with all reasons against the report, in their order, and with what the
-/// results are by the readings. Answers the verdict. The lines before a fault were answered then.
+/// results are by the readings. A schedule has no reports, and is read as `ptpx replay` reads it. Answers the
+/// verdict, or how many events the schedule has. The lines before a fault were answered then.
 ///
 /// The faults are those of reading; `Json` for a line that is no JSON; `Field` for one that is neither
-/// a node nor a recorded event, a node after an event, or an event whose number isn't its place among
-/// the events, from 0; `World` where the nodes are no network; `Write`, and `Memory`.
+/// a node nor an event, a node after an event, or a recorded event whose number isn't its place among the
+/// events, from 0; `World` where the nodes are no network, or an event of a schedule can't happen in it; `Write`, and
+/// `Memory`.
 pub fn write_judgements<R: Read, W: Write>(
     alloc: Global,
     first: bool,
     input: &mut Counted<R>,
     output: &mut Counted<W>,
-) -> Result<Verdict, Stopped<Cause<ExplainFault>>>
+) -> Result<Found, Stopped<Cause<TaskFault>>>
     ensures judged { JudgesAnswer first R.remaining W.contents result input.old input.new output.old output.new }
     // Of any reader only so much is read, whatever the writer is.
     ensures bounded { GivesWithin R.remaining (input_limit lines_limit) input.old input.new }
@@ -93,7 +94,8 @@ pub fn write_judgements<R: Read, W: Write>(
         (λ stop. FailedAt judgement_rules stop.what input.old input.new output.old output.new) }
 {
     let mut task = Judging {
-        transcript: Transcript::new(alloc),
+        alloc,
+        input: Input::Transcript(Transcript::new(alloc)),
         first,
         text: String::new(alloc),
     };

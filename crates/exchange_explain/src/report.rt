@@ -1,7 +1,7 @@
 //! What a report is judged to be, for a person.
 
-use crate::transcript::Judged;
 use exchange_check::Why;
+use schedule_reading::Judged;
 use std::alloc::AllocError;
 use std::fmt;
 use std::fmt::{Display, Formatter};
@@ -24,28 +24,31 @@ struct Difference {
 }
 
 impl Difference {
-    /// How many units, and whether they are too many.
-    fn units(self) -> (u128, bool) {
-        let too_much = self.reported > self.by_readings;
-        let difference = self.reported.wrapping_sub(self.by_readings);
-        if too_much {
-            (difference as u128, too_much)
-        } else {
-            (difference.wrapping_neg() as u128, too_much)
-        }
+    /// How many units.
+    fn units(self) -> u128 {
+        self.reported.wrapping_sub(self.by_readings).unsigned_abs()
     }
 }
 
 impl Display for Difference {
     fn fmt<W: fmt::Write>(&self, f: &mut Formatter<W>) -> fmt::Result {
-        let (units, too_much) = self.units();
+        let units = self.units();
         let noun = if units == 1 { "unit" } else { "units" };
-        let side = if too_much { "much" } else { "little" };
+        let side = if self.reported > self.by_readings {
+            "much"
+        } else {
+            "little"
+        };
         match units {
             0 => Ok(()),
             _ => write!(f, "  {units} {noun} of 2^-16 ns too {side}"),
         }
     }
+}
+
+/// Whether no reason stands against a report.
+pub(crate) fn is_sound(judged: &Judged) -> bool {
+    judged.judgement.reasons.as_slice().is_empty()
 }
 
 /// Appends the first line of a report, and where several reasons stand against it a line for each other.
@@ -62,7 +65,7 @@ pub(crate) fn push_head(text: &mut String, judged: &Judged) -> Result<(), AllocE
         write!(text, "{lead}{}\n", Reason(*why))?;
         lead = "  and ";
     }
-    if judged.is_sound() {
+    if is_sound(judged) {
         text.push_str("sound\n")?;
     }
     Ok(())

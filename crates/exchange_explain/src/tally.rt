@@ -1,5 +1,6 @@
 //! How many reports there are, and how many fail which conditions.
 
+use crate::input::Found;
 use exchange_check::{Reasons, Verdict, Why};
 use std::alloc::AllocError;
 
@@ -85,12 +86,17 @@ impl Tally {
     }
 }
 
-/// Appends a verdict.
-pub(crate) fn push_verdict(text: &mut String, verdict: Verdict) -> Result<(), AllocError> {
-    match verdict {
-        Verdict::Accepted(count) => write!(text, "verdict: accepted {count}\n"),
-        Verdict::Refused { line, why } => {
+/// Appends what an input is found to be.
+pub(crate) fn push_found(text: &mut String, found: Found) -> Result<(), AllocError> {
+    match found {
+        Found::Transcript(Verdict::Accepted(count)) => write!(text, "verdict: accepted {count}\n"),
+        Found::Transcript(Verdict::Refused { line, why }) => {
             write!(text, "verdict: refused event {line}: {}\n", why.code())
         }
+        Found::Schedule(1) => text.push_str("a schedule of 1 event, which happens; 'ptpx replay' tells what comes of it\n"),
+        Found::Schedule(count) => write!(
+            text,
+            "a schedule of {count} events, which all happen; 'ptpx replay' tells what comes of them\n"
+        ),
     }
 }

@@ -159,7 +159,7 @@ impl Transcript {
     pub fn verdict(&self) -> Result<Verdict, TaskFault>
         ensures { MatchResult result
             (λ answer. (answer ≡ verdict self.now.nodes self.now.lines) × (first_clash self.now.nodes ≡ None))
-            (λ fault. HasNoChecker fault self.now) }
+            (λ fault. (self.now.lines ≡ []) × HasNoChecker fault self.now) }
     {
         match &self.stage {
             Stage::Nodes(nodes) => Ok(begin(self.alloc, nodes.as_slice())?.verdict()),

@@ -22,8 +22,8 @@ use Rattle.text_lines.specs.declared.fault.Stopped.{Stopped}
 use Rattle.text_lines.specs.Task.{Rules, Answers}
 use Rattle.text_lines.proofs.OneAnswer.{HasOneCourse, AreOneAnswer, one_answer, course_of_all, course_until}
 use Rattle.text_lines.proofs.OneAnswer as courses
-use Rattle.schedule_replay.specs.declared.fault.TaskFault.{TaskFault}
-use Rattle.schedule_replay.specs.declared.fault.TaskFault.TheVariants.{Write, Json, Field, World, Memory}
+use Rattle.schedule_reading.specs.declared.fault.TaskFault.{TaskFault}
+use Rattle.schedule_reading.specs.declared.fault.TaskFault.TheVariants.{Write, Json, Field, World, Memory}
 use Rattle.schedule_replay.specs.declared.fault.FaultKind.{FaultKind}
 use Rattle.capture_measure.specs.declared.measuring.Form.{Form}
 use Rattle.capture_measure.specs.declared.measuring.MeasureFault.{MeasureFault}
@@ -33,14 +33,18 @@ use Rattle.capture_measure.specs.Row.{Row}
 use Rattle.capture_measure.specs.Measure as recordings
 use Rattle.capture_measure.specs.Measure.{Recording, IsNext, Takes, Stops, with_row, written_of, is_of_writer, measure_rules, head_text, Measures}
 use Rattle.schedule_replay.specs.declared.fault.Fault.{Fault}
-use Rattle.schedule_replay.specs.Fault.{of_task, kind_of, kind_at, of_measuring, measuring_kind, is_write}
+use Rattle.schedule_replay.specs.Fault.{of_task, kind_of, kind_at, of_measuring, measuring_kind}
+use Rattle.schedule_reading.specs.Fault.{is_write}
 use Rattle.schedule_replay.specs.Answer.{Says}
-use Rattle.schedule_replay.specs.Schedule.{entry_in, refusal_of, FaultsIn, FaultsAtEnd}
+use Rattle.schedule_reading.specs.Entry.{entry_in}
+use Rattle.schedule_reading.specs.Schedule.{refusal_of, FaultsIn, FaultsAtEnd}
 use Rattle.schedule_replay.specs.Show.{StopsShowing, show_rules, Shows}
 use Rattle.schedule_replay.specs.Replay as replays
 use Rattle.schedule_replay.specs.Replay.{IsEventLine, NodesGoOut, GoesOut, replay_rules, Replays}
 use Rattle.schedule_replay.specs.CheckText as checks
-use Rattle.schedule_replay.specs.CheckText.{Recorded, recorded_in, IsOutOfPlace, FaultsInTranscript, FaultsAtTranscriptEnd, verdict_text, check_rules, Checks}
+use Rattle.schedule_reading.specs.Transcript.{Recorded, IsOutOfPlace, FaultsInTranscript}
+use Rattle.schedule_reading.specs.Entry.{recorded_in}
+use Rattle.schedule_replay.specs.CheckText.{FaultsAtTranscriptEnd, verdict_text, check_rules, Checks}
 use Rattle.schedule_replay.specs.Accepted.{IsOfDevice}
 use Rattle.schedule_replay.specs.OneAnswer.{IsOfInput, WroteOneText, HasOneAnswer}
 use Rattle.schedule_replay.proofs.OneText as texts

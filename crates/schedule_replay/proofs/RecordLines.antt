@@ -9,13 +9,16 @@ use Rattle.network_model.specs.Network.{Network}
 use Rattle.exchange_check.specs.Transcript.{Transcript}
 use Rattle.schedule_lines.specs.declared.reading.transcript.TranscriptLine.{TranscriptLine}
 use Rattle.schedule_lines.specs.declared.reading.transcript.TranscriptLine.TheVariants as recorded
-use Rattle.schedule_replay.specs.declared.fault.TaskFault.{TaskFault}
-use Rattle.schedule_replay.specs.declared.fault.TaskFault.TheVariants.{Write, Json, Field, World, Memory}
-use Rattle.schedule_replay.specs.declared.stage.Stage.{Stage}
-use Rattle.schedule_replay.specs.declared.stage.Stage.TheVariants.{Nodes, Events}
-use Rattle.schedule_replay.specs.Fault.{is_write}
-use Rattle.schedule_replay.specs.CheckText.{Recorded, recorded_in, Follows, FaultsInTranscript, check_rules}
-use Rattle.schedule_replay.specs.Inner.Stage.{nodes_in, HasOneMore, IsOwnFault}
+use Rattle.schedule_reading.specs.declared.fault.TaskFault.{TaskFault}
+use Rattle.schedule_reading.specs.declared.fault.TaskFault.TheVariants.{Write, Json, Field, World, Memory}
+use Rattle.schedule_reading.specs.declared.stage.Stage.{Stage}
+use Rattle.schedule_reading.specs.declared.stage.Stage.TheVariants.{Nodes, Events}
+use Rattle.schedule_reading.specs.Fault.{is_write}
+use Rattle.schedule_reading.specs.Transcript.{Recorded, Follows, FaultsInTranscript}
+use Rattle.schedule_reading.specs.Entry.{recorded_in}
+use Rattle.schedule_replay.specs.CheckText.{check_rules}
+use Rattle.schedule_reading.specs.Stage.{nodes_in, HasOneMore}
+use Rattle.schedule_reading.specs.Entry.{IsOwnFault}
 use Rattle.schedule_replay.specs.Inner.Checking.{recorded_of, IsChecking, StopsAt}
 use Rattle.text_lines.specs.Task.{WentOut}
 

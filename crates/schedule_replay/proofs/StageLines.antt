@@ -12,14 +12,16 @@ use Rattle.network_model.specs.Run.{Run}
 use Rattle.network_model.specs.Clash.{first_clash}
 use Rattle.world_model.specs.State.{State, new_state, after}
 use Rattle.schedule_lines.specs.declared.reading.schedule.Line.TheVariants as entries
-use Rattle.schedule_replay.specs.declared.fault.TaskFault.{TaskFault}
-use Rattle.schedule_replay.specs.declared.fault.TaskFault.TheVariants.{Write, Json, Field, World, Memory}
-use Rattle.schedule_replay.specs.declared.stage.Stage.{Stage}
-use Rattle.schedule_replay.specs.declared.stage.Stage.TheVariants.{Nodes, Events}
-use Rattle.schedule_replay.specs.Fault.{is_write}
-use Rattle.schedule_replay.specs.Schedule.{entry_in, FaultsIn, FaultsAtEnd}
+use Rattle.schedule_reading.specs.declared.fault.TaskFault.{TaskFault}
+use Rattle.schedule_reading.specs.declared.fault.TaskFault.TheVariants.{Write, Json, Field, World, Memory}
+use Rattle.schedule_reading.specs.declared.stage.Stage.{Stage}
+use Rattle.schedule_reading.specs.declared.stage.Stage.TheVariants.{Nodes, Events}
+use Rattle.schedule_reading.specs.Fault.{is_write}
+use Rattle.schedule_reading.specs.Entry.{entry_in}
+use Rattle.schedule_reading.specs.Schedule.{FaultsIn, FaultsAtEnd}
 use Rattle.schedule_replay.specs.Replay.{nodes_text, IsEventLine, owed, NodesGoOut, GoesOut, Follows, replay_rules}
-use Rattle.schedule_replay.specs.Inner.Stage.{nodes_in, HasOneMore, IsOwnFault}
+use Rattle.schedule_reading.specs.Stage.{nodes_in, HasOneMore}
+use Rattle.schedule_reading.specs.Entry.{IsOwnFault}
 use Rattle.schedule_replay.specs.Inner.Replaying.{state_of, IsReplaying, WritesNone, StopsEvent, StopsAt}
 use Rattle.text_lines.specs.Task.{WentOut}
 use Rattle.schedule_replay.proofs.NodeLines.{Unbegun}

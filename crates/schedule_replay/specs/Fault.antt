@@ -1,16 +1,14 @@
 -- The numbers of the faults, and which device failed.
-use Rattle.std.specs.Prelude.{ℕ, Bool, true, false, MatchResult, Result}
+use Rattle.std.specs.Prelude.{ℕ, MatchResult, Result}
 use Rattle.text_lines.specs.declared.counted.Counted.{Counted}
 use Rattle.schedule_replay.specs.declared.fault.Fault.{Fault}
 use Rattle.schedule_replay.specs.declared.fault.FaultKind.{FaultKind}
-use Rattle.schedule_replay.specs.declared.fault.TaskFault.{TaskFault}
-use Rattle.schedule_replay.specs.declared.fault.TaskFault.TheVariants as tasks
+use Rattle.schedule_reading.specs.declared.fault.TaskFault.{TaskFault}
+use Rattle.schedule_reading.specs.declared.fault.TaskFault.TheVariants as tasks
 use Rattle.schedule_replay.specs.declared.fault.FaultKind.TheVariants.{Read, Write, LineTooLong, TooManyLines, Json}
 use Rattle.schedule_replay.specs.declared.fault.FaultKind.TheVariants.{Field, World, Memory}
 use Rattle.capture_measure.specs.declared.measuring.MeasureFault.{MeasureFault}
 use Rattle.capture_measure.specs.declared.measuring.MeasureFault.TheVariants as measuring
-use Rattle.exchange_explain.specs.declared.fault.ExplainFault.{ExplainFault}
-use Rattle.exchange_explain.specs.declared.fault.ExplainFault.TheVariants as explaining
 use Rattle.text_lines.specs.declared.fault.Cause.{Cause}
 use Rattle.text_lines.specs.declared.fault.Cause.TheVariants.{Reading, Task}
 use Rattle.text_lines.specs.declared.fault.ReadingFault.{ReadingFault}
@@ -55,19 +53,6 @@ of_measuring (Task measuring.Write) = Write
 of_measuring (Task measuring.Field) = Field
 of_measuring (Task measuring.Memory) = Memory
 
--- the fault by which a fault of `explain` is told
-abbrev pub of_explaining : ExplainFault → FaultKind
-of_explaining explaining.Write = Write
-of_explaining explaining.Json = Json
-of_explaining explaining.Field = Field
-of_explaining (explaining.World why) = World why
-of_explaining explaining.Memory = Memory
-
--- the fault by which it is told why a transcript was explained no further
-abbrev pub explaining_kind : Cause ExplainFault → FaultKind
-explaining_kind (Reading fault) = of_reading fault
-explaining_kind (Task fault) = of_explaining fault
-
 -- the kind of a fault
 abbrev pub kind_at : Fault → FaultKind
 kind_at fault = fault.what
@@ -75,11 +60,6 @@ kind_at fault = fault.what
 -- the kind of what stopped `measure`
 abbrev pub measuring_kind : Stopped (Cause MeasureFault) → FaultKind
 measuring_kind stop = of_measuring stop.what
-
--- whether this fault says that the writer failed
-abbrev pub is_write : TaskFault → Bool
-is_write tasks.Write = true
-is_write fault = false
 
 -- which of the two devices failed where this is answered
 abbrev pub FailedAs : {R W : Type 0} → FaultKind → (input input' : Counted R) (output output' : Counted W) → Type 0

@@ -5,11 +5,9 @@
 mod checking;
 mod fault;
 pub mod laws;
-mod lines;
 mod program;
 mod replaying;
 mod showing;
-mod stage;
 
 pub use checking::check_text;
 pub use fault::{Fault, FaultKind};

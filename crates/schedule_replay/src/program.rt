@@ -6,7 +6,7 @@ ghost use Rattle.schedule_replay.specs.Program.{check_status, status_of};
 ghost use Rattle.command_line.specs.Arguments.{AsksNothing, HasHelpFlag, Names, NamesNothing};
 ghost use Rattle.capture_measure.specs.Measure.{measure_rules};
 ghost use Rattle.schedule_replay.specs.Inner.Allowed.{lines_allowed};
-ghost use Rattle.schedule_replay.specs.Lines.{lines_limit};
+ghost use Rattle.schedule_reading.specs.Entry.{lines_limit};
 ghost use Rattle.text_lines.specs.Lines.{input_limit, GivesWithin};
 
 use crate::checking::check_text;

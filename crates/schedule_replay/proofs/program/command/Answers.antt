@@ -7,7 +7,7 @@ use Rattle.command_line.specs.declared.arguments.Subcommand.TheVariants.{Show, R
 use Rattle.command_line.specs.declared.measure.MeasureOptions.{MeasureOptions}
 use Rattle.text_lines.specs.Lines.{input_limit, GivesWithin}
 use Rattle.schedule_replay.specs.Inner.Allowed.{lines_allowed}
-use Rattle.schedule_replay.specs.Lines.{lines_limit}
+use Rattle.schedule_reading.specs.Entry.{lines_limit}
 use Rattle.schedule_replay.specs.Program.{Runs}
 use Rattle.schedule_replay.proofs.program.command.Goals as goal
 
