@@ -104,7 +104,5 @@ fn begun(
         Err(TaskFault::Memory) => return Err(TaskFault::Memory),
         _ => return Ok(None),
     };
-    let mut scheduled = Scheduled::new(alloc, nodes)?;
-    scheduled.happen(event)?;
-    Ok(Some(scheduled))
+    Ok(Some(Scheduled::begin(alloc, nodes, event)?))
 }
