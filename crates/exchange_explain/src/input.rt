@@ -1,5 +1,5 @@
 //! What the lines of an input are: a transcript or a schedule.
-ghost use Rattle.std.specs.Prelude.{◌≡◌, ◌⊎◌, [], MatchOption, MatchResult};
+ghost use Rattle.std.specs.Prelude.{◌≡◌, ◌≢◌, ◌⊎◌, [], MatchOption, MatchResult};
 ghost use Rattle.network_model.specs.declared.event.Event.{Event};
 ghost use Rattle.world_model.specs.State.{new_state};
 ghost use Rattle.schedule_reading.specs.Schedule.{FaultsIn};
@@ -41,13 +41,14 @@ impl Input {
             Input::Transcript(transcript) => match transcript.take(line) {
                 Ok(judged) => Ok(judged),
                 Err(TaskFault::Memory) => Err(TaskFault::Memory),
-                Err(fault) => {
-                    let Some(scheduled) = begun(alloc, transcript, line)? else {
-                        return Err(fault);
-                    };
-                    *self = Input::Schedule(scheduled);
-                    Ok(None)
-                }
+                Err(fault) => match begun(alloc, transcript, line) {
+                    Ok(Some(scheduled)) => {
+                        *self = Input::Schedule(scheduled);
+                        Ok(None)
+                    }
+                    Ok(None) => Err(fault),
+                    Err(fault) => Err(fault),
+                },
             },
             Input::Schedule(scheduled) => {
                 scheduled.take(alloc, line)?;
@@ -93,8 +94,9 @@ fn begun(
         ((event : Event) → BeginsSchedule line.now transcript.now event → ⊥)
         (λ scheduled. (event : Event) × BeginsSchedule line.now transcript.now event
         × Happens event (new_state transcript.now.nodes) scheduled))
-        (λ fault. (fault ≡ TaskFault.Memory) ⊎ ((event : Event) × BeginsSchedule line.now transcript.now event
-        × FaultsIn fault transcript.now.nodes [] line.now)) }
+        (λ fault. (fault ≢ TaskFault.Write) × ((fault ≡ TaskFault.Memory)
+        ⊎ ((event : Event) × BeginsSchedule line.now transcript.now event
+        × FaultsIn fault transcript.now.nodes [] line.now))) }
 {
     let Some(nodes) = transcript.nodes_alone() else {
         return Ok(None);
