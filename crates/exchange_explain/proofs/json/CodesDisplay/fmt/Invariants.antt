@@ -1,4 +1,4 @@
-use Rattle.std.proofs.Common.{◌≡◌, List, ℕ, ◌≤◌, length, drop, ◌++◌}
+use Rattle.std.proofs.Common.{◌≡◌, List, ℕ, drop, ◌++◌}
 use denote.Text.{Utf8}
 use denote.Shadow.{shadow}
 use Rattle.std.specs.Fmt.{HasWritten, IsPlainFormatter}
