@@ -1,2 +1,3 @@
+pub mod Codes
 pub mod Events
 pub mod Faults

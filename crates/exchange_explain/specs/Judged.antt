@@ -1,5 +1,6 @@
 -- What the report of a line is judged to be, as JSON.
-use Rattle.std.specs.Prelude.{ℕ, List, [], ◌∷◌, ◌++◌, codes, Option, Some, None}
+use Rattle.std.specs.Prelude.{ℕ, List, ◌++◌, codes, Option, Some, None}
+use Rattle.std.specs.List.{join_by}
 use Rattle.std.specs.Fmt.{decimal, signed_decimal}
 use Rattle.trace_model.specs.declared.judgement.Results.{Results}
 use Rattle.trace_model.specs.declared.verdict.Why.{Why}
@@ -13,14 +14,9 @@ by_readings_text (Some results) =
     codes "{\"offset2\":\"" ++ signed_decimal results.offset2
     ++ codes "\",\"path2\":\"" ++ signed_decimal results.path2 ++ codes "\"}"
 
--- the numbers of reasons, this before the first and a comma before each other
-abbrev pub codes_after : List ℕ → List Why → List ℕ
-codes_after before [] = []
-codes_after before (why ∷ others) = before ++ decimal (code_of why) ++ codes_after (codes ",") others
-
 -- the numbers of reasons, with commas between them
 abbrev pub codes_text : List Why → List ℕ
-codes_text whys = codes_after [] whys
+codes_text whys = join_by (λ why. decimal (code_of why)) (codes ",") whys
 
 -- what a report is judged to be, in one line
 abbrev pub judged_text : Judged → List ℕ
