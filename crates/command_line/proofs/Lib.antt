@@ -2,11 +2,14 @@ pub mod ErrorKinds
 pub mod WordForms
 pub mod Turns
 pub mod FlagWords
+pub mod FlagRows
 pub mod MeasureWords
 pub mod MeasureWalk
 pub mod MeasureRows
 pub mod SubcommandNames
 pub mod MeasureVerdict
+pub mod ExplainWalk
+pub mod ExplainVerdict
 pub mod CommandLines
 pub mod Invocations
 pub mod WorkedOptions

@@ -10,6 +10,7 @@ use Rattle.clap.specs.Faults.{default_fault, defaults_fault, given_default_fault
 use Rattle.clap.specs.declared.builder.value_parser.Reading.TheVariants as read
 use Rattle.clap.specs.declared.parser.matches.ValueSource.TheVariants.{DefaultValue}
 use Rattle.command_line.specs.Inner.Clap.{IsFlag, RowsSay}
+use Rattle.command_line.proofs.FlagRows.{flag_is, flag_text, is_flag}
 use Rattle.command_line.specs.Number.{domain_of}
 use Rattle.command_line.specs.Options.{IsSaid, Makes, OptionName, Slave, Master, Domain, Csv, Use, is_use_of, is_used}
 use Rattle.command_line.specs.Options.{option_text, value_given}
@@ -111,10 +112,6 @@ value_found name valued other uses = by_use (is_used Csv uses) refl
 
 -- ---- the flag
 
--- the text of the flag
-abbrev csv_text : Bool → Text
-csv_text used = if used then codes "true" else codes "false"
-
 csv_of_use : (one : Use) → is_use_of Csv one ≡ true → row_text (row_for one) ≡ Some (codes "true")
 csv_of_use (Slave, value) is = absurd (true≢false (sym is))
 csv_of_use (Master, value) is = absurd (true≢false (sym is))
@@ -142,23 +139,15 @@ csv_unused (one ∷ uses) unused = by_test (is_use_of Csv one) refl unused (csv_
     by_test true is unused rest = absurd (true≢false (rw is at unused))
     by_test false is unused rest = rw is (rest (rw is at unused))
 
-csv_found : (uses : List Use) → one_of (codes "csv") (rows_found uses) ≡ Some (csv_text (is_used Csv uses))
+csv_found : (uses : List Use) → one_of (codes "csv") (rows_found uses) ≡ Some (flag_text (is_used Csv uses))
 csv_found uses = by_use (is_used Csv uses) refl
   where
     by_use : (again : Bool) → is_used Csv uses ≡ again
-        → one_of (codes "csv") (rows_found uses) ≡ Some (csv_text (is_used Csv uses))
+        → one_of (codes "csv") (rows_found uses) ≡ Some (flag_text (is_used Csv uses))
     by_use true used = ap (one_of (codes "csv")) (rows_found_are uses true used) ∙ csv_used uses used
-        ∙ ap (λ b. Some (csv_text b)) (sym used)
+        ∙ ap (λ b. Some (flag_text b)) (sym used)
     by_use false unused = ap (one_of (codes "csv")) (rows_found_are uses false unused) ∙ csv_unused uses unused
-        ∙ ap (λ b. Some (csv_text b)) (sym unused)
-
-flag_is : (used flag : Bool) → IsFlag (Some (csv_text used)) flag → flag ≡ used
-flag_is true flag says = says.1 refl
-flag_is false flag says = says.2 refl
-
-is_flag : (used flag : Bool) → flag ≡ used → IsFlag (Some (csv_text used)) flag
-is_flag true flag is = (λ none. cc, λ set. is, λ unset. cc)
-is_flag false flag is = (λ none. cc, λ set. cc, λ unset. is)
+        ∙ ap (λ b. Some (flag_text b)) (sym unused)
 
 -- ---- the rows say what the uses make
 
@@ -190,7 +179,7 @@ none_either true kinds = refl
 none_either false kinds = refl
 
 -- the argument has no default, or one that passes
-abbrev HasEasyDefault : Rule → Type 0
+abbrev pub HasEasyDefault : Rule → Type 0
 HasEasyDefault a = (is_empty a.defaults ≡ true) ⊎ (given_default_fault a a.defaults ≡ [])
 
 default_none : (rows : List Row) (a : Rule) → HasEasyDefault a → default_fault rows a ≡ []
@@ -205,11 +194,11 @@ pub both_none : (one other : Kinds) → one ≡ [] → other ≡ [] → or_else 
 both_none one other none nothing = ap (λ ks. or_else ks other) none ∙ nothing
 
 -- so do all of them
-abbrev HaveEasyDefaults : List Rule → Type 0
+abbrev pub HaveEasyDefaults : List Rule → Type 0
 HaveEasyDefaults [] = ⊤
 HaveEasyDefaults (a ∷ rules) = HasEasyDefault a × HaveEasyDefaults rules
 
-easy_pass : (rows : List Row) (rules : List Rule) → HaveEasyDefaults rules → defaults_fault rows rules ≡ []
+pub easy_pass : (rows : List Row) (rules : List Rule) → HaveEasyDefaults rules → defaults_fault rows rules ≡ []
 unfolding defaults_fault
 easy_pass rows [] easy = refl
 easy_pass rows (a ∷ rules) easy =

@@ -22,7 +22,7 @@ use Rattle.command_line.proofs.MeasureWords.{rule_for, rule_found, settles, sett
 use Rattle.command_line.proofs.MeasureWords.{values_met, with_options}
 use Rattle.command_line.proofs.Turns.{Turn, closed_walk, help_is, letter_is, letter_turn, long_is, mark_is}
 use Rattle.command_line.proofs.Turns.{open_walk, plain_is, plain_turn, rule_turn, turn}
-use Rattle.command_line.proofs.WordForms.{IsHelpWord, IsLong, IsMark, IsPlain, IsShort, WordForm, word_form}
+use Rattle.command_line.proofs.WordForms.{IsHelpWord, IsLong, IsMark, IsPlain, IsShort, WordForm, other_side, word_form}
 
 -- ---- what is held, by what was read
 
@@ -203,12 +203,8 @@ between_keeps level uses rows pending holds word = by_form (word_form word)
         (same ∙ ap (λ n. letter_turn measure_rules level rows pending idle word y ys (Some n)) (sym e))
         (inr (h_helps level rows pending idle word y ys holds.0))
     by_letter y ys letter same unmark after help false h =
-        keeps_as _ Failed _ _ (other_read uses word None (help ∙ other_side (letter == 104) refl) unmark after) same
+        keeps_as _ Failed _ _ (other_read uses word None (help ∙ other_side letter h) unmark after) same
         (inr (no_h_fails level rows pending idle word y ys letter h))
-      where
-        other_side : (is_h : Bool) → (letter == 104) ≡ is_h → (letter == 104) ≡ false
-        other_side false is = is
-        other_side true is = absurd (true≢false (sym (ap (λ n. 104 == n) ((Decides-eqb letter 104).0 is)) ∙ h))
 
     by_form : WordForm word → Keeps (with_word (Between uses) word) this
     by_form (IsMark is) = keeps_as _ (Closed uses) _ _ (ap (with_word (Between uses)) is ∙ mark_read uses)

@@ -17,7 +17,7 @@ use Rattle.clap.specs.declared.builder.value_parser.Reading.TheVariants as read
 use Rattle.clap.specs.declared.error.kind.ErrorKind.TheVariants as kind
 use Rattle.clap.specs.declared.parser.matches.ValueSource.TheVariants.{CommandLine}
 use Rattle.clap.proofs.WalkLemmas.{list_any-map}
-use Rattle.command_line.specs.Inner.Clap.{csv_rule, value_rule}
+use Rattle.command_line.specs.Inner.Clap.{flag_rule, value_rule}
 use Rattle.command_line.specs.Options.{OptionName, Slave, Master, Domain, Csv, Use}
 use Rattle.command_line.specs.Options.{is_used, name_in, option_named, option_text, value_in}
 use Rattle.command_line.proofs.ErrorKinds.{IsHelp, IsMistake, help_lasts, mistake_lasts, unknown_argument}
@@ -33,7 +33,7 @@ abbrev pub rule_for : OptionName → Rule
 rule_for Slave = filled (value_rule (codes "slave"))
 rule_for Master = filled (value_rule (codes "master"))
 rule_for Domain = filled (value_rule (codes "domain"))
-rule_for Csv = filled csv_rule
+rule_for Csv = filled (flag_rule (codes "csv"))
 
 -- those of the options, and that of the flag for help
 abbrev pub measure_rules : List Rule

@@ -15,23 +15,20 @@ name_of Check = codes "check"
 name_of (Measure options) = codes "measure"
 name_of (Explain options) = codes "explain"
 
+-- after the program's own name stands this name, and then these words
+abbrev pub BeginsWith : List ℕ → List (List ℕ) → List (List ℕ) → Type 0
+BeginsWith name words rest = drop 1 words ≡ name ∷ rest
+
 -- after the program's own name stands the subcommand's name, alone or with `--` after it
 abbrev pub NamesAlone : List (List ℕ) → Subcommand → Type 0
-NamesAlone words s = (drop 1 words ≡ name_of s ∷ []) ⊎ (drop 1 words ≡ name_of s ∷ codes "--" ∷ [])
-
--- after the program's own name stands `measure`, and then these words
-abbrev pub BeginsWithMeasure : List (List ℕ) → List (List ℕ) → Type 0
-BeginsWithMeasure words rest = drop 1 words ≡ codes "measure" ∷ rest
-
--- after the program's own name stands `explain`, and then these words
-abbrev pub BeginsWithExplain : List (List ℕ) → List (List ℕ) → Type 0
-BeginsWithExplain words rest = drop 1 words ≡ codes "explain" ∷ rest
+NamesAlone words s = BeginsWith (name_of s) words [] ⊎ BeginsWith (name_of s) words (codes "--" ∷ [])
 
 -- the arguments name the subcommand; after `measure` and `explain` stand their options
 abbrev pub Names : List (List ℕ) → Subcommand → Type 0
-Names words (Measure options) = (rest : List (List ℕ)) × BeginsWithMeasure words rest × AreOptions rest options
+Names words (Measure options) =
+    (rest : List (List ℕ)) × BeginsWith (codes "measure") words rest × AreOptions rest options
 Names words (Explain options) =
-    (rest : List (List ℕ)) × BeginsWithExplain words rest × AreExplainOptions rest options
+    (rest : List (List ℕ)) × BeginsWith (codes "explain") words rest × AreExplainOptions rest options
 Names words s = NamesAlone words s
 
 -- the arguments name no subcommand
@@ -51,8 +48,9 @@ HasEarlyHelpFlag words = (word : List ℕ) × AsksHelp word
 -- help is asked for there, or after options of `measure` or of `explain`
 abbrev pub HasHelpFlag : List (List ℕ) → Type 0
 HasHelpFlag words = HasEarlyHelpFlag words
-    ⊎ (((rest : List (List ℕ)) × BeginsWithMeasure words rest × (reading_of rest ≡ Asking))
-    ⊎ ((rest : List (List ℕ)) × BeginsWithExplain words rest × (explain_reading_of rest ≡ AskingToExplain)))
+    ⊎ (((rest : List (List ℕ)) × BeginsWith (codes "measure") words rest × (reading_of rest ≡ Asking))
+    ⊎ ((rest : List (List ℕ)) × BeginsWith (codes "explain") words rest
+    × (explain_reading_of rest ≡ AskingToExplain)))
 
 -- the first argument after the program's name is `help`
 abbrev pub BeginsWithHelp : List (List ℕ) → Type 0

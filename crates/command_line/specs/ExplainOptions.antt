@@ -7,44 +7,52 @@ use Rattle.command_line.specs.declared.explain.ExplainOptions.{ExplainOptions}
 -- how far the words are read
 pub data ExplainReading : Type 0 where
   -- these options were used, and a word may follow
-  Between : ExplainOptions → ExplainReading
+  Open : ExplainOptions → ExplainReading
   -- `--` came, and no word may follow
-  Closed : ExplainOptions → ExplainReading
+  Ended : ExplainOptions → ExplainReading
   -- help was asked for, and what follows isn't read
   AskingToExplain : ExplainReading
   -- these are no options of `explain`
-  Failed : ExplainReading
+  Mistaken : ExplainReading
 
--- no option was used
-abbrev pub no_word : ExplainOptions
-no_word = record { first = false; json = false }
+-- no option of `explain`
+abbrev pub no_explain_options : ExplainOptions
+no_explain_options = record { first = false; json = false }
+
+-- `--first` is used, which it may be once
+abbrev pub with_first : ExplainOptions → ExplainReading
+with_first options = if options.first then Mistaken else Open (record options { first = true })
+
+-- `--json` is used, which it may be once
+abbrev pub with_json : ExplainOptions → ExplainReading
+with_json options = if options.json then Mistaken else Open (record options { json = true })
 
 -- one more word after these options
 abbrev pub after_options : ExplainOptions → List ℕ → ExplainReading
 after_options options word =
     if is_help_flag word then AskingToExplain
-    else if bytes_eq word (codes "--") then Closed options
-    else if bytes_eq word (codes "--first") then (if options.first then Failed else Between (record options { first = true }))
-    else if bytes_eq word (codes "--json") then (if options.json then Failed else Between (record options { json = true }))
-    else Failed
+    else if bytes_eq word (codes "--") then Ended options
+    else if bytes_eq (codes "--first") word then with_first options
+    else if bytes_eq (codes "--json") word then with_json options
+    else Mistaken
 
 -- one more word is read
-abbrev pub with_word : ExplainReading → List ℕ → ExplainReading
-with_word (Between options) word = after_options options word
-with_word (Closed options) word = Failed
-with_word AskingToExplain word = AskingToExplain
-with_word Failed word = Failed
+abbrev pub with_explain_word : ExplainReading → List ℕ → ExplainReading
+with_explain_word (Open options) word = after_options options word
+with_explain_word (Ended options) word = Mistaken
+with_explain_word AskingToExplain word = AskingToExplain
+with_explain_word Mistaken word = Mistaken
 
 -- all words are read
 abbrev pub explain_reading_of : List (List ℕ) → ExplainReading
-explain_reading_of words = fold with_word (Between no_word) words
+explain_reading_of words = fold with_explain_word (Open no_explain_options) words
 
 -- the options, where the words may end so
 abbrev pub options_of : ExplainReading → Option ExplainOptions
-options_of (Between options) = Some options
-options_of (Closed options) = Some options
+options_of (Open options) = Some options
+options_of (Ended options) = Some options
 options_of AskingToExplain = None
-options_of Failed = None
+options_of Mistaken = None
 
 -- the words after `explain` are these options
 abbrev pub AreExplainOptions : List (List ℕ) → ExplainOptions → Type 0
