@@ -1,6 +1,6 @@
 -- clap's walk over the words after `explain` keeps step with `explain_reading_of`.
 use Rattle.std.proofs.Common.{◌≡◌, ◌==◌, ◌∙◌, ◌⊎◌, inl, inr, ℕ, Bool, true, false, refl, sym, ap, subst, List, [], ◌∷◌}
-use Rattle.std.proofs.Common.{Option, Some, None, codes, true≢false, if◌then◌else◌, ◌||◌}
+use Rattle.std.proofs.Common.{Option, Some, None, codes, if◌then◌else◌, ◌||◌}
 use Rattle.std.specs.Prelude.{fold}
 use Rattle.std.specs.Str.{bytes_eq, chars}
 use Rattle.std.proofs.lemmas.Bool.Decides.{Decides-eqb}

@@ -1,6 +1,6 @@
 -- clap's walk over the words after `measure` keeps step with `reading_of`.
 use Rattle.std.proofs.Common.{◌≡◌, ◌==◌, ◌∙◌, ◌⊎◌, inl, inr, ◌++◌, ℕ, Bool, true, false, refl, sym, ap, ap₂, subst}
-use Rattle.std.proofs.Common.{List, [], ◌∷◌, Option, Some, None, codes, true≢false}
+use Rattle.std.proofs.Common.{List, [], ◌∷◌, Option, Some, None, codes}
 use Rattle.std.specs.Prelude.{⊤, fold}
 use Rattle.std.specs.Option.{option_map_or}
 use Rattle.std.specs.Str.{bytes_eq, chars}

@@ -28,7 +28,7 @@ pub(crate) fn explain<'a>(alloc: Global) -> Result<Command<'a>, AllocError>
     let first = flag(
         alloc,
         "first",
-        "Tell the first report that is refused alone, in place of each",
+        "Tell only the first report that is refused, in place of each",
     );
     let json = flag(
         alloc,
