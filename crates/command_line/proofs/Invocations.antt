@@ -36,8 +36,8 @@ use Rattle.command_line.proofs.ExplainVerdict as explain
 use Rattle.command_line.proofs.FlagWords.{same_in}
 use Rattle.command_line.proofs.MeasureRows.{made_says, rows_found, said_makes}
 use Rattle.command_line.proofs.SubcommandNames.{HasNoOptions}
-use Rattle.command_line.proofs.CommandLines.{Verdict, Runs, Measures, Explains, Helps, Begins, Mistakes}
-use Rattle.command_line.proofs.CommandLines.{flags_help, help_first, is_free_program, is_simple_program, names_run, verdict}
+use Rattle.command_line.proofs.CommandLines.{Verdict, Runs, Measures, Explains, Helps, Begins, Mistakes, flags_help}
+use Rattle.command_line.proofs.CommandLines.{help_first, is_free_program, is_simple_program, names_run, verdict}
 
 -- ---- a parse that succeeds
 

@@ -30,8 +30,8 @@ returns-clause-shape c =
     c.with_value-master.ensures.local first c.with_value-master.ensures.rule in
     let third = added _ _ _ _ _ c.in_ok-arg-3.ensures
     c.with_value-domain.ensures.local second c.with_value-domain.ensures.rule in
-    IfOk-weaker c.arg-4.result _ _ (λ r adds. added _ _ r _ _ adds c.flag-csv.ensures.local third c.flag-csv.ensures.rule)
-    c.arg-4.ensures
+    let csv = c.flag-csv.ensures in
+    IfOk-weaker c.arg-4.result _ _ (λ r adds. added _ _ r _ _ adds csv.local third csv.rule) c.arg-4.ensures
 
 pub returns-clause-local : goal.returns-clause-local
 returns-clause-local c =
