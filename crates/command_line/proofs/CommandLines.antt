@@ -19,7 +19,7 @@ use Rattle.command_line.specs.Options.{reading_of, uses_of, with_word}
 use Rattle.command_line.specs.declared.arguments.Subcommand.TheVariants.{Show, Replay, Check, Measure, Explain}
 use Rattle.command_line.specs.declared.explain.ExplainOptions.{ExplainOptions}
 use Rattle.command_line.proofs.ExplainVerdict as explain
-use Rattle.command_line.proofs.ExplainWalk.{help_asks}
+use Rattle.command_line.proofs.ExplainWalk.{Ends, help_asks}
 use Rattle.command_line.proofs.MeasureRows.{rows_found}
 use Rattle.command_line.proofs.MeasureVerdict.{Says, end_of, measure_says, options_pass}
 use Rattle.command_line.proofs.MeasureWalk.{asking_lasts, help_read}
@@ -140,7 +140,7 @@ explain_verdict program_name rest =
 
     -- what the reading says
     SaysSo : ExplainReading → Type 0
-    SaysSo reading = explain.Says reading (fault_of program words) (explain.end_of rest)
+    SaysSo reading = Ends reading (fault_of program words) (explain.end_of rest)
 
     passes : (options : ExplainOptions) → options_of (explain_reading_of rest) ≡ Some options → Verdict words
     passes options are = let pass = explain.options_pass program_name rest options are in
@@ -243,7 +243,7 @@ explain_helps : (words rest : List Text) → BeginsWith (codes "explain") words 
 explain_helps [] rest begins asking = cc
 explain_helps (program_name ∷ others) rest begins asking =
     ap (λ words. fault_of program (program_name ∷ words)) begins
-    ∙ subst (λ r. explain.Says r (fault_of program (program_name ∷ codes "explain" ∷ rest)) (explain.end_of rest))
+    ∙ subst (λ r. Ends r (fault_of program (program_name ∷ codes "explain" ∷ rest)) (explain.end_of rest))
     asking (explain.explain_says program_name rest)
 
 -- a flag for help right after a subcommand's name

@@ -13,7 +13,7 @@ use Rattle.command_line.specs.Inner.Clap.{ExplainRowsSay, IsFlag, program}
 use Rattle.command_line.specs.declared.arguments.Subcommand.{Subcommand}
 use Rattle.command_line.specs.declared.arguments.Subcommand.TheVariants.{Explain}
 use Rattle.command_line.specs.declared.explain.ExplainOptions.{ExplainOptions}
-use Rattle.command_line.proofs.ErrorKinds.{IsHelp, IsMistake, help_lasts, mistake_lasts}
+use Rattle.command_line.proofs.ErrorKinds.{help_lasts, mistake_lasts}
 use Rattle.command_line.proofs.ExplainWalk.{Ends, HoldsAtEnd, HoldsFlags, explain_rules, walk_ends}
 use Rattle.command_line.proofs.FlagRows.{flag_is, flag_text}
 use Rattle.command_line.proofs.FlagWords.{at_first_word, same_in}
@@ -60,13 +60,6 @@ after_is : (rows : List Row) → kinds_after (held rows None) ≡ []
 after_is rows = both_none _ _ (easy_pass rows explain_rules (inr refl, (inr refl, (inl refl, tt))))
     (check_passes (fold with_default rows explain_rules))
 
--- what a reading says of the kinds of error, and of what is held
-abbrev pub Says : ExplainReading → Kinds → Held → Type 0
-Says (Open options) kinds end = HoldsAtEnd options kinds end
-Says (Ended options) kinds end = HoldsAtEnd options kinds end
-Says AskingToExplain kinds end = IsHelp kinds
-Says Mistaken kinds end = IsMistake kinds
-
 holds_last : (options : ExplainOptions) (kinds : Kinds) (end : Held) → HoldsAtEnd options kinds end
     → HoldsAtEnd options (or_else (or_else kinds (kinds_after end)) []) end
 holds_last options kinds end (none, (rows, holds, is)) = (
@@ -75,18 +68,19 @@ holds_last options kinds end (none, (rows, holds, is)) = (
   (rows, holds, is),
 )
 
-says : (reading : ExplainReading) (kinds : Kinds) (end : Held) → Ends reading kinds end
-    → Says reading (or_else (or_else kinds (kinds_after end)) []) end
-says (Open options) kinds end ends = holds_last options kinds end ends
-says (Ended options) kinds end ends = holds_last options kinds end ends
-says AskingToExplain kinds end help = help_lasts _ [] (help_lasts kinds (kinds_after end) help)
-says Mistaken kinds end mistake = mistake_lasts _ [] (mistake_lasts kinds (kinds_after end) mistake)
+-- what is left to do after the words adds no error
+ends_last : (reading : ExplainReading) (kinds : Kinds) (end : Held) → Ends reading kinds end
+    → Ends reading (or_else (or_else kinds (kinds_after end)) []) end
+ends_last (Open options) kinds end ends = holds_last options kinds end ends
+ends_last (Ended options) kinds end ends = holds_last options kinds end ends
+ends_last AskingToExplain kinds end help = help_lasts _ [] (help_lasts kinds (kinds_after end) help)
+ends_last Mistaken kinds end mistake = mistake_lasts _ [] (mistake_lasts kinds (kinds_after end) mistake)
 
 pub explain_says : (program_name : Text) (rest : List Text)
-    → Says (explain_reading_of rest) (fault_of program (program_name ∷ codes "explain" ∷ rest)) (end_of rest)
-explain_says program_name rest = subst (λ kinds. Says (explain_reading_of rest) kinds (end_of rest))
+    → Ends (explain_reading_of rest) (fault_of program (program_name ∷ codes "explain" ∷ rest)) (end_of rest)
+explain_says program_name rest = subst (λ kinds. Ends (explain_reading_of rest) kinds (end_of rest))
     (sym (fault_is_inner explain program_name rest ∙ ap (λ ks. or_else ks []) (inner_is rest)))
-    (says (explain_reading_of rest) (kinds_on rest) (end_of rest)
+    (ends_last (explain_reading_of rest) (kinds_on rest) (end_of rest)
     (walk_ends (level_of explain) rest (Open no_explain_options) at_first_word ([], refl, refl)))
 
 -- clap enters `explain` with what was found of its options
@@ -147,7 +141,7 @@ options_pass program_name rest options are = by_reading (explain_reading_of rest
     found : (met : ExplainOptions) → Some met ≡ Some options → HoldsAtEnd met kinds (end_of rest) → Passes options
     found met same (none, held) = subst Passes (same_in met options same) (none, rows_say rest met (refl, held))
 
-    by_reading : (reading : ExplainReading) → options_of reading ≡ Some options → Says reading kinds (end_of rest)
+    by_reading : (reading : ExplainReading) → options_of reading ≡ Some options → Ends reading kinds (end_of rest)
         → Passes options
     by_reading (Open met) are says = found met are says
     by_reading (Ended met) are says = found met are says
