@@ -19,24 +19,24 @@ use Rattle.clap.specs.declared.parser.matches.ArgMatches.TheViews.{out-ArgMatche
 use Rattle.clap.specs.declared.parser.matches.SubCommand.{SubCommand}
 use Rattle.command_line.specs.Arguments.{Asks, BeginsWith, BeginsWithHelp, HasHelpFlag, Names, NamesAlone}
 use Rattle.command_line.specs.Arguments.{NamesNothing, name_of}
-use Rattle.command_line.specs.ExplainOptions.{explain_reading_of, no_explain_options, options_of}
 use Rattle.command_line.specs.Number.{domain_of}
-use Rattle.command_line.specs.Options.{IsSaid, Makes, Use, reading_of, uses_of}
+use Rattle.command_line.specs.Options.{IsSaid, Makes, Use, flags_made, uses_of}
 use Rattle.command_line.specs.PortText.{port_identity_of}
 use Rattle.command_line.specs.declared.explain.ExplainOptions.{ExplainOptions}
 use Rattle.command_line.specs.declared.measure.MeasureOptions.{MeasureOptions}
 use Rattle.event_codec.specs.declared.port.PortIdentity.{PortIdentity}
-use Rattle.command_line.specs.Inner.Clap.{Chooses, ExplainRowsSay, RowsSay, ShowsKind, no_options, program, subcommands}
+use Rattle.command_line.specs.Inner.Clap.{Chooses, ExplainRowsSay, RowsSay, ShowsKind, no_explain_options, no_options, program, subcommands}
 use Rattle.command_line.specs.declared.arguments.Invocation.{Invocation}
 use Rattle.command_line.specs.declared.arguments.Invocation.TheVariants.{Run, Help, Mistake}
 use Rattle.command_line.specs.declared.arguments.Subcommand.{Subcommand}
 use Rattle.command_line.specs.declared.arguments.Subcommand.TheVariants.{Show, Replay, Check, Measure, Explain}
 use Rattle.command_line.proofs.ErrorKinds.{some_kind}
-use Rattle.command_line.proofs.ExplainVerdict as explain
 use Rattle.command_line.proofs.FlagWords.{same_in}
-use Rattle.command_line.proofs.MeasureRows.{made_says, rows_found, said_makes}
+use Rattle.command_line.proofs.OptionRows.{made_says, rows_found, said_flags, said_makes}
+use Rattle.command_line.proofs.OptionVerdict.{name_by, reading_by, subcommand_by}
+use Rattle.command_line.proofs.OptionWords.{OfExplain, OfMeasure, Optioned}
 use Rattle.command_line.proofs.SubcommandNames.{HasNoOptions}
-use Rattle.command_line.proofs.CommandLines.{Verdict, Runs, Measures, Explains, Helps, Begins, Mistakes, flags_help}
+use Rattle.command_line.proofs.CommandLines.{Verdict, Runs, Takes, Helps, Begins, Mistakes, flags_help}
 use Rattle.command_line.proofs.CommandLines.{help_first, is_free_program, is_simple_program, names_run, verdict}
 
 -- ---- a parse that succeeds
@@ -101,17 +101,17 @@ begins_alike : (words rest : List Text) (s : Subcommand) (name : Text) → Names
 begins_alike words rest s name named begins =
     same_in (name_of s) name (sym (first_is words s named) ∙ begins_first name words rest begins)
 
-same_uses : (words rest others : List Text) (uses more : List Use) → BeginsWith (codes "measure") words rest
-    → BeginsWith (codes "measure") words others
-    → uses_of (reading_of rest) ≡ Some uses → uses_of (reading_of others) ≡ Some more → uses ≡ more
-same_uses words rest others uses more one other are also =
+same_uses : (k : Optioned) (words rest others : List Text) (uses more : List Use) → BeginsWith (name_by k) words rest
+    → BeginsWith (name_by k) words others
+    → uses_of (reading_by k rest) ≡ Some uses → uses_of (reading_by k others) ≡ Some more → uses ≡ more
+same_uses k words rest others uses more one other are also =
     same_in uses more (sym are
-    ∙ ap (λ ws. uses_of (reading_of ws)) (same_rest (codes "measure") words rest others one other) ∙ also)
+    ∙ ap (λ ws. uses_of (reading_by k ws)) (same_rest (name_by k) words rest others one other) ∙ also)
 
 -- words of `measure` whose options write nothing name no subcommand
 names_nothing : (words rest : List Text) (uses : List Use) → BeginsWith (codes "measure") words rest
-    → uses_of (reading_of rest) ≡ Some uses
-    → ((options : MeasureOptions) → RowsSay (rows_found uses) options → ⊥) → NamesNothing words
+    → uses_of (reading_by OfMeasure rest) ≡ Some uses
+    → ((options : MeasureOptions) → RowsSay (rows_found OfMeasure uses) options → ⊥) → NamesNothing words
 names_nothing words rest uses begins are none Show named =
     no_measure Show tt (begins_alike words rest Show (codes "measure") named begins)
 names_nothing words rest uses begins are none Replay named =
@@ -119,8 +119,8 @@ names_nothing words rest uses begins are none Replay named =
 names_nothing words rest uses begins are none Check named =
     no_measure Check tt (begins_alike words rest Check (codes "measure") named begins)
 names_nothing words rest uses begins are none (Measure options) (others, also, (more, has, makes)) =
-    none options (subst (λ us. RowsSay (rows_found us) options)
-    (sym (same_uses words rest others uses more begins also are has)) (made_says more options makes))
+    none options (subst (λ us. RowsSay (rows_found OfMeasure us) options)
+    (sym (same_uses OfMeasure words rest others uses more begins also are has)) (made_says more options makes))
 names_nothing words rest uses begins are none (Explain options) named =
     measure_is_other (sym (begins_alike words rest (Explain options) (codes "measure") named begins))
 
@@ -149,8 +149,8 @@ met_alike one other met is also = same_in one other (sym is ∙ also)
 
 -- what is chosen of `measure`
 measure_chosen : (words rest : List Text) (uses : List Use) → BeginsWith (codes "measure") words rest
-    → uses_of (reading_of rest) ≡ Some uses
-    → fault_of program words ≡ [] → (met : Met) → met ≡ Some (codes "measure", rows_found uses) → (r : Invocation)
+    → uses_of (reading_by OfMeasure rest) ≡ Some uses
+    → fault_of program words ≡ [] → (met : Met) → met ≡ Some (codes "measure", rows_found OfMeasure uses) → (r : Invocation)
     → Chooses met r → Asks words r
 measure_chosen words rest uses begins are none met is r chooses = by_answer r chooses
   where
@@ -162,25 +162,24 @@ measure_chosen words rest uses begins are none met is r chooses = by_answer r ch
     by_answer (Run Replay) chooses = absurd (no_measure Replay tt (met_alike _ _ met chooses named))
     by_answer (Run Check) chooses = absurd (no_measure Check tt (met_alike _ _ met chooses named))
     by_answer (Run (Measure options)) (rows, at, says) =
-        let same : rows ≡ rows_found uses = ap (λ m. m.1) (same_in _ _ (sym at ∙ is)) in
+        let same : rows ≡ rows_found OfMeasure uses = ap (λ m. m.1) (same_in _ _ (sym at ∙ is)) in
         (rest, begins, (uses, are, said_makes uses options (subst (λ rs. RowsSay rs options) same says)))
     by_answer (Run (Explain options)) (rows, at, says) = absurd
         (measure_is_other (met_alike _ _ met named (ap (option_map (λ m. m.0)) at)))
     by_answer (Help text) chooses = absurd chooses
     by_answer (Mistake text) (rows, at, says) =
-        let same : rows ≡ rows_found uses = ap (λ m. m.1) (same_in _ _ (sym at ∙ is)) in (
+        let same : rows ≡ rows_found OfMeasure uses = ap (λ m. m.1) (same_in _ _ (sym at ∙ is)) in (
           names_nothing words rest uses begins are (λ options h. says options
               (subst (λ rs. RowsSay rs options) (sym same) h)),
           λ flag. some_kind _ _ (sym (flags_help words flag) ∙ none),
         )
 
 -- what is chosen of `explain`
-explain_chosen : (words rest : List Text) (options : ExplainOptions) → BeginsWith (codes "explain") words rest
-    → options_of (explain_reading_of rest) ≡ Some options → (met : Met)
-    → met ≡ Some (codes "explain", explain.rows_at rest)
-    → ((other : ExplainOptions) → ExplainRowsSay (explain.rows_at rest) other → other ≡ options)
+explain_chosen : (words rest : List Text) (uses : List Use) → BeginsWith (codes "explain") words rest
+    → uses_of (reading_by OfExplain rest) ≡ Some uses → (met : Met)
+    → met ≡ Some (codes "explain", rows_found OfExplain uses)
     → (r : Invocation) → Chooses met r → Asks words r
-explain_chosen words rest options begins are met is one r chooses = by_answer r chooses
+explain_chosen words rest uses begins are met is r chooses = by_answer r chooses
   where
     named : option_map (λ m. m.0) met ≡ Some (codes "explain")
     named = ap (option_map (λ m. m.0)) is
@@ -189,15 +188,21 @@ explain_chosen words rest options begins are met is one r chooses = by_answer r 
     by_answer (Run Show) chooses = absurd (no_explain Show tt (met_alike _ _ met chooses named))
     by_answer (Run Replay) chooses = absurd (no_explain Replay tt (met_alike _ _ met chooses named))
     by_answer (Run Check) chooses = absurd (no_explain Check tt (met_alike _ _ met chooses named))
-    by_answer (Run (Measure others)) (rows, at, says) = absurd
+    by_answer (Run (Measure options)) (rows, at, says) = absurd
         (measure_is_other (met_alike _ _ met (ap (option_map (λ m. m.0)) at) named))
-    by_answer (Run (Explain others)) (rows, at, says) =
-        let same : rows ≡ explain.rows_at rest = ap (λ m. m.1) (same_in _ _ (sym at ∙ is)) in
-        let said : others ≡ options = one others (subst (λ rs. ExplainRowsSay rs others) same says) in
-        (rest, begins, are ∙ ap Some (sym said))
+    by_answer (Run (Explain options)) (rows, at, says) =
+        let same : rows ≡ rows_found OfExplain uses = ap (λ m. m.1) (same_in _ _ (sym at ∙ is)) in
+        (rest, begins, (uses, are, said_flags uses options (subst (λ rs. ExplainRowsSay rs options) same says)))
     by_answer (Help text) chooses = absurd chooses
     by_answer (Mistake text) (rows, at, says) = absurd
         (measure_is_other (met_alike _ _ met (ap (option_map (λ m. m.0)) at) named))
+
+-- what is chosen of a subcommand that has options
+options_chosen : (k : Optioned) (words rest : List Text) (uses : List Use) → BeginsWith (name_by k) words rest
+    → uses_of (reading_by k rest) ≡ Some uses → fault_of program words ≡ [] → (met : Met)
+    → met ≡ Some (name_by k, rows_found k uses) → (r : Invocation) → Chooses met r → Asks words r
+options_chosen OfMeasure words rest uses begins are none met is = measure_chosen words rest uses begins are none met is
+options_chosen OfExplain words rest uses begins are none met is = explain_chosen words rest uses begins are met is
 
 -- what clap met, and what is made of it
 met_of : (words : List Text) (m : ArgMatches) → fault_of program words ≡ [] → HasMatchesOf program words m
@@ -218,13 +223,9 @@ met_of words m none has = by_verdict (verdict words)
       (s, named (name_of s) meets.1),
       alone_chosen words s no_option is (subcommand_rows_of m) (ap (option_map (λ p. p.0)) met ∙ meets.1),
     )
-    by_verdict (Measures rest uses begins are passes meets) = (
-      (Measure no_options, named (codes "measure") (ap (option_map (λ p. p.0)) meets)),
-      measure_chosen words rest uses begins are none (subcommand_rows_of m) (met ∙ meets),
-    )
-    by_verdict (Explains rest options begins are passes meets one) = (
-      (Explain no_explain_options, named (codes "explain") (ap (option_map (λ p. p.0)) meets)),
-      explain_chosen words rest options begins are (subcommand_rows_of m) (met ∙ meets) one,
+    by_verdict (Takes k rest uses begins are passes meets) = (
+      (subcommand_by k, named (name_by k) (ap (option_map (λ p. p.0)) meets)),
+      options_chosen k words rest uses begins are none (subcommand_rows_of m) (met ∙ meets),
     )
     by_verdict (Helps help flag) = absurd (some_kind _ _ (sym help ∙ none))
     by_verdict (Begins first help) = absurd (some_kind _ _ (sym help ∙ none))
@@ -256,9 +257,7 @@ text_of words k r among shows = by_verdict r (verdict words) shows
 
     by_verdict : (r : Invocation) → Verdict words → ShowsKind k r → Asks words r
     by_verdict (Run s) judged h = absurd h
-    by_verdict (Help t) (Measures rest uses begins are passes meets) h = absurd
-        (among_these [] passes (λ e. help_is_no_memory (sym h ∙ e)))
-    by_verdict (Help t) (Explains rest options begins are passes meets one) h = absurd
+    by_verdict (Help t) (Takes k rest uses begins are passes meets) h = absurd
         (among_these [] passes (λ e. help_is_no_memory (sym h ∙ e)))
     by_verdict (Help t) (Runs s no_option is meets) h = absurd
         (among_these [] meets.0 (λ e. help_is_no_memory (sym h ∙ e)))
@@ -267,8 +266,7 @@ text_of words k r among shows = by_verdict r (verdict words) shows
     by_verdict (Help t) (Mistakes mistake) h =
         absurd (mistake.1 (subst (λ x. IsAmong x kinds) h
         (among_these kinds refl (λ e. help_is_no_memory (sym h ∙ e)))))
-    by_verdict (Mistake t) (Measures rest uses begins are passes meets) h = absurd (among_these [] passes h.1)
-    by_verdict (Mistake t) (Explains rest options begins are passes meets one) h = absurd (among_these [] passes h.1)
+    by_verdict (Mistake t) (Takes k rest uses begins are passes meets) h = absurd (among_these [] passes h.1)
     by_verdict (Mistake t) (Runs s no_option is meets) h = absurd (among_these [] meets.0 h.1)
     by_verdict (Mistake t) judged h = (
       λ s is. absurd (among_these [] (names_run words s is) h.1),
@@ -347,14 +345,13 @@ makes_one uses one other a b =
 measure_one : (words : List Text) (one other : MeasureOptions) → Names words (Measure one)
     → Names words (Measure other) → one ≡ other
 measure_one words one other (rest, begins, (uses, are, makes)) (others, also, (more, has, make)) =
-    let same = same_uses words rest others uses more begins also are has in
+    let same = same_uses OfMeasure words rest others uses more begins also are has in
     makes_one uses one other makes (subst (λ us. Makes us other) (sym same) make)
 
 explain_one : (words : List Text) (one other : ExplainOptions) → Names words (Explain one)
     → Names words (Explain other) → one ≡ other
-explain_one words one other (rest, begins, are) (others, also, has) =
-    same_in one other (sym are
-    ∙ ap (λ ws. options_of (explain_reading_of ws)) (same_rest (codes "explain") words rest others begins also) ∙ has)
+explain_one words one other (rest, begins, (uses, are, makes)) (others, also, (more, has, make)) =
+    makes ∙ ap flags_made (same_uses OfExplain words rest others uses more begins also are has) ∙ sym make
 
 -- a subcommand without options is no other one
 alone_one : (s t : Subcommand) → HasNoOptions s → s ≡ bare t → s ≡ t

@@ -3,13 +3,11 @@ pub mod WordForms
 pub mod Turns
 pub mod FlagWords
 pub mod FlagRows
-pub mod MeasureWords
-pub mod MeasureWalk
-pub mod MeasureRows
+pub mod OptionWords
+pub mod OptionWalk
+pub mod OptionRows
 pub mod SubcommandNames
-pub mod MeasureVerdict
-pub mod ExplainWalk
-pub mod ExplainVerdict
+pub mod OptionVerdict
 pub mod CommandLines
 pub mod Invocations
 pub mod WorkedOptions

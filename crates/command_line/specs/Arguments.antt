@@ -4,8 +4,8 @@ use Rattle.command_line.specs.declared.arguments.Invocation.{Invocation}
 use Rattle.command_line.specs.declared.arguments.Invocation.TheVariants.{Run, Help, Mistake}
 use Rattle.command_line.specs.declared.arguments.Subcommand.{Subcommand}
 use Rattle.command_line.specs.declared.arguments.Subcommand.TheVariants.{Show, Replay, Check, Measure, Explain}
-use Rattle.command_line.specs.Options.{AreOptions, Asking, is_help_flag, reading_of}
-use Rattle.command_line.specs.ExplainOptions.{AreExplainOptions, AskingToExplain, explain_reading_of}
+use Rattle.command_line.specs.Options.{AreExplainOptions, AreOptions, Asking, OptionName, explain_options}
+use Rattle.command_line.specs.Options.{is_help_flag, measure_options, reading_of}
 
 -- the argument that names a subcommand
 abbrev pub name_of : Subcommand → List ℕ
@@ -45,12 +45,16 @@ HasEarlyHelpFlag words = (word : List ℕ) × AsksHelp word
     × ((slice_get words 1 ≡ Some word)
     ⊎ ((s : Subcommand) × (slice_get words 1 ≡ Some (name_of s)) × (slice_get words 2 ≡ Some word)))
 
+-- help is asked for after these options of the subcommand of this name
+abbrev pub AsksHelpAfter : List ℕ → List OptionName → List (List ℕ) → Type 0
+AsksHelpAfter name known words =
+    (rest : List (List ℕ)) × BeginsWith name words rest × (reading_of known rest ≡ Asking)
+
 -- help is asked for there, or after options of `measure` or of `explain`
 abbrev pub HasHelpFlag : List (List ℕ) → Type 0
 HasHelpFlag words = HasEarlyHelpFlag words
-    ⊎ (((rest : List (List ℕ)) × BeginsWith (codes "measure") words rest × (reading_of rest ≡ Asking))
-    ⊎ ((rest : List (List ℕ)) × BeginsWith (codes "explain") words rest
-    × (explain_reading_of rest ≡ AskingToExplain)))
+    ⊎ (AsksHelpAfter (codes "measure") measure_options words
+    ⊎ AsksHelpAfter (codes "explain") explain_options words)
 
 -- the first argument after the program's name is `help`
 abbrev pub BeginsWithHelp : List (List ℕ) → Type 0

@@ -13,7 +13,6 @@ use Rattle.command_line.specs.declared.arguments.Subcommand.TheVariants.{Show, R
 use Rattle.command_line.specs.declared.measure.MeasureOptions.{MeasureOptions}
 use Rattle.command_line.specs.declared.explain.ExplainOptions.{ExplainOptions}
 use Rattle.command_line.specs.Arguments.{name_of}
-use Rattle.command_line.specs.ExplainOptions.{no_explain_options}
 use Rattle.command_line.specs.Number.{domain_of}
 use Rattle.command_line.specs.Options.{IsSaid}
 use Rattle.command_line.specs.PortText.{port_identity_of}
@@ -48,6 +47,10 @@ shape_for s = new_shape (name_of s)
 -- no option of `measure`
 abbrev pub no_options : MeasureOptions
 no_options = record { slave = None; master = None; domain = None; csv = false }
+
+-- no option of `explain`
+abbrev pub no_explain_options : ExplainOptions
+no_explain_options = record { first = false; json = false }
 
 -- the subcommands, in the order of the text of help
 abbrev pub subcommands : List Subcommand
