@@ -25,7 +25,8 @@ use Rattle.command_line.specs.PortText.{port_identity_of}
 use Rattle.command_line.specs.declared.explain.ExplainOptions.{ExplainOptions}
 use Rattle.command_line.specs.declared.measure.MeasureOptions.{MeasureOptions}
 use Rattle.event_codec.specs.declared.port.PortIdentity.{PortIdentity}
-use Rattle.command_line.specs.Inner.Clap.{Chooses, ExplainRowsSay, RowsSay, ShowsKind, no_explain_options, no_options, program, subcommands}
+use Rattle.command_line.specs.Inner.Clap.{Chooses, ExplainRowsSay, RowsSay, ShowsKind, no_explain_options}
+use Rattle.command_line.specs.Inner.Clap.{no_options, program, subcommands}
 use Rattle.command_line.specs.declared.arguments.Invocation.{Invocation}
 use Rattle.command_line.specs.declared.arguments.Invocation.TheVariants.{Run, Help, Mistake}
 use Rattle.command_line.specs.declared.arguments.Subcommand.{Subcommand}
@@ -150,8 +151,8 @@ met_alike one other met is also = same_in one other (sym is ∙ also)
 -- what is chosen of `measure`
 measure_chosen : (words rest : List Text) (uses : List Use) → BeginsWith (codes "measure") words rest
     → uses_of (reading_by OfMeasure rest) ≡ Some uses
-    → fault_of program words ≡ [] → (met : Met) → met ≡ Some (codes "measure", rows_found OfMeasure uses) → (r : Invocation)
-    → Chooses met r → Asks words r
+    → fault_of program words ≡ [] → (met : Met) → met ≡ Some (codes "measure", rows_found OfMeasure uses)
+    → (r : Invocation) → Chooses met r → Asks words r
 measure_chosen words rest uses begins are none met is r chooses = by_answer r chooses
   where
     named : option_map (λ m. m.0) met ≡ Some (codes "measure")

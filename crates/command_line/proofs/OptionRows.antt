@@ -4,7 +4,8 @@ use Rattle.std.proofs.Common.{◌∷◌, Some, None, codes, true≢false, if◌t
 use Rattle.std.specs.Prelude.{⊤, fold, slice_get}
 use Rattle.std.specs.Str.{bytes_eq}
 use Rattle.std.proofs.lemmas.Slice.Eq.{bytes_eq-Decides}
-use Rattle.clap.specs.Walk.{Row, Rule, Text, at_row, first_of, has_row, is_empty, more_values, one_of, row_text, with_default}
+use Rattle.clap.specs.Walk.{Row, Rule, Text, at_row, first_of, has_row, is_empty, more_values, one_of}
+use Rattle.clap.specs.Walk.{row_text, with_default}
 use Rattle.clap.specs.Simple.{filled, help_rule}
 use Rattle.clap.specs.Kinds.{Kinds, or_else}
 use Rattle.clap.specs.Faults.{default_fault, defaults_fault, given_default_fault}

@@ -6,8 +6,8 @@ use Rattle.clap.specs.Simple.{subcommand_of}
 use Rattle.clap.specs.Kinds.{Kinds, or_else}
 use Rattle.clap.specs.Faults.{check_fault, defaults_fault, fault_of, settle_fault, walk_fault}
 use Rattle.clap.proofs.OnLiterals.{clap_on_literals}
-use Rattle.command_line.specs.Inner.Clap.{no_explain_options, no_options, program}
 use Rattle.command_line.specs.Arguments.{name_of}
+use Rattle.command_line.specs.Inner.Clap.{no_explain_options, no_options, program}
 use Rattle.command_line.specs.Options.{Reading, Between, Awaiting, Closed, Asking, Failed, Use, reading_of, uses_of}
 use Rattle.command_line.specs.declared.arguments.Subcommand.{Subcommand}
 use Rattle.command_line.specs.declared.arguments.Subcommand.TheVariants.{Explain, Measure}
@@ -46,12 +46,14 @@ kinds_after k end = or_else (settle_fault (rules_by k) false end)
 abbrev kinds_on : Optioned → List Text → Kinds
 kinds_on k rest = walk_fault (with_options k (level_of (subcommand_by k))) [] at_first_word rest
 
-inner_is : (k : Optioned) (rest : List Text) → inner_fault (subcommand_by k) rest ≡ or_else (kinds_on k rest) (kinds_after k (end_of k rest))
+inner_is : (k : Optioned) (rest : List Text)
+    → inner_fault (subcommand_by k) rest ≡ or_else (kinds_on k rest) (kinds_after k (end_of k rest))
 unfolding clap_on_literals
 inner_is OfMeasure rest = refl
 inner_is OfExplain rest = refl
 
-check_passes : (k : Optioned) (rows : List Row) → check_fault (with_options k (level_of (subcommand_by k))) rows false ≡ []
+check_passes : (k : Optioned) (rows : List Row)
+    → check_fault (with_options k (level_of (subcommand_by k))) rows false ≡ []
 unfolding clap_on_literals
 check_passes OfMeasure rows = refl
 check_passes OfExplain rows = refl
@@ -97,15 +99,16 @@ words_say k program_name rest = subst (λ kinds. Says k (reading_by k rest) kind
     (walk_ends k (level_of (subcommand_by k)) rest (Between []) at_first_word ([], None, (refl, refl), refl)))
 
 -- clap enters the subcommand with what was found of its options
-entered_is : (k : Optioned) (program_name : Text) (rest : List Text) → subcommand_of program (program_name ∷ name_by k ∷ rest)
+entered_is : (k : Optioned) (program_name : Text) (rest : List Text)
+    → subcommand_of program (program_name ∷ name_by k ∷ rest)
     ≡ Some (name_by k, fold with_default (settled (rules_by k) (end_of k rest)).rows (rules_by k))
 unfolding clap_on_literals
 entered_is OfMeasure program_name rest = entered_with (subcommand_by OfMeasure) program_name rest
 entered_is OfExplain program_name rest = entered_with (subcommand_by OfExplain) program_name rest
 
 -- where the words are options, clap accepts them, and has found their values
-pub options_pass : (k : Optioned) (program_name : Text) (rest : List Text) (uses : List Use) → uses_of (reading_by k rest) ≡ Some uses
-    → (fault_of program (program_name ∷ name_by k ∷ rest) ≡ [])
+pub options_pass : (k : Optioned) (program_name : Text) (rest : List Text) (uses : List Use)
+    → uses_of (reading_by k rest) ≡ Some uses → (fault_of program (program_name ∷ name_by k ∷ rest) ≡ [])
     × (subcommand_of program (program_name ∷ name_by k ∷ rest) ≡ Some (name_by k, rows_found k uses))
 options_pass k program_name rest uses are = by_reading (reading_by k rest) are (words_say k program_name rest)
   where

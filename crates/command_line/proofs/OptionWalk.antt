@@ -12,8 +12,9 @@ use Rattle.clap.specs.Kinds.{Kinds, or_else}
 use Rattle.clap.specs.Faults.{settle_fault, turn_fault, use_fault, walk_fault}
 use Rattle.clap.specs.declared.error.kind.ErrorKind.TheVariants as kind
 use Rattle.command_line.specs.Options.{OptionName, Slave, Master, Domain, Csv, First, Json, Use, Reading, Between}
-use Rattle.command_line.specs.Options.{Awaiting, Closed, Asking, Failed, after_hyphens, flag_letter, is_help_flag, is_used}
-use Rattle.command_line.specs.Options.{name_in, option_named, option_text, value_in, with_option, with_use, with_word}
+use Rattle.command_line.specs.Options.{Awaiting, Closed, Asking, Failed, after_hyphens, flag_letter, is_help_flag}
+use Rattle.command_line.specs.Options.{is_used, name_in, option_named, option_text, value_in}
+use Rattle.command_line.specs.Options.{with_option, with_use, with_word}
 use Rattle.command_line.proofs.ErrorKinds.{IsHelp, IsMistake, help_lasts, mistake_lasts, repeated_option, stray_word}
 use Rattle.command_line.proofs.ErrorKinds.{unknown_argument, unneeded_value, wanted_value}
 use Rattle.command_line.proofs.OptionWords.{HoldsUses, Knows, OfExplain, OfHelp, OfMeasure, OfNone, OfOption}
@@ -24,6 +25,10 @@ use Rattle.command_line.proofs.OptionWords.{with_options}
 use Rattle.command_line.proofs.Turns.{Turn, closed_walk, help_is, letter_is, letter_turn, long_is, mark_is}
 use Rattle.command_line.proofs.Turns.{open_walk, plain_is, plain_turn, rule_turn, turn}
 use Rattle.command_line.proofs.WordForms.{IsHelpWord, IsLong, IsMark, IsPlain, IsShort, WordForm, other_side, word_form}
+
+-- one more word is read, after these
+abbrev pub then_word : Optioned → Reading → Text → Reading
+then_word k reading word = with_word (known_by k) reading word
 
 -- ---- what is held, by what was read
 
@@ -140,20 +145,21 @@ option_keeps k level uses rows pending holds word Csv knows None = used_keeps k 
 option_keeps k level uses rows pending holds word First knows None = used_keeps k First [] uses rows pending holds
 option_keeps k level uses rows pending holds word Json knows None = used_keeps k Json [] uses rows pending holds
 
-mark_read : (k : Optioned) (uses : List Use) → with_word (known_by k) (Between uses) (codes "--") ≡ Closed uses
+mark_read : (k : Optioned) (uses : List Use) → then_word k (Between uses) (codes "--") ≡ Closed uses
 unfolding chars
 mark_read k uses = refl
 
 -- a word that is neither a flag for help nor `--`
 other_read : (k : Optioned) (uses : List Use) (word : Text) (text : Option Text) → is_help_flag word ≡ false
     → bytes_eq word (codes "--") ≡ false → after_hyphens word ≡ text
-    → with_word (known_by k) (Between uses) word ≡ option_map_or
+    → then_word k (Between uses) word ≡ option_map_or
     (λ t. with_option uses (option_named (known_by k) (name_in t)) (value_in t)) text Failed
 other_read k uses word text unhelp unmark after =
     rw (unhelp, unmark) (ap (λ o. option_map_or
     (λ t. with_option uses (option_named (known_by k) (name_in t)) (value_in t)) o Failed) after)
 
-pub help_read : (k : Optioned) (uses : List Use) (word : Text) → is_help_flag word ≡ true → with_word (known_by k) (Between uses) word ≡ Asking
+pub help_read : (k : Optioned) (uses : List Use) (word : Text) → is_help_flag word ≡ true
+    → then_word k (Between uses) word ≡ Asking
 help_read k uses word help = rw help refl
 
 help_found : (k : Optioned) → arg_by_long (rules_by k) (codes "help") ≡ Some (filled help_rule)
@@ -177,7 +183,7 @@ plain_fails OfExplain level rows pending word = stray_word (with_options OfExpla
 
 between_keeps : (k : Optioned) (level : Shape) (uses : List Use) (rows : List Row) (pending : Option (Text × List Text))
     → HoldsUses k uses rows pending
-    → (word : Text) → Keeps k (with_word (known_by k) (Between uses) word)
+    → (word : Text) → Keeps k (then_word k (Between uses) word)
     (turn (rules_by k) [] level (open_walk rows pending idle) word)
 between_keeps k level uses rows pending holds word = by_form (word_form word)
   where
@@ -216,7 +222,7 @@ between_keeps k level uses rows pending holds word = by_form (word_form word)
     by_letter : (y : ℕ) (ys : Text) (letter : ℕ) → this
         ≡ letter_turn (rules_by k) level rows pending idle word y ys (Some letter)
         → bytes_eq word (codes "--") ≡ false → after_hyphens word ≡ None → is_help_flag word ≡ (letter == 104)
-        → (is_h : Bool) → (104 == letter) ≡ is_h → Keeps k (with_word (known_by k) (Between uses) word) this
+        → (is_h : Bool) → (104 == letter) ≡ is_h → Keeps k (then_word k (Between uses) word) this
     by_letter y ys letter same unmark after help true h =
         let e : 104 ≡ letter = (Decides-eqb 104 letter).0 h in
         keeps_as k _ Asking _ _ (help_read k uses word (help ∙ ap (λ n. n == 104) (sym e)))
@@ -226,11 +232,11 @@ between_keeps k level uses rows pending holds word = by_form (word_form word)
         keeps_as k _ Failed _ _ (other_read k uses word None (help ∙ other_side letter h) unmark after) same
         (inr (no_h_fails k level rows pending idle word y ys letter h))
 
-    by_form : WordForm word → Keeps k (with_word (known_by k) (Between uses) word) this
-    by_form (IsMark is) = keeps_as k _ (Closed uses) _ _ (ap (with_word (known_by k) (Between uses)) is ∙ mark_read k uses)
+    by_form : WordForm word → Keeps k (then_word k (Between uses) word) this
+    by_form (IsMark is) = keeps_as k _ (Closed uses) _ _ (ap (then_word k (Between uses)) is ∙ mark_read k uses)
         (mark_is (rules_by k) [] level rows pending idle word refl is)
         (inl (refl, (rows, pending, idle, holds, refl)))
-    by_form (IsHelpWord is) = keeps_as k _ Asking _ _ (ap (with_word (known_by k) (Between uses)) is)
+    by_form (IsHelpWord is) = keeps_as k _ Asking _ _ (ap (then_word k (Between uses)) is)
         (help_turn k level rows pending idle word refl is)
         (inr (ap (λ ks. or_else (or_else ks (kind.DisplayHelp ∷ [])) []) holds.0))
     by_form (IsLong text is unmark unhelp other long) = keeps_as k _ _ _ _
@@ -267,8 +273,8 @@ no_value k uses Csv valued = absurd valued
 no_value k uses First valued = absurd valued
 no_value k uses Json valued = absurd valued
 
-flag_read : (k : Optioned) (uses : List Use) (name : OptionName) (word : Text) (letter : ℕ) → flag_letter word ≡ Some letter
-    → with_word (known_by k) (Awaiting uses name) word ≡ Failed
+flag_read : (k : Optioned) (uses : List Use) (name : OptionName) (word : Text) (letter : ℕ)
+    → flag_letter word ≡ Some letter → then_word k (Awaiting uses name) word ≡ Failed
 flag_read k uses name word letter flag = rw flag refl
 
 hyphens_flag : (word text : Text) → word ≡ 45 ∷ 45 ∷ text → flag_letter word ≡ Some 45
@@ -277,7 +283,7 @@ hyphens_flag word [] is = ap flag_letter is
 hyphens_flag word (x ∷ xs) is = ap flag_letter is
 
 value_read : (k : Optioned) (uses : List Use) (name : OptionName) (word : Text) → flag_letter word ≡ None
-    → with_word (known_by k) (Awaiting uses name) word ≡ with_use uses name word
+    → then_word k (Awaiting uses name) word ≡ with_use uses name word
 value_read k uses name word none = rw none refl
 
 -- the value is met
@@ -342,7 +348,7 @@ value_keeps k uses name word valued = by_use (is_used name uses) refl
     ))
 
 awaiting_keeps : (k : Optioned) (level : Shape) (uses : List Use) (name : OptionName) → IsValued k name → (word : Text)
-    → Keeps k (with_word (known_by k) (Awaiting uses name) word) (turn (rules_by k) [] level (option_walk uses name) word)
+    → Keeps k (then_word k (Awaiting uses name) word) (turn (rules_by k) [] level (option_walk uses name) word)
 awaiting_keeps k level uses name valued word = by_form (word_form word)
   where
     rows : List Row
@@ -354,7 +360,7 @@ awaiting_keeps k level uses name valued word = by_form (word_form word)
     mistake : IsMistake (settles k rows (waiting_for name))
     mistake = no_value k uses name valued
 
-    by_form : WordForm word → Keeps k (with_word (known_by k) (Awaiting uses name) word)
+    by_form : WordForm word → Keeps k (then_word k (Awaiting uses name) word)
         (turn (rules_by k) [] level (option_walk uses name) word)
     by_form (IsMark is) = keeps_as k _ Failed _ _ (flag_read k uses name word 45 (hyphens_flag word [] is))
         (mark_is (rules_by k) [] level rows (waiting_for name) waits word refl is)
@@ -380,8 +386,8 @@ awaiting_keeps k level uses name valued word = by_form (word_form word)
 
 -- ---- a word after `--`, and after a mistake that clap finds later
 
-closed_fails : (k : Optioned) (level : Shape) (rows : List Row) (pending : Option (Text × List Text)) (waiting : Waiting)
-    (word : Text)
+closed_fails : (k : Optioned) (level : Shape) (rows : List Row) (pending : Option (Text × List Text))
+    (waiting : Waiting) (word : Text)
     → IsMistake (turn (rules_by k) [] level (closed_walk rows pending waiting) word).0
 closed_fails OfMeasure level rows pending waiting word = stray_word (with_options OfMeasure level)
 closed_fails OfExplain level rows pending waiting word = stray_word (with_options OfExplain level)
@@ -412,12 +418,12 @@ doomed_keeps k level rows pending mistake word = by_form (word_form word)
 -- ---- all words
 
 word_keeps : (k : Optioned) (level : Shape) (reading : Reading) (w : Walk) → Holds k reading w → (word : Text)
-    → Keeps k (with_word (known_by k) reading word) (turn (rules_by k) [] level w word)
+    → Keeps k (then_word k reading word) (turn (rules_by k) [] level w word)
 word_keeps k level (Between uses) w (rows, pending, holds, is) word =
-    subst (λ v. Keeps k (with_word (known_by k) (Between uses) word) (turn (rules_by k) [] level v word)) (sym is)
+    subst (λ v. Keeps k (then_word k (Between uses) word) (turn (rules_by k) [] level v word)) (sym is)
     (between_keeps k level uses rows pending holds word)
 word_keeps k level (Awaiting uses name) w (valued, is) word =
-    subst (λ v. Keeps k (with_word (known_by k) (Awaiting uses name) word) (turn (rules_by k) [] level v word)) (sym is)
+    subst (λ v. Keeps k (then_word k (Awaiting uses name) word) (turn (rules_by k) [] level v word)) (sym is)
     (awaiting_keeps k level uses name valued word)
 word_keeps k level (Closed uses) w (rows, pending, waiting, holds, is) word =
     subst (λ v. Keeps k Failed (turn (rules_by k) [] level v word)) (sym is)
@@ -451,11 +457,11 @@ ends_here k Asking w holds = absurd holds
 ends_here k Failed w (rows, pending, mistake, inl is) = subst (λ v. Ends k Failed [] v.held) (sym is) mistake
 ends_here k Failed w (rows, pending, mistake, inr (waiting, is)) = subst (λ v. Ends k Failed [] v.held) (sym is) mistake
 
-pub asking_lasts : (k : Optioned) (words : List Text) → fold (with_word (known_by k)) Asking words ≡ Asking
+pub asking_lasts : (k : Optioned) (words : List Text) → fold (then_word k) Asking words ≡ Asking
 asking_lasts k [] = refl
 asking_lasts k (word ∷ words) = asking_lasts k words
 
-failed_lasts : (k : Optioned) (words : List Text) → fold (with_word (known_by k)) Failed words ≡ Failed
+failed_lasts : (k : Optioned) (words : List Text) → fold (then_word k) Failed words ≡ Failed
 failed_lasts k [] = refl
 failed_lasts k (word ∷ words) = failed_lasts k words
 
@@ -463,8 +469,8 @@ ends_first : (k : Optioned) (reading : Reading) (first more : Kinds) (h : Held) 
     → Ends k reading (or_else first more) h
 ends_first k reading first more h none ends = subst (λ ks. Ends k reading (or_else ks more) h) (sym none) ends
 
-stops_last : (k : Optioned) (reading : Reading) (words : List Text) (first more : Kinds) (h : Held) → Stops reading first
-    → Ends k (fold (with_word (known_by k)) reading words) (or_else first more) h
+stops_last : (k : Optioned) (reading : Reading) (words : List Text) (first more : Kinds) (h : Held)
+    → Stops reading first → Ends k (fold (then_word k) reading words) (or_else first more) h
 stops_last k (Between uses) words first more h stops = absurd stops
 stops_last k (Awaiting uses name) words first more h stops = absurd stops
 stops_last k (Closed uses) words first more h stops = absurd stops
@@ -474,11 +480,12 @@ stops_last k Failed words first more h stops = subst (λ r. Ends k r (or_else fi
     (mistake_lasts (or_else first more) (settle_fault (rules_by k) false h) (mistake_lasts first more stops))
 
 pub walk_ends : (k : Optioned) (level : Shape) (words : List Text) (reading : Reading) (w : Walk) → Holds k reading w
-    → Ends k (fold (with_word (known_by k)) reading words) (walk_fault (with_options k level) [] w words)
+    → Ends k (fold (then_word k) reading words) (walk_fault (with_options k level) [] w words)
     (fold (walked (rules_by k) []) w words).held
 unfolding walk_fault
 walk_ends k level [] reading w holds = ends_here k reading w holds
-walk_ends k level (word ∷ words) reading w holds = by_turn (walk_ends k level words (with_word (known_by k) reading word) next)
+walk_ends k level (word ∷ words) reading w holds =
+    by_turn (walk_ends k level words (then_word k reading word) next)
     (word_keeps k level reading w holds word)
   where
     next : Walk
@@ -487,11 +494,13 @@ walk_ends k level (word ∷ words) reading w holds = by_turn (walk_ends k level 
     first : Kinds
     first = turn_fault (with_options k level) [] w word
 
-    by_turn : (Holds k (with_word (known_by k) reading word) next
-        → Ends k (fold (with_word (known_by k)) (with_word (known_by k) reading word) words) (walk_fault (with_options k level) [] next words)
+    by_turn : (Holds k (then_word k reading word) next
+        → Ends k (fold (then_word k) (then_word k reading word) words)
+        (walk_fault (with_options k level) [] next words)
         (fold (walked (rules_by k) []) next words).held)
-        → Keeps k (with_word (known_by k) reading word) (turn (rules_by k) [] level w word)
-        → Ends k (fold (with_word (known_by k)) reading (word ∷ words)) (walk_fault (with_options k level) [] w (word ∷ words))
+        → Keeps k (then_word k reading word) (turn (rules_by k) [] level w word)
+        → Ends k (fold (then_word k) reading (word ∷ words)) (walk_fault (with_options k level) [] w (word ∷ words))
         (fold (walked (rules_by k) []) next words).held
-    by_turn rest (inl (none, here)) = ends_first k (fold (with_word (known_by k)) reading (word ∷ words)) first _ _ none (rest here)
-    by_turn rest (inr stops) = stops_last k (with_word (known_by k) reading word) words first _ _ stops
+    by_turn rest (inl (none, here)) =
+        ends_first k (fold (then_word k) reading (word ∷ words)) first _ _ none (rest here)
+    by_turn rest (inr stops) = stops_last k (then_word k reading word) words first _ _ stops

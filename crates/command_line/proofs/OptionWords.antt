@@ -20,7 +20,8 @@ use Rattle.clap.specs.declared.parser.matches.ValueSource.TheVariants.{CommandLi
 use Rattle.clap.proofs.WalkLemmas.{list_any-map}
 use Rattle.command_line.specs.Inner.Clap.{flag_rule, value_rule}
 use Rattle.command_line.specs.Options.{OptionName, Slave, Master, Domain, Csv, First, Json, Use}
-use Rattle.command_line.specs.Options.{explain_options, is_used, measure_options, name_in, option_named, option_text, value_in}
+use Rattle.command_line.specs.Options.{explain_options, is_used, measure_options, name_in, option_named}
+use Rattle.command_line.specs.Options.{option_text, value_in}
 use Rattle.command_line.proofs.ErrorKinds.{IsHelp, IsMistake, help_lasts, mistake_lasts, unknown_argument}
 use Rattle.command_line.proofs.ErrorKinds.{unneeded_value}
 use Rattle.command_line.proofs.Turns.{held, letter_turn}
