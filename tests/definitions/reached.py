@@ -41,7 +41,7 @@ def imports_of(lines):
 
 
 def words_of(text):
-    return WORD.findall(re.sub(r"--.*", "", text))
+    return WORD.findall(re.sub(r'"[^"\n]*"|--.*', "", text))
 
 
 def resolved(text, names, files, own):

@@ -1,6 +1,5 @@
 pub mod Number
 pub mod PortText
 pub mod Options
-pub mod ExplainOptions
 pub mod Arguments
 pub mod Inner

@@ -2,13 +2,13 @@
 ghost use Rattle.std.specs.Prelude.{◌≡◌, IfOk, false};
 ghost use Rattle.clap.specs.Matches.{found_of};
 ghost use Rattle.clap.specs.Simple.{shape_of};
-ghost use Rattle.clap.specs.Walk.{rows_of, rule_of};
+ghost use Rattle.clap.specs.Walk.{rows_of};
 ghost use Rattle.clap.specs.declared.builder.command.Command.TheViews.{out-Command as fields_of};
-ghost use Rattle.command_line.specs.Inner.Clap.{ExplainRowsSay, explain_shape, flag_rule};
+ghost use Rattle.command_line.specs.Inner.Clap.{ExplainRowsSay, explain_shape};
 
-use crate::arguments::with_help;
+use crate::arguments::{flag, with_help};
 use crate::help;
-use clap::{Arg, ArgAction, ArgMatches, Command};
+use clap::{ArgMatches, Command};
 use std::alloc::{AllocError, Global};
 
 /// The options of `explain`.
@@ -20,17 +20,6 @@ pub struct ExplainOptions {
     pub json: bool,
 }
 
-/// An option without a value, as `clap` has it, with a line that says what it is.
-fn flag<'a>(alloc: Global, name: &'static str, help: &'static str) -> Arg<'a>
-    ensures rule { rule_of result ≡ flag_rule name.now }
-    ensures local { result.global ≡ false }
-{
-    Arg::new(alloc, name)
-        .long(name)
-        .action(ArgAction::SetTrue)
-        .help(help)
-}
-
 /// `explain` as `clap` has it.
 pub(crate) fn explain<'a>(alloc: Global) -> Result<Command<'a>, AllocError>
     ensures shape { IfOk result (λ c. shape_of c ≡ explain_shape) }
@@ -39,7 +28,7 @@ pub(crate) fn explain<'a>(alloc: Global) -> Result<Command<'a>, AllocError>
     let first = flag(
         alloc,
         "first",
-        "Tell the first report that is refused alone, in place of each",
+        "Tell only the first report that is refused, in place of each",
     );
     let json = flag(
         alloc,

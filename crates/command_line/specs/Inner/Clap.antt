@@ -17,7 +17,7 @@ use Rattle.command_line.specs.Number.{domain_of}
 use Rattle.command_line.specs.Options.{IsSaid}
 use Rattle.command_line.specs.PortText.{port_identity_of}
 
--- an option of `measure` that has a value
+-- an option with a value
 abbrev pub value_rule : Text → Rule
 value_rule name = record (new_rule name) { long = Some name; value_names = 1 }
 
@@ -25,19 +25,18 @@ value_rule name = record (new_rule name) { long = Some name; value_names = 1 }
 abbrev pub flag_rule : Text → Rule
 flag_rule name = record (new_rule name) { long = Some name; action = Some SetTrue }
 
--- the option `--csv`
-abbrev pub csv_rule : Rule
-csv_rule = flag_rule (codes "csv")
-
 -- `measure` with its options
 abbrev pub measure_shape : Shape
 measure_shape = record (new_shape (codes "measure")) {
-  rules = value_rule (codes "slave") ∷ value_rule (codes "master") ∷ value_rule (codes "domain") ∷ csv_rule ∷ [];
+  rules = value_rule (codes "slave") ∷ value_rule (codes "master") ∷ value_rule (codes "domain")
+      ∷ flag_rule (codes "csv") ∷ [];
 }
 
 -- `explain` with its options
 abbrev pub explain_shape : Shape
-explain_shape = record (new_shape (codes "explain")) { rules = flag_rule (codes "first") ∷ flag_rule (codes "json") ∷ [] }
+explain_shape = record (new_shape (codes "explain")) {
+  rules = flag_rule (codes "first") ∷ flag_rule (codes "json") ∷ [];
+}
 
 -- a subcommand as clap's specifications have it
 abbrev pub shape_for : Subcommand → Shape
@@ -102,7 +101,8 @@ AreRead rows (Err e) = (options : MeasureOptions) → RowsSay rows options → �
 -- what comes of the subcommand that clap met, with its matches
 abbrev pub Chooses : Option (Text × List Row) → Invocation → Type 0
 Chooses met (Run (Measure options)) = (rows : List Row) × (met ≡ Some (codes "measure", rows)) × RowsSay rows options
-Chooses met (Run (Explain options)) = (rows : List Row) × (met ≡ Some (codes "explain", rows)) × ExplainRowsSay rows options
+Chooses met (Run (Explain options)) =
+    (rows : List Row) × (met ≡ Some (codes "explain", rows)) × ExplainRowsSay rows options
 Chooses met (Run s) = option_map (λ m. m.0) met ≡ Some (name_of s)
 Chooses met (Help text) = ⊥
 Chooses met (Mistake text) =
