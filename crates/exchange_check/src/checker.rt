@@ -6,10 +6,11 @@ ghost use Rattle.trace_model.specs.Soundness.{TellsSoundness};
 ghost use Rattle.trace_model.specs.Complete.{AcceptsTruth};
 ghost use Rattle.exchange_check.specs.declared.refusal.CheckFault.TheVariants.{Memory};
 
+use crate::exchange::Exchange;
 use crate::history::History;
 use crate::kept::Kept;
 use crate::refusal::CheckFault;
-use network_model::Nodes;
+use network_model::{Nodes, Report};
 use std::alloc::Global;
 use std::marker::Model;
 use trace_model::{Judgement, TraceLine, Verdict};
@@ -97,6 +98,13 @@ impl Checker {
         let answer = self.kept.step(&self.nodes, &line)?;
         self.fed.push(&line);
         Ok(answer)
+    }
+
+    /// The lines that a report of the event of this number is of, where they are all there and the journeys of the
+    /// Sync and of the Delay_Req can be followed: where neither 701 nor 704 stands against it. The time
+    /// that it takes doesn't grow with the lines that were fed, but for looking one of them up.
+    pub fn exchange(&self, number: u64, report: &Report) -> Option<Exchange> {
+        self.kept.exchange(number, report)
     }
 
     /// How many lines were fed so far.

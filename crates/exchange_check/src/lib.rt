@@ -3,6 +3,7 @@
 #![tactic(auto)]
 
 mod checker;
+mod exchange;
 mod facts;
 mod good;
 mod history;
@@ -14,5 +15,6 @@ mod residence;
 mod stays;
 
 pub use checker::{Checker, check};
+pub use exchange::{Exchange, ExchangeLine, Leg, STAYS_MOST, Stay};
 pub use refusal::CheckFault;
 pub use trace_model::{Judgement, Reasons, Results, TraceLine, TraceOut, Verdict, Why, laws};
