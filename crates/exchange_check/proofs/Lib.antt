@@ -13,3 +13,5 @@ pub mod Following
 pub mod Exchanges
 pub mod Bounds
 pub mod Standing
+pub mod Made
+pub mod Telling

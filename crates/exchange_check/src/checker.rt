@@ -1,15 +1,19 @@
-ghost use Rattle.std.specs.Prelude.{◌≡◌, reverse, MatchResult, IfOk, ◌++◌, ◌∷◌, [], length};
+ghost use Rattle.std.specs.Prelude.{◌≡◌, reverse, MatchResult, IfOk, ◌++◌, ◌∷◌, [], length, option_map};
+ghost use Rattle.event_codec.specs.Profile.{contents_of};
 ghost use Rattle.network_model.specs.Premises.{IsFreshAndTicked, IsWithinTurn, exact_limits};
 ghost use Rattle.trace_model.specs.Record.{line_place};
 ghost use Rattle.trace_model.specs.Verdict.{line_judgement, verdict};
 ghost use Rattle.trace_model.specs.Soundness.{TellsSoundness};
 ghost use Rattle.trace_model.specs.Complete.{AcceptsTruth};
+ghost use Rattle.exchange_check.specs.Exchange.{last_exchange, last_stay};
+ghost use Rattle.exchange_check.specs.Message.{message_at};
 ghost use Rattle.exchange_check.specs.declared.refusal.CheckFault.TheVariants.{Memory};
 
-use crate::exchange::Exchange;
+use crate::exchange::{Exchange, Stay};
 use crate::history::History;
 use crate::kept::Kept;
 use crate::refusal::CheckFault;
+use event_codec::PortMessage;
 use network_model::{Nodes, Report};
 use std::alloc::Global;
 use std::marker::Model;
@@ -100,11 +104,34 @@ impl Checker {
         Ok(answer)
     }
 
-    /// The lines that a report of the event of this number is of, where they are all there and the journeys of the
-    /// Sync and of the Delay_Req can be followed: where neither 701 nor 704 stands against it. The time
+    /// The lines that a report of the line which was fed last is of, where they are all there and the journeys of
+    /// the Sync and of the Delay_Req can be followed: where neither 701 nor 704 stands against the report. The time
     /// that it takes doesn't grow with the lines that were fed, but for looking one of them up.
-    pub fn exchange(&self, number: u64, report: &Report) -> Option<Exchange> {
-        self.kept.exchange(number, report)
+    pub fn exchange(&self, report: &Report) -> Option<Exchange>
+        ensures { result ≡ last_exchange self.now.network (reverse self.now.lines) report.now }
+    {
+        match self.len() {
+            0 => None,
+            count => self.kept.exchange(count - 1, report),
+        }
+    }
+
+    /// The last stay in a clock of the copy of an event message that the line of this number made, counted from
+    /// 0; none where the message was in no clock, or where the line counts for nothing or made no such copy. The
+    /// stay before it is the last one of the copy that entered there.
+    pub fn last_stay(&self, copy: u64) -> Option<Stay>
+        ensures { result ≡ last_stay self.now.network (reverse self.now.lines) copy }
+    {
+        self.kept.last_stay(copy)
+    }
+
+    /// The message that the line of this number makes, counted from 0, as its port or its clock writes it: 708
+    /// stands against a report where the octets of such a line are others. None where the line counts for
+    /// nothing or makes no message.
+    pub fn message_at(&self, number: u64) -> Option<PortMessage>
+        ensures { option_map contents_of result ≡ message_at self.now.network (reverse self.now.lines) number }
+    {
+        self.kept.message_at(&self.nodes, number)
     }
 
     /// How many lines were fed so far.

@@ -1,15 +1,17 @@
-//! The lines of a report: when its Sync and its Delay_Req departed, were in clocks and arrived, by the
-//! readings.
+//! The lines of a report: when its Sync and its Delay_Req departed and arrived, and how long they were in
+//! clocks, by the readings.
 
-use crate::facts::{Fact, FoundJourney};
+ghost use Rattle.std.specs.Prelude.{◌≡◌};
+ghost use Rattle.exchange_check.specs.Inner.Telling.{line_by, stay_by, leg_by, follow_by, exchange_with, exchange_by};
+ghost use Rattle.exchange_check.specs.Inner.Telling.{last_stay_by};
+ghost use Rattle.exchange_check.specs.Inner.Machine.{facts_of, stamps_of};
+ghost use Rattle.exchange_check.specs.Inner.Stays.{once_in};
+
+use crate::facts::{Fact, Found, FoundJourney};
 use crate::judging::LineKind;
 use crate::kept::Kept;
 use network_model::{Event, Report};
 use ptp_units::{ScaledTime, Seq};
-
-/// The most stays of a journey that are given one by one, so that an exchange takes no more of time and
-/// of memory however long its journeys are.
-pub const STAYS_MOST: usize = 16;
 
 /// A line of an exchange.
 #[derive(Clone, Copy, Debug, PartialEq, Eq)]
@@ -20,7 +22,7 @@ pub struct ExchangeLine {
     pub event: Event,
     /// What the node's clock is said to have read, in units of 2^-16 ns; 0 where nothing is said.
     pub reading: ScaledTime,
-    /// The sequenceId that the event drew, where it draws one.
+    /// The sequenceId that the event drew; 0 where it draws none.
     pub sequence: Seq,
 }
 
@@ -38,10 +40,6 @@ pub struct Stay {
 pub struct Leg {
     /// It departed.
     pub departed: ExchangeLine,
-    /// Its last stays in clocks, the last one first, and nothing behind them.
-    pub stays: [Option<Stay>; STAYS_MOST],
-    /// How long it was in clocks before these stays, in units of 2^-16 ns; none where they are all.
-    pub earlier: Option<u128>,
     /// How long it was in clocks, in units of 2^-16 ns.
     pub residence: u128,
     /// It arrived.
@@ -61,8 +59,10 @@ pub struct Exchange {
     pub stamped: Option<u64>,
 }
 
-/// What an exchange tells of a line.
-fn line_of(fact: &Fact) -> ExchangeLine {
+/// What is told of a line.
+fn line_of(fact: &Fact) -> ExchangeLine
+    ensures { result ≡ line_by fact.now }
+{
     ExchangeLine {
         number: fact.line,
         event: fact.event,
@@ -71,56 +71,72 @@ fn line_of(fact: &Fact) -> ExchangeLine {
     }
 }
 
+/// What is told of a stay.
+fn stay_of(entered: &Fact, left: &Fact) -> Stay
+    ensures { result ≡ stay_by entered.now left.now }
+{
+    Stay {
+        entered: line_of(entered),
+        left: line_of(left),
+    }
+}
+
+/// What is told of the way of a message that arrives at a line.
+fn leg_of(arrived: &Fact, journey: &FoundJourney) -> Leg
+    ensures { result ≡ leg_by arrived.now journey.now }
+{
+    Leg {
+        departed: line_of(&journey.origin),
+        residence: journey.kept.residence.units(),
+        arrived: line_of(arrived),
+    }
+}
+
+/// The number of the line of the Follow_Up.
+fn follow_of(found: &Found) -> Option<u64>
+    ensures { result ≡ follow_by found.now }
+{
+    match &found.follow {
+        Some(follow) => Some(follow.line),
+        None => None,
+    }
+}
+
 impl Kept {
-    /// The stay after which the copy of this number left a clock, and the copy that entered there.
-    fn stay_at(&self, copy: Option<u64>) -> Option<(Stay, u64)> {
-        let left = self.at(copy?)?;
-        let entered = self.at(left.event.named_transit()?)?;
-        let stay = Stay {
-            entered: line_of(entered),
-            left: line_of(left),
-        };
-        Some((stay, entered.event.entered_copy()?))
-    }
-
-    /// The way of the copy that arrives at a line.
-    fn leg(&self, arrived: &Fact, journey: &FoundJourney) -> Leg {
-        let mut stays = [None; STAYS_MOST];
-        let mut copy = arrived.event.heard_copy();
-        for place in &mut stays {
-            let Some((stay, before)) = self.stay_at(copy) else {
-                break;
-            };
-            *place = Some(stay);
-            copy = Some(before);
-        }
-        Leg {
-            departed: line_of(&journey.origin),
-            stays,
-            earlier: self.residence_before(copy),
-            residence: journey.kept.residence.units(),
-            arrived: line_of(arrived),
+    /// What is told of an exchange and its journeys.
+    fn exchange_with(&self, found: &Found, sync: &FoundJourney, request: &FoundJourney) -> Exchange
+        ensures { result ≡ exchange_with (stamps_of self.now) found.now sync.now request.now }
+    {
+        Exchange {
+            sync: leg_of(&found.sync_arrival, sync),
+            follow: follow_of(found),
+            request: leg_of(&found.request_arrival, request),
+            stamped: self.stamps.get(&found.request.line).copied(),
         }
     }
 
-    /// How long a copy was in clocks, where it was in one.
-    fn residence_before(&self, copy: Option<u64>) -> Option<u128> {
-        self.stay_at(copy)?;
-        Some(self.kept_journey_at(copy?)?.residence.units())
-    }
-
-    /// The lines of a report that the line of this number gave, where they are there and its journeys can
+    /// What is told of a report of the line of this number, where its lines are there and its journeys can
     /// be followed.
-    pub(crate) fn exchange(&self, number: u64, report: &Report) -> Option<Exchange> {
-        let slave = self.at(number)?.event.node();
-        let found = self.found(&slave, number, report)?;
+    pub(crate) fn exchange(&self, number: u64, report: &Report) -> Option<Exchange>
+        ensures { result ≡ exchange_by (facts_of self.now) (once_in self.now.stays) (stamps_of self.now)
+            number report.now }
+    {
+        let fact = self.at(number)?;
+        let found = self.found(&fact.event.node(), fact.line, report)?;
         let sync = self.journey_to(LineKind::DrawsSync, &found.sync_arrival)?;
         let request = self.journey_to(LineKind::Request, &found.request_arrival)?;
-        Some(Exchange {
-            sync: self.leg(&found.sync_arrival, &sync),
-            follow: found.follow.map(|fact| fact.line),
-            request: self.leg(&found.request_arrival, &request),
-            stamped: self.stamps.get(&found.request.line).copied(),
-        })
+        Some(self.exchange_with(&found, &sync, &request))
+    }
+
+    /// What is told of the last stay of the copy that the line of this number made.
+    pub(crate) fn last_stay(&self, copy: u64) -> Option<Stay>
+        ensures { result ≡ last_stay_by (facts_of self.now) copy }
+    {
+        let left = self.at(copy)?;
+        if left.journey.is_none() {
+            return None;
+        }
+        let entered = self.at(left.event.named_transit()?)?;
+        Some(stay_of(entered, left))
     }
 }
