@@ -22,8 +22,8 @@ use Rattle.trace_model.specs.Journey.{LineJourney, with_stay, copy_entered, line
 use Rattle.trace_model.specs.Octets.{drawing_port, sent, sent_after, follow_up_sent, answered}
 use Rattle.trace_model.specs.Octets.{message_made, writes_right, is_written}
 use Rattle.exchange_check.specs.Exchange.{number_drawn}
-use Rattle.exchange_check.specs.Inner.Kept.{Facts, kept_journey_at, kept_journey_by, sent_by, message_after_by, followed_by, answered_by}
-use Rattle.exchange_check.specs.Inner.Kept.{message_by, fact_known, fact_made, written_journey, fact_by}
+use Rattle.exchange_check.specs.Inner.Kept.{Facts, kept_journey_at, kept_journey_by, sent_by, message_after_by}
+use Rattle.exchange_check.specs.Inner.Kept.{followed_by, answered_by, message_by, fact_known, fact_made, written_journey, fact_by}
 use Rattle.exchange_check.proofs.Noted.{site_at}
 use Rattle.exchange_check.proofs.Told.{kept_journey_of, fact_of, facts_at, known_of}
 use Rattle.exchange_check.proofs.Told.{kept_journey_at-is, kept_journey_is, known_is}
@@ -94,7 +94,8 @@ module _ (network : Network) (e : LinePlace) (lines : Lines)
       ∙ ap (λ (m : Option Contents). option_map
       (λ (request : Contents). delay_resp port.config request.header (reading e)) m)
       (message_of (line_journey_of network e.earlier copy) (origin_in network e.earlier copy))
-      ∙ answer_of (λ request. delay_resp port.config request.header (reading e)) (line_journey_of network e.earlier copy)
+      ∙ answer_of (λ request. delay_resp port.config request.header (reading e))
+      (line_journey_of network e.earlier copy)
 
 module _ (network : Network) (e : LinePlace) where
   abbrev facts_before : Facts
@@ -131,25 +132,28 @@ module _ (network : Network) (e : LinePlace) where
   left_there node (Some entered) j h = copy_there entered (copy_entered node entered) j h
 
   left_message : (node : NodeName) (transit at : ℕ)
-      → option_and_then (message_after_by network facts_before) (kept_journey_by facts_before (known_of network e) (Leave node transit at))
+      → option_and_then (message_after_by network facts_before)
+      (kept_journey_by facts_before (known_of network e) (Leave node transit at))
       ≡ option_and_then (sent_after network)
       (line_journey_made network (Leave node transit at) e (line_journey_of network e.earlier))
   left_message node transit at =
-      sym (unwritten (writes_right network e) (kept_journey_by facts_before (known_of network e) (Leave node transit at)))
+      sym (unwritten (writes_right network e)
+      (kept_journey_by facts_before (known_of network e) (Leave node transit at)))
       ∙ ap (λ (t : Option KeptJourney). option_and_then (message_after_by network facts_before) t)
       (kept_journey_is network e (Leave node transit at))
       ∙ message_of network e e.earlier itself
       (line_journey_made network (Leave node transit at) e (line_journey_of network e.earlier))
       (left_there node (line_at network e.earlier transit))
 
-  sent_at : (event : Event) → event ≡ event_of e
+  pub sent_at : (event : Event) → event ≡ event_of e
       → sent_by network event (number_drawn network e) (reading e) ≡ sent network e
   sent_at event same = ap (λ (x : Event). sent_by network x (number_drawn network e) (reading e)) same
       ∙ sent_is network e
 
   -- the message that is to be written of a line
   pub message_is : (event : Event) → event ≡ event_of e
-      → message_by network facts_before (known_of network e) (kept_journey_by facts_before (known_of network e) event) event
+      → message_by network facts_before (known_of network e)
+      (kept_journey_by facts_before (known_of network e) event) event
       ≡ message_made network event e
   message_is (Sync node at) same = sent_at (Sync node at) same
   message_is (SyncOne node at) same = sent_at (SyncOne node at) same
@@ -169,9 +173,11 @@ module _ (network : Network) (e : LinePlace) where
       (kept_journey_by facts_before (known_of network e) (event_of e)) ≡ fact_of network e
   fact_is =
       let writes : is_written (message_by network facts_before (known_of network e)
-      (kept_journey_by facts_before (known_of network e) (event_of e)) (event_of e)) e.line.out ≡ writes_right network e =
+      (kept_journey_by facts_before (known_of network e) (event_of e)) (event_of e)) e.line.out
+      ≡ writes_right network e =
       ap (λ (m : Option Contents). is_written m e.line.out) (message_is (event_of e) refl) in
-      (λ i. fact_made e.line (known_of network e) (writes i) (kept_journey_by facts_before (known_of network e) (event_of e)))
+      (λ i. fact_made e.line (known_of network e) (writes i)
+      (kept_journey_by facts_before (known_of network e) (event_of e)))
       ∙ (λ i. record {
         line = line_number e;
         event = event_of e;

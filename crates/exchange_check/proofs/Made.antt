@@ -19,14 +19,14 @@ use Rattle.trace_model.specs.Journey.{LineJourney, with_stay, copy_entered, line
 use Rattle.trace_model.specs.Journey.{line_journey_of}
 use Rattle.trace_model.specs.Octets.{answered, message_made}
 use Rattle.trace_model.proofs.Lines.{line_at-bound, line_at-number, line_at-before}
-use Rattle.exchange_check.specs.Exchange.{number_drawn, stay_told, last_stay}
+use Rattle.exchange_check.specs.Exchange.{stay_told, last_stay}
 use Rattle.exchange_check.specs.Message.{message_at}
-use Rattle.exchange_check.specs.Inner.Kept.{Facts, kept_journey_at, sent_by, message_after_by, followed_by, answered_by}
+use Rattle.exchange_check.specs.Inner.Kept.{Facts, kept_journey_at, message_after_by, followed_by, answered_by}
 use Rattle.exchange_check.specs.Inner.Telling.{stay_by, stay_left, last_stay_by, message_again, message_at_by}
+use Rattle.exchange_check.proofs.Noted.{cond_same}
 use Rattle.exchange_check.proofs.Told.{kept_journey_of, fact_of, facts_at, journey_from, journey_of-line_at}
 use Rattle.exchange_check.proofs.Told.{kept_journey_at-is}
-use Rattle.exchange_check.proofs.Messages.{sent_is}
-use Rattle.exchange_check.proofs.FactLines.{follow_at, message_of, answer_at, left_there}
+use Rattle.exchange_check.proofs.FactLines.{follow_at, message_of, answer_at, left_there, sent_at}
 
 -- the lines before a line are among those that it is among
 either_among : (network : Network) (line : TraceLine) (earlier : Lines) (n : ℕ) (e : LinePlace) (here counted : Bool)
@@ -58,7 +58,9 @@ line_at-past network lines n past = by (line_at network lines n) refl
   where
     by : (o : Option LinePlace) → line_at network lines n ≡ o → o ≡ None
     by None h = refl
-    by (Some e) h = let inside : n < length lines = line_at-bound network lines n e h in absurd (omega (arith, inside, past))
+    by (Some e) h =
+        let inside : n < length lines = line_at-bound network lines n e h in
+        absurd (omega (arith, inside, past))
 
 module _ (network : Network) (lines : Lines) (number : ℕ) (e : LinePlace)
     (there : line_at network lines number ≡ Some e) where
@@ -69,10 +71,6 @@ module _ (network : Network) (lines : Lines) (number : ℕ) (e : LinePlace)
   among n x h =
       line_at-among network lines number e there n (line_at-bound network e.earlier n x h) ∙ h
 
-  sent_at : (event : Event) → event ≡ event_of e
-      → sent_by network event (number_drawn network e) (reading e) ≡ sent_by network (event_of e) (number_drawn network e) (reading e)
-  sent_at event same = ap (λ (x : Event). sent_by network x (number_drawn network e) (reading e)) same
-
   nothing_to : (f : PortSetup → Option Contents) (o : Option PortSetup) → ((port : PortSetup) → f port ≡ None)
       → option_and_then f o ≡ None
   nothing_to f None h = refl
@@ -80,14 +78,16 @@ module _ (network : Network) (lines : Lines) (number : ℕ) (e : LinePlace)
 
   no_journey : (copy : ℕ) → line_number e ≤ copy → line_journey_of network e.earlier copy ≡ None
   no_journey copy past = journey_of-line_at network e.earlier copy
-      ∙ ap (λ (o : Option LinePlace). option_and_then (journey_from network) o) (line_at-past network e.earlier copy past)
+      ∙ ap (λ (o : Option LinePlace). option_and_then (journey_from network) o)
+      (line_at-past network e.earlier copy past)
 
   heard_before : (copy : ℕ) → copy < line_number e
       → kept_journey_at facts copy ≡ option_map (kept_journey_of network) (line_journey_of network e.earlier copy)
   heard_before copy low = kept_journey_at-is network lines copy
       ∙ ap (λ (o : Option LineJourney). option_map (kept_journey_of network) o)
       (journey_of-line_at network lines copy
-      ∙ ap (λ (o : Option LinePlace). option_and_then (journey_from network) o) (line_at-among network lines number e there copy low)
+      ∙ ap (λ (o : Option LinePlace). option_and_then (journey_from network) o)
+      (line_at-among network lines number e there copy low)
       ∙ sym (journey_of-line_at network e.earlier copy))
 
   answer_is : (node : NodeName) (copy : ℕ) (b : Bool) → nat_lt copy (line_number e) ≡ b
@@ -95,23 +95,19 @@ module _ (network : Network) (lines : Lines) (number : ℕ) (e : LinePlace)
       (master_at network node)) None
       ≡ option_and_then (λ port. option_and_then (answered network port e) (line_journey_of network e.earlier copy))
       (master_at network node)
-  answer_is node copy true h = answer_at network e lines among copy (heard_before copy (ltb-true copy (line_number e) h))
-      (master_at network node)
+  answer_is node copy true h =
+      answer_at network e lines among copy (heard_before copy (ltb-true copy (line_number e) h)) (master_at network node)
   answer_is node copy false h =
       let past : line_number e ≤ copy = grind (arith, nat_tests) in
       sym (nothing_to (λ port. option_and_then (answered network port e) (line_journey_of network e.earlier copy))
       (master_at network node)
       (λ port. ap (λ (o : Option LineJourney). option_and_then (answered network port e) o) (no_journey copy past)))
 
-  none_either : (b : Bool) → cond {A = Option Contents} b None None ≡ None
-  none_either true = refl
-  none_either false = refl
-
   -- the message, from the line's event
   made_by : (event : Event) → event ≡ event_of e
       → message_again network facts (record (fact_of network e) { event = event }) ≡ message_made network event e
-  made_by (Sync node at) same = sent_at (Sync node at) same ∙ sent_is network e
-  made_by (SyncOne node at) same = sent_at (SyncOne node at) same ∙ sent_is network e
+  made_by (Sync node at) same = sent_at network e (Sync node at) same
+  made_by (SyncOne node at) same = sent_at network e (SyncOne node at) same
   made_by (Follow node) same =
       ap (λ (name : NodeName). option_and_then
       (λ port. followed_by facts port (option_map line_number (last_line network is_sync name e.earlier)))
@@ -124,8 +120,8 @@ module _ (network : Network) (lines : Lines) (number : ℕ) (e : LinePlace)
       (line_journey_made network (Leave node transit at) e (line_journey_of network e.earlier))
       (left_there network e node (line_at network e.earlier transit))
   made_by (Arrive node copy at) same = answer_is node copy (nat_lt copy (line_number e)) refl
-  made_by (Hear node copy) same = none_either (nat_lt copy (line_number e))
-  made_by (Request node at) same = sent_at (Request node at) same ∙ sent_is network e
+  made_by (Hear node copy) same = cond_same (nat_lt copy (line_number e)) None
+  made_by (Request node at) same = sent_at network e (Request node at) same
   made_by _ same = refl
 
   -- the last stay
@@ -137,8 +133,8 @@ module _ (network : Network) (lines : Lines) (number : ℕ) (e : LinePlace)
       (option_map (with_stay e entered) o)
   entered_at node transit entered None h = refl
   entered_at node transit entered (Some j) h =
-      ap (λ (o : Option LinePlace). option_map (λ fact. stay_by fact (fact_of network e)) (option_map (fact_of network) o))
-      (among transit entered h)
+      ap (λ (o : Option LinePlace).
+      option_map (λ fact. stay_by fact (fact_of network e)) (option_map (fact_of network) o)) (among transit entered h)
 
   copy_at : (node : NodeName) (transit : ℕ) (entered : LinePlace) (o : Option ℕ)
       → line_at network e.earlier transit ≡ Some entered

@@ -24,7 +24,8 @@ use Rattle.trace_model.specs.Sound.{follow_lines, arrival_line, is_of_line, is_s
 use Rattle.trace_model.specs.Sound.{are_paired, are_later, is_domain, is_of_master, are_readings, fits}
 use Rattle.trace_model.specs.Sound.{results_of, are_results, are_octets, Conditions, needs, failing, reason, judgement}
 use Rattle.exchange_check.specs.Inner.Kept.{Facts}
-use Rattle.exchange_check.specs.Inner.Judged.{line_of_by, sync_by, follows_by, arrival_by, found_journey_at, found_journey_from, found_journey_to, is_told}
+use Rattle.exchange_check.specs.Inner.Judged.{line_of_by, sync_by, follows_by, arrival_by, found_journey_at}
+use Rattle.exchange_check.specs.Inner.Judged.{found_journey_from, found_journey_to, is_told}
 use Rattle.exchange_check.specs.Inner.Judged.{both_journeys, found_judgement, judgement_by}
 use Rattle.exchange_check.proofs.Noted.{site_at, leaves_at, stamps_at, told_master}
 use Rattle.exchange_check.proofs.Told.{fact_of, facts_at}
@@ -224,7 +225,8 @@ module _ (network : Network) (line : TraceLine) (earlier : Lines) where
         (λ i. both_journeys network (site_at network earlier slave) slave report (found_of network x)
         (found_journey_to_is once followed draws_sync x.sync_arrival fits.0 i)
         (found_journey_to_is once followed is_request x.request_arrival fits.1 i))
-        ∙ journeys_are_found x (unbroken network e draws_sync x.sync_arrival) (unbroken network e is_request x.request_arrival)
+        ∙ journeys_are_found x (unbroken network e draws_sync x.sync_arrival)
+        (unbroken network e is_request x.request_arrival)
 
     abbrev pub here : Bool
     here = is_of_line (length earlier) report
@@ -274,7 +276,8 @@ module _ (network : Network) (line : TraceLine) (earlier : Lines) where
         → judgement_by network facts once (stamps_at network earlier) (site_at network earlier)
         (cond b (Some (fact_of network e)) None) report ≡ judgement network e report
     judgement_is true h =
-        ap (found_judgement network facts once (site_at network earlier slave) slave report) (found_if (here && learned))
+        ap (found_judgement network facts once (site_at network earlier slave) slave report)
+        (found_if (here && learned))
         ∙ found_are (cond (here && learned) all_lines None) (either_within (here && learned))
         ∙ sym (λ i. with_exchange (cond (h i && here && learned) all_lines None))
     judgement_is false h = sym (λ i. with_exchange (cond (h i && here && learned) all_lines None))

@@ -1,6 +1,6 @@
 -- What is told of a report by what is kept, right after its line, is what the lines say.
-use Rattle.std.proofs.Common.{◌≡◌, ◌∙◌, ℕ, suc, ◌+◌, ◌-◌, ◌<◌, Bool, true, false, ◌&&◌, ◌||◌, cond, eqb, [], ◌∷◌, length}
-use Rattle.std.proofs.Common.{Option, Some, None, ◌⊎◌, inl, inr, refl, sym, ap, arith}
+use Rattle.std.proofs.Common.{◌≡◌, ◌∙◌, ℕ, suc, ◌+◌, ◌-◌, ◌<◌, Bool, true, false, ◌&&◌, ◌||◌, cond, eqb, [], ◌∷◌}
+use Rattle.std.proofs.Common.{length, Option, Some, None, ◌⊎◌, inl, inr, refl, sym, ap, arith}
 use Rattle.std.specs.Prelude.{option_map, option_and_then, is_some, count_by, nat_lt, reverse}
 use Rattle.std.specs.Option.{option_or, option_map_or}
 use Rattle.std.specs.List.{list_all}
@@ -16,7 +16,8 @@ use Rattle.network_model.specs.Kinds.{is_at, draws_sync, is_follow, is_request, 
 use Rattle.network_model.specs.Kinds.{named_transit, is_leave_of}
 use Rattle.trace_model.specs.declared.line.TraceLine.{TraceLine}
 use Rattle.trace_model.specs.Line.{Lines, counts, is_made, completes}
-use Rattle.trace_model.specs.Record.{LinePlace, line_place, line_number, event_of, line_at, last_line, events, first_stamp}
+use Rattle.trace_model.specs.Record.{LinePlace, line_place, line_number, event_of, line_at, last_line, events}
+use Rattle.trace_model.specs.Record.{first_stamp}
 use Rattle.trace_model.specs.Journey.{LineJourney, left_once}
 use Rattle.trace_model.specs.Sound.{where_passes, Exchange as Lined, line_of, sender, sync_line, follow_line}
 use Rattle.trace_model.specs.Sound.{follow_lines, arrival_line, unbroken}
@@ -31,7 +32,8 @@ use Rattle.exchange_check.specs.Inner.Kept.{Stamps}
 use Rattle.exchange_check.specs.Inner.Judged.{is_stamped_by}
 use Rattle.exchange_check.specs.Inner.Stays.{Once, last_stays, once_of, once_in}
 use Rattle.exchange_check.specs.Inner.Machine.{IsKept, machine, facts_of, stamps_of}
-use Rattle.exchange_check.specs.Inner.Telling.{exchange_with, exchange_found, exchange_at, exchange_by, last_stay_by, message_at_by}
+use Rattle.exchange_check.specs.Inner.Telling.{exchange_with, exchange_found, exchange_at, exchange_by}
+use Rattle.exchange_check.specs.Inner.Telling.{last_stay_by, message_at_by}
 use Rattle.exchange_check.proofs.Noted.{cond_same, count_more, leaves_at, stamps_at, stamp_more, or_nothing}
 use Rattle.exchange_check.proofs.Told.{fact_of, facts_at}
 use Rattle.exchange_check.proofs.Following.{once_is, followed_is}
@@ -77,7 +79,8 @@ module _ (network : Network) (line : TraceLine) (earlier : Lines) where
 
   abbrev of_lines : Option Lined → Option Exchange
   of_lines o = option_and_then
-      (λ x. of_journeys x (unbroken network told draws_sync x.sync_arrival) (unbroken network told is_request x.request_arrival)) o
+      (λ x. of_journeys x (unbroken network told draws_sync x.sync_arrival)
+      (unbroken network told is_request x.request_arrival)) o
 
   -- nothing is told at a line that doesn't count
   at_no_line : (report : Report) (kept_once : Once) (stamps : Stamps) → counts network line ≡ false
@@ -152,7 +155,8 @@ module _ (network : Network) (line : TraceLine) (earlier : Lines) (counted : cou
         → IsSilent line.event
     silent x of_line found =
         let parts = chain_parts network lines_now (sync_line network lines_now at report)
-        (follow_lines network lines_now at report.follow_tag) (line_of network lines_now is_request at report.request_tag)
+        (follow_lines network lines_now at report.follow_tag)
+        (line_of network lines_now is_request at report.request_tag)
         (arrival_line network lines_now at report.response_tag) x found in
         elim (one_of (eqb report.sync_tag (length earlier))
         (option_map_or (λ hearing. eqb hearing (length earlier)) report.follow_tag false)
@@ -184,7 +188,8 @@ module _ (network : Network) (line : TraceLine) (earlier : Lines) (counted : cou
         → left_once (events network lines_now) journey ≡ left_once (events network earlier) journey
     once_same journey = λ i. list_all (λ stay. eqb (leaves_same (line_number stay.entered) i) 1) journey.stays
 
-    followed_here : IsFollowed network line earlier (once_of (last_stays (facts_at network lines_now)) (leaves_at network lines_now))
+    followed_here : IsFollowed network line earlier
+        (once_of (last_stays (facts_at network lines_now)) (leaves_at network lines_now))
     followed_here copy j h =
         followed_is network (facts_at network lines_now) (leaves_at network lines_now) (events network lines_now)
         (once_is network lines_now) earlier copy j
@@ -200,7 +205,8 @@ module _ (network : Network) (line : TraceLine) (earlier : Lines) (counted : cou
 
   journeys_told : (x : Lined) (s r : Option LineJourney)
       → option_and_then (λ sync. option_map (λ request. exchange_with stamps_now (found_of network x) sync request)
-      (option_map (found_journey_of network) r)) (option_map (found_journey_of network) s) ≡ of_journeys network line earlier x s r
+      (option_map (found_journey_of network) r)) (option_map (found_journey_of network) s)
+      ≡ of_journeys network line earlier x s r
   journeys_told x None r = refl
   journeys_told x (Some s) None = refl
   journeys_told x (Some s) (Some r) = λ i. Some (record {
@@ -260,7 +266,8 @@ module _ (network : Network) (line : TraceLine) (earlier : Lines) (counted : cou
         ∙ ap (option_and_then (exchange_found (facts network line earlier) once_now stamps_now))
         (found_if network line earlier report (here network line earlier report && learned_now))
         ∙ by_place (here network line earlier report) (all_lines network line earlier report) refl refl
-        ∙ sym (λ i. of_lines network line earlier (cond (counted i && here network line earlier report && learned network line earlier report)
+        ∙ sym (λ i. of_lines network line earlier
+        (cond (counted i && here network line earlier report && learned network line earlier report)
         (all_lines network line earlier report) None))
 
 module _ (network : Network) (report : Report) where
@@ -272,8 +279,8 @@ module _ (network : Network) (report : Report) where
   last_told (line ∷ earlier) number h =
       let last : number ≡ length earlier = omega (arith, h) in
       let fed : Lines = line ∷ earlier in
-      ap (λ (n : ℕ). exchange_by (facts_at network fed) (once_of (last_stays (facts_at network fed)) (leaves_at network fed))
-      (stamps_at network fed) n report) last
+      ap (λ (n : ℕ). exchange_by (facts_at network fed)
+      (once_of (last_stays (facts_at network fed)) (leaves_at network fed)) (stamps_at network fed) n report) last
       ∙ either (counts network line) refl
     where
       either : (b : Bool) → counts network line ≡ b
@@ -292,7 +299,8 @@ module _ (network : Network) (fed : Lines) (kept : Kept) (h : IsKept kept (lengt
   facts_are = h.facts ∙ (stands network fed).facts
 
   once_are : once_in kept.stays ≡ once_of (last_stays (facts_at network fed)) (leaves_at network fed)
-  once_are = once_kept kept.stays (last_stays (machine network fed).facts) (machine network fed).leaves (length fed) h.stays
+  once_are =
+      once_kept kept.stays (last_stays (machine network fed).facts) (machine network fed).leaves (length fed) h.stays
       ∙ (λ i. once_of (last_stays ((stands network fed).facts i)) ((stands network fed).leaves i))
 
   stamps_are : stamps_of kept ≡ stamps_at network fed
