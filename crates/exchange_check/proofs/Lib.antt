@@ -14,4 +14,5 @@ pub mod Exchanges
 pub mod Bounds
 pub mod Standing
 pub mod Made
+pub mod Walks
 pub mod Telling

@@ -1,7 +1,7 @@
 -- The message that the line of a number made, and the last stay of its copy, by what is kept and by the lines.
-use Rattle.std.proofs.Common.{◌≡◌, ◌∙◌, ℕ, ◌<◌, ◌≤◌, Bool, true, false, cond, eqb, [], ◌∷◌, length, Option, Some, None}
+use Rattle.std.proofs.Common.{◌≡◌, ◌∙◌, ℕ, ◌<◌, ◌≤◌, Bool, true, false, cond, eqb, List, [], ◌∷◌, length, Option, Some, None}
 use Rattle.std.proofs.Common.{refl, sym, ap, subst, arith}
-use Rattle.std.specs.Prelude.{option_map, option_and_then, nat_lt, slice_get, is_some}
+use Rattle.std.specs.Prelude.{option_map, option_and_then, nat_lt, slice_get, is_some, drop}
 use Rattle.std.proofs.lemmas.Bool.{ltb-true}
 use Rattle.std.proofs.lemmas.Bool.Decides.{nat_tests}
 use Rattle.std.proofs.lemmas.Option.{same_Some, none-some}
@@ -10,22 +10,23 @@ use Rattle.network_model.specs.declared.event.Event.{Event}
 use Rattle.network_model.specs.declared.event.Event.TheVariants.{Sync, SyncOne, Follow, Leave, Arrive, Hear, Request}
 use Rattle.network_model.specs.Network.{Network, NodeName, PortSetup}
 use Rattle.network_model.specs.Run.{site_of}
-use Rattle.network_model.specs.Kinds.{is_sync, named_transit}
+use Rattle.network_model.specs.Kinds.{is_sync, entered_copy, named_transit}
 use Rattle.network_model.specs.Truth.{master_at}
 use Rattle.trace_model.specs.declared.line.TraceLine.{TraceLine}
 use Rattle.trace_model.specs.Line.{Lines, counts}
 use Rattle.trace_model.specs.Record.{LinePlace, line_place, line_number, event_of, line_at, last_line, reading}
-use Rattle.trace_model.specs.Journey.{LineJourney, with_stay, copy_entered, line_left_from, line_journey_made}
+use Rattle.trace_model.specs.Journey.{LineStay, LineJourney, line_begun, with_stay, copy_entered, line_left_from, line_journey_made}
 use Rattle.trace_model.specs.Journey.{line_journey_of}
 use Rattle.trace_model.specs.Octets.{answered, message_made}
 use Rattle.trace_model.proofs.Lines.{line_at-bound, line_at-number, line_at-before}
-use Rattle.exchange_check.specs.Exchange.{stay_told, last_stay}
+use Rattle.exchange_check.specs.Exchange.{stay_told}
 use Rattle.exchange_check.specs.Message.{message_at}
 use Rattle.exchange_check.specs.Inner.Kept.{Facts, kept_journey_at, message_after_by, followed_by, answered_by}
 use Rattle.exchange_check.specs.Inner.Telling.{stay_by, stay_left, last_stay_by, message_again, message_at_by}
 use Rattle.exchange_check.proofs.Noted.{cond_same}
 use Rattle.exchange_check.proofs.Told.{kept_journey_of, fact_of, facts_at, journey_from, journey_of-line_at}
 use Rattle.exchange_check.proofs.Told.{kept_journey_at-is}
+use Rattle.exchange_check.proofs.Following.{entered_is}
 use Rattle.exchange_check.proofs.FactLines.{follow_at, message_of, answer_at, left_there, sent_at}
 
 -- the lines before a line are among those that it is among
@@ -62,6 +63,12 @@ line_at-past network lines n past = by (line_at network lines n) refl
         let inside : n < length lines = line_at-bound network lines n e h in
         absurd (omega (arith, inside, past))
 
+module _ (network : Network) (lines : Lines) where
+  -- what comes before a journey's last stay: the journey of the copy that entered there
+  abbrev pub IsBefore : LineStay → List LineStay → Type 0
+  IsBefore stay rest = (copy : ℕ) × (journey : LineJourney) × (entered_copy (event_of stay.entered) ≡ Some copy)
+      × (line_journey_of network lines copy ≡ Some journey) × (journey.stays ≡ rest)
+
 module _ (network : Network) (lines : Lines) (number : ℕ) (e : LinePlace)
     (there : line_at network lines number ≡ Some e) where
   abbrev facts : Facts
@@ -81,14 +88,17 @@ module _ (network : Network) (lines : Lines) (number : ℕ) (e : LinePlace)
       ∙ ap (λ (o : Option LinePlace). option_and_then (journey_from network) o)
       (line_at-past network e.earlier copy past)
 
+  journey_before : (copy : ℕ) → copy < line_number e
+      → line_journey_of network lines copy ≡ line_journey_of network e.earlier copy
+  journey_before copy low = journey_of-line_at network lines copy
+      ∙ ap (λ (o : Option LinePlace). option_and_then (journey_from network) o)
+      (line_at-among network lines number e there copy low)
+      ∙ sym (journey_of-line_at network e.earlier copy)
+
   heard_before : (copy : ℕ) → copy < line_number e
       → kept_journey_at facts copy ≡ option_map (kept_journey_of network) (line_journey_of network e.earlier copy)
   heard_before copy low = kept_journey_at-is network lines copy
-      ∙ ap (λ (o : Option LineJourney). option_map (kept_journey_of network) o)
-      (journey_of-line_at network lines copy
-      ∙ ap (λ (o : Option LinePlace). option_and_then (journey_from network) o)
-      (line_at-among network lines number e there copy low)
-      ∙ sym (journey_of-line_at network e.earlier copy))
+      ∙ ap (λ (o : Option LineJourney). option_map (kept_journey_of network) o) (journey_before copy low)
 
   answer_is : (node : NodeName) (copy : ℕ) (b : Bool) → nat_lt copy (line_number e) ≡ b
       → cond b (option_and_then (λ port. answered_by network facts port (reading e) (kept_journey_at facts copy))
@@ -165,6 +175,59 @@ module _ (network : Network) (lines : Lines) (number : ℕ) (e : LinePlace)
   stay_is (Leave node transit at) = left_at node transit (line_at network e.earlier transit) refl
   stay_is _ = refl
 
+  none_before : (j : LineJourney) (stay : LineStay) (rest : List LineStay) → Some (line_begun e) ≡ Some j
+      → j.stays ≡ stay ∷ rest → IsBefore network lines stay rest
+  none_before j stay rest made h = absurd (none-some stay
+      (ap (λ (x : LineJourney). slice_get x.stays 0) (same_Some _ _ made)
+      ∙ ap (λ (l : List LineStay). slice_get l 0) h))
+
+  journey_entered : (transit : ℕ) (entered : LinePlace) (copy : ℕ) (o : Option LineJourney) (j : LineJourney)
+      (stay : LineStay) (rest : List LineStay) → line_at network e.earlier transit ≡ Some entered
+      → (entered_copy (event_of entered) ≡ Some copy) × (copy < line_number entered)
+      → line_journey_of network e.earlier copy ≡ o
+      → option_map (with_stay e entered) o ≡ Some j → j.stays ≡ stay ∷ rest → IsBefore network lines stay rest
+  journey_entered transit entered copy None j stay rest at copied journey made h = absurd (none-some j made)
+  journey_entered transit entered copy (Some k) j stay rest at copied journey made h =
+      let number : line_number entered ≡ transit = line_at-number network e.earlier transit entered at in
+      let inside : transit < line_number e = line_at-bound network e.earlier transit entered at in
+      let low : copy < line_number e = omega (arith, number, inside, copied.1) in
+      let stays = ap (λ (x : LineJourney). x.stays) (same_Some _ _ made) ∙ h in
+      let same = same_Some _ _ (ap (λ (l : List LineStay). slice_get l 0) stays) in (
+        copy,
+        k,
+        ap (λ (x : LineStay). entered_copy (event_of x.entered)) (sym same) ∙ copied.0,
+        journey_before copy low ∙ journey,
+        ap (λ (l : List LineStay). drop 1 l) stays,
+      )
+
+  copy_before_stay : (node : NodeName) (transit : ℕ) (entered : LinePlace) (o : Option ℕ) (j : LineJourney)
+      (stay : LineStay) (rest : List LineStay) → line_at network e.earlier transit ≡ Some entered
+      → copy_entered node entered ≡ o
+      → option_and_then (λ copy. option_map (with_stay e entered) (line_journey_of network e.earlier copy)) o ≡ Some j
+      → j.stays ≡ stay ∷ rest → IsBefore network lines stay rest
+  copy_before_stay node transit entered None j stay rest at copied made h = absurd (none-some j made)
+  copy_before_stay node transit entered (Some copy) j stay rest at copied made h =
+      journey_entered transit entered copy (line_journey_of network e.earlier copy) j stay rest at
+      (entered_is node entered (entered_copy (event_of entered)) copy refl copied) refl made h
+
+  left_before : (node : NodeName) (transit : ℕ) (o : Option LinePlace) (j : LineJourney) (stay : LineStay)
+      (rest : List LineStay) → line_at network e.earlier transit ≡ o
+      → option_and_then (line_left_from node e (line_journey_of network e.earlier)) o ≡ Some j
+      → j.stays ≡ stay ∷ rest → IsBefore network lines stay rest
+  left_before node transit None j stay rest at made h = absurd (none-some j made)
+  left_before node transit (Some entered) j stay rest at made h =
+      copy_before_stay node transit entered (copy_entered node entered) j stay rest at refl made h
+
+  made_before : (event : Event) (j : LineJourney) (stay : LineStay) (rest : List LineStay)
+      → line_journey_made network event e (line_journey_of network e.earlier) ≡ Some j
+      → j.stays ≡ stay ∷ rest → IsBefore network lines stay rest
+  made_before (Sync node at) j stay rest made h = none_before j stay rest made h
+  made_before (SyncOne node at) j stay rest made h = none_before j stay rest made h
+  made_before (Leave node transit at) j stay rest made h =
+      left_before node transit (line_at network e.earlier transit) j stay rest refl made h
+  made_before (Request node at) j stay rest made h = none_before j stay rest made h
+  made_before _ j stay rest made h = absurd (none-some j made)
+
 module _ (network : Network) (lines : Lines) (number : ℕ) where
   message_found : (o : Option LinePlace) → line_at network lines number ≡ o
       → option_and_then (message_again network (facts_at network lines)) (option_map (fact_of network) o)
@@ -184,8 +247,23 @@ module _ (network : Network) (lines : Lines) (number : ℕ) where
   stay_found (Some e) h = stay_is network lines number e h (event_of e)
 
   -- the last stay of the copy of a number, by what is kept of all lines
-  pub last_stay_by-is : last_stay_by (facts_at network lines) number ≡ last_stay network lines number
+  pub last_stay_by-is : last_stay_by (facts_at network lines) number
+      ≡ option_and_then (λ journey. option_map (stay_told network) (slice_get journey.stays 0))
+      (line_journey_of network lines number)
   last_stay_by-is = stay_found (line_at network lines number) refl
       ∙ sym (ap (λ (o : Option LineJourney). option_and_then
       (λ journey. option_map (stay_told network) (slice_get journey.stays 0)) o)
       (journey_of-line_at network lines number))
+
+  stay_before_found : (o : Option LinePlace) (j : LineJourney) (stay : LineStay) (rest : List LineStay)
+      → line_at network lines number ≡ o → option_and_then (journey_from network) o ≡ Some j
+      → j.stays ≡ stay ∷ rest → IsBefore network lines stay rest
+  stay_before_found None j stay rest at made h = absurd (none-some j made)
+  stay_before_found (Some e) j stay rest at made h =
+      made_before network lines number e at (event_of e) j stay rest made h
+
+  -- the journey before the last stay of a copy
+  pub stay_before : (j : LineJourney) (stay : LineStay) (rest : List LineStay)
+      → line_journey_of network lines number ≡ Some j → j.stays ≡ stay ∷ rest → IsBefore network lines stay rest
+  stay_before j stay rest journey h = stay_before_found (line_at network lines number) j stay rest refl
+      (sym (journey_of-line_at network lines number) ∙ journey) h

@@ -1,9 +1,9 @@
 -- What is told of a report by what is kept, right after its line, is what the lines say.
 use Rattle.std.proofs.Common.{◌≡◌, ◌∙◌, ℕ, suc, ◌+◌, ◌-◌, ◌<◌, Bool, true, false, ◌&&◌, ◌||◌, cond, eqb, [], ◌∷◌}
 use Rattle.std.proofs.Common.{length, Option, Some, None, ◌⊎◌, inl, inr, refl, sym, ap, arith}
-use Rattle.std.specs.Prelude.{option_map, option_and_then, is_some, count_by, nat_lt, reverse}
+use Rattle.std.specs.Prelude.{option_map, option_and_then, is_some, count_by, nat_lt, reverse, map}
 use Rattle.std.specs.Option.{option_or, option_map_or}
-use Rattle.std.specs.List.{list_all}
+use Rattle.std.specs.List.{list_all, range_with_len}
 use Rattle.std.proofs.lemmas.Bool.{true≢false, eqb-true, eq-eqb, and_parts}
 use Rattle.std.proofs.lemmas.List.{length-reverse, reverse-reverse}
 use Rattle.std.proofs.lemmas.Option.{same_Some, none-some}
@@ -13,27 +13,27 @@ use Rattle.network_model.specs.declared.event.Event.TheVariants.{Arrive, Hear}
 use Rattle.network_model.specs.Network.{Network, NodeName}
 use Rattle.network_model.specs.Run.{site_of}
 use Rattle.network_model.specs.Kinds.{is_at, draws_sync, is_follow, is_request, is_stamped, is_arrival, is_hearing}
-use Rattle.network_model.specs.Kinds.{named_transit, is_leave_of}
+use Rattle.network_model.specs.Kinds.{heard_copy, named_transit, is_leave_of}
 use Rattle.trace_model.specs.declared.line.TraceLine.{TraceLine}
 use Rattle.trace_model.specs.Line.{Lines, counts, is_made, completes}
 use Rattle.trace_model.specs.Record.{LinePlace, line_place, line_number, event_of, line_at, last_line, events}
 use Rattle.trace_model.specs.Record.{first_stamp}
-use Rattle.trace_model.specs.Journey.{LineJourney, left_once}
+use Rattle.trace_model.specs.Journey.{LineJourney, line_residence, line_journey_of, left_once}
 use Rattle.trace_model.specs.Sound.{where_passes, Exchange as Lined, line_of, sender, sync_line, follow_line}
-use Rattle.trace_model.specs.Sound.{follow_lines, arrival_line, unbroken}
+use Rattle.trace_model.specs.Sound.{follow_lines, arrival_line, below, journey_to, unbroken}
 use Rattle.trace_model.proofs.OctetsOfExchanges.{passed}
 use Rattle.trace_model.proofs.Lines.{line_at-here, line_at-later, events_more}
 use Rattle.exchange_check.specs.declared.exchange.Exchange.{Exchange}
 use Rattle.exchange_check.specs.declared.facts.Fact.{Fact}
 use Rattle.exchange_check.specs.declared.kept.Kept.{Kept}
-use Rattle.exchange_check.specs.Exchange.{leg_told, exchange_lines, exchange_told, last_exchange, last_stay}
+use Rattle.exchange_check.specs.Exchange.{line_told, leg_told, exchange_lines, exchange_told, last_exchange}
 use Rattle.exchange_check.specs.Message.{message_at}
 use Rattle.exchange_check.specs.Inner.Kept.{Stamps}
 use Rattle.exchange_check.specs.Inner.Judged.{is_stamped_by}
 use Rattle.exchange_check.specs.Inner.Stays.{Once, last_stays, once_of, once_in}
 use Rattle.exchange_check.specs.Inner.Machine.{IsKept, machine, facts_of, stamps_of}
 use Rattle.exchange_check.specs.Inner.Telling.{exchange_with, exchange_found, exchange_at, exchange_by}
-use Rattle.exchange_check.specs.Inner.Telling.{last_stay_by, message_at_by}
+use Rattle.exchange_check.specs.Inner.Telling.{stay_of_copy, copy_before, earlier_by, leg_by, message_at_by}
 use Rattle.exchange_check.proofs.Noted.{cond_same, count_more, leaves_at, stamps_at, stamp_more, or_nothing}
 use Rattle.exchange_check.proofs.Told.{fact_of, facts_at}
 use Rattle.exchange_check.proofs.Following.{once_is, followed_is}
@@ -42,7 +42,8 @@ use Rattle.exchange_check.proofs.Bounds.{bound, chain_parts}
 use Rattle.exchange_check.proofs.Keeping.{once_kept}
 use Rattle.exchange_check.proofs.Standing.{facts, slave, IsFollowed, found_journey_to_is, here, learned, all_lines}
 use Rattle.exchange_check.proofs.Standing.{found_if, either_within, stands}
-use Rattle.exchange_check.proofs.Made.{message_at_by-is, last_stay_by-is}
+use Rattle.exchange_check.proofs.Made.{message_at_by-is}
+use Rattle.exchange_check.proofs.Walks.{stay_walked, earlier_walked}
 
 -- an event that leaves no stay and tells of no departure
 abbrev IsSilent : Event → Type 0
@@ -203,16 +204,56 @@ module _ (network : Network) (line : TraceLine) (earlier : Lines) (counted : cou
   abbrev stamps_now : Stamps
   stamps_now = stamps_at network lines_now
 
+  -- the copy that arrives, and its journey
+  abbrev Arrives : LinePlace → LineJourney → Type 0
+  Arrives arrival journey = (copy : ℕ) × (heard_copy (event_of arrival) ≡ Some copy)
+      × (line_journey_of network lines_now copy ≡ Some journey)
+
+  below_found : (b : Bool) (copy : ℕ) (journey : LineJourney)
+      → cond b (line_journey_of network lines_now copy) None ≡ Some journey
+      → line_journey_of network lines_now copy ≡ Some journey
+  below_found true copy journey h = h
+  below_found false copy journey h = absurd (none-some journey h)
+
+  arrives : (kind : Event → Bool) (arrival : LinePlace) (journey : LineJourney)
+      → unbroken network (line_place line earlier) kind arrival ≡ Some journey → Arrives arrival journey
+  arrives kind arrival journey h =
+      let found = bound (below (line_journey_of network lines_now) (line_number arrival)) (heard_copy (event_of arrival))
+      journey
+      (passed (λ j. kind (event_of j.origin))
+      (option_and_then (below (line_journey_of network lines_now) (line_number arrival))
+      (heard_copy (event_of arrival)))
+      (passed (left_once (events network earlier)) (journey_to network lines_now kind arrival) h).0).0 in
+      (found.0, found.2, below_found (nat_lt found.0 (line_number arrival)) found.0 journey found.1)
+
+  leg_is : (arrival : LinePlace) (journey : LineJourney) → Arrives arrival journey
+      → leg_by (facts network line earlier) (fact_of network arrival) (found_journey_of network journey)
+      ≡ leg_told network arrival journey
+  leg_is arrival journey found = λ i. record {
+    departed = line_told network journey.origin;
+    stays = map (λ (n : ℕ). (ap (λ (o : Option ℕ). stay_of_copy (facts network line earlier)
+        (copy_before (facts network line earlier) n o)) found.1
+        ∙ stay_walked network lines_now found.0 journey found.2 n) i) (range_with_len 0 16);
+    earlier = (ap (λ (o : Option ℕ). earlier_by (facts network line earlier)
+        (copy_before (facts network line earlier) 16 o)) found.1
+        ∙ earlier_walked network lines_now found.0 journey found.2 16) i;
+    residence = line_residence journey;
+    arrived = line_told network arrival;
+  }
+
   journeys_told : (x : Lined) (s r : Option LineJourney)
-      → option_and_then (λ sync. option_map (λ request. exchange_with stamps_now (found_of network x) sync request)
+      → unbroken network (line_place line earlier) draws_sync x.sync_arrival ≡ s
+      → unbroken network (line_place line earlier) is_request x.request_arrival ≡ r
+      → option_and_then (λ sync. option_map
+      (λ request. exchange_with (facts network line earlier) stamps_now (found_of network x) sync request)
       (option_map (found_journey_of network) r)) (option_map (found_journey_of network) s)
       ≡ of_journeys network line earlier x s r
-  journeys_told x None r = refl
-  journeys_told x (Some s) None = refl
-  journeys_told x (Some s) (Some r) = λ i. Some (record {
-    sync = leg_told network x.sync_arrival s;
+  journeys_told x None r p q = refl
+  journeys_told x (Some s) None p q = refl
+  journeys_told x (Some s) (Some r) p q = λ i. Some (record {
+    sync = leg_is x.sync_arrival s (arrives draws_sync x.sync_arrival s p) i;
     follow = numbers network x.follow i;
-    request = leg_told network x.request_arrival r;
+    request = leg_is x.request_arrival r (arrives is_request x.request_arrival r q) i;
     stamped = first_stamp network (line_number x.request) lines_now;
   })
 
@@ -229,11 +270,11 @@ module _ (network : Network) (line : TraceLine) (earlier : Lines) (counted : cou
     lines_told x found quiet =
         let fits = either_within network line earlier report true x found in
         (λ i. option_and_then (λ sync.
-        option_map (λ request. exchange_with stamps_now (found_of network x) sync request)
+        option_map (λ request. exchange_with (facts network line earlier) stamps_now (found_of network x) sync request)
         (found_journey_to_is network line earlier once_now (followed_here quiet) is_request x.request_arrival fits.1 i))
         (found_journey_to_is network line earlier once_now (followed_here quiet) draws_sync x.sync_arrival fits.0 i))
         ∙ journeys_told x (unbroken network (line_place line earlier) draws_sync x.sync_arrival)
-        (unbroken network (line_place line earlier) is_request x.request_arrival)
+        (unbroken network (line_place line earlier) is_request x.request_arrival) refl refl
 
     learned_same : IsSilent line.event → learned_now ≡ learned network line earlier report
     learned_same quiet = λ i. nat_lt report.request_tag report.response_tag
@@ -315,10 +356,6 @@ module _ (network : Network) (fed : Lines) (kept : Kept) (h : IsKept kept (lengt
       (λ i. exchange_by (facts_are i) (once_are i) (stamps_are i) (count - 1) report)
       ∙ last_told network report fed (count - 1) last
       ∙ ap (λ (lines : Lines). last_exchange network lines report) (sym (reverse-reverse fed))
-
-  pub last_stay-kept : (copy : ℕ) → last_stay_by (facts_of kept) copy ≡ last_stay network (reverse (reverse fed)) copy
-  last_stay-kept copy = (λ i. last_stay_by (facts_are i) copy) ∙ last_stay_by-is network fed copy
-      ∙ ap (λ (lines : Lines). last_stay network lines copy) (sym (reverse-reverse fed))
 
   pub message-kept : (number : ℕ)
       → message_at_by network (facts_of kept) number ≡ message_at network (reverse (reverse fed)) number

@@ -1,12 +1,14 @@
 -- What a checker tells of a report's lines, and of the stays of a message in clocks.
-use Rattle.std.specs.Prelude.{ℕ, [], ◌∷◌, slice_get, Option, None, option_map, option_and_then}
+use Rattle.std.specs.Prelude.{ℕ, List, [], ◌∷◌, map, drop, sum_by, slice_get, Option, None, option_map}
+use Rattle.std.specs.Prelude.{option_and_then}
+use Rattle.std.specs.List.{range_with_len}
 use Rattle.std.specs.Option.{option_map_or}
 use Rattle.slave_port.specs.declared.heard.Report.{Report}
 use Rattle.network_model.specs.Network.{Network}
 use Rattle.network_model.specs.Kinds.{draws_sync, is_request}
 use Rattle.trace_model.specs.Line.{Lines}
 use Rattle.trace_model.specs.Record.{LinePlace, line_place, line_number, event_of, site, first_stamp, reading, sequence}
-use Rattle.trace_model.specs.Journey.{LineStay, LineJourney, line_residence, line_journey_of}
+use Rattle.trace_model.specs.Journey.{LineStay, LineJourney, line_stay_length, line_residence}
 use Rattle.trace_model.specs.Octets.{drawing_port}
 use Rattle.trace_model.specs.Sound.{Exchange as Found, exchange_of, lines_to, unbroken}
 use Rattle.exchange_check.specs.declared.exchange.Exchange.{Exchange}
@@ -31,10 +33,21 @@ line_told network e = record {
 abbrev pub stay_told : Network → LineStay → Stay
 stay_told network stay = record { entered = line_told network stay.entered; left = line_told network stay.left }
 
+-- a journey's last stays, the last one first
+abbrev pub stays_told : Network → LineJourney → List (Option Stay)
+stays_told network journey = map (λ k. option_map (stay_told network) (slice_get journey.stays k)) (range_with_len 0 16)
+
+-- how long a message was in clocks before these stays, where there are more
+abbrev pub earlier_told : LineJourney → Option ℕ
+earlier_told journey =
+    option_map (λ stay. sum_by line_stay_length (drop 16 journey.stays)) (slice_get journey.stays 16)
+
 -- the way of a message to its arrival
 abbrev pub leg_told : Network → (arrival : LinePlace) → LineJourney → Leg
 leg_told network arrival journey = record {
   departed = line_told network journey.origin;
+  stays = stays_told network journey;
+  earlier = earlier_told journey;
   residence = line_residence journey;
   arrived = line_told network arrival;
 }
@@ -62,9 +75,3 @@ exchange_told network e report =
 abbrev pub last_exchange : Network → Lines → Report → Option Exchange
 last_exchange network [] report = None
 last_exchange network (line ∷ earlier) report = exchange_told network (line_place line earlier) report
-
--- the last stay of the copy of an event message that the line of this number made
-abbrev pub last_stay : Network → Lines → ℕ → Option Stay
-last_stay network lines copy =
-    option_and_then (λ journey. option_map (stay_told network) (slice_get journey.stays 0))
-    (line_journey_of network lines copy)

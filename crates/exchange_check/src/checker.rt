@@ -5,11 +5,11 @@ ghost use Rattle.trace_model.specs.Record.{line_place};
 ghost use Rattle.trace_model.specs.Verdict.{line_judgement, verdict};
 ghost use Rattle.trace_model.specs.Soundness.{TellsSoundness};
 ghost use Rattle.trace_model.specs.Complete.{AcceptsTruth};
-ghost use Rattle.exchange_check.specs.Exchange.{last_exchange, last_stay};
+ghost use Rattle.exchange_check.specs.Exchange.{last_exchange};
 ghost use Rattle.exchange_check.specs.Message.{message_at};
 ghost use Rattle.exchange_check.specs.declared.refusal.CheckFault.TheVariants.{Memory};
 
-use crate::exchange::{Exchange, Stay};
+use crate::exchange::Exchange;
 use crate::history::History;
 use crate::kept::Kept;
 use crate::refusal::CheckFault;
@@ -114,15 +114,6 @@ impl Checker {
             0 => None,
             count => self.kept.exchange(count - 1, report),
         }
-    }
-
-    /// The last stay in a clock of the copy of an event message that the line of this number made, counted from
-    /// 0; none where the message was in no clock, or where the line counts for nothing or made no such copy. The
-    /// stay before it is the last one of the copy that entered there.
-    pub fn last_stay(&self, copy: u64) -> Option<Stay>
-        ensures { result ≡ last_stay self.now.network (reverse self.now.lines) copy }
-    {
-        self.kept.last_stay(copy)
     }
 
     /// The message that the line of this number makes, counted from 0, as its port or its clock writes it: 708

@@ -1,9 +1,10 @@
-//! The lines of a report: when its Sync and its Delay_Req departed and arrived, and how long they were in
-//! clocks, by the readings.
+//! The lines of a report: when its Sync and its Delay_Req departed, were in clocks and arrived, by the
+//! readings.
 
 ghost use Rattle.std.specs.Prelude.{◌≡◌};
-ghost use Rattle.exchange_check.specs.Inner.Telling.{line_by, stay_by, leg_by, follow_by, exchange_with, exchange_by};
-ghost use Rattle.exchange_check.specs.Inner.Telling.{last_stay_by};
+ghost use Rattle.exchange_check.specs.Inner.Telling.{line_by, stay_by, last_stay_by, copy_at, stay_of_copy};
+ghost use Rattle.exchange_check.specs.Inner.Telling.{copy_before, stays_by, earlier_by, leg_by, follow_by};
+ghost use Rattle.exchange_check.specs.Inner.Telling.{exchange_with, exchange_by};
 ghost use Rattle.exchange_check.specs.Inner.Machine.{facts_of, stamps_of};
 ghost use Rattle.exchange_check.specs.Inner.Stays.{once_in};
 
@@ -12,6 +13,10 @@ use crate::judging::LineKind;
 use crate::kept::Kept;
 use network_model::{Event, Report};
 use ptp_units::{ScaledTime, Seq};
+
+/// The most stays of a journey that are told one by one, so that an exchange takes no more of time and of memory
+/// however long its journeys are.
+pub const STAYS_MOST: usize = 16;
 
 /// A line of an exchange.
 #[derive(Clone, Copy, Debug, PartialEq, Eq)]
@@ -40,6 +45,10 @@ pub struct Stay {
 pub struct Leg {
     /// It departed.
     pub departed: ExchangeLine,
+    /// Its last stays in clocks, the last one first, and nothing behind them.
+    pub stays: [Option<Stay>; STAYS_MOST],
+    /// How long it was in clocks before these stays, in units of 2^-16 ns; none where they are all.
+    pub earlier: Option<u128>,
     /// How long it was in clocks, in units of 2^-16 ns.
     pub residence: u128,
     /// It arrived.
@@ -81,14 +90,13 @@ fn stay_of(entered: &Fact, left: &Fact) -> Stay
     }
 }
 
-/// What is told of the way of a message that arrives at a line.
-fn leg_of(arrived: &Fact, journey: &FoundJourney) -> Leg
-    ensures { result ≡ leg_by arrived.now journey.now }
+/// The copy that entered at a stay.
+fn copy_entered(stay: &Option<Stay>) -> Option<u64>
+    ensures { result ≡ copy_at stay.now }
 {
-    Leg {
-        departed: line_of(&journey.origin),
-        residence: journey.kept.residence.units(),
-        arrived: line_of(arrived),
+    match stay {
+        Some(stay) => stay.entered.event.entered_copy(),
+        None => None,
     }
 }
 
@@ -103,14 +111,72 @@ fn follow_of(found: &Found) -> Option<u64>
 }
 
 impl Kept {
+    /// What is told of the last stay of the copy that the line of this number made.
+    fn last_stay(&self, copy: u64) -> Option<Stay>
+        ensures { result ≡ last_stay_by (facts_of self.now) copy }
+    {
+        let left = self.at(copy)?;
+        if left.journey.is_none() {
+            return None;
+        }
+        let entered = self.at(left.event.named_transit()?)?;
+        Some(stay_of(entered, left))
+    }
+
+    /// The same of a copy that there may be.
+    fn stay_of_copy(&self, copy: Option<u64>) -> Option<Stay>
+        ensures { result ≡ stay_of_copy (facts_of self.now) copy }
+    {
+        self.last_stay(copy?)
+    }
+
+    /// The last stays of a copy, the last one first, and the copy that entered at the first of them.
+    fn stays(&self, copy: Option<u64>) -> ([Option<Stay>; STAYS_MOST], Option<u64>)
+        ensures stays { result.0 ≡ stays_by (facts_of self.now) copy }
+        ensures before { result.1 ≡ copy_before (facts_of self.now) 16 copy }
+    {
+        let mut stays = [None; STAYS_MOST];
+        let mut before = copy;
+        for place in &mut stays {
+            let stay = self.stay_of_copy(before);
+            before = copy_entered(&stay);
+            *place = stay;
+        }
+        (stays, before)
+    }
+
+    /// How long a copy was in clocks, where it was in one.
+    fn earlier(&self, copy: Option<u64>) -> Option<u128>
+        ensures { result ≡ earlier_by (facts_of self.now) copy }
+    {
+        if self.stay_of_copy(copy).is_none() {
+            return None;
+        }
+        Some(self.kept_journey_at(copy?)?.residence.units())
+    }
+
+    /// What is told of the way of a message that arrives at a line.
+    fn leg(&self, arrived: &Fact, journey: &FoundJourney) -> Leg
+        ensures { result ≡ leg_by (facts_of self.now) arrived.now journey.now }
+    {
+        let (stays, before) = self.stays(arrived.event.heard_copy());
+        Leg {
+            departed: line_of(&journey.origin),
+            stays,
+            earlier: self.earlier(before),
+            residence: journey.kept.residence.units(),
+            arrived: line_of(arrived),
+        }
+    }
+
     /// What is told of an exchange and its journeys.
     fn exchange_with(&self, found: &Found, sync: &FoundJourney, request: &FoundJourney) -> Exchange
-        ensures { result ≡ exchange_with (stamps_of self.now) found.now sync.now request.now }
+        ensures { result ≡ exchange_with (facts_of self.now) (stamps_of self.now) found.now sync.now request.now }
     {
         Exchange {
-            sync: leg_of(&found.sync_arrival, sync),
+            sync: self.leg(&found.sync_arrival, sync),
             follow: follow_of(found),
-            request: leg_of(&found.request_arrival, request),
+            request: self.leg(&found.request_arrival, request),
             stamped: self.stamps.get(&found.request.line).copied(),
         }
     }
@@ -126,17 +192,5 @@ impl Kept {
         let sync = self.journey_to(LineKind::DrawsSync, &found.sync_arrival)?;
         let request = self.journey_to(LineKind::Request, &found.request_arrival)?;
         Some(self.exchange_with(&found, &sync, &request))
-    }
-
-    /// What is told of the last stay of the copy that the line of this number made.
-    pub(crate) fn last_stay(&self, copy: u64) -> Option<Stay>
-        ensures { result ≡ last_stay_by (facts_of self.now) copy }
-    {
-        let left = self.at(copy)?;
-        if left.journey.is_none() {
-            return None;
-        }
-        let entered = self.at(left.event.named_transit()?)?;
-        Some(stay_of(entered, left))
     }
 }

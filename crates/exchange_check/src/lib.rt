@@ -15,6 +15,6 @@ mod residence;
 mod stays;
 
 pub use checker::{Checker, check};
-pub use exchange::{Exchange, ExchangeLine, Leg, Stay};
+pub use exchange::{Exchange, ExchangeLine, Leg, STAYS_MOST, Stay};
 pub use refusal::CheckFault;
 pub use trace_model::{Judgement, Reasons, Results, TraceLine, TraceOut, Verdict, Why, laws};
