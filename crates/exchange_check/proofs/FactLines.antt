@@ -18,12 +18,14 @@ use Rattle.trace_model.specs.declared.line.TraceLine.{TraceLine}
 use Rattle.trace_model.specs.Line.{Lines, counts}
 use Rattle.trace_model.specs.Record.{LinePlace, line_place, line_number, event_of}
 use Rattle.trace_model.specs.Record.{line_at, last_line, reading, sequence}
-use Rattle.trace_model.specs.Journey.{LineJourney, with_stay, copy_entered, line_left_from, line_journey_made, line_journey_of}
+use Rattle.trace_model.specs.Journey.{LineJourney, with_stay, copy_entered, line_left_from, line_journey_made}
+use Rattle.trace_model.specs.Journey.{line_journey_of}
 use Rattle.trace_model.specs.Octets.{drawing_port, sent, sent_after, follow_up_sent, answered}
 use Rattle.trace_model.specs.Octets.{message_made, writes_right, is_written}
 use Rattle.exchange_check.specs.Exchange.{number_drawn}
 use Rattle.exchange_check.specs.Inner.Kept.{Facts, kept_journey_at, kept_journey_by, sent_by, message_after_by}
-use Rattle.exchange_check.specs.Inner.Kept.{followed_by, answered_by, message_by, fact_known, fact_made, written_journey, fact_by}
+use Rattle.exchange_check.specs.Inner.Kept.{followed_by, answered_by, message_by, fact_known, fact_made}
+use Rattle.exchange_check.specs.Inner.Kept.{written_journey, fact_by}
 use Rattle.exchange_check.proofs.Noted.{site_at}
 use Rattle.exchange_check.proofs.Told.{kept_journey_of, fact_of, facts_at, known_of}
 use Rattle.exchange_check.proofs.Told.{kept_journey_at-is, kept_journey_is, known_is}

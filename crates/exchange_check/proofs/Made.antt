@@ -1,6 +1,6 @@
 -- The message that the line of a number made, and the last stay of its copy, by what is kept and by the lines.
-use Rattle.std.proofs.Common.{◌≡◌, ◌∙◌, ℕ, ◌<◌, ◌≤◌, Bool, true, false, cond, eqb, List, [], ◌∷◌, length, Option, Some, None}
-use Rattle.std.proofs.Common.{refl, sym, ap, subst, arith}
+use Rattle.std.proofs.Common.{◌≡◌, ◌∙◌, ℕ, ◌<◌, ◌≤◌, Bool, true, false, cond, eqb, List, [], ◌∷◌, length}
+use Rattle.std.proofs.Common.{Option, Some, None, refl, sym, ap, subst, arith}
 use Rattle.std.specs.Prelude.{option_map, option_and_then, nat_lt, slice_get, is_some, drop}
 use Rattle.std.proofs.lemmas.Bool.{ltb-true}
 use Rattle.std.proofs.lemmas.Bool.Decides.{nat_tests}
@@ -15,8 +15,8 @@ use Rattle.network_model.specs.Truth.{master_at}
 use Rattle.trace_model.specs.declared.line.TraceLine.{TraceLine}
 use Rattle.trace_model.specs.Line.{Lines, counts}
 use Rattle.trace_model.specs.Record.{LinePlace, line_place, line_number, event_of, line_at, last_line, reading}
-use Rattle.trace_model.specs.Journey.{LineStay, LineJourney, line_begun, with_stay, copy_entered, line_left_from, line_journey_made}
-use Rattle.trace_model.specs.Journey.{line_journey_of}
+use Rattle.trace_model.specs.Journey.{LineStay, LineJourney, line_begun, with_stay, copy_entered, line_left_from}
+use Rattle.trace_model.specs.Journey.{line_journey_made, line_journey_of}
 use Rattle.trace_model.specs.Octets.{answered, message_made}
 use Rattle.trace_model.proofs.Lines.{line_at-bound, line_at-number, line_at-before}
 use Rattle.exchange_check.specs.Exchange.{stay_told}
@@ -106,7 +106,8 @@ module _ (network : Network) (lines : Lines) (number : ℕ) (e : LinePlace)
       ≡ option_and_then (λ port. option_and_then (answered network port e) (line_journey_of network e.earlier copy))
       (master_at network node)
   answer_is node copy true h =
-      answer_at network e lines among copy (heard_before copy (ltb-true copy (line_number e) h)) (master_at network node)
+      answer_at network e lines among copy (heard_before copy (ltb-true copy (line_number e) h))
+      (master_at network node)
   answer_is node copy false h =
       let past : line_number e ≤ copy = grind (arith, nat_tests) in
       sym (nothing_to (λ port. option_and_then (answered network port e) (line_journey_of network e.earlier copy))

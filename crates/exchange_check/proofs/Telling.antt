@@ -218,8 +218,8 @@ module _ (network : Network) (line : TraceLine) (earlier : Lines) (counted : cou
   arrives : (kind : Event → Bool) (arrival : LinePlace) (journey : LineJourney)
       → unbroken network (line_place line earlier) kind arrival ≡ Some journey → Arrives arrival journey
   arrives kind arrival journey h =
-      let found = bound (below (line_journey_of network lines_now) (line_number arrival)) (heard_copy (event_of arrival))
-      journey
+      let found = bound (below (line_journey_of network lines_now) (line_number arrival))
+      (heard_copy (event_of arrival)) journey
       (passed (λ j. kind (event_of j.origin))
       (option_and_then (below (line_journey_of network lines_now) (line_number arrival))
       (heard_copy (event_of arrival)))

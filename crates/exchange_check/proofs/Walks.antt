@@ -61,25 +61,22 @@ module _ (network : Network) (lines : Lines) where
       ∙ ap (λ (o : Option LineJourney). option_and_then
       (λ journey. option_map (stay_told network) (slice_get journey.stays 0)) o) h
 
+  copy_next : (number : ℕ) (journey : LineJourney) (stays : List LineStay) (copy : Option ℕ) → copy ≡ Some number
+      → line_journey_of network lines number ≡ Some journey → journey.stays ≡ stays
+      → copy_at (stay_of_copy facts copy) ≡ copy_at (option_map (stay_told network) (slice_get stays 0))
+  copy_next number journey stays copy is h all =
+      ap (λ (o : Option ℕ). copy_at (stay_of_copy facts o)) is
+      ∙ ap copy_at (last_of number journey h)
+      ∙ ap (λ (l : List LineStay). copy_at (option_map (stay_told network) (slice_get l 0))) all
+
   step : (number : ℕ) (journey : LineJourney) (stays : List LineStay) (copy : Option ℕ) → copy ≡ Some number
       → line_journey_of network lines number ≡ Some journey → journey.stays ≡ stays
       → IsLeft (drop 1 stays) (copy_at (stay_of_copy facts copy))
-  step number journey [] copy is h all = inr (
-    ap (λ (o : Option ℕ). copy_at (stay_of_copy facts o)) is
-        ∙ ap copy_at (last_of number journey h ∙ ap (λ (l : List LineStay). option_map (stay_told network) (slice_get l 0)) all),
-    refl,
-  )
+  step number journey [] copy is h all = inr (copy_next number journey [] copy is h all, refl)
   step number journey (stay ∷ rest) copy is h all =
       let before = stay_before network lines number journey stay rest h all in
-      inl (
-        before.0,
-        before.1,
-        ap (λ (o : Option ℕ). copy_at (stay_of_copy facts o)) is
-            ∙ ap copy_at (last_of number journey h ∙ ap (λ (l : List LineStay). option_map (stay_told network) (slice_get l 0)) all)
-            ∙ before.2,
-        before.3,
-        before.4,
-      )
+      let found = copy_next number journey (stay ∷ rest) copy is h all in
+      inl (before.0, before.1, found ∙ before.2, before.3, before.4)
 
   next : (stays : List LineStay) (copy : Option ℕ) → IsLeft stays copy
       → IsLeft (drop 1 stays) (copy_at (stay_of_copy facts copy))
@@ -94,7 +91,8 @@ module _ (network : Network) (lines : Lines) where
     walk zero = inl (number, journey, copy_before-zero facts (Some number), h, refl)
     walk (suc n) = subst (λ (l : List LineStay). IsLeft l (copy_before facts (suc n) (Some number)))
         (sym (drop-suc journey.stays n))
-        (subst (λ (o : Option ℕ). IsLeft (drop 1 (drop n journey.stays)) o) (sym (copy_before-suc facts n (Some number)))
+        (subst (λ (o : Option ℕ). IsLeft (drop 1 (drop n journey.stays)) o)
+        (sym (copy_before-suc facts n (Some number)))
         (next (drop n journey.stays) (copy_before facts n (Some number)) (walk n)))
 
     stay_left : (n : ℕ) (copy : Option ℕ) → IsLeft (drop n journey.stays) copy

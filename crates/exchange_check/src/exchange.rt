@@ -130,7 +130,8 @@ impl Kept {
         self.last_stay(copy?)
     }
 
-    /// The last stays of a copy, the last one first, and the copy that entered at the first of them.
+    /// The last stays of a copy, the last one first, and the copy before them; none where they are fewer
+    /// than there is room for.
     fn stays(&self, copy: Option<u64>) -> ([Option<Stay>; STAYS_MOST], Option<u64>)
         ensures stays { result.0 ≡ stays_by (facts_of self.now) copy }
         ensures before { result.1 ≡ copy_before (facts_of self.now) 16 copy }

@@ -1,5 +1,5 @@
-use Rattle.std.proofs.Common.{◌≡◌, ◌∙◌, ℕ, ◌+◌, ◌<◌, ◌≢◌, List, Option, None, length, get_or, set, sym, ap, arith, below_more, rules}
-use Rattle.std.proofs.Common.{get_or-set_other, get_or-set_same}
+use Rattle.std.proofs.Common.{◌≡◌, ◌∙◌, ℕ, ◌+◌, ◌<◌, ◌≢◌, List, Option, None, length, get_or, set, sym}
+use Rattle.std.proofs.Common.{ap, arith, rules, below_more, get_or-set_other, get_or-set_same}
 use Rattle.std.proofs.lemmas.List.FromFn.{fill_by_all}
 use Rattle.exchange_check.specs.declared.exchange.Stay.{Stay}
 use Rattle.exchange_check.specs.Inner.Machine.{facts_of}
@@ -43,6 +43,7 @@ returns c =
     record {
       stays = fill_by_all (λ k. stay_of_copy facts (copy_before facts k c.args.copy)) c.loop-place.place-items 16 None
           c.loop-place.invariant.length
-          (λ k h. let low : k < c.loop-place.place-index = omega (arith, all, h) in c.loop-place.invariant.written k low);
+          (λ k h. let low : k < c.loop-place.place-index = omega (arith, all, h) in
+          c.loop-place.invariant.written k low);
       before = c.loop-place.invariant.before ∙ ap (λ (n : ℕ). copy_before facts n c.args.copy) all;
     }
