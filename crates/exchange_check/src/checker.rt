@@ -104,9 +104,9 @@ impl Checker {
         Ok(answer)
     }
 
-    /// The lines that a report of the line which was fed last is of, where they are all there and the journeys of
-    /// the Sync and of the Delay_Req can be followed: where neither 701 nor 704 stands against the report. The time
-    /// that it takes doesn't grow with the lines that were fed, but for looking one of them up.
+    /// The lines that a report of the line which was fed last is of (IEEE 1588-2019, 11.3), where they are all there
+    /// and the journeys of the Sync and of the Delay_Req can be followed: where neither 701 nor 704 stands against
+    /// the report. The time that it takes doesn't grow with the lines that were fed, but for looking one of them up.
     pub fn exchange(&self, report: &Report) -> Option<Exchange>
         ensures { result ≡ last_exchange self.now.network (reverse self.now.lines) report.now }
     {
@@ -116,9 +116,9 @@ impl Checker {
         }
     }
 
-    /// The message that the line of this number makes, counted from 0, as its port or its clock writes it: 708
-    /// stands against a report where the octets of such a line are others. None where the line counts for
-    /// nothing or makes no message.
+    /// The message that the line of this number, counted from 0, makes by the lines before it, as its port or its
+    /// clock writes it (IEEE 1588-2019, 10.2 and 13.6 to 13.8); none where the line doesn't count or makes none.
+    /// 708 stands against a report where such a line has other octets.
     pub fn message_at(&self, number: u64) -> Option<PortMessage>
         ensures { option_map contents_of result ≡ message_at self.now.network (reverse self.now.lines) number }
     {
