@@ -124,7 +124,7 @@ module _ (facts : Facts) (count : ℕ) (fact : Option Fact) (none : (n : ℕ) �
   last_stays-more = λ i n. stays_at n (eqb count n) (nat_lt n count) refl refl i
 
 -- what is kept of each copy is what its stays say
-once_kept : (kept : Stays) (stays : LastStays) (leaves : Leaves) (number : ℕ) → AreStays kept stays leaves number
+pub once_kept : (kept : Stays) (stays : LastStays) (leaves : Leaves) (number : ℕ) → AreStays kept stays leaves number
     → once_in kept ≡ once_of stays leaves
 once_kept kept stays leaves number h = λ i copy. at copy i
   where

@@ -18,8 +18,9 @@ use Rattle.trace_model.specs.Journey.{line_left_from, line_journey_made, line_jo
 use Rattle.transparent_clock.specs.Forwarding.{resided}
 use Rattle.trace_model.specs.Octets.{drawing_port, message_sent, sent, sent_after}
 use Rattle.trace_model.proofs.Lines.{line_at-later, line_at-here}
+use Rattle.exchange_check.specs.Exchange.{number_drawn}
 use Rattle.exchange_check.specs.Inner.Kept.{sent_by, message_after_by}
-use Rattle.exchange_check.proofs.Told.{kept_journey_of, fact_of, facts_at, number_drawn}
+use Rattle.exchange_check.proofs.Told.{kept_journey_of, fact_of, facts_at}
 
 abbrev IsIn : Network → Lines → LineJourney → Type 0
 IsIn network lines j = line_at network lines (line_number j.origin) ≡ Some j.origin

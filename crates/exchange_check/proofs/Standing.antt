@@ -24,7 +24,8 @@ use Rattle.trace_model.specs.Sound.{follow_lines, arrival_line, is_of_line, is_s
 use Rattle.trace_model.specs.Sound.{are_paired, are_later, is_domain, is_of_master, are_readings, fits}
 use Rattle.trace_model.specs.Sound.{results_of, are_results, are_octets, Conditions, needs, failing, reason, judgement}
 use Rattle.exchange_check.specs.Inner.Kept.{Facts}
-use Rattle.exchange_check.specs.Inner.Judged.{found_by, found_journey_at, found_journey_from, found_journey_to, is_told}
+use Rattle.exchange_check.specs.Inner.Judged.{line_of_by, sync_by, follows_by, arrival_by, found_journey_at}
+use Rattle.exchange_check.specs.Inner.Judged.{found_journey_from, found_journey_to, is_told}
 use Rattle.exchange_check.specs.Inner.Judged.{both_journeys, found_judgement, judgement_by}
 use Rattle.exchange_check.proofs.Noted.{site_at, leaves_at, stamps_at, told_master}
 use Rattle.exchange_check.proofs.Told.{fact_of, facts_at}
@@ -76,16 +77,16 @@ follow_octets network None = refl
 follow_octets network (Some follow) = refl
 
 module _ (network : Network) (line : TraceLine) (earlier : Lines) where
-  abbrev e : LinePlace
+  abbrev pub e : LinePlace
   e = line_place line earlier
 
-  abbrev facts : Facts
+  abbrev pub facts : Facts
   facts = facts_at network (line ∷ earlier)
 
-  abbrev once : Once
+  abbrev pub once : Once
   once = once_of (last_stays (facts_at network earlier)) (leaves_at network earlier)
 
-  abbrev slave : NodeName
+  abbrev pub slave : NodeName
   slave = site_of line.event
 
   if_way : (b : Bool) (j : LineJourney)
@@ -99,47 +100,61 @@ module _ (network : Network) (line : TraceLine) (earlier : Lines) where
   two_tests true j = if_way (left_once (events network earlier) j) j
   two_tests false j = refl
 
-  found_journey_found : (kind : Event → Bool) (copy : ℕ) (o : Option LineJourney) → line_journey_of network earlier copy ≡ o
-      → where_passes (λ found_journey. kind found_journey.origin.event && once copy) (option_map (found_journey_of network) o)
-      ≡ option_map (found_journey_of network)
-      (where_passes (left_once (events network earlier))
-      (where_passes (λ journey. kind (event_of journey.origin)) o))
-  found_journey_found kind copy None h = refl
-  found_journey_found kind copy (Some j) h =
-      let followed = followed_is network (facts_at network earlier) (leaves_at network earlier)
+  -- whether each stay of a copy's journey was left once, as what is kept says it
+  abbrev pub IsFollowed : Once → Type 0
+  IsFollowed kept_once = (copy : ℕ) (j : LineJourney) → line_journey_of network earlier copy ≡ Some j
+      → kept_once copy ≡ left_once (events network earlier) j
+
+  pub followed : IsFollowed once
+  followed copy j h = followed_is network (facts_at network earlier) (leaves_at network earlier)
       (events network earlier) (once_is network earlier) earlier copy j
-      (λ n x there. ap (λ (o : Option LinePlace). option_map (fact_of network) o) there) h (suc copy) (omega arith) in
-      (λ i. cond (kind (event_of j.origin) && followed i) (Some (found_journey_of network j)) None)
-      ∙ two_tests (kind (event_of j.origin)) j
+      (λ n x there. ap (λ (o : Option LinePlace). option_map (fact_of network) o) there) h (suc copy) (omega arith)
 
   before_here : (copy limit : ℕ) → copy < limit → limit ≤ length earlier
       → line_journey_of network earlier copy ≡ line_journey_of network (line ∷ earlier) copy
   before_here copy limit within fits = grind (arith, nat_tests)
 
-  found_journey_below : (kind : Event → Bool) (limit copy : ℕ) (b : Bool) → limit ≤ length earlier → nat_lt copy limit ≡ b
-      → cond b (where_passes (λ found_journey. kind found_journey.origin.event && once copy) (found_journey_at facts copy)) None
-      ≡ option_map (found_journey_of network)
-      (where_passes (left_once (events network earlier))
-      (where_passes (λ journey. kind (event_of journey.origin))
-      (cond b (line_journey_of network (line ∷ earlier) copy) None)))
-  found_journey_below kind limit copy true fits h =
-      ap (where_passes (λ found_journey. kind found_journey.origin.event && once copy)) (found_journey_is network (line ∷ earlier) copy)
-      ∙ found_journey_found kind copy (line_journey_of network (line ∷ earlier) copy)
-      (before_here copy limit (ltb-true copy limit h) fits)
-  found_journey_below kind limit copy false fits h = refl
+  module _ (kept_once : Once) (follows : IsFollowed kept_once) where
+    found_journey_found : (kind : Event → Bool) (copy : ℕ) (o : Option LineJourney)
+        → line_journey_of network earlier copy ≡ o
+        → where_passes (λ found_journey. kind found_journey.origin.event && kept_once copy)
+        (option_map (found_journey_of network) o)
+        ≡ option_map (found_journey_of network)
+        (where_passes (left_once (events network earlier))
+        (where_passes (λ journey. kind (event_of journey.origin)) o))
+    found_journey_found kind copy None h = refl
+    found_journey_found kind copy (Some j) h =
+        (λ i. cond (kind (event_of j.origin) && follows copy j h i) (Some (found_journey_of network j)) None)
+        ∙ two_tests (kind (event_of j.origin)) j
 
-  found_journey_heard : (kind : Event → Bool) (limit : ℕ) (o : Option ℕ) → limit ≤ length earlier
-      → option_and_then (found_journey_from facts once kind limit) o
-      ≡ option_map (found_journey_of network)
-      (where_passes (left_once (events network earlier))
-      (where_passes (λ journey. kind (event_of journey.origin))
-      (option_and_then (below (line_journey_of network (line ∷ earlier)) limit) o)))
-  found_journey_heard kind limit None fits = refl
-  found_journey_heard kind limit (Some copy) fits = found_journey_below kind limit copy (nat_lt copy limit) fits refl
+    found_journey_below : (kind : Event → Bool) (limit copy : ℕ) (b : Bool) → limit ≤ length earlier
+        → nat_lt copy limit ≡ b
+        → cond b (where_passes (λ found_journey. kind found_journey.origin.event && kept_once copy)
+        (found_journey_at facts copy)) None
+        ≡ option_map (found_journey_of network)
+        (where_passes (left_once (events network earlier))
+        (where_passes (λ journey. kind (event_of journey.origin))
+        (cond b (line_journey_of network (line ∷ earlier) copy) None)))
+    found_journey_below kind limit copy true fits h =
+        ap (where_passes (λ found_journey. kind found_journey.origin.event && kept_once copy))
+        (found_journey_is network (line ∷ earlier) copy)
+        ∙ found_journey_found kind copy (line_journey_of network (line ∷ earlier) copy)
+        (before_here copy limit (ltb-true copy limit h) fits)
+    found_journey_below kind limit copy false fits h = refl
 
-  found_journey_to_is : (kind : Event → Bool) (x : LinePlace) → line_number x ≤ length earlier
-      → found_journey_to facts once kind (fact_of network x) ≡ option_map (found_journey_of network) (unbroken network e kind x)
-  found_journey_to_is kind x fits = found_journey_heard kind (line_number x) (heard_copy (event_of x)) fits
+    found_journey_heard : (kind : Event → Bool) (limit : ℕ) (o : Option ℕ) → limit ≤ length earlier
+        → option_and_then (found_journey_from facts kept_once kind limit) o
+        ≡ option_map (found_journey_of network)
+        (where_passes (left_once (events network earlier))
+        (where_passes (λ journey. kind (event_of journey.origin))
+        (option_and_then (below (line_journey_of network (line ∷ earlier)) limit) o)))
+    found_journey_heard kind limit None fits = refl
+    found_journey_heard kind limit (Some copy) fits = found_journey_below kind limit copy (nat_lt copy limit) fits refl
+
+    pub found_journey_to_is : (kind : Event → Bool) (x : LinePlace) → line_number x ≤ length earlier
+        → found_journey_to facts kept_once kind (fact_of network x)
+        ≡ option_map (found_journey_of network) (unbroken network e kind x)
+    found_journey_to_is kind x fits = found_journey_heard kind (line_number x) (heard_copy (event_of x)) fits
 
   module _ (report : Report) where
     -- the conditions on an exchange and its journeys
@@ -208,37 +223,42 @@ module _ (network : Network) (line : TraceLine) (earlier : Lines) where
     found_are (Some x) within =
         let fits = within x refl in
         (λ i. both_journeys network (site_at network earlier slave) slave report (found_of network x)
-        (found_journey_to_is draws_sync x.sync_arrival fits.0 i) (found_journey_to_is is_request x.request_arrival fits.1 i))
-        ∙ journeys_are_found x (unbroken network e draws_sync x.sync_arrival) (unbroken network e is_request x.request_arrival)
+        (found_journey_to_is once followed draws_sync x.sync_arrival fits.0 i)
+        (found_journey_to_is once followed is_request x.request_arrival fits.1 i))
+        ∙ journeys_are_found x (unbroken network e draws_sync x.sync_arrival)
+        (unbroken network e is_request x.request_arrival)
 
-    abbrev here : Bool
+    abbrev pub here : Bool
     here = is_of_line (length earlier) report
 
-    abbrev learned : Bool
+    abbrev pub learned : Bool
     learned = is_stamped_between network earlier report.request_tag report.response_tag
 
-    abbrev all_lines : Option Exchange
+    abbrev pub all_lines : Option Exchange
     all_lines = line_chain network (line ∷ earlier) (sync_line network (line ∷ earlier) slave report)
         (follow_lines network (line ∷ earlier) slave report.follow_tag)
         (line_of network (line ∷ earlier) is_request slave report.request_tag)
         (arrival_line network (line ∷ earlier) slave report.response_tag)
 
-    found_is : found_by facts (stamps_at network earlier) slave (length earlier) report
-        ≡ option_map (found_of network) (cond (here && learned) all_lines None)
-    found_is =
-        (λ i. cond (here && learned)
+    -- what is found of a report, under a test
+    pub found_if : (b : Bool)
+        → cond b (chain network (line ∷ earlier) (sync_by facts slave report) (follows_by facts slave report.follow_tag)
+        (line_of_by facts is_request slave report.request_tag) (arrival_by facts slave report.response_tag)) None
+        ≡ option_map (found_of network) (cond b all_lines None)
+    found_if b =
+        (λ i. cond b
         (chain network (line ∷ earlier) (sync_is network (line ∷ earlier) slave report i)
         (follows_is network (line ∷ earlier) slave report.follow_tag i)
         (line_of_is network (line ∷ earlier) is_request slave report.request_tag i)
         (arrival_is network (line ∷ earlier) slave report.response_tag i)) None)
-        ∙ (λ i. cond (here && learned)
+        ∙ (λ i. cond b
         (chained network (line ∷ earlier) (sync_line network (line ∷ earlier) slave report)
         (follow_lines network (line ∷ earlier) slave report.follow_tag)
         (line_of network (line ∷ earlier) is_request slave report.request_tag)
         (arrival_line network (line ∷ earlier) slave report.response_tag) i) None)
-        ∙ if_found network (line ∷ earlier) (here && learned) all_lines
+        ∙ if_found network (line ∷ earlier) b all_lines
 
-    either_within : (b : Bool) (y : Exchange) → cond b all_lines None ≡ Some y
+    pub either_within : (b : Bool) (y : Exchange) → cond b all_lines None ≡ Some y
         → (line_number y.sync_arrival ≤ length earlier) × (line_number y.request_arrival ≤ length earlier)
     either_within true y h =
         let parts = chain_parts network (line ∷ earlier) (sync_line network (line ∷ earlier) slave report)
@@ -256,7 +276,8 @@ module _ (network : Network) (line : TraceLine) (earlier : Lines) where
         → judgement_by network facts once (stamps_at network earlier) (site_at network earlier)
         (cond b (Some (fact_of network e)) None) report ≡ judgement network e report
     judgement_is true h =
-        ap (found_judgement network facts once (site_at network earlier slave) slave report) found_is
+        ap (found_judgement network facts once (site_at network earlier slave) slave report)
+        (found_if (here && learned))
         ∙ found_are (cond (here && learned) all_lines None) (either_within (here && learned))
         ∙ sym (λ i. with_exchange (cond (h i && here && learned) all_lines None))
     judgement_is false h = sym (λ i. with_exchange (cond (h i && here && learned) all_lines None))
@@ -278,12 +299,12 @@ module _ (network : Network) (line : TraceLine) (earlier : Lines) where
   with_judgement_is (Refused number why) = refl
 
 -- what is kept is what the lines say
-record Stands (network : Network) (lines : Lines) (m : Machine) : Type 0 where
-  facts : m.facts ≡ facts_at network lines
-  sites : m.sites ≡ site_at network lines
-  leaves : m.leaves ≡ leaves_at network lines
-  stamps : m.stamps ≡ stamps_at network lines
-  verdict : m.verdict ≡ verdict network lines
+pub record Stands (network : Network) (lines : Lines) (m : Machine) : Type 0 where
+  pub facts : m.facts ≡ facts_at network lines
+  pub sites : m.sites ≡ site_at network lines
+  pub leaves : m.leaves ≡ leaves_at network lines
+  pub stamps : m.stamps ≡ stamps_at network lines
+  pub verdict : m.verdict ≡ verdict network lines
 
 -- what is told of a line by what is kept of those before it, where that is what they say
 module _ (network : Network) (line : TraceLine) (earlier : Lines) (m : Machine) (h : Stands network earlier m) where
@@ -304,7 +325,7 @@ module _ (network : Network) (line : TraceLine) (earlier : Lines) (m : Machine) 
       (h.sites i) (fact_is i) line.out)
       ∙ line_judgement_is network line earlier (report_in line.out)
 
-stands : (network : Network) (lines : Lines) → Stands network lines (machine network lines)
+pub stands : (network : Network) (lines : Lines) → Stands network lines (machine network lines)
 stands network [] = record { facts = refl; sites = refl; leaves = refl; stamps = refl; verdict = refl }
 stands network (line ∷ earlier) =
     let h = stands network earlier in

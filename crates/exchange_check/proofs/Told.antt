@@ -20,11 +20,12 @@ use Rattle.exchange_check.specs.declared.facts.KeptJourney.{KeptJourney}
 use Rattle.trace_model.specs.declared.line.TraceLine.{TraceLine}
 use Rattle.trace_model.specs.Line.{Lines, counts, is_made, completes}
 use Rattle.trace_model.specs.Record.{LinePlace, line_place, line_number, event_of, site, line_at}
-use Rattle.trace_model.specs.Record.{events, last_line, reading, reads_right, sequence}
+use Rattle.trace_model.specs.Record.{events, last_line, reading, reads_right}
 use Rattle.trace_model.specs.Journey.{LineJourney, line_stay_length, line_residence, line_begun, with_stay}
 use Rattle.trace_model.specs.Journey.{copy_entered, line_left_from, line_journey_made, line_journey_of}
 use Rattle.trace_model.specs.Octets.{drawing_port, writes_right}
 use Rattle.trace_model.specs.Sound.{stay_reads_right, journey_reads_right, journey_writes_right}
+use Rattle.exchange_check.specs.Exchange.{number_drawn}
 use Rattle.exchange_check.specs.Inner.Kept.{Facts, number_by, known_by, kept_journey_at, stayed}
 use Rattle.exchange_check.specs.Inner.Kept.{left_by, begun_by, kept_journey_by, written_journey}
 use Rattle.exchange_check.proofs.Noted.{site_at}
@@ -37,10 +38,6 @@ kept_journey_of network journey = record {
   reads_right = journey_reads_right network journey;
   writes_right = journey_writes_right network journey;
 }
-
--- the sequenceId that a line draws, 0 where it draws none
-abbrev pub number_drawn : Network → LinePlace → ℕ
-number_drawn network e = option_map_or (λ port. sequence network port e) (drawing_port network (event_of e)) 0
 
 -- the journey of the copy that a line made
 abbrev pub journey_from : Network → LinePlace → Option LineJourney

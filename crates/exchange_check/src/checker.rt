@@ -1,15 +1,19 @@
-ghost use Rattle.std.specs.Prelude.{◌≡◌, reverse, MatchResult, IfOk, ◌++◌, ◌∷◌, [], length};
+ghost use Rattle.std.specs.Prelude.{◌≡◌, reverse, MatchResult, IfOk, ◌++◌, ◌∷◌, [], length, option_map};
+ghost use Rattle.event_codec.specs.Profile.{contents_of};
 ghost use Rattle.network_model.specs.Premises.{IsFreshAndTicked, IsWithinTurn, exact_limits};
 ghost use Rattle.trace_model.specs.Record.{line_place};
 ghost use Rattle.trace_model.specs.Verdict.{line_judgement, verdict};
 ghost use Rattle.trace_model.specs.Soundness.{TellsSoundness};
 ghost use Rattle.trace_model.specs.Complete.{AcceptsTruth};
+ghost use Rattle.exchange_check.specs.Exchange.{last_exchange};
+ghost use Rattle.exchange_check.specs.Message.{message_at};
 ghost use Rattle.exchange_check.specs.declared.refusal.CheckFault.TheVariants.{Memory};
 
 use crate::exchange::Exchange;
 use crate::history::History;
 use crate::kept::Kept;
 use crate::refusal::CheckFault;
+use event_codec::PortMessage;
 use network_model::{Nodes, Report};
 use std::alloc::Global;
 use std::marker::Model;
@@ -100,11 +104,25 @@ impl Checker {
         Ok(answer)
     }
 
-    /// The lines that a report of the event of this number is of, where they are all there and the journeys of the
-    /// Sync and of the Delay_Req can be followed: where neither 701 nor 704 stands against it. The time
-    /// that it takes doesn't grow with the lines that were fed, but for looking one of them up.
-    pub fn exchange(&self, number: u64, report: &Report) -> Option<Exchange> {
-        self.kept.exchange(number, report)
+    /// The lines that a report of the line which was fed last is of (IEEE 1588-2019, 11.3), where they are all there
+    /// and the journeys of the Sync and of the Delay_Req can be followed: where neither 701 nor 704 stands against
+    /// the report. The time that it takes doesn't grow with the lines that were fed, but for looking one of them up.
+    pub fn exchange(&self, report: &Report) -> Option<Exchange>
+        ensures { result ≡ last_exchange self.now.network (reverse self.now.lines) report.now }
+    {
+        match self.len() {
+            0 => None,
+            count => self.kept.exchange(count - 1, report),
+        }
+    }
+
+    /// The message that the line of this number, counted from 0, makes by the lines before it, as its port or its
+    /// clock writes it (IEEE 1588-2019, 10.2 and 13.6 to 13.8); none where the line doesn't count or makes none.
+    /// 708 stands against a report where such a line has other octets.
+    pub fn message_at(&self, number: u64) -> Option<PortMessage>
+        ensures { option_map contents_of result ≡ message_at self.now.network (reverse self.now.lines) number }
+    {
+        self.kept.message_at(&self.nodes, number)
     }
 
     /// How many lines were fed so far.

@@ -1,5 +1,8 @@
 //! What is kept of lines and nodes, so that nothing is searched for again.
 
+ghost use Rattle.std.specs.Prelude.{◌≡◌};
+ghost use Rattle.exchange_check.specs.Inner.Telling.{known_again, hears_earlier};
+
 use crate::residence::Residence;
 use network_model::{Event, Name};
 use ptp_units::{ScaledTime, Seq};
@@ -41,6 +44,31 @@ pub(crate) struct Fact {
     pub(crate) last_sync: Option<u64>,
     /// The journey of the copy that it made, where that is a Sync or a Delay_Req.
     pub(crate) journey: Option<KeptJourney>,
+}
+
+impl Fact {
+    /// What was known of the line when it was taken in.
+    pub(crate) fn known(&self) -> Known
+        ensures { result ≡ known_again self.now }
+    {
+        Known {
+            line: self.line,
+            reading: self.reading,
+            number: self.number,
+            reads: self.reads_right,
+            last_sync: self.last_sync,
+        }
+    }
+
+    /// Whether the copy that the line hears, if any, was made before it.
+    pub(crate) fn hears_earlier(&self) -> bool
+        ensures { result ≡ hears_earlier self.now }
+    {
+        match self.event.heard_copy() {
+            Some(copy) => copy < self.line,
+            None => true,
+        }
+    }
 }
 
 /// What the lines so far say of a node.

@@ -16,6 +16,7 @@ ghost use Rattle.exchange_check.specs.Inner.Kept.{site_in, kept_journey_at, copy
 ghost use Rattle.exchange_check.specs.Inner.Kept.{kept_journey_by, message_after_by, followed_by, answered_by};
 ghost use Rattle.exchange_check.specs.Inner.Kept.{message_by, known_by, number_by, fact_known, fact_from};
 ghost use Rattle.exchange_check.specs.Inner.Kept.{kept_journey_left, written_journey, port_setup};
+ghost use Rattle.exchange_check.specs.Inner.Telling.{message_at_by};
 ghost use Rattle.ptp_units.specs.Sequence.{of_count};
 ghost use Rattle.event_codec.specs.Profile.{contents_of};
 ghost use Rattle.trace_model.specs.Record.{is_reading};
@@ -275,6 +276,17 @@ impl Kept {
             }
             _ => None,
         }
+    }
+
+    /// The message that the line of this number makes.
+    pub(crate) fn message_at(&self, nodes: &Nodes, number: u64) -> Option<PortMessage>
+        ensures { option_map contents_of result ≡ message_at_by nodes.now (facts_of self.now) number }
+    {
+        let fact = self.at(number)?;
+        if !fact.hears_earlier() {
+            return None;
+        }
+        self.message(nodes, &fact.known(), fact.journey, &fact.event)
     }
 
     /// What is kept of a line that counts.
