@@ -1,10 +1,16 @@
 //! What is wrong with a transcript or a schedule, for a person.
-ghost use Rattle.std.specs.Prelude.{MatchResult};
+ghost use Rattle.std.specs.Prelude.{◌≡◌, ◌+◌, ℕ, List, MatchResult, OnOk, Some, None, option_map};
+ghost use Rattle.std.specs.Io.KnownBytes.{Appends};
+ghost use Rattle.schedule_reading.specs.declared.fault.TaskFault.TheVariants.{World};
 ghost use Rattle.schedule_reading.specs.Entry.{lines_limit};
-ghost use Rattle.text_lines.specs.Counted.{HasNotFailed};
+ghost use Rattle.schedule_reading.specs.Fault.{is_write};
+ghost use Rattle.exchange_explain.specs.declared.explaining.Explained.TheVariants.{Flawed};
+ghost use Rattle.text_lines.specs.Counted.{device_of, HasFailedIf, HasNotFailed};
 ghost use Rattle.text_lines.specs.Lines.{input_limit, GivesWithin};
-ghost use Rattle.exchange_explain.specs.Explained.{Seen, explain_rules, ExplainsAnswer, HasFailedReading};
-ghost use Rattle.exchange_explain.specs.Inner.Explaining.{IsExplaining};
+ghost use Rattle.exchange_explain.specs.Explained.{Seen, Sees, SeesFirst, EndsIn, explain_rules, ExplainsAnswer};
+ghost use Rattle.exchange_explain.specs.Explained.{HasFailedReading};
+ghost use Rattle.exchange_explain.specs.Input.{lines_in};
+ghost use Rattle.exchange_explain.specs.Inner.Explaining.{IsExplaining, IsSeenAlike, fault_kept};
 
 use crate::flaws::Flaws;
 use crate::input::{Found, Input};
@@ -35,8 +41,6 @@ pub enum Explained {
 struct Explaining {
     alloc: Global,
     input: Input,
-    /// How many lines were read.
-    lines: u64,
     /// The first fault, and what was seen of lines from there on.
     flaws: Option<Flaws>,
     /// Whether only the first report that is refused is told.
@@ -83,7 +87,14 @@ impl LineTask for Explaining {
 
 impl Explaining {
     /// Writes what is to be told, where there is something.
-    fn write<W: Write>(&self, output: &mut Counted<W>) -> Result<(), TaskFault> {
+    fn write<W: Write>(&self, output: &mut Counted<W>) -> Result<(), TaskFault>
+        ensures written { MatchResult result
+            (λ _. (written : List ℕ) × Appends (W.contents (device_of output.old)) (W.contents (device_of output.new)) written)
+            (λ fault. fault ≡ TaskFault.Write) }
+        ensures failures { MatchResult result
+            (λ _. HasNotFailed output.old output.new)
+            (λ fault. HasFailedIf (is_write fault) output.old output.new) }
+    {
         match self.text.as_str() {
             "" => Ok(()),
             text => write_text(text, output),
@@ -91,69 +102,65 @@ impl Explaining {
     }
 
     /// Tells what there is to tell of one more line.
-    fn tell_line(&mut self, line: &[u8]) -> Result<(), TaskFault> {
-        let number = self.lines.checked_add(1).ok_or(TaskFault::Memory)?;
-        if let Some(flaws) = &mut self.flaws {
-            flaws.look(self.alloc, number, line, &mut self.text)?;
-            self.lines = number;
-            return Ok(());
+    fn tell_line(&mut self, line: &[u8]) -> Result<(), TaskFault>
+        ensures { (seen : Seen) → IsExplaining self.old seen → MatchResult result
+            (λ _. (later : Seen) × IsExplaining self.new later × Sees line.now seen.fault seen later)
+            (λ fault. fault ≡ TaskFault.Memory) }
+    {
+        match &mut self.flaws {
+            Some(flaws) => Ok(flaws.look(self.alloc, line, &mut self.text)?),
+            None => self.take_line(line),
         }
+    }
+
+    /// Takes a line where none before it has a fault, and tells its report, or its fault.
+    fn take_line(&mut self, line: &[u8]) -> Result<(), TaskFault>
+        ensures { self.old.flaws ≡ None → MatchResult result
+            (λ _. SeesFirst line.now self.old.input self.new.input (option_map fault_kept self.new.flaws))
+            (λ fault. fault ≡ TaskFault.Memory) }
+    {
         match self.input.take(self.alloc, line) {
-            Ok(judged) => {
-                self.lines = number;
-                self.tell_report(judged)
-            }
+            Ok(Some(judged)) => Ok(self.tell_report(&judged)?),
+            Ok(None) => Ok(()),
             Err(TaskFault::Memory) => Err(TaskFault::Memory),
-            Err(fault) => {
-                self.lines = number;
-                self.tell_fault(number, fault, line)
-            }
+            Err(fault) => self.tell_fault(fault, line),
         }
     }
 
     /// Tells what a report is judged to be, and where it is refused its exchange.
-    fn tell_report(&mut self, judged: Option<Judged>) -> Result<(), TaskFault> {
-        let Some(judged) = judged else {
-            return Ok(());
-        };
+    fn tell_report(&mut self, judged: &Judged) -> Result<(), AllocError>
+        ensures { IsSeenAlike self.old self.new }
+    {
         self.tally.count(&judged.judgement.reasons);
         if self.first && !self.input.is_first_refused(judged.event) {
             return Ok(());
         }
-        push_head(&mut self.text, &judged)?;
-        if !is_sound(&judged) {
-            push_results(&mut self.text, &judged)?;
+        push_head(&mut self.text, judged)?;
+        if !is_sound(judged) {
+            push_results(&mut self.text, judged)?;
         }
         Ok(())
     }
 
     /// Tells the first fault, which is at this line.
-    fn tell_fault(&mut self, number: u64, fault: TaskFault, line: &[u8]) -> Result<(), TaskFault> {
-        let mut flaws = Flaws::new(number, fault, &self.input);
+    fn tell_fault(&mut self, fault: TaskFault, line: &[u8]) -> Result<(), TaskFault>
+        ensures { MatchResult result
+            (λ _. (self.new.input ≡ self.old.input)
+            × (option_map fault_kept self.new.flaws ≡ Some (lines_in self.old.input + 1, fault)))
+            (λ stop. stop ≡ TaskFault.Memory) }
+    {
+        let mut flaws = Flaws::new(self.input.next_line()?, fault, &self.input);
         flaws.begin(self.alloc, line, &mut self.text)?;
         self.flaws = Some(flaws);
         Ok(())
     }
 
-    /// Tells why the nodes, after which there is no event, are no network.
-    fn tell_no_network(&mut self, why: WorldRefusal) -> Result<Explained, TaskFault> {
-        let line = self.lines.checked_add(1).ok_or(TaskFault::Memory)?;
-        write!(&mut self.text, "{}: {why}\n", why.code())?;
-        Ok(Explained::Flawed {
-            line,
-            what: TaskFault::World(why),
-        })
-    }
-
-    /// Writes why a line can't be read. What can't be written is lost.
-    fn tell_unread<W: Write>(&mut self, line: u64, what: ReadingFault, output: &mut Counted<W>) {
-        self.text.clear();
-        let _ = push_unread(&mut self.text, line, what);
-        let _ = self.write(output);
-    }
-
     /// Tells what there is to tell at the end.
-    fn tell_end(&mut self) -> Result<Explained, TaskFault> {
+    fn tell_end(&mut self) -> Result<Explained, TaskFault>
+        ensures { (seen : Seen) → IsExplaining self.old seen → MatchResult result
+            (λ answer. EndsIn seen.input seen.fault answer)
+            (λ fault. fault ≡ TaskFault.Memory) }
+    {
         if let Some(flaws) = &self.flaws {
             flaws.push_end(&mut self.text)?;
             return Ok(Explained::Flawed {
@@ -168,8 +175,29 @@ impl Explaining {
                 Ok(Explained::Whole(found))
             }
             Err(TaskFault::World(why)) => self.tell_no_network(why),
-            Err(fault) => Err(fault),
+            Err(_) => Err(TaskFault::Memory),
         }
+    }
+
+    /// Tells why the nodes, after which there is no event, are no network.
+    fn tell_no_network(&mut self, why: WorldRefusal) -> Result<Explained, TaskFault>
+        ensures { MatchResult result
+            (λ answer. answer ≡ Flawed (lines_in self.old.input + 1) (World why))
+            (λ fault. fault ≡ TaskFault.Memory) }
+    {
+        let line = self.input.next_line()?;
+        write!(&mut self.text, "{}: {why}\n", why.code())?;
+        Ok(Explained::Flawed {
+            line,
+            what: TaskFault::World(why),
+        })
+    }
+
+    /// Writes why a line can't be read. What can't be written is lost.
+    fn tell_unread<W: Write>(&mut self, line: u64, what: ReadingFault, output: &mut Counted<W>) {
+        self.text.clear();
+        let _ = push_unread(&mut self.text, line, what);
+        let _ = self.write(output);
     }
 }
 
@@ -212,7 +240,6 @@ pub fn explain<R: Read, W: Write>(
     let mut task = Explaining {
         alloc,
         input: Input::Transcript(Transcript::new(alloc)),
-        lines: 0,
         flaws: None,
         first,
         tally: Tally::new(),

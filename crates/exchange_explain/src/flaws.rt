@@ -24,6 +24,8 @@ pub(crate) struct Flaws {
     count: u64,
     /// The place that the next event is to have.
     events: u64,
+    /// The last line that was looked at.
+    last: u64,
 }
 
 impl Flaws {
@@ -42,6 +44,7 @@ impl Flaws {
             scheduled,
             count: 0,
             events,
+            last: line,
         }
     }
 
@@ -77,11 +80,24 @@ impl Flaws {
     ) -> Result<(), AllocError>
         ensures { (self.new.line ≡ self.old.line) × (self.new.what ≡ self.old.what) }
     {
-        self.look(alloc, self.line, line, text)
+        self.look_at(alloc, self.line, line, text)
+    }
+
+    /// Looks at a line after the first fault, and appends what is wrong with it.
+    pub(crate) fn look(
+        &mut self,
+        alloc: Global,
+        line: &[u8],
+        text: &mut String,
+    ) -> Result<(), AllocError>
+        ensures { (self.new.line ≡ self.old.line) × (self.new.what ≡ self.old.what) }
+    {
+        self.last = self.last.saturating_add(1);
+        self.look_at(alloc, self.last, line, text)
     }
 
     /// Looks at a line from the first fault on, and appends what is wrong with it.
-    pub(crate) fn look(
+    fn look_at(
         &mut self,
         alloc: Global,
         number: u64,
