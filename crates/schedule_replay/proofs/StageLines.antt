@@ -20,7 +20,7 @@ use Rattle.schedule_reading.specs.Fault.{is_write}
 use Rattle.schedule_reading.specs.Entry.{entry_in}
 use Rattle.schedule_reading.specs.Schedule.{FaultsIn, FaultsAtEnd}
 use Rattle.schedule_replay.specs.Replay.{nodes_text, IsEventLine, owed, NodesGoOut, GoesOut, Follows, replay_rules}
-use Rattle.schedule_reading.specs.Stage.{nodes_in, HasOneMore}
+use Rattle.schedule_reading.specs.Stage.{nodes_in, HasOneMore, IsStill}
 use Rattle.schedule_reading.specs.Entry.{IsOwnFault}
 use Rattle.schedule_replay.specs.Inner.Replaying.{state_of, IsReplaying, WritesNone, StopsEvent, StopsAt}
 use Rattle.text_lines.specs.Task.{WentOut}
@@ -186,14 +186,14 @@ pub node_taken : {A : Type 0} (r : Result A TaskFault) (stage later : Stage Stat
     (node : NodeSpec) (at : Option (List ℕ))
     → entry_in line ≡ Ok (entries.Node node) → (state_of stage ≡ state) × IsReplaying stage
     → MatchResult r (λ _. HasOneMore node stage later)
-    (λ fault. (fault ≡ Memory) ⊎ ((fault ≡ Field) × (nodes_in stage ≡ None)))
+    (λ fault. IsStill stage later × ((fault ≡ Memory) ⊎ ((fault ≡ Field) × (nodes_in stage ≡ None))))
     → IsTaken r later state line at at
 node_taken (Ok x) stage later state line node at is (same, stands) more =
     let (begun, follows) = pushed stage later node more in
     (state_of later, [], (refl, begun), (entries.Node node, is, rw same at follows), Appends-nil at)
-node_taken (Err fault) stage later state line node at is (same, stands) (inl memory) =
+node_taken (Err fault) stage later state line node at is (same, stands) (still, inl memory) =
     untaken_node fault state line node at is (inl memory)
-node_taken (Err fault) stage later state line node at is (same, stands) (inr (field, none)) =
+node_taken (Err fault) stage later state line node at is (same, stands) (still, inr (field, none)) =
     untaken_node fault state line node at is (inr (field, rw same at (after_event stage stands none)))
 
 pub event_taken : {A : Type 0} (r : Result A TaskFault) (stage later : Stage State) (state : State) (line : List ℕ)

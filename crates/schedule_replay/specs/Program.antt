@@ -13,9 +13,11 @@ use Rattle.command_line.specs.declared.measure.MeasureOptions.{MeasureOptions}
 use Rattle.command_line.specs.declared.explain.ExplainOptions.{ExplainOptions}
 use Rattle.exchange_explain.specs.declared.explaining.Explained.{Explained}
 use Rattle.exchange_explain.specs.declared.explaining.Explained.TheVariants.{Whole, Flawed}
-use Rattle.exchange_explain.specs.declared.fault.ExplainFault.{ExplainFault}
+use Rattle.exchange_explain.specs.declared.input.Found.{Found}
+use Rattle.exchange_explain.specs.declared.input.Found.TheVariants.{Transcript, Schedule}
+use Rattle.schedule_reading.specs.declared.fault.TaskFault.{TaskFault}
 use Rattle.exchange_explain.specs.Explained.{ExplainsAnswer}
-use Rattle.exchange_explain.specs.Judgements.{JudgesAnswer}
+use Rattle.exchange_explain.specs.Judgements.{JudgesAnswer, judgement_rules}
 use Rattle.text_lines.specs.declared.fault.Cause.{Cause}
 use Rattle.text_lines.specs.declared.fault.Stopped.{Stopped}
 use Rattle.capture_measure.specs.declared.measuring.Form.{Form}
@@ -62,28 +64,40 @@ RunsMeasure remaining contents options status input input' output output' =
     × MeasureFailedWith answer input input' output output'
     × MeasuresAnswer (form_of options) (wanted_of options) remaining contents answer input input' output output'
 
+-- the exit status of `explain` over a whole input: that of `check` or of `replay`
+abbrev pub found_status : Found → ℕ
+found_status (Transcript (Accepted count)) = 0
+found_status (Transcript (Refused number why)) = 1
+found_status (Schedule events) = 0
+
 -- the exit status of `explain --json`, by its answer
-abbrev pub judging_status : Result Verdict (Stopped (Cause ExplainFault)) → ℕ
-judging_status (Ok (Accepted count)) = 0
-judging_status (Ok (Refused number why)) = 1
+abbrev pub judging_status : Result Found (Stopped (Cause TaskFault)) → ℕ
+judging_status (Ok found) = found_status found
 judging_status (Err stop) = 3
 
 -- the exit status of `explain`, by its answer
-abbrev pub explaining_status : Result Explained (Stopped (Cause ExplainFault)) → ℕ
-explaining_status (Ok (Whole (Accepted count))) = 0
-explaining_status (Ok (Whole (Refused number why))) = 1
+abbrev pub explaining_status : Result Explained (Stopped (Cause TaskFault)) → ℕ
+explaining_status (Ok (Whole found)) = found_status found
 explaining_status (Ok (Flawed line what)) = 3
 explaining_status (Err stop) = 3
+
+-- which of the two devices failed at this answer of `explain --json`
+abbrev pub JudgingFailedWith : {R W : Type 0} → Result Found (Stopped (Cause TaskFault))
+    → (input input' : Counted R) (output output' : Counted W) → Type 0
+JudgingFailedWith answer input input' output output' = MatchResult answer
+    (λ _. HasNotFailed input input' × HasNotFailed output output')
+    (λ stop. FailedAt judgement_rules stop.what input input' output output')
 
 -- `explain` ran, as JSON or as text: its answer gave the status, and says what was read and of JSON what was written
 abbrev pub RunsForm : {R W : Type 0} → Bool → (R → Option (List ℕ)) → (W → Option (List ℕ)) → ExplainOptions → ℕ
     → (input input' : Counted R) (output output' : Counted W) → Type 0
 RunsForm true remaining contents options status input input' output output' =
-    (answer : Result Verdict (Stopped (Cause ExplainFault))) × (status ≡ judging_status answer)
+    (answer : Result Found (Stopped (Cause TaskFault))) × (status ≡ judging_status answer)
+    × JudgingFailedWith answer input input' output output'
     × JudgesAnswer options.first remaining contents answer input input' output output'
 RunsForm false remaining contents options status input input' output output' =
-    (answer : Result Explained (Stopped (Cause ExplainFault))) × (status ≡ explaining_status answer)
-    × ExplainsAnswer options.first remaining answer input input'
+    (answer : Result Explained (Stopped (Cause TaskFault))) × (status ≡ explaining_status answer)
+    × ExplainsAnswer remaining answer input input'
 
 abbrev pub RunsExplain : {R W : Type 0} → (R → Option (List ℕ)) → (W → Option (List ℕ)) → ExplainOptions → ℕ
     → (input input' : Counted R) (output output' : Counted W) → Type 0

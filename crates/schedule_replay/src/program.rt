@@ -2,7 +2,7 @@ ghost use Rattle.std.specs.Prelude.{◌≡◌, ◌≢◌, ◌⊎◌, map, string
 ghost use Rattle.command_line.specs.declared.measure.MeasureOptions.{MeasureOptions};
 ghost use Rattle.command_line.specs.declared.arguments.Subcommand.TheVariants.{Measure};
 ghost use Rattle.schedule_replay.specs.Program.{EndsBefore, EndsUnread, Runs, RunsMeasure, RunsExplain};
-ghost use Rattle.schedule_replay.specs.Program.{check_status, status_of};
+ghost use Rattle.schedule_replay.specs.Program.{check_status, found_status, status_of};
 ghost use Rattle.command_line.specs.Arguments.{AsksNothing, HasHelpFlag, Names, NamesNothing};
 ghost use Rattle.capture_measure.specs.Measure.{measure_rules};
 ghost use Rattle.schedule_replay.specs.Inner.Allowed.{lines_allowed};
@@ -16,7 +16,7 @@ use crate::showing::show;
 use capture_measure::{Form, Wanted, measure};
 use command_line::{ExplainOptions, Invocation, MeasureOptions, Subcommand, parse};
 use exchange_check::Verdict;
-use exchange_explain::{Explained, explain, write_judgements};
+use exchange_explain::{Explained, Found, explain, write_judgements};
 use std::alloc::Global;
 use std::io::{Read, Write};
 use text_lines::Counted;
@@ -85,7 +85,7 @@ fn run<R: Read, W: Write, E: Write>(
     }
 }
 
-/// Explains a transcript, and answers the exit status, which is that of `check`.
+/// Explains a transcript or a schedule, and answers the exit status, which is that of `check` or of `replay`.
 fn run_explain<R: Read, W: Write, E: Write>(
     alloc: Global,
     options: ExplainOptions,
@@ -97,11 +97,13 @@ fn run_explain<R: Read, W: Write, E: Write>(
     ensures bounded { GivesWithin R.remaining (input_limit lines_limit) input.old input.new }
 {
     if options.json {
-        let answer = write_judgements(alloc, options.first, input, output);
-        return finish_check(errors, answer);
+        return match write_judgements(alloc, options.first, input, output) {
+            Ok(found) => found_status(found),
+            Err(stop) => report(errors, stop.into()),
+        };
     }
     match explain(alloc, options.first, input, output) {
-        Ok(Explained::Whole(verdict)) => finish_check(errors, Ok::<Verdict, Fault>(verdict)),
+        Ok(Explained::Whole(found)) => found_status(found),
         Ok(Explained::Flawed { line, what }) => report(
             errors,
             Fault {
@@ -110,6 +112,16 @@ fn run_explain<R: Read, W: Write, E: Write>(
             },
         ),
         Err(stop) => report(errors, stop.into()),
+    }
+}
+
+/// The exit status of `explain` over a whole input: that of `check` or of `replay`.
+fn found_status(found: Found) -> u8
+    ensures { result ≡ found_status found }
+{
+    match found {
+        Found::Transcript(Verdict::Accepted(_)) | Found::Schedule(_) => 0,
+        Found::Transcript(Verdict::Refused { .. }) => 1,
     }
 }
 
@@ -152,13 +164,13 @@ fn finish<F: Into<Fault>, E: Write>(errors: &mut E, answer: Result<u64, F>) -> u
 }
 
 /// Answers the exit status of `check`, and says its fault.
-fn finish_check<F: Into<Fault>, E: Write>(errors: &mut E, answer: Result<Verdict, F>) -> u8
+fn finish_check<E: Write>(errors: &mut E, answer: Result<Verdict, Fault>) -> u8
     ensures { result ≡ check_status answer }
 {
     match answer {
         Ok(Verdict::Accepted(_)) => 0,
         Ok(Verdict::Refused { .. }) => 1,
-        Err(fault) => report(errors, fault.into()),
+        Err(fault) => report(errors, fault),
     }
 }
 

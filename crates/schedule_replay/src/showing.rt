@@ -5,9 +5,9 @@ ghost use Rattle.schedule_reading.specs.Entry.{lines_limit};
 ghost use Rattle.schedule_replay.specs.Show.{IsAnswer, ShowsAnswer, StopsShowing, show_rules};
 ghost use Rattle.text_lines.specs.Lines.{input_limit, line_limit, GivesWithin};
 
-use crate::fault::{Fault, TaskFault};
-use crate::lines::{LINES_LIMIT, write_text};
+use crate::fault::Fault;
 use datagram_text::push_datagram;
+use schedule_reading::{LINES_LIMIT, TaskFault, write_text};
 use std::alloc::Global;
 use std::io::{Read, Write};
 use text_lines::{Counted, LINE_LIMIT, LineTask, answer_lines};
