@@ -4,6 +4,7 @@
 
 mod checking;
 mod fault;
+mod hints;
 pub mod laws;
 mod program;
 mod replaying;
