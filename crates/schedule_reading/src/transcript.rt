@@ -1,7 +1,10 @@
 //! A transcript, read and judged line by line.
-ghost use Rattle.std.specs.Prelude.{◌≡◌, ◌≢◌, ◌+◌, [], length, MatchOption, MatchResult, None};
+ghost use Rattle.std.specs.Prelude.{◌≡◌, ◌≢◌, ◌+◌, [], length, MatchOption, MatchResult, None, option_map};
+ghost use Rattle.event_codec.specs.Profile.{contents_of};
 ghost use Rattle.network_model.specs.Clash.{first_clash};
 ghost use Rattle.trace_model.specs.Verdict.{report_in, verdict};
+ghost use Rattle.exchange_check.specs.Exchange.{last_exchange};
+ghost use Rattle.exchange_check.specs.Message.{message_at};
 ghost use Rattle.schedule_lines.specs.declared.reading.transcript.TranscriptLine.TheVariants as recorded;
 ghost use Rattle.schedule_reading.specs.Transcript.{FaultsInTranscript, HasNoChecker, Takes};
 ghost use Rattle.schedule_reading.specs.Inner.Transcript.{Judges, StopsAt, TakesAt, judged_by};
@@ -9,7 +12,8 @@ ghost use Rattle.schedule_reading.specs.Inner.Transcript.{Judges, StopsAt, Takes
 use crate::entry::read_recorded;
 use crate::fault::TaskFault;
 use crate::stage::Stage;
-use exchange_check::{Checker, Judgement, Verdict};
+use event_codec::PortMessage;
+use exchange_check::{Checker, Exchange, Judgement, Verdict};
 use network_model::{Name, NodeSpec, Nodes, Report};
 use schedule_lines::TranscriptLine;
 use std::alloc::Global;
@@ -152,6 +156,27 @@ impl Transcript {
         match &self.stage {
             Stage::Nodes(nodes) => Some(nodes.as_slice()),
             Stage::Events(_) => None,
+        }
+    }
+
+    /// The lines that a report of the last event is of, where neither 701 nor 704 stands against the report.
+    pub fn exchange(&self, report: &Report) -> Option<Exchange>
+        ensures { result ≡ last_exchange self.now.nodes self.now.lines report.now }
+    {
+        match &self.stage {
+            Stage::Nodes(_) => None,
+            Stage::Events(checker) => checker.exchange(report),
+        }
+    }
+
+    /// The message that the event of this number makes, counted from 0, as its port or its clock writes it. None
+    /// where it makes no message, or counts for nothing by what was recorded of it.
+    pub fn message_at(&self, number: u64) -> Option<PortMessage>
+        ensures { option_map contents_of result ≡ message_at self.now.nodes self.now.lines number }
+    {
+        match &self.stage {
+            Stage::Nodes(_) => None,
+            Stage::Events(checker) => checker.message_at(number),
         }
     }
 
