@@ -8,6 +8,8 @@ ghost use Rattle.exchange_explain.specs.Inner.Explaining.{IsExplaining};
 
 use crate::flaws::Flaws;
 use crate::input::{Found, Input};
+use crate::record::Record;
+use crate::refusal::{Before, push_clash};
 use crate::report::{is_sound, push_head, push_results};
 use crate::tally::{Tally, push_found};
 use network_model::WorldRefusal;
@@ -42,6 +44,8 @@ struct Explaining {
     /// Whether only the first report that is refused is told.
     first: bool,
     tally: Tally,
+    /// The nodes, and what was recorded of events.
+    record: Record,
     /// What is told of the last line, in the one text that all share.
     text: String,
 }
@@ -101,6 +105,7 @@ impl Explaining {
         match self.input.take(self.alloc, line) {
             Ok(judged) => {
                 self.lines = number;
+                self.record.take(self.alloc, line, &self.input)?;
                 self.tell_report(judged)
             }
             Err(TaskFault::Memory) => Err(TaskFault::Memory),
@@ -130,7 +135,11 @@ impl Explaining {
     /// Tells the first fault, which is at this line.
     fn tell_fault(&mut self, number: u64, fault: TaskFault, line: &[u8]) -> Result<(), TaskFault> {
         let mut flaws = Flaws::new(number, fault, &self.input);
-        flaws.begin(self.alloc, line, &mut self.text)?;
+        let before = Before {
+            nodes: self.record.nodes(),
+            events: self.input.events(),
+        };
+        flaws.begin(self.alloc, before, line, &mut self.text)?;
         self.flaws = Some(flaws);
         Ok(())
     }
@@ -138,7 +147,7 @@ impl Explaining {
     /// Tells why the nodes, after which there is no event, are no network.
     fn tell_no_network(&mut self, why: WorldRefusal) -> Result<Explained, TaskFault> {
         let line = self.lines.checked_add(1).ok_or(TaskFault::Memory)?;
-        write!(&mut self.text, "{}: {why}\n", why.code())?;
+        push_clash(self.alloc, &mut self.text, self.record.nodes(), why)?;
         Ok(Explained::Flawed {
             line,
             what: TaskFault::World(why),
@@ -155,7 +164,7 @@ impl Explaining {
     /// Tells what there is to tell at the end.
     fn tell_end(&mut self) -> Result<Explained, TaskFault> {
         if let Some(flaws) = &self.flaws {
-            flaws.push_end(&mut self.text)?;
+            flaws.push_end(self.alloc, &mut self.text)?;
             return Ok(Explained::Flawed {
                 line: flaws.line,
                 what: flaws.what,
@@ -216,6 +225,7 @@ pub fn explain<R: Read, W: Write>(
         flaws: None,
         first,
         tally: Tally::new(),
+        record: Record::new(alloc),
         text: String::new(alloc),
     };
     let answer = answer_lines(&mut task, input, output);

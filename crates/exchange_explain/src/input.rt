@@ -8,6 +8,7 @@ ghost use Rattle.exchange_explain.specs.Input.{BeginsSchedule, Happens, Takes, F
 
 use crate::schedule::Scheduled;
 use exchange_check::Verdict;
+use network_model::Event;
 use schedule_lines::Line;
 use schedule_reading::{Judged, TaskFault, Transcript, read_entry};
 use std::alloc::Global;
@@ -67,6 +68,14 @@ impl Input {
                 _ => false,
             },
             Input::Schedule(_) => false,
+        }
+    }
+
+    /// The events of a schedule so far, the oldest first; none of a transcript.
+    pub(crate) fn events(&self) -> &[Event] {
+        match self {
+            Input::Transcript(_) => &[],
+            Input::Schedule(scheduled) => scheduled.events(),
         }
     }
 

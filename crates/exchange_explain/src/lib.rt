@@ -4,13 +4,17 @@
 
 mod explaining;
 mod flaws;
+mod happening;
 mod input;
 mod json;
 mod judgements;
 mod moments;
+mod record;
+mod refusal;
 mod report;
 mod schedule;
 mod tally;
+mod way;
 
 pub use explaining::{Explained, explain};
 pub use input::Found;

@@ -93,7 +93,9 @@ pub(crate) fn push_found(text: &mut String, found: Found) -> Result<(), AllocErr
         Found::Transcript(Verdict::Refused { line, why }) => {
             write!(text, "verdict: refused event {line}: {}\n", why.code())
         }
-        Found::Schedule(1) => text.push_str("a schedule of 1 event, which happens; 'ptpx replay' tells what comes of it\n"),
+        Found::Schedule(1) => text.push_str(
+            "a schedule of 1 event, which happens; 'ptpx replay' tells what comes of it\n",
+        ),
         Found::Schedule(count) => write!(
             text,
             "a schedule of {count} events, which all happen; 'ptpx replay' tells what comes of them\n"
