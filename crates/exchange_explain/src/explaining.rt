@@ -6,11 +6,13 @@ ghost use Rattle.text_lines.specs.Lines.{input_limit, GivesWithin};
 ghost use Rattle.exchange_explain.specs.Explained.{Seen, explain_rules, ExplainsAnswer, HasFailedReading};
 ghost use Rattle.exchange_explain.specs.Inner.Explaining.{IsExplaining};
 
+use crate::case::Case;
 use crate::flaws::Flaws;
 use crate::input::{Found, Input};
+use crate::octets::Differing;
 use crate::record::Record;
 use crate::refusal::{Before, push_clash};
-use crate::report::{is_sound, push_head, push_results};
+use crate::report::{is_sound, push_sound};
 use crate::tally::{Tally, push_found};
 use network_model::WorldRefusal;
 use schedule_reading::{Judged, LINES_LIMIT, TaskFault, Transcript, write_text};
@@ -46,6 +48,7 @@ struct Explaining {
     tally: Tally,
     /// The nodes, and what was recorded of events.
     record: Record,
+    differing: Differing,
     /// What is told of the last line, in the one text that all share.
     text: String,
 }
@@ -105,7 +108,7 @@ impl Explaining {
         match self.input.take(self.alloc, line) {
             Ok(judged) => {
                 self.lines = number;
-                self.record.take(self.alloc, line, &self.input)?;
+                self.keep(line)?;
                 self.tell_report(judged)
             }
             Err(TaskFault::Memory) => Err(TaskFault::Memory),
@@ -114,6 +117,17 @@ impl Explaining {
                 self.tell_fault(number, fault, line)
             }
         }
+    }
+
+    /// Keeps what was recorded of one more line, and counts its message.
+    fn keep(&mut self, line: &[u8]) -> Result<(), TaskFault> {
+        self.record.take(self.alloc, line, &self.input)?;
+        if let Input::Transcript(transcript) = &self.input
+            && let Some(number) = transcript.events().checked_sub(1)
+        {
+            self.differing.count(transcript, &self.record, number);
+        }
+        Ok(())
     }
 
     /// Tells what a report is judged to be, and where it is refused its exchange.
@@ -125,10 +139,26 @@ impl Explaining {
         if self.first && !self.input.is_first_refused(judged.event) {
             return Ok(());
         }
-        push_head(&mut self.text, &judged)?;
-        if !is_sound(&judged) {
-            push_results(&mut self.text, &judged)?;
+        if is_sound(&judged) {
+            return Ok(push_sound(&mut self.text, &judged)?);
         }
+        self.tell_refused(&judged)
+    }
+
+    /// Tells what the reasons against a report met.
+    fn tell_refused(&mut self, judged: &Judged) -> Result<(), TaskFault> {
+        let Input::Transcript(transcript) = &self.input else {
+            return Ok(());
+        };
+        let exchange = transcript.exchange(&judged.report);
+        let case = Case {
+            alloc: self.alloc,
+            transcript,
+            record: &self.record,
+            judged,
+            exchange: exchange.as_ref(),
+        };
+        case.push(&mut self.text)?;
         Ok(())
     }
 
@@ -173,6 +203,9 @@ impl Explaining {
         match self.input.found() {
             Ok(found) => {
                 self.tally.push(&mut self.text)?;
+                if self.tally.has_octets() {
+                    self.differing.push(&mut self.text)?;
+                }
                 push_found(&mut self.text, found)?;
                 Ok(Explained::Whole(found))
             }
@@ -226,6 +259,7 @@ pub fn explain<R: Read, W: Write>(
         first,
         tally: Tally::new(),
         record: Record::new(alloc),
+        differing: Differing::new(),
         text: String::new(alloc),
     };
     let answer = answer_lines(&mut task, input, output);

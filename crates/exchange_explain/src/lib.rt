@@ -2,6 +2,7 @@
 //! programs, a line a report.
 #![tactic(auto)]
 
+mod case;
 mod explaining;
 mod flaws;
 mod happening;
@@ -9,10 +10,15 @@ mod input;
 mod json;
 mod judgements;
 mod moments;
+mod naming;
+mod octets;
+mod pairing;
+mod readings;
 mod record;
 mod refusal;
 mod report;
 mod schedule;
+mod story;
 mod tally;
 mod way;
 
