@@ -22,11 +22,9 @@ impl Case<'_> {
     /// Appends the reasons against the report, each with what it met, and then the report's lines and results.
     pub(crate) fn push(&self, text: &mut String) -> Result<(), AllocError> {
         push_begin(text, self.judged)?;
-        let mut lead = "refused, ";
-        for why in self.judged.judgement.reasons.as_slice() {
-            push_reason(text, lead, *why)?;
+        for (index, why) in self.judged.judgement.reasons.as_slice().iter().enumerate() {
+            push_reason(text, index, *why)?;
             self.push_met(text, *why)?;
-            lead = "  and ";
         }
         if let Some(exchange) = self.exchange {
             push_exchange(text, self.record.nodes().len() as u64, exchange)?;

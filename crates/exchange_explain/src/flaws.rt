@@ -107,6 +107,7 @@ impl Flaws {
         ensures { (self.new.line ≡ self.old.line) × (self.new.what ≡ self.old.what) }
     {
         self.foreign = true;
+        self.empty = false;
         write!(text, "this is {kind}\n")
     }
 

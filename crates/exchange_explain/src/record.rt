@@ -130,8 +130,10 @@ impl Record {
     }
 
     fn push_node(&mut self, node: NodeSpec) -> Result<(), AllocError> {
+        let NodeSpec { name, kind } = node;
+        let site = Site::new(kind);
         self.nodes.push(node)?;
-        self.sites.insert(node.name, Site::new(node.kind))?;
+        self.sites.insert(name, site)?;
         Ok(())
     }
 

@@ -55,19 +55,22 @@ fn push_no_node(text: &mut String, nodes: &[NodeSpec], event: &Event) -> Result<
     push_names(text, nodes)
 }
 
+/// What stands before the name of a node in a list.
+fn lead_of(index: usize, count: usize) -> &'static str {
+    match (index, count) {
+        (0, 1) => "there is ",
+        (0, _) => "there are ",
+        _ => ", ",
+    }
+}
+
 /// Appends the names of nodes.
 fn push_names(text: &mut String, nodes: &[NodeSpec]) -> Result<(), AllocError> {
     if nodes.is_empty() {
         return text.push_str("there are no nodes");
     }
-    let mut lead = if nodes.len() == 1 {
-        "there is "
-    } else {
-        "there are "
-    };
-    for node in nodes.iter().take(NAMES_MOST) {
-        write!(text, "{lead}{}", node.name.text())?;
-        lead = ", ";
+    for (index, node) in nodes.iter().take(NAMES_MOST).enumerate() {
+        write!(text, "{}{}", lead_of(index, nodes.len()), node.name.text())?;
     }
     match nodes.len().checked_sub(NAMES_MOST) {
         None | Some(0) => Ok(()),

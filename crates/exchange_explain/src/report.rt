@@ -68,12 +68,9 @@ pub(crate) fn push_sound(text: &mut String, judged: &Judged) -> Result<(), Alloc
     text.push_str("sound\n")
 }
 
-/// Appends a reason, after what leads to it in its line.
-pub(crate) fn push_reason(
-    text: &mut String,
-    lead: &'static str,
-    why: Why,
-) -> Result<(), AllocError> {
+/// Appends one of the reasons, after what leads to it in its line.
+pub(crate) fn push_reason(text: &mut String, index: usize, why: Why) -> Result<(), AllocError> {
+    let lead = if index == 0 { "refused, " } else { "  and " };
     write!(text, "{lead}{}\n", Reason(why))
 }
 
