@@ -1,15 +1,20 @@
 //! What is wrong with a transcript or a schedule, for a person.
-ghost use Rattle.std.specs.Prelude.{MatchResult};
+ghost use Rattle.std.specs.Prelude.{◌≡◌, ◌+◌, ℕ, List, MatchResult, OnOk, Some, None, option_map};
+ghost use Rattle.std.specs.Io.KnownBytes.{Appends};
+ghost use Rattle.schedule_reading.specs.declared.fault.TaskFault.TheVariants.{World};
 ghost use Rattle.schedule_reading.specs.Entry.{lines_limit};
-ghost use Rattle.text_lines.specs.Counted.{HasNotFailed};
+ghost use Rattle.schedule_reading.specs.Fault.{is_write};
+ghost use Rattle.exchange_explain.specs.declared.explaining.Explained.TheVariants.{Flawed};
+ghost use Rattle.text_lines.specs.Counted.{device_of, HasFailedIf, HasNotFailed};
 ghost use Rattle.text_lines.specs.Lines.{input_limit, GivesWithin};
-ghost use Rattle.exchange_explain.specs.Explained.{Seen, explain_rules, ExplainsAnswer, HasFailedReading};
-ghost use Rattle.exchange_explain.specs.Inner.Explaining.{IsExplaining};
+ghost use Rattle.exchange_explain.specs.Explained.{Seen, Sees, SeesFirst, EndsIn, explain_rules, ExplainsAnswer};
+ghost use Rattle.exchange_explain.specs.Explained.{HasFailedReading};
+ghost use Rattle.exchange_explain.specs.Input.{lines_in};
+ghost use Rattle.exchange_explain.specs.Inner.Explaining.{IsExplaining, IsSeenAlike, fault_kept};
 
 use crate::case::Case;
 use crate::flaws::Flaws;
 use crate::input::{Found, Input};
-use crate::octets::Differing;
 use crate::record::Record;
 use crate::refusal::{Before, push_clash};
 use crate::report::{is_sound, push_sound};
@@ -39,8 +44,6 @@ pub enum Explained {
 struct Explaining {
     alloc: Global,
     input: Input,
-    /// How many lines were read.
-    lines: u64,
     /// The first fault, and what was seen of lines from there on.
     flaws: Option<Flaws>,
     /// Whether only the first report that is refused is told.
@@ -48,7 +51,6 @@ struct Explaining {
     tally: Tally,
     /// The nodes, and what was recorded of events.
     record: Record,
-    differing: Differing,
     /// What is told of the last line, in the one text that all share.
     text: String,
 }
@@ -90,7 +92,14 @@ impl LineTask for Explaining {
 
 impl Explaining {
     /// Writes what is to be told, where there is something.
-    fn write<W: Write>(&self, output: &mut Counted<W>) -> Result<(), TaskFault> {
+    fn write<W: Write>(&self, output: &mut Counted<W>) -> Result<(), TaskFault>
+        ensures written { MatchResult result
+            (λ _. (written : List ℕ) × Appends (W.contents (device_of output.old)) (W.contents (device_of output.new)) written)
+            (λ fault. fault ≡ TaskFault.Write) }
+        ensures failures { MatchResult result
+            (λ _. HasNotFailed output.old output.new)
+            (λ fault. HasFailedIf (is_write fault) output.old output.new) }
+    {
         match self.text.as_str() {
             "" => Ok(()),
             text => write_text(text, output),
@@ -98,55 +107,59 @@ impl Explaining {
     }
 
     /// Tells what there is to tell of one more line.
-    fn tell_line(&mut self, line: &[u8]) -> Result<(), TaskFault> {
-        let number = self.lines.checked_add(1).ok_or(TaskFault::Memory)?;
-        if let Some(flaws) = &mut self.flaws {
-            flaws.look(self.alloc, number, line, &mut self.text)?;
-            self.lines = number;
-            return Ok(());
-        }
-        match self.input.take(self.alloc, line) {
-            Ok(judged) => {
-                self.lines = number;
-                self.keep(line)?;
-                self.tell_report(judged)
-            }
-            Err(TaskFault::Memory) => Err(TaskFault::Memory),
-            Err(fault) => {
-                self.lines = number;
-                self.tell_fault(number, fault, line)
-            }
+    fn tell_line(&mut self, line: &[u8]) -> Result<(), TaskFault>
+        ensures { (seen : Seen) → IsExplaining self.old seen → MatchResult result
+            (λ _. (later : Seen) × IsExplaining self.new later × Sees line.now seen.fault seen later)
+            (λ fault. fault ≡ TaskFault.Memory) }
+    {
+        match &mut self.flaws {
+            Some(flaws) => Ok(flaws.look(self.alloc, line, &mut self.text)?),
+            None => self.take_line(line),
         }
     }
 
-    /// Keeps what was recorded of one more line, and counts its message.
-    fn keep(&mut self, line: &[u8]) -> Result<(), TaskFault> {
-        self.record.take(self.alloc, line, &self.input)?;
-        if let Input::Transcript(transcript) = &self.input
-            && let Some(number) = transcript.events().checked_sub(1)
-        {
-            self.differing.count(transcript, &self.record, number);
+    /// Takes a line where none before it has a fault, and tells its report, or its fault.
+    fn take_line(&mut self, line: &[u8]) -> Result<(), TaskFault>
+        ensures { self.old.flaws ≡ None → MatchResult result
+            (λ _. SeesFirst line.now self.old.input self.new.input (option_map fault_kept self.new.flaws))
+            (λ fault. fault ≡ TaskFault.Memory) }
+    {
+        match self.input.take(self.alloc, line) {
+            Ok(judged) => Ok(self.tell_taken(line, judged)?),
+            Err(TaskFault::Memory) => Err(TaskFault::Memory),
+            Err(fault) => self.tell_fault(fault, line),
         }
-        Ok(())
+    }
+
+    /// Keeps what was recorded of a line that the input took, and tells its report.
+    fn tell_taken(&mut self, line: &[u8], judged: Option<Judged>) -> Result<(), AllocError>
+        ensures { IsSeenAlike self.old self.new }
+    {
+        self.record.take(self.alloc, line, &self.input)?;
+        match judged {
+            Some(judged) => self.tell_report(&judged),
+            None => Ok(()),
+        }
     }
 
     /// Tells what a report is judged to be, and where it is refused its exchange.
-    fn tell_report(&mut self, judged: Option<Judged>) -> Result<(), TaskFault> {
-        let Some(judged) = judged else {
-            return Ok(());
-        };
+    fn tell_report(&mut self, judged: &Judged) -> Result<(), AllocError>
+        ensures { IsSeenAlike self.old self.new }
+    {
         self.tally.count(&judged.judgement.reasons);
         if self.first && !self.input.is_first_refused(judged.event) {
             return Ok(());
         }
-        if is_sound(&judged) {
-            return Ok(push_sound(&mut self.text, &judged)?);
+        if is_sound(judged) {
+            return push_sound(&mut self.text, judged);
         }
-        self.tell_refused(&judged)
+        self.tell_refused(judged)
     }
 
     /// Tells what the reasons against a report met.
-    fn tell_refused(&mut self, judged: &Judged) -> Result<(), TaskFault> {
+    fn tell_refused(&mut self, judged: &Judged) -> Result<(), AllocError>
+        ensures { IsSeenAlike self.old self.new }
+    {
         let Input::Transcript(transcript) = &self.input else {
             return Ok(());
         };
@@ -158,13 +171,17 @@ impl Explaining {
             judged,
             exchange: exchange.as_ref(),
         };
-        case.push(&mut self.text)?;
-        Ok(())
+        case.push(&mut self.text)
     }
 
     /// Tells the first fault, which is at this line.
-    fn tell_fault(&mut self, number: u64, fault: TaskFault, line: &[u8]) -> Result<(), TaskFault> {
-        let mut flaws = Flaws::new(number, fault, &self.input);
+    fn tell_fault(&mut self, fault: TaskFault, line: &[u8]) -> Result<(), TaskFault>
+        ensures { MatchResult result
+            (λ _. (self.new.input ≡ self.old.input)
+            × (option_map fault_kept self.new.flaws ≡ Some (lines_in self.old.input + 1, fault)))
+            (λ stop. stop ≡ TaskFault.Memory) }
+    {
+        let mut flaws = Flaws::new(self.input.next_line()?, fault, &self.input);
         let before = Before {
             nodes: self.record.nodes(),
             events: self.input.events(),
@@ -174,9 +191,40 @@ impl Explaining {
         Ok(())
     }
 
+    /// Tells what there is to tell at the end.
+    fn tell_end(&mut self) -> Result<Explained, TaskFault>
+        ensures { (seen : Seen) → IsExplaining self.old seen → MatchResult result
+            (λ answer. EndsIn seen.input seen.fault answer)
+            (λ fault. fault ≡ TaskFault.Memory) }
+    {
+        if let Some(flaws) = &self.flaws {
+            flaws.push_end(self.alloc, &mut self.text)?;
+            return Ok(Explained::Flawed {
+                line: flaws.line,
+                what: flaws.what,
+            });
+        }
+        match self.input.found() {
+            Ok(found) => {
+                self.tally.push(&mut self.text)?;
+                if self.tally.has_octets() {
+                    self.record.push_differing(&mut self.text)?;
+                }
+                push_found(&mut self.text, found)?;
+                Ok(Explained::Whole(found))
+            }
+            Err(TaskFault::World(why)) => self.tell_no_network(why),
+            Err(_) => Err(TaskFault::Memory),
+        }
+    }
+
     /// Tells why the nodes, after which there is no event, are no network.
-    fn tell_no_network(&mut self, why: WorldRefusal) -> Result<Explained, TaskFault> {
-        let line = self.lines.checked_add(1).ok_or(TaskFault::Memory)?;
+    fn tell_no_network(&mut self, why: WorldRefusal) -> Result<Explained, TaskFault>
+        ensures { MatchResult result
+            (λ answer. answer ≡ Flawed (lines_in self.old.input + 1) (World why))
+            (λ fault. fault ≡ TaskFault.Memory) }
+    {
+        let line = self.input.next_line()?;
         push_clash(self.alloc, &mut self.text, self.record.nodes(), why)?;
         Ok(Explained::Flawed {
             line,
@@ -189,29 +237,6 @@ impl Explaining {
         self.text.clear();
         let _ = push_unread(&mut self.text, line, what);
         let _ = self.write(output);
-    }
-
-    /// Tells what there is to tell at the end.
-    fn tell_end(&mut self) -> Result<Explained, TaskFault> {
-        if let Some(flaws) = &self.flaws {
-            flaws.push_end(self.alloc, &mut self.text)?;
-            return Ok(Explained::Flawed {
-                line: flaws.line,
-                what: flaws.what,
-            });
-        }
-        match self.input.found() {
-            Ok(found) => {
-                self.tally.push(&mut self.text)?;
-                if self.tally.has_octets() {
-                    self.differing.push(&mut self.text)?;
-                }
-                push_found(&mut self.text, found)?;
-                Ok(Explained::Whole(found))
-            }
-            Err(TaskFault::World(why)) => self.tell_no_network(why),
-            Err(fault) => Err(fault),
-        }
     }
 }
 
@@ -254,12 +279,10 @@ pub fn explain<R: Read, W: Write>(
     let mut task = Explaining {
         alloc,
         input: Input::Transcript(Transcript::new(alloc)),
-        lines: 0,
         flaws: None,
         first,
         tally: Tally::new(),
         record: Record::new(alloc),
-        differing: Differing::new(),
         text: String::new(alloc),
     };
     let answer = answer_lines(&mut task, input, output);

@@ -29,6 +29,8 @@ pub(crate) struct Flaws {
     count: u64,
     /// The place that the next event is to have.
     events: u64,
+    /// The last line that was looked at.
+    last: u64,
 }
 
 impl Flaws {
@@ -51,6 +53,7 @@ impl Flaws {
             form,
             count: 0,
             events,
+            last: line,
         }
     }
 
@@ -115,12 +118,12 @@ impl Flaws {
     pub(crate) fn look(
         &mut self,
         alloc: Global,
-        number: u64,
         line: &[u8],
         text: &mut String,
     ) -> Result<(), AllocError>
         ensures { (self.new.line ≡ self.old.line) × (self.new.what ≡ self.old.what) }
     {
+        self.last = self.last.saturating_add(1);
         if self.foreign {
             return Ok(());
         }
@@ -130,7 +133,7 @@ impl Flaws {
             }
             self.look_at_empty(alloc, text)?;
         }
-        self.look_at(alloc, number, line, text)
+        self.look_at(alloc, self.last, line, text)
     }
 
     /// Appends what is wrong with a first line that is empty.

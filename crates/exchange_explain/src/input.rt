@@ -1,10 +1,10 @@
 //! What the lines of an input are: a transcript or a schedule.
-ghost use Rattle.std.specs.Prelude.{◌≡◌, ◌≢◌, ◌⊎◌, [], MatchOption, MatchResult};
+ghost use Rattle.std.specs.Prelude.{◌≡◌, ◌≢◌, ◌⊎◌, ◌+◌, [], MatchOption, MatchResult};
 ghost use Rattle.network_model.specs.declared.event.Event.{Event};
 ghost use Rattle.world_model.specs.State.{new_state};
 ghost use Rattle.schedule_reading.specs.Schedule.{FaultsIn};
 ghost use Rattle.exchange_explain.specs.Judgements.{is_first_refused};
-ghost use Rattle.exchange_explain.specs.Input.{BeginsSchedule, Happens, Takes, Faults, IsFound, FaultsAtEnd};
+ghost use Rattle.exchange_explain.specs.Input.{BeginsSchedule, Happens, Takes, Faults, IsFound, FaultsAtEnd, lines_in};
 
 use crate::schedule::Scheduled;
 use exchange_check::Verdict;
@@ -69,6 +69,20 @@ impl Input {
             },
             Input::Schedule(_) => false,
         }
+    }
+
+    /// The number of the next line, counted from 1. More lines than can be counted are refused as want of memory.
+    pub(crate) fn next_line(&self) -> Result<u64, TaskFault>
+        ensures { MatchResult result
+            (λ line. line ≡ lines_in self.now + 1)
+            (λ fault. fault ≡ TaskFault.Memory) }
+    {
+        let (nodes, events) = match self {
+            Input::Transcript(transcript) => (transcript.nodes(), transcript.events()),
+            Input::Schedule(scheduled) => (scheduled.nodes(), scheduled.len()),
+        };
+        let lines = nodes.checked_add(events).ok_or(TaskFault::Memory)?;
+        lines.checked_add(1).ok_or(TaskFault::Memory)
     }
 
     /// The events of a schedule so far, the oldest first; none of a transcript.

@@ -160,18 +160,29 @@ fn octets_made(recorded: &Recorded) -> Option<&[u8]> {
     }
 }
 
-/// How the octets of the message that an event made differ from those that are written, which message this is.
-fn difference_at(
+/// A message, and how the octets that an event made differ from it.
+#[derive(Clone, Copy)]
+pub(crate) struct Compared {
+    message: PortMessage,
+    difference: Option<Difference>,
+}
+
+/// How the octets that an event made differ from those of the message that is written; none where it makes none.
+pub(crate) fn difference_at(
     transcript: &Transcript,
     record: &Record,
     number: u64,
-) -> Option<(Option<Difference>, PortMessage)> {
+) -> Option<Compared> {
     let found = octets_made(record.at(number)?)?;
     let message = transcript.message_at(number)?;
     let mut room = [0; 54];
     let length = encode(&message.message(), &mut room).ok()?;
     let wanted = room.get(..length)?;
-    Some((Difference::of(found, wanted), message))
+    let difference = Difference::of(found, wanted);
+    Some(Compared {
+        message,
+        difference,
+    })
 }
 
 impl Case<'_> {
@@ -206,7 +217,12 @@ impl Case<'_> {
         told: &mut Told,
         number: u64,
     ) -> Result<(), AllocError> {
-        let Some((Some(difference), message)) = difference_at(self.transcript, self.record, number)
+        let Some(
+            Compared {
+                message,
+                difference: Some(difference),
+            },
+        ) = difference_at(self.transcript, self.record, number)
         else {
             return Ok(());
         };
@@ -241,9 +257,9 @@ impl Differing {
         }
     }
 
-    /// One more event.
-    pub(crate) fn count(&mut self, transcript: &Transcript, record: &Record, number: u64) {
-        let Some((difference, _)) = difference_at(transcript, record, number) else {
+    /// One more event, whose message differs so, where it makes one.
+    pub(crate) fn count(&mut self, found: Option<Compared>) {
+        let Some(Compared { difference, .. }) = found else {
             return;
         };
         self.messages = self.messages.saturating_add(1);
@@ -272,8 +288,8 @@ impl Differing {
         }
         write!(
             text,
-            "  in one nibble alone: {minor_version}; minorVersionPTP is 0, as real devices of IEEE 1588-2008 write it, where \
-             IEEE 1588-2019 has 1\n"
+            "  in one nibble alone: {minor_version}; minorVersionPTP is 0, as real devices of IEEE 1588-2008 write it, \
+             where IEEE 1588-2019 has 1\n"
         )
     }
 }

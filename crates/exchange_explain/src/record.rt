@@ -1,6 +1,7 @@
 //! What was recorded of the events of a transcript, for what is asked of it when a report is refused.
 
 use crate::input::Input;
+use crate::octets::{Differing, difference_at};
 use network_model::{Event, Name, NodeKind, NodeSpec};
 use ptp_units::Seq;
 use schedule_lines::TranscriptLine;
@@ -67,6 +68,8 @@ pub(crate) struct Record {
     sites: HashMap<Name, Site>,
     /// By the number that a Leave names as its Enter's. Whoever writes lines picks these, so they aren't hashed.
     leaves: BTreeMap<u64, Leaves>,
+    /// How many messages have other octets than are written.
+    differing: Differing,
 }
 
 impl Site {
@@ -108,6 +111,7 @@ impl Record {
             events: Vec::new(alloc),
             sites: HashMap::new(alloc),
             leaves: BTreeMap::new(alloc),
+            differing: Differing::new(),
         }
     }
 
@@ -118,12 +122,17 @@ impl Record {
         line: &[u8],
         input: &Input,
     ) -> Result<(), AllocError> {
-        if let Input::Schedule(_) = input {
+        let Input::Transcript(transcript) = input else {
             return Ok(());
-        }
+        };
         match read_recorded(alloc, line) {
             Ok(TranscriptLine::Node(node)) => self.push_node(node),
-            Ok(TranscriptLine::Event { line, .. }) => self.push_event(line),
+            Ok(TranscriptLine::Event { number, line }) => {
+                self.push_event(line)?;
+                let found = difference_at(transcript, self, number);
+                self.differing.count(found);
+                Ok(())
+            }
             Err(TaskFault::Memory) => Err(AllocError),
             Err(_) => Ok(()),
         }
@@ -197,6 +206,11 @@ impl Record {
         };
         self.leaves.insert(transit, leaves)?;
         Ok(())
+    }
+
+    /// Appends how many messages have other octets than are written.
+    pub(crate) fn push_differing(&self, text: &mut String) -> Result<(), AllocError> {
+        self.differing.push(text)
     }
 
     /// What a node is.

@@ -18,12 +18,14 @@ use world_model::World;
 #[derive(Drop)]
 pub(crate) struct Scheduled {
     world: World,
+    /// How many nodes it has.
+    nodes: u64,
     /// These events, the oldest first.
     events: Vec<Event>,
 }
 
 impl Model for Scheduled {
-    ghost use Rattle.std.specs.Prelude.{◌≡◌, ◌≢◌, [], None};
+    ghost use Rattle.std.specs.Prelude.{◌≡◌, ◌≢◌, [], length, None};
     ghost use Rattle.network_model.specs.Clash.{first_clash};
     ghost use Rattle.world_model.specs.State.{State};
 
@@ -31,7 +33,8 @@ impl Model for Scheduled {
 
     ghost view = { λ s. s.world };
 
-    ghost invariant = { λ s. (first_clash s.world.network ≡ None) × (s.world.run ≢ []) };
+    ghost invariant = { λ s. (first_clash s.world.network ≡ None) × (s.world.run ≢ [])
+        × (s.nodes ≡ length s.world.network) };
 }
 
 impl Scheduled {
@@ -47,7 +50,11 @@ impl Scheduled {
     {
         let world = first_world(alloc, nodes, &event)?;
         let events = one_event(alloc, event)?;
-        Ok(Scheduled { world, events })
+        Ok(Scheduled {
+            world,
+            nodes: nodes.len() as u64,
+            events,
+        })
     }
 
     /// One more event.
@@ -85,6 +92,13 @@ impl Scheduled {
         ensures { result ≡ length self.now.run }
     {
         self.world.len()
+    }
+
+    /// How many nodes there are.
+    pub(crate) fn nodes(&self) -> u64
+        ensures { result ≡ length self.now.network }
+    {
+        self.nodes
     }
 
     /// These events, the oldest first.

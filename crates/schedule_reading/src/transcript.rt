@@ -1,10 +1,10 @@
 //! A transcript, read and judged line by line.
 ghost use Rattle.std.specs.Prelude.{◌≡◌, ◌≢◌, ◌+◌, [], length, MatchOption, MatchResult, None, option_map};
-ghost use Rattle.event_codec.specs.Profile.{contents_of};
 ghost use Rattle.network_model.specs.Clash.{first_clash};
-ghost use Rattle.trace_model.specs.Verdict.{report_in, verdict};
+ghost use Rattle.event_codec.specs.Profile.{contents_of};
 ghost use Rattle.exchange_check.specs.Exchange.{last_exchange};
 ghost use Rattle.exchange_check.specs.Message.{message_at};
+ghost use Rattle.trace_model.specs.Verdict.{report_in, verdict};
 ghost use Rattle.schedule_lines.specs.declared.reading.transcript.TranscriptLine.TheVariants as recorded;
 ghost use Rattle.schedule_reading.specs.Transcript.{FaultsInTranscript, HasNoChecker, Takes};
 ghost use Rattle.schedule_reading.specs.Inner.Transcript.{Judges, StopsAt, TakesAt, judged_by};
@@ -159,7 +159,7 @@ impl Transcript {
         }
     }
 
-    /// The lines that a report of the last event is of, where neither 701 nor 704 stands against the report.
+    /// The lines that a report of the last event is of, where they are there and their journeys can be followed.
     pub fn exchange(&self, report: &Report) -> Option<Exchange>
         ensures { result ≡ last_exchange self.now.nodes self.now.lines report.now }
     {
@@ -169,8 +169,8 @@ impl Transcript {
         }
     }
 
-    /// The message that the event of this number makes, counted from 0, as its port or its clock writes it. None
-    /// where it makes no message, or counts for nothing by what was recorded of it.
+    /// The message that the event of this number makes, by the standard and by what its line says that the clock read;
+    /// none where it makes none or its line doesn't count.
     pub fn message_at(&self, number: u64) -> Option<PortMessage>
         ensures { option_map contents_of result ≡ message_at self.now.nodes self.now.lines number }
     {
