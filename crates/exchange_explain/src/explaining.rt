@@ -206,9 +206,8 @@ impl Explaining {
         }
         match self.input.found() {
             Ok(found) => {
-                self.tally.push(&mut self.text)?;
-                if self.tally.has_octets() {
-                    self.record.push_differing(&mut self.text)?;
+                if let Found::Transcript(_) = found {
+                    self.push_tally()?;
                 }
                 push_found(&mut self.text, found)?;
                 Ok(Explained::Whole(found))
@@ -216,6 +215,17 @@ impl Explaining {
             Err(TaskFault::World(why)) => self.tell_no_network(why),
             Err(_) => Err(TaskFault::Memory),
         }
+    }
+
+    /// Appends how many reports there are, and where octets stand against one, how many messages have other ones.
+    fn push_tally(&mut self) -> Result<(), AllocError>
+        ensures { IsSeenAlike self.old self.new }
+    {
+        self.tally.push(&mut self.text)?;
+        if self.tally.has_octets() {
+            self.record.push_differing(&mut self.text)?;
+        }
+        Ok(())
     }
 
     /// Tells why the nodes, after which there is no event, are no network.
