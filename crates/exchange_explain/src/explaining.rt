@@ -12,9 +12,12 @@ ghost use Rattle.exchange_explain.specs.Explained.{HasFailedReading};
 ghost use Rattle.exchange_explain.specs.Input.{lines_in};
 ghost use Rattle.exchange_explain.specs.Inner.Explaining.{IsExplaining, IsSeenAlike, fault_kept};
 
+use crate::case::Case;
 use crate::flaws::Flaws;
 use crate::input::{Found, Input};
-use crate::report::{is_sound, push_head, push_results};
+use crate::record::Record;
+use crate::refusal::{Before, push_clash};
+use crate::report::{is_sound, push_sound};
 use crate::tally::{Tally, push_found};
 use network_model::WorldRefusal;
 use schedule_reading::{Judged, LINES_LIMIT, TaskFault, Transcript, write_text};
@@ -46,6 +49,8 @@ struct Explaining {
     /// Whether only the first report that is refused is told.
     first: bool,
     tally: Tally,
+    /// The nodes, and what was recorded of events.
+    record: Record,
     /// What is told of the last line, in the one text that all share.
     text: String,
 }
@@ -120,10 +125,20 @@ impl Explaining {
             (λ fault. fault ≡ TaskFault.Memory) }
     {
         match self.input.take(self.alloc, line) {
-            Ok(Some(judged)) => Ok(self.tell_report(&judged)?),
-            Ok(None) => Ok(()),
+            Ok(judged) => Ok(self.tell_taken(line, judged)?),
             Err(TaskFault::Memory) => Err(TaskFault::Memory),
             Err(fault) => self.tell_fault(fault, line),
+        }
+    }
+
+    /// Keeps what was recorded of a line that the input took, and tells its report.
+    fn tell_taken(&mut self, line: &[u8], judged: Option<Judged>) -> Result<(), AllocError>
+        ensures { IsSeenAlike self.old self.new }
+    {
+        self.record.take(self.alloc, line, &self.input)?;
+        match judged {
+            Some(judged) => self.tell_report(&judged),
+            None => Ok(()),
         }
     }
 
@@ -135,11 +150,28 @@ impl Explaining {
         if self.first && !self.input.is_first_refused(judged.event) {
             return Ok(());
         }
-        push_head(&mut self.text, judged)?;
-        if !is_sound(judged) {
-            push_results(&mut self.text, judged)?;
+        if is_sound(judged) {
+            return push_sound(&mut self.text, judged);
         }
-        Ok(())
+        self.tell_refused(judged)
+    }
+
+    /// Tells what the reasons against a report met.
+    fn tell_refused(&mut self, judged: &Judged) -> Result<(), AllocError>
+        ensures { IsSeenAlike self.old self.new }
+    {
+        let Input::Transcript(transcript) = &self.input else {
+            return Ok(());
+        };
+        let exchange = transcript.exchange(&judged.report);
+        let case = Case {
+            alloc: self.alloc,
+            transcript,
+            record: &self.record,
+            judged,
+            exchange: exchange.as_ref(),
+        };
+        case.push(&mut self.text)
     }
 
     /// Tells the first fault, which is at this line.
@@ -150,7 +182,11 @@ impl Explaining {
             (λ stop. stop ≡ TaskFault.Memory) }
     {
         let mut flaws = Flaws::new(self.input.next_line()?, fault, &self.input);
-        flaws.begin(self.alloc, line, &mut self.text)?;
+        let before = Before {
+            nodes: self.record.nodes(),
+            events: self.input.events(),
+        };
+        flaws.begin(self.alloc, before, line, &mut self.text)?;
         self.flaws = Some(flaws);
         Ok(())
     }
@@ -162,7 +198,7 @@ impl Explaining {
             (λ fault. fault ≡ TaskFault.Memory) }
     {
         if let Some(flaws) = &self.flaws {
-            flaws.push_end(&mut self.text)?;
+            flaws.push_end(self.alloc, &mut self.text)?;
             return Ok(Explained::Flawed {
                 line: flaws.line,
                 what: flaws.what,
@@ -170,13 +206,26 @@ impl Explaining {
         }
         match self.input.found() {
             Ok(found) => {
-                self.tally.push(&mut self.text)?;
+                if let Found::Transcript(_) = found {
+                    self.push_tally()?;
+                }
                 push_found(&mut self.text, found)?;
                 Ok(Explained::Whole(found))
             }
             Err(TaskFault::World(why)) => self.tell_no_network(why),
             Err(_) => Err(TaskFault::Memory),
         }
+    }
+
+    /// Appends how many reports there are, and where octets stand against one, how many messages have other ones.
+    fn push_tally(&mut self) -> Result<(), AllocError>
+        ensures { IsSeenAlike self.old self.new }
+    {
+        self.tally.push(&mut self.text)?;
+        if self.tally.has_octets() {
+            self.record.push_differing(&mut self.text)?;
+        }
+        Ok(())
     }
 
     /// Tells why the nodes, after which there is no event, are no network.
@@ -186,7 +235,7 @@ impl Explaining {
             (λ fault. fault ≡ TaskFault.Memory) }
     {
         let line = self.input.next_line()?;
-        write!(&mut self.text, "{}: {why}\n", why.code())?;
+        push_clash(self.alloc, &mut self.text, self.record.nodes(), why)?;
         Ok(Explained::Flawed {
             line,
             what: TaskFault::World(why),
@@ -243,6 +292,7 @@ pub fn explain<R: Read, W: Write>(
         flaws: None,
         first,
         tally: Tally::new(),
+        record: Record::new(alloc),
         text: String::new(alloc),
     };
     let answer = answer_lines(&mut task, input, output);

@@ -2,8 +2,11 @@
 ghost use Rattle.std.specs.Prelude.{◌≡◌};
 
 use crate::input::Input;
-use line_flaws::{Flaw, FlawAt, Foreign, schedule_flaw, transcript_flaw};
-use schedule_reading::TaskFault;
+use crate::refusal::{Before, push_clash, push_refused};
+use line_flaws::{Flaw, FlawAt, Foreign, Form, schedule_flaw, transcript_flaw};
+use network_model::WorldRefusal;
+use schedule_lines::Line;
+use schedule_reading::{TaskFault, read_entry};
 use std::alloc::{AllocError, Global};
 
 /// The most lines whose flaw is told.
@@ -18,8 +21,10 @@ pub(crate) struct Flaws {
     pub(crate) what: TaskFault,
     /// Whether the input is of another kind, so that flaws of lines say nothing.
     foreign: bool,
-    /// Whether it is a schedule.
-    scheduled: bool,
+    /// Whether the first line is empty, and nothing was told of it yet.
+    empty: bool,
+    /// What its lines are to be; none before its first event.
+    form: Option<Form>,
     /// How many lines have a flaw.
     count: u64,
     /// The place that the next event is to have.
@@ -33,15 +38,19 @@ impl Flaws {
     pub(crate) fn new(line: u64, what: TaskFault, input: &Input) -> Flaws
         ensures { (result.line ≡ line) × (result.what ≡ what) }
     {
-        let (scheduled, events) = match input {
-            Input::Transcript(transcript) => (false, transcript.events()),
-            Input::Schedule(schedule) => (true, schedule.len()),
+        let (form, events) = match input {
+            Input::Transcript(transcript) => match transcript.events() {
+                0 => (None, 0),
+                events => (Some(Form::Transcript), events),
+            },
+            Input::Schedule(schedule) => (Some(Form::Schedule), schedule.len()),
         };
         Flaws {
             line,
             what,
             foreign: false,
-            scheduled,
+            empty: false,
+            form,
             count: 0,
             events,
             last: line,
@@ -52,38 +61,60 @@ impl Flaws {
     pub(crate) fn begin(
         &mut self,
         alloc: Global,
+        before: Before<'_>,
         line: &[u8],
         text: &mut String,
     ) -> Result<(), AllocError>
         ensures { (self.new.line ≡ self.old.line) × (self.new.what ≡ self.old.what) }
     {
         if let TaskFault::World(why) = self.what {
-            self.pass(line);
-            self.count = 1;
-            return write!(text, "line {}: {}: {why}\n", self.line, why.code());
+            return self.refuse(alloc, before, why, line, text);
         }
-        match foreign_at(self.line, line) {
-            Some(kind) => {
-                self.foreign = true;
-                write!(text, "this is {kind}\n")
-            }
-            None => self.begin_lines(alloc, line, text),
+        if self.line != 1 {
+            return self.look_at(alloc, self.line, line, text);
+        }
+        self.empty = line.is_empty();
+        match Foreign::of(line) {
+            _ if self.empty => Ok(()),
+            Some(kind) => self.tell_foreign(kind, text),
+            None => self.look_at(alloc, 1, line, text),
         }
     }
 
-    /// Appends what is wrong with the line of the first fault.
-    fn begin_lines(
+    /// Appends why the network refuses the event of the line of the first fault, or its nodes are no network.
+    fn refuse(
         &mut self,
         alloc: Global,
+        before: Before<'_>,
+        why: WorldRefusal,
         line: &[u8],
         text: &mut String,
     ) -> Result<(), AllocError>
         ensures { (self.new.line ≡ self.old.line) × (self.new.what ≡ self.old.what) }
     {
-        self.look_at(alloc, self.line, line, text)
+        self.see(line);
+        self.pass(line);
+        self.count = 1;
+        if let WorldRefusal::SameName | WorldRefusal::SameIdentity = why {
+            return push_clash(alloc, text, before.nodes, why);
+        }
+        match read_entry(alloc, line) {
+            Ok(Line::Event(event)) => push_refused(text, self.line, before, &event, why),
+            Err(TaskFault::Memory) => Err(AllocError),
+            _ => write!(text, "line {}: {}: {why}\n", self.line, why.code()),
+        }
     }
 
-    /// Looks at a line after the first fault, and appends what is wrong with it.
+    /// Appends that the input is of another kind.
+    fn tell_foreign(&mut self, kind: Foreign, text: &mut String) -> Result<(), AllocError>
+        ensures { (self.new.line ≡ self.old.line) × (self.new.what ≡ self.old.what) }
+    {
+        self.foreign = true;
+        self.empty = false;
+        write!(text, "this is {kind}\n")
+    }
+
+    /// Looks at a line after that of the first fault, and appends what is wrong with it.
     pub(crate) fn look(
         &mut self,
         alloc: Global,
@@ -93,10 +124,27 @@ impl Flaws {
         ensures { (self.new.line ≡ self.old.line) × (self.new.what ≡ self.old.what) }
     {
         self.last = self.last.saturating_add(1);
+        if self.foreign {
+            return Ok(());
+        }
+        if self.empty {
+            if line.starts_with(b"\r".as_slice()) {
+                return self.tell_foreign(Foreign::PcapNg, text);
+            }
+            self.look_at_empty(alloc, text)?;
+        }
         self.look_at(alloc, self.last, line, text)
     }
 
-    /// Looks at a line from the first fault on, and appends what is wrong with it.
+    /// Appends what is wrong with a first line that is empty.
+    fn look_at_empty(&mut self, alloc: Global, text: &mut String) -> Result<(), AllocError>
+        ensures { (self.new.line ≡ self.old.line) × (self.new.what ≡ self.old.what) }
+    {
+        self.empty = false;
+        self.look_at(alloc, 1, &[], text)
+    }
+
+    /// Appends what is wrong with a line.
     fn look_at(
         &mut self,
         alloc: Global,
@@ -106,13 +154,10 @@ impl Flaws {
     ) -> Result<(), AllocError>
         ensures { (self.new.line ≡ self.old.line) × (self.new.what ≡ self.old.what) }
     {
-        if self.foreign {
-            return Ok(());
-        }
-        let flaw = if self.scheduled {
-            schedule_flaw(alloc, line, self.events)?
-        } else {
-            transcript_flaw(alloc, line, self.events)?
+        self.see(line);
+        let flaw = match self.form {
+            Some(Form::Schedule) => schedule_flaw(alloc, line, self.events)?,
+            _ => transcript_flaw(alloc, line, self.events)?,
         };
         match flaw {
             Some(Flaw::NodeAfterEvent) => {}
@@ -129,38 +174,54 @@ impl Flaws {
         write!(text, "{}\n", FlawAt { line: number, flaw })
     }
 
+    /// Sees by the first event what the lines are to be: those of a transcript have what came of events.
+    fn see(&mut self, line: &[u8])
+        ensures { (self.new.line ≡ self.old.line) × (self.new.what ≡ self.old.what) }
+    {
+        if self.form.is_some() || !has_text(line, b"\"ev\"") {
+            return;
+        }
+        self.form = Some(if has_text(line, b"\"out\"") || has_text(line, b"\"n\"") {
+            Form::Transcript
+        } else {
+            Form::Schedule
+        });
+    }
+
     /// Passes a line, which is an event's where there was one or it says so.
     fn pass(&mut self, line: &[u8])
         ensures { (self.new.line ≡ self.old.line) × (self.new.what ≡ self.old.what) }
     {
-        if self.events > 0 || names_event(line) {
+        if self.events > 0 || has_text(line, b"\"ev\"") {
             self.events = self.events.saturating_add(1);
         }
     }
 
-    /// Appends how many lines weren't told, and from where on nothing was judged.
-    pub(crate) fn push_end(&self, text: &mut String) -> Result<(), AllocError> {
+    /// Appends how many lines weren't told, and from where on nothing was judged or happened.
+    pub(crate) fn push_end(&self, alloc: Global, text: &mut String) -> Result<(), AllocError> {
+        if self.empty {
+            let mut flaws = *self;
+            flaws.look_at_empty(alloc, text)?;
+        }
         if self.count > TOLD_MOST {
             write!(text, "and {} lines more\n", self.count - TOLD_MOST)?;
         }
-        if self.foreign {
-            return Ok(());
+        match (self.foreign, self.form) {
+            (true, _) => Ok(()),
+            (_, Some(Form::Schedule)) => write!(
+                text,
+                "no event happens from line {} on\n",
+                self.line
+            ),
+            _ => write!(text, "no report was judged from line {} on\n", self.line),
         }
-        write!(text, "no report was judged from line {} on\n", self.line)
     }
 }
 
-/// The kind of another input that begins with this line, the LF that ends it left out. Of the first four octets of a
-/// pcapng the first is an LF.
-fn foreign_at(number: u64, line: &[u8]) -> Option<Foreign> {
-    match (number, line) {
-        (1, []) => None,
-        (1, _) => Foreign::of(line),
-        _ => None,
+/// Whether a line has this text somewhere.
+fn has_text(line: &[u8], wanted: &[u8]) -> bool {
+    match wanted.len() {
+        0 => true,
+        length => line.windows(length).any(|octets| octets == wanted),
     }
-}
-
-/// Whether a line has the key `ev`.
-fn names_event(line: &[u8]) -> bool {
-    line.windows(4).any(|octets| octets == b"\"ev\"".as_slice())
 }

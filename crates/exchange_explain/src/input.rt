@@ -8,6 +8,7 @@ ghost use Rattle.exchange_explain.specs.Input.{BeginsSchedule, Happens, Takes, F
 
 use crate::schedule::Scheduled;
 use exchange_check::Verdict;
+use network_model::Event;
 use schedule_lines::Line;
 use schedule_reading::{Judged, TaskFault, Transcript, read_entry};
 use std::alloc::Global;
@@ -82,6 +83,14 @@ impl Input {
         };
         let lines = nodes.checked_add(events).ok_or(TaskFault::Memory)?;
         lines.checked_add(1).ok_or(TaskFault::Memory)
+    }
+
+    /// The events of a schedule so far, the oldest first; none of a transcript.
+    pub(crate) fn events(&self) -> &[Event] {
+        match self {
+            Input::Transcript(_) => &[],
+            Input::Schedule(scheduled) => scheduled.events(),
+        }
     }
 
     /// What the whole input is.

@@ -2,15 +2,25 @@
 //! programs, a line a report.
 #![tactic(auto)]
 
+mod case;
 mod explaining;
 mod flaws;
+mod happening;
 mod input;
 mod json;
 mod judgements;
 mod moments;
+mod naming;
+mod octets;
+mod pairing;
+mod readings;
+mod record;
+mod refusal;
 mod report;
 mod schedule;
+mod story;
 mod tally;
+mod way;
 
 pub use explaining::{Explained, explain};
 pub use input::Found;

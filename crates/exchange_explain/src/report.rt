@@ -51,24 +51,27 @@ pub(crate) fn is_sound(judged: &Judged) -> bool {
     judged.judgement.reasons.as_slice().is_empty()
 }
 
-/// Appends the first line of a report, and where several reasons stand against it a line for each other.
-pub(crate) fn push_head(text: &mut String, judged: &Judged) -> Result<(), AllocError> {
+/// Appends the beginning of a report's first line.
+pub(crate) fn push_begin(text: &mut String, judged: &Judged) -> Result<(), AllocError> {
     let Judged {
         line,
         event,
         node,
         ..
     } = judged;
-    write!(text, "event {event}, line {line}, slave {}: ", node.text())?;
-    let mut lead = "refused, ";
-    for why in judged.judgement.reasons.as_slice() {
-        write!(text, "{lead}{}\n", Reason(*why))?;
-        lead = "  and ";
-    }
-    if is_sound(judged) {
-        text.push_str("sound\n")?;
-    }
-    Ok(())
+    write!(text, "event {event}, line {line}, slave {}: ", node.text())
+}
+
+/// Appends the line of a sound report.
+pub(crate) fn push_sound(text: &mut String, judged: &Judged) -> Result<(), AllocError> {
+    push_begin(text, judged)?;
+    text.push_str("sound\n")
+}
+
+/// Appends one of the reasons, after what leads to it in its line.
+pub(crate) fn push_reason(text: &mut String, index: usize, why: Why) -> Result<(), AllocError> {
+    let lead = if index == 0 { "refused, " } else { "  and " };
+    write!(text, "{lead}{}\n", Reason(why))
 }
 
 /// Appends the two results, as they are reported and by the readings; nothing where no readings are found.

@@ -54,6 +54,11 @@ impl Tally {
         }
     }
 
+    /// Whether octets stand against a report.
+    pub(crate) fn has_octets(&self) -> bool {
+        self.failing[7] > 0
+    }
+
     /// Appends how many reports there are, and how many fail which conditions.
     pub(crate) fn push(&self, text: &mut String) -> Result<(), AllocError> {
         if self.reports == 0 {
@@ -74,7 +79,7 @@ impl Tally {
                 )?;
             }
         }
-        if self.failing[7] > 0 {
+        if self.has_octets() {
             let sound = self.sound.saturating_add(self.octets_alone);
             write!(
                 text,

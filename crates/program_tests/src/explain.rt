@@ -3,6 +3,7 @@
 use crate::program::run;
 use crate::replay::{SCHEDULE, TRANSCRIPT, joined};
 use crate::transcripts::changed;
+use std::alloc::Global;
 use std::str;
 use std::test::Fail;
 
@@ -89,25 +90,486 @@ no report was judged from line 4 on\n";
 }
 
 #[test]
-fn tells_of_input_of_other_kinds(rt: HostRuntime) -> Result<(), Fail> {
+fn tells_of_input_that_has_no_report(rt: HostRuntime) -> Result<(), Fail> {
     let alloc = rt.alloc();
     let schedule = joined(alloc, &SCHEDULE)?;
     for (input, said) in [
         (
-            b"\xd4\xc3\xb2\xa1\n".as_slice(),
-            "this is a capture (pcap); its messages are shown by: ",
-        ),
-        (
-            b"".as_slice(),
+            "",
             "there is no report, so nothing was judged\nverdict: accepted 0\n",
         ),
-        (schedule.as_bytes(), "line 4: a schedule begins here; "),
+        (
+            schedule.as_str(),
+            "a schedule of 14 events, which all happen; 'ptpx replay' tells what comes of them\n",
+        ),
     ] {
-        let ended = run(alloc, "ptpx explain", input)?;
-        assert!(rt;
-            str::from_utf8(ended.output.as_slice())?.starts_with(said),
-            "{said}"
-        );
+        let ended = run(alloc, "ptpx explain", input.as_bytes())?;
+        assert_eq!(rt; str::from_utf8(ended.output.as_slice())?, said);
+        assert_eq!(rt; ended.status, 0, "{said}");
     }
+    Ok(())
+}
+
+/// Inputs of other kinds, and what is said of them.
+const FOREIGN: [(&[u8], &str); 12] = [
+    (
+        b"\xd4\xc3\xb2\xa1\x02\n",
+        "this is a capture (pcap); its messages are shown by: \
+tshark -n -r - -Y ptp -T jsonraw | jq -r '.[]._source.layers.ptp_raw[0]' | ptpx show\n",
+    ),
+    (
+        b"\n\r\r\n\x1c\x00\x00\x00",
+        "this is a capture (pcapng); its messages are shown by: \
+tshark -n -r - -Y ptp -T jsonraw | jq -r '.[]._source.layers.ptp_raw[0]' | ptpx show\n",
+    ),
+    (
+        b"\x1f\x8b\x08\x00\n",
+        "this is compressed by gzip; what is in it gives: gzip -dc\n",
+    ),
+    (
+        b"\xef\xbb\xbf{\"kind\":\"clock\",\"node\":\"T\"}\n",
+        "this is it begins with a byte order mark; what is after it gives: tail -c +4\n",
+    ),
+    (
+        b"\xff\xfe{\x00\n\x00",
+        "this is UTF-16; UTF-8 of it gives: iconv -f UTF-16 -t UTF-8\n",
+    ),
+    (
+        b"{\x00\"\x00\n\x00",
+        "this is UTF-16; UTF-8 of it gives: iconv -f UTF-16LE -t UTF-8\n",
+    ),
+    (
+        b"\x00{\x00\"\x00\n",
+        "this is UTF-16; UTF-8 of it gives: iconv -f UTF-16BE -t UTF-8\n",
+    ),
+    (
+        b"0012002c\n0112002c\n",
+        "this is datagrams in hexadecimal; they are read by: ptpx show\n",
+    ),
+    (
+        b"1.000004 0012002c\n",
+        "this is times with datagrams in hexadecimal; they are read by: ptpx measure\n",
+    ),
+    (
+        b"{\n  \"kind\": \"clock\",\n  \"node\": \"T\"\n}\n",
+        "this is a JSON object over several lines; one object a line gives: jq -c .\n",
+    ),
+    (
+        b"[{\"kind\":\"clock\",\"node\":\"T\"}]\n",
+        "this is a JSON array; one object a line gives: jq -c '.[]'\n",
+    ),
+    (
+        b"{'kind': 'clock', 'node': 'T'}\n",
+        "this is objects in single quotes, as Python prints them; JSON of them gives: \
+python3 -c 'import ast, json, sys; [print(json.dumps(ast.literal_eval(s))) for s in sys.stdin]'\n",
+    ),
+];
+
+#[test]
+fn tells_of_input_of_other_kinds(rt: HostRuntime) -> Result<(), Fail> {
+    let alloc = rt.alloc();
+    for (input, said) in FOREIGN {
+        let ended = run(alloc, "ptpx explain", input)?;
+        assert_eq!(rt; str::from_utf8(ended.output.as_slice())?, said);
+        assert_eq!(rt; ended.status, 3, "{said}");
+    }
+    Ok(())
+}
+
+#[test]
+fn tells_that_a_first_line_is_empty(rt: HostRuntime) -> Result<(), Fail> {
+    let alloc = rt.alloc();
+    let one = "line 1, octet 1: no JSON: nothing; wanted is an object\n\
+no report was judged from line 1 on\n";
+    let two = "line 1, octet 1: no JSON: nothing; wanted is an object\n\
+line 2: \"ev\" of an event or \"kind\" of a node is missing\nno report was judged from line 1 on\n";
+    for (input, said) in [("\n", one), ("\n{\"node\":\"T\"}\n", two)] {
+        let ended = run(alloc, "ptpx explain", input.as_bytes())?;
+        assert_eq!(rt; str::from_utf8(ended.output.as_slice())?, said);
+    }
+    Ok(())
+}
+
+/// Lines with a text of one of them replaced.
+fn replaced(
+    alloc: Global,
+    lines: &[&str],
+    place: usize,
+    old: &str,
+    new: &str,
+) -> Result<String, Fail> {
+    let mut text = String::new(alloc);
+    for (index, line) in lines.iter().enumerate() {
+        if index == place {
+            text.push_str(line.replace(alloc, old, new)?.as_str())?;
+        } else {
+            text.push_str(line)?;
+        }
+        text.push('\n')?;
+    }
+    Ok(text)
+}
+
+/// The place of a line of the schedule, what is replaced in it by what, and what is said then.
+const REFUSED: [(usize, &str, &str, &str); 17] = [
+    (
+        1,
+        "\"S\"",
+        "\"M\"",
+        "lines 1 and 2: 601: two nodes have one name, M\nno event happens from line 4 on\n",
+    ),
+    (
+        1,
+        "00aabbfffeccddee",
+        "001122fffe334455",
+        "lines 1 and 2: 602: two ports have one identity, 001122fffe334455/1\nno event happens from line 4 on\n",
+    ),
+    (
+        5,
+        "\"M\"",
+        "\"X\"",
+        "event 2, line 6: refused, 603: no node is called X; there are M, S, T\nno event happens from line 6 on\n",
+    ),
+    (
+        4,
+        "\"M\"",
+        "\"X\"",
+        "event 1, line 5: refused, 603: no node is called X; there are M, S, T\nno event happens from line 5 on\n",
+    ),
+    (
+        5,
+        "\"M\"",
+        "\"T\"",
+        "event 2, line 6: refused, 604: T is a clock; a sync happens at a master\nno event happens from line 6 on\n",
+    ),
+    (
+        4,
+        "\"M\"",
+        "\"T\"",
+        "event 1, line 5: refused, 604: S is a slave; T, which it names, is a clock; \
+a setmaster happens at a slave, and names a master\nno event happens from line 5 on\n",
+    ),
+    (
+        8,
+        "\"copy\":4",
+        "\"copy\":3",
+        "event 5, line 9: refused, 605: event 3 is an enter, which sent no message; there are events 0 to 4\n\
+no event happens from line 9 on\n",
+    ),
+    (
+        8,
+        "\"copy\":4",
+        "\"copy\":5",
+        "event 5, line 9: refused, 605: there is no event 5 before it; there are events 0 to 4\n\
+no event happens from line 9 on\n",
+    ),
+    (
+        7,
+        "\"transit\":3",
+        "\"transit\":2",
+        "event 4, line 8: refused, 606: event 2 is a sync, and no enter\nno event happens from line 8 on\n",
+    ),
+    (
+        7,
+        "\"transit\":3",
+        "\"transit\":7",
+        "event 4, line 8: refused, 606: there is no event 7 before it; there are events 0 to 3\n\
+no event happens from line 8 on\n",
+    ),
+    (
+        13,
+        "\"transit\":9",
+        "\"transit\":3",
+        "event 10, line 14: refused, 606: what entered by event 3 left already by event 4\n\
+no event happens from line 14 on\n",
+    ),
+    (
+        3,
+        "65536000",
+        "18446744073709551616000000000",
+        "event 0, line 4: refused, 607: \"diff\" is 18446744073709551616000000000, which is \
+281474976710656000000000 ns; wanted are less than 2^48 s, ahead or behind\nno event happens from line 4 on\n",
+    ),
+    (
+        3,
+        "65536000",
+        "-655360000000000",
+        "event 5, line 9: refused, 607: event 0 set the clock of S to the true time and -10000000000 ns; \
+at 1.000003000 it would read -8999997000 ns, and a reading is from 0 to below 2^48 s\n\
+no event happens from line 9 on\n",
+    ),
+    (
+        5,
+        "\"sync\"",
+        "\"syncone\"",
+        "event 6, line 10: refused, 608: no Sync waits for its Follow_Up: the last one of M is event 2, a syncone, \
+which has none\nno event happens from line 10 on\n",
+    ),
+    (
+        10,
+        r#"{"copy":6,"ev":"hear","node":"S"}"#,
+        r#"{"ev":"follow","node":"M"}"#,
+        "event 7, line 11: refused, 608: no Sync waits for its Follow_Up: event 6 sent that of the last one of M, \
+event 2\nno event happens from line 11 on\n",
+    ),
+    (
+        10,
+        r#"{"copy":6,"ev":"hear","node":"S"}"#,
+        r#"{"ev":"stamped","node":"S"}"#,
+        "event 7, line 11: refused, 608: no Delay_Req waits for its departure time: S sent none\n\
+no event happens from line 11 on\n",
+    ),
+    (
+        16,
+        r#"{"copy":11,"ev":"hear","node":"S"}"#,
+        r#"{"ev":"stamped","node":"S"}"#,
+        "event 13, line 17: refused, 608: no Delay_Req waits for its departure time: event 12 told that of the last \
+one of S, event 8\nno event happens from line 17 on\n",
+    ),
+];
+
+#[test]
+fn tells_why_an_event_is_refused(rt: HostRuntime) -> Result<(), Fail> {
+    let alloc = rt.alloc();
+    for (place, old, new, said) in REFUSED {
+        let input = replaced(alloc, &SCHEDULE, place, old, new)?;
+        let ended = run(alloc, "ptpx explain", input.as_bytes())?;
+        assert_eq!(rt; str::from_utf8(ended.output.as_slice())?, said);
+        assert_eq!(rt; ended.status, 3, "{said}");
+    }
+    Ok(())
+}
+
+#[test]
+fn tells_which_nodes_clash(rt: HostRuntime) -> Result<(), Fail> {
+    let alloc = rt.alloc();
+    let input = joined(alloc, &[SCHEDULE[2], SCHEDULE[0], SCHEDULE[2]])?;
+    let ended = run(alloc, "ptpx explain", input.as_bytes())?;
+    assert_eq!(rt;
+        str::from_utf8(ended.output.as_slice())?,
+        "lines 1 and 3: 601: two nodes have one name, T\n"
+    );
+    Ok(())
+}
+
+/// The place of a line of the transcript, what is replaced in it by what, and what is said first then.
+const REASONS: [(usize, &str, &str, &str); 16] = [
+    (
+        16,
+        "[5,7,8,13]",
+        "[2,7,8,13]",
+        "event 13, line 17, slave S: refused, 701: a tag of the report isn't that of an event as the report needs it, \
+or no event tells when the Delay_Req left
+    the tag of the Sync names event 2, line 6, a sync at M; wanted is an arrive at S
+1 report: 0 sound\n",
+    ),
+    (
+        16,
+        "[5,7,8,13]",
+        "[5,null,8,13]",
+        "event 13, line 17, slave S: refused, 701: a tag of the report isn't that of an event as the report needs it, \
+or no event tells when the Delay_Req left
+    the report names no Follow_Up, but the Sync of event 5, line 9 waits for one
+1 report: 0 sound\n",
+    ),
+    (
+        16,
+        "[5,7,8,13]",
+        "[5,7,8,7]",
+        "event 13, line 17, slave S: refused, 701: a tag of the report isn't that of an event as the report needs it, \
+or no event tells when the Delay_Req left
+    no tag is 13; wanted is that the Sync, the Follow_Up or the Delay_Resp came by the event that reports
+    the Delay_Resp of event 7, line 11 is of event 6, line 10, a follow at M; wanted is an arrive at a master before it
+    event 12, line 16 tells when the Delay_Req left; wanted is that before the Delay_Resp, event 7
+1 report: 0 sound\n",
+    ),
+    (
+        15,
+        "\"S\"",
+        "\"M\"",
+        "event 13, line 17, slave S: refused, 701: a tag of the report isn't that of an event as the report needs it, \
+or no event tells when the Delay_Req left
+    no event tells when the Delay_Req of event 8, line 12 left
+1 report: 0 sound\n",
+    ),
+    (
+        6,
+        "\"copy\":2",
+        "\"copy\":4",
+        "event 13, line 17, slave S: refused, 704: the journey of the Sync or of the Delay_Req can't be followed back \
+to where it was sent, or a stay on it was left twice
+    the way of the Sync stops at event 3, line 7, which names event 4; wanted is one before it
+1 report: 0 sound\n",
+    ),
+    (
+        7,
+        "\"transit\":3",
+        "\"transit\":2",
+        "event 13, line 17, slave S: refused, 704: the journey of the Sync or of the Delay_Req can't be followed back \
+to where it was sent, or a stay on it was left twice
+    the way of the Sync stops at event 4, line 8: it names event 2, line 6, a sync at M, which is no enter of this clock
+1 report: 0 sound\n",
+    ),
+    (
+        13,
+        "\"transit\":9",
+        "\"transit\":3",
+        "event 13, line 17, slave S: refused, 704: the journey of the Sync or of the Delay_Req can't be followed back \
+to where it was sent, or a stay on it was left twice
+    the Sync entered a clock by event 3, line 7, and left it twice: by event 4, line 8 and by event 10, line 14
+    the Delay_Req entered a clock by event 3, line 7, and left it twice: by event 4, line 8 and by event 10, line 14
+1 report: 0 sound\n",
+    ),
+    (
+        5,
+        "\"sync\"",
+        "\"syncone\"",
+        "event 13, line 17, slave S: refused, 702: the Sync isn't the one of the Follow_Up, or the Delay_Req isn't the \
+one of the report
+    the Sync is number 0, event 2, line 6, a syncone at M; it was taken for that of the Follow_Up of event 6, line 10, \
+before which its master sent none
+  and 708: ",
+    ),
+    (
+        4,
+        "\"M\"",
+        "\"T\"",
+        "event 13, line 17, slave S: refused, 703: a message isn't of the present master of the slave, or came before \
+the slave was told this master
+    S, domain 0, was told no master
+    the Sync is of M, domain 0; M answered the Delay_Req
+  t1  event 2  ",
+    ),
+    (
+        0,
+        "\"domain\":0",
+        "\"domain\":1",
+        "event 13, line 17, slave S: refused, 703: a message isn't of the present master of the slave, or came before \
+the slave was told this master
+    event 1, line 5 told S, domain 0, the master M
+    the Sync is of M, domain 1; M answered the Delay_Req
+  and 708: ",
+    ),
+    (
+        8,
+        "[1,4000,0]",
+        "[1,4001,0]",
+        "event 13, line 17, slave S: refused, 705: a reading isn't that of the clock of its node, or falls while a \
+message is in a clock
+    event 5, line 9, an arrive at S: read is 1.000004001, the true moment is 1.000003000, and they differ by 1001 ns; \
+wanted is 1000 ns, which event 0, line 4 set
+  and 706: ",
+    ),
+    (
+        7,
+        "\"reading\":[1,2500,0]",
+        "\"reading\":[1,400,0]",
+        "event 13, line 17, slave S: refused, 705: a reading isn't that of the clock of its node, or falls while a \
+message is in a clock
+    event 4, line 8, a leave at T: read is 1.000000400, the true moment is 1.000002500, and they differ by -2100 ns; \
+wanted is 0 ns, since no event set the clock
+    the clock reads 100 ns less at event 4, line 8 than at event 3, line 7; wanted is no less
+  and 706: ",
+    ),
+    (
+        7,
+        "[1,2500,0]",
+        "[140738,488355827,65535]",
+        "event 13, line 17, slave S: refused, 707: the Sync or the Delay_Req was in clocks for longer than a \
+correction can say
+    the Sync is to have 140737488355327.9999847412109375 ns in its correctionField, of clocks and of its departure; \
+it can say less than 140737488355327.9999847412109375 ns
+  and 706: ",
+    ),
+    (
+        7,
+        "07d00000",
+        "07d10000",
+        "event 13, line 17, slave S: refused, 708: the octets of a message aren't those that a port or a clock writes
+    event 4, line 8, a leave at T: octet 13 from 0, in correctionField, is d1 where d0 is written
+  t1  event 2  ",
+    ),
+    (
+        5,
+        "000000000000\"",
+        "0000000000001122\"",
+        "event 13, line 17, slave S: refused, 708: the octets of a message aren't those that a port or a clock writes
+    event 2, line 6, a sync at M: all its octets are right; it has 46 octets where 44 are written
+  t1  event 2  ",
+    ),
+    (
+        9,
+        "0100000000",
+        "0200000001",
+        "event 13, line 17, slave S: refused, 708: the octets of a message aren't those that a port or a clock writes
+    event 6, line 10, a follow at M: octet 39 from 0, in preciseOriginTimestamp, is 02 where 01 is written, \
+and 1 more differ
+  t1  event 2  ",
+    ),
+];
+
+#[test]
+fn tells_what_each_reason_met(rt: HostRuntime) -> Result<(), Fail> {
+    let alloc = rt.alloc();
+    for (place, old, new, said) in REASONS {
+        let input = replaced(alloc, &TRANSCRIPT, place, old, new)?;
+        let ended = run(alloc, "ptpx explain", input.as_bytes())?;
+        let output = str::from_utf8(ended.output.as_slice())?;
+        assert!(rt; output.starts_with(said), "{said} {output}");
+        assert_eq!(rt; ended.status, 1, "{said}");
+    }
+    Ok(())
+}
+
+/// A second Delay_Req, for which the Delay_Resp to the first one is taken.
+const TAKEN_FOR_ANOTHER: [&str; 3] = [
+    r#"{"at":[3,0,0],"ev":"request","hex":"0112002c0000000000000000000000000000000000aabbfffeccddee00010001017f00000000000000000000","n":13,"node":"S","out":"made","reading":[3,1000,0]}"#,
+    r#"{"ev":"stamped","n":14,"node":"S","out":"done"}"#,
+    r#"{"copy":11,"ev":"hear","n":15,"node":"S","offset2":"131072000","out":"report","path2":"131072000","tags":[5,7,13,15]}"#,
+];
+
+#[test]
+fn tells_which_request_was_answered(rt: HostRuntime) -> Result<(), Fail> {
+    let alloc = rt.alloc();
+    let mut input = joined(alloc, &TRANSCRIPT[..16])?;
+    input.push_str(joined(alloc, &TAKEN_FOR_ANOTHER)?.as_str())?;
+    let ended = run(alloc, "ptpx explain", input.as_bytes())?;
+    let said =
+        "event 15, line 19, slave S: refused, 702: the Sync isn't the one of the Follow_Up, or the Delay_Req \
+isn't the one of the report
+    the Delay_Req that the master answered is number 0, event 8, line 12, a request at S; it was taken for number 1, \
+event 13, line 17, a request at S
+  t1  event 2  ";
+    let output = str::from_utf8(ended.output.as_slice())?;
+    assert!(rt; output.starts_with(said), "{output}");
+    Ok(())
+}
+
+/// The first two octets of messages as the standard of 2019 has them, and as that of 2008 does.
+const VERSIONS: [(&str, &str); 4] = [
+    ("\"hex\":\"0012", "\"hex\":\"0002"),
+    ("\"hex\":\"0812", "\"hex\":\"0802"),
+    ("\"hex\":\"0112", "\"hex\":\"0102"),
+    ("\"hex\":\"0912", "\"hex\":\"0902"),
+];
+
+#[test]
+fn tells_of_devices_of_the_older_standard(rt: HostRuntime) -> Result<(), Fail> {
+    let alloc = rt.alloc();
+    let mut input = joined(alloc, &TRANSCRIPT)?;
+    for (old, new) in VERSIONS {
+        input = input.replace(alloc, old, new)?;
+    }
+    let ended = run(alloc, "ptpx explain", input.as_bytes())?;
+    let output = str::from_utf8(ended.output.as_slice())?;
+    let met =
+        "    event 2, line 6, a sync at M: minorVersionPTP is 0, of IEEE 1588-2008, where 1 is written, of IEEE \
+1588-2019; all other octets are right\n";
+    let end = "were octets left aside (708), 1 of 1 report would be sound
+other octets than a port or a clock writes: 6 of 6 messages
+  in one nibble alone: 6; minorVersionPTP is 0, as real devices of IEEE 1588-2008 write it, where IEEE 1588-2019 has 1
+verdict: refused event 13: 708\n";
+    assert!(rt; output.contains(met), "{output}");
+    assert!(rt; output.ends_with(end), "{output}");
     Ok(())
 }
