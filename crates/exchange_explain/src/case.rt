@@ -15,7 +15,7 @@ pub(crate) struct Case<'a> {
     pub(crate) record: &'a Record,
     pub(crate) judged: &'a Judged,
     /// Its lines; none where 701 or 704 stands.
-    pub(crate) exchange: Option<&'a Exchange>,
+    pub(crate) exchange: &'a Option<Exchange>,
 }
 
 impl Case<'_> {
@@ -37,13 +37,26 @@ impl Case<'_> {
         match (why, self.exchange) {
             (Why::NoSuchLine, _) => self.push_tags(text),
             (Why::BrokenJourney, _) => self.push_broken(text),
-            (Why::OtherNumber, Some(exchange)) => self.push_numbers(text, exchange),
-            (Why::OtherMaster, Some(exchange)) => self.push_masters(text, exchange),
-            (Why::WrongReading, Some(exchange)) => self.push_readings(text, exchange),
-            (Why::TooBig, Some(exchange)) => self.push_too_long(text, exchange),
-            (Why::Bytes, Some(exchange)) => self.push_octets(text, exchange),
-            // The two rows of results stand below.
-            (Why::WrongValue, _) | (_, None) => Ok(()),
+            (_, Some(exchange)) => self.push_met_by(text, why, exchange),
+            (_, None) => Ok(()),
+        }
+    }
+
+    /// Appends what a reason met among the lines of the report.
+    fn push_met_by(
+        &self,
+        text: &mut String,
+        why: Why,
+        exchange: &Exchange,
+    ) -> Result<(), AllocError> {
+        match why {
+            Why::OtherNumber => self.push_numbers(text, exchange),
+            Why::OtherMaster => self.push_masters(text, exchange),
+            Why::WrongReading => self.push_readings(text, exchange),
+            Why::TooBig => self.push_too_long(text, exchange),
+            Why::Bytes => self.push_octets(text, exchange),
+            // The two rows of results stand below, and the others need no lines of the report.
+            Why::WrongValue | Why::NoSuchLine | Why::BrokenJourney => Ok(()),
         }
     }
 }

@@ -169,7 +169,7 @@ impl Explaining {
             transcript,
             record: &self.record,
             judged,
-            exchange: exchange.as_ref(),
+            exchange: &exchange,
         };
         case.push(&mut self.text)
     }

@@ -30,6 +30,11 @@ impl Display for Length {
     }
 }
 
+/// A number of units as a signed one, at most 2^127 - 1.
+pub(crate) fn signed(units: u128) -> i128 {
+    i128::try_from(units).unwrap_or(i128::MAX)
+}
+
 /// The units of a moment, as a signed number.
 pub(crate) fn signed_units(time: ScaledTime) -> i128 {
     time.value() as i128

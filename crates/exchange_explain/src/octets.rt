@@ -217,13 +217,10 @@ impl Case<'_> {
         told: &mut Told,
         number: u64,
     ) -> Result<(), AllocError> {
-        let Some(
-            Compared {
-                message,
-                difference: Some(difference),
-            },
-        ) = difference_at(self.transcript, self.record, number)
-        else {
+        let Some(compared) = difference_at(self.transcript, self.record, number) else {
+            return Ok(());
+        };
+        let Some(difference) = compared.difference else {
             return Ok(());
         };
         if !told.has_room() {
@@ -233,7 +230,7 @@ impl Case<'_> {
         push_event(text, self.record, number)?;
         let differs = Differs {
             difference,
-            body: &message.body,
+            body: &compared.message.body,
         };
         write!(text, ": {differs}\n")
     }

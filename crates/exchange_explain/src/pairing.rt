@@ -1,7 +1,7 @@
 //! Which messages a report took for others, whose they are, and which were too long in clocks.
 
 use crate::case::Case;
-use crate::moments::Length;
+use crate::moments::{Length, signed};
 use crate::way::push_event;
 use exchange_check::{Exchange, Leg};
 use network_model::{Name, NodeKind};
@@ -177,7 +177,7 @@ fn fraction_sent(leg: &Leg) -> u16 {
 
 /// Appends how long a message was in clocks, where that is too long.
 fn push_too_big(text: &mut String, name: &'static str, leg: &Leg) -> Result<(), AllocError> {
-    let residence = i128::try_from(leg.residence).unwrap_or(i128::MAX);
+    let residence = signed(leg.residence);
     let sum = residence.saturating_add(i128::from(fraction_sent(leg)));
     if sum < TOO_BIG {
         return Ok(());

@@ -48,12 +48,16 @@ struct Read {
 
 impl Read {
     /// What the reading differs by from the true moment.
-    fn found(self) -> Option<i128> {
+    fn found(&self) -> Option<i128> {
         Some(signed_units(self.reading?).saturating_sub(signed_units(self.at)))
     }
 
-    fn is_right(self) -> bool {
-        self.found() == Some(self.difference)
+    fn is_right(&self) -> bool {
+        let wanted = self.difference;
+        match self.found() {
+            Some(found) => found == wanted,
+            None => false,
+        }
     }
 }
 
@@ -117,15 +121,16 @@ impl Case<'_> {
         let Some(recorded) = self.record.at(number) else {
             return Ok(());
         };
-        match self.read_at(recorded) {
-            Some(read) if !read.is_right() && told.has_room() => {
-                text.push_str("    ")?;
-                push_event(text, self.record, number)?;
-                push_found(text, read)?;
-                self.push_set(text, recorded, read)
-            }
-            _ => Ok(()),
+        let Some(read) = self.read_at(recorded) else {
+            return Ok(());
+        };
+        if read.is_right() || !told.has_room() {
+            return Ok(());
         }
+        text.push_str("    ")?;
+        push_event(text, self.record, number)?;
+        push_found(text, &read)?;
+        self.push_set(text, recorded, &read)
     }
 
     /// Appends what the difference is to be, and which event set the clock.
@@ -133,7 +138,7 @@ impl Case<'_> {
         &self,
         text: &mut String,
         recorded: &Recorded,
-        read: Read,
+        read: &Read,
     ) -> Result<(), AllocError> {
         let wanted = Length(read.difference);
         match recorded.clock_set {
@@ -176,15 +181,16 @@ impl Case<'_> {
 }
 
 /// Appends a reading, the true moment and their difference.
-fn push_found(text: &mut String, read: Read) -> Result<(), AllocError> {
-    match (read.reading, read.found()) {
-        (Some(reading), Some(found)) => write!(
-            text,
-            ": read is {}, the true moment is {}, and they differ by {}",
-            Moment(reading),
-            Moment(read.at),
-            Length(found)
-        ),
-        _ => write!(text, ": no reading, the true moment is {}", Moment(read.at)),
-    }
+fn push_found(text: &mut String, read: &Read) -> Result<(), AllocError> {
+    let at = Moment(read.at);
+    let Some(reading) = read.reading else {
+        return write!(text, ": no reading, the true moment is {at}");
+    };
+    let difference = signed_units(reading).saturating_sub(signed_units(read.at));
+    write!(
+        text,
+        ": read is {}, the true moment is {at}, and they differ by {}",
+        Moment(reading),
+        Length(difference)
+    )
 }

@@ -1,6 +1,6 @@
 //! The lines of a report, for a person: when its messages departed, were in clocks and arrived.
 
-use crate::moments::{Length, Moment, signed_units};
+use crate::moments::{Length, Moment, signed, signed_units};
 use exchange_check::{Exchange, ExchangeLine, Leg, Stay};
 use std::alloc::AllocError;
 use std::fmt;
@@ -45,7 +45,7 @@ fn push_stays(text: &mut String, nodes: u64, leg: &Leg) -> Result<(), AllocError
         write!(
             text,
             "      before these in other clocks {}\n",
-            Length(earlier as i128)
+            Length(signed(earlier))
         )?;
     }
     for stay in leg.stays.iter().rev().flatten() {
@@ -67,7 +67,7 @@ fn push_stays(text: &mut String, nodes: u64, leg: &Leg) -> Result<(), AllocError
 fn elapsed(leg: &Leg) -> i128 {
     signed_units(leg.arrived.reading)
         .saturating_sub(signed_units(leg.departed.reading))
-        .saturating_sub(leg.residence as i128)
+        .saturating_sub(signed(leg.residence))
 }
 
 /// How the letters of a way are called.
@@ -127,7 +127,7 @@ fn push_leg(
         at: &leg.arrived,
         nodes,
     };
-    let residence = Length(leg.residence as i128);
+    let residence = Length(signed(leg.residence));
     write!(
         text,
         "{stamp}  {bracket} = {arrived} - {departed} - {residence} = {}\n",
