@@ -573,3 +573,146 @@ verdict: refused event 13: 708\n";
     assert!(rt; output.ends_with(end), "{output}");
     Ok(())
 }
+
+/// The slave is told its master again, and reports what came before.
+const TOLD_AGAIN: [&str; 2] = [
+    r#"{"ev":"setmaster","master":"M","n":13,"node":"S","out":"done"}"#,
+    r#"{"copy":11,"ev":"hear","n":14,"node":"S","offset2":"131072000","out":"report","path2":"131072000","tags":[5,7,8,14]}"#,
+];
+
+#[test]
+fn tells_what_came_before_the_master_was_told(rt: HostRuntime) -> Result<(), Fail> {
+    let alloc = rt.alloc();
+    let mut input = joined(alloc, &TRANSCRIPT[..16])?;
+    input.push_str(joined(alloc, &TOLD_AGAIN)?.as_str())?;
+    let ended = run(alloc, "ptpx explain", input.as_bytes())?;
+    let said =
+        "event 14, line 18, slave S: refused, 703: a message isn't of the present master of the slave, or came \
+before the slave was told this master
+    event 13, line 17 told S, domain 0, the master M
+    the Sync is of M, domain 0; M answered the Delay_Req
+    the Sync of event 5, line 9 is earlier
+    the Follow_Up of event 7, line 11 is earlier
+    the Delay_Req of event 8, line 12 is earlier
+  t1  event 2  ";
+    let output = str::from_utf8(ended.output.as_slice())?;
+    assert!(rt; output.starts_with(said), "{output}");
+    Ok(())
+}
+
+/// The octets of the messages of an exchange without residence: Sync, Follow_Up, Delay_Req and Delay_Resp.
+const OCTETS: [&str; 4] = [
+    "0012002c00000200000000000000000000000000001122fffe33445500010000000000000000000000000000",
+    "0812002c00000000000000000000000000000000001122fffe33445500010000020000000000000100000000",
+    "0112002c0000000000000000000000000000000000aabbfffeccddee00010000017f00000000000000000000",
+    "0912003600000000000000000000000000000000001122fffe33445500010000030000000000000200000000\
+00aabbfffeccddee0001",
+];
+
+/// A transcript of an exchange whose Sync stays in a clock so many times, for no time, and which reports one unit too
+/// much. The first stay is of the copy of this number, which is 1 for the Sync.
+fn staying(alloc: Global, stays: u64, copy: u64) -> Result<String, Fail> {
+    let mut text = joined(alloc, &TRANSCRIPT[..3])?;
+    text.push_str(r#"{"ev":"setmaster","master":"M","n":0,"node":"S","out":"done"}"#)?;
+    text.push('\n')?;
+    let made = "\"out\":\"made\",\"reading\":[1,0,0]";
+    write!(
+        &mut text,
+        "{{\"at\":[1,0,0],\"ev\":\"sync\",\"hex\":\"{}\",\"n\":1,\"node\":\"M\",{made}}}\n",
+        OCTETS[0]
+    )?;
+    let mut named = copy;
+    for stay in 0..stays {
+        let enter = stay.saturating_mul(2).saturating_add(2);
+        let leave = enter.saturating_add(1);
+        write!(
+            &mut text,
+            "{{\"at\":[1,0,0],\"copy\":{named},\"ev\":\"enter\",\"n\":{enter},\"node\":\"T\",\"out\":\"entered\",\
+             \"reading\":[1,0,0]}}\n"
+        )?;
+        write!(
+            &mut text,
+            "{{\"at\":[1,0,0],\"ev\":\"leave\",\"hex\":\"{}\",\"n\":{leave},\"node\":\"T\",{made},\
+             \"transit\":{enter}}}\n",
+            OCTETS[0]
+        )?;
+        named = leave;
+    }
+    push_rest(&mut text, stays.saturating_mul(2).saturating_add(2))?;
+    Ok(text)
+}
+
+/// What comes after the stays: the events from the arrival of the Sync on, which has this number.
+fn push_rest(text: &mut String, sync: u64) -> Result<(), Fail> {
+    let follow = sync.saturating_add(1);
+    let heard = sync.saturating_add(2);
+    let request = sync.saturating_add(3);
+    let stamped = sync.saturating_add(4);
+    let answer = sync.saturating_add(5);
+    let report = sync.saturating_add(6);
+    write!(
+        text,
+        "{{\"at\":[1,0,0],\"copy\":{},\"ev\":\"arrive\",\"n\":{sync},\"node\":\"S\",\"out\":\"held\",\
+         \"reading\":[1,0,0]}}\n",
+        sync.saturating_sub(1)
+    )?;
+    write!(
+        text,
+        "{{\"ev\":\"follow\",\"hex\":\"{}\",\"n\":{follow},\"node\":\"M\",\"out\":\"made\"}}\n",
+        OCTETS[1]
+    )?;
+    write!(
+        text,
+        "{{\"copy\":{follow},\"ev\":\"hear\",\"n\":{heard},\"node\":\"S\",\"out\":\"completed\"}}\n"
+    )?;
+    write!(
+        text,
+        "{{\"at\":[2,0,0],\"ev\":\"request\",\"hex\":\"{}\",\"n\":{request},\"node\":\"S\",\"out\":\"made\",\
+         \"reading\":[2,0,0]}}\n",
+        OCTETS[2]
+    )?;
+    write!(
+        text,
+        "{{\"ev\":\"stamped\",\"n\":{stamped},\"node\":\"S\",\"out\":\"done\"}}\n"
+    )?;
+    write!(
+        text,
+        "{{\"at\":[2,0,0],\"copy\":{request},\"ev\":\"arrive\",\"hex\":\"{}\",\"n\":{answer},\"node\":\"M\",\
+         \"out\":\"made\",\"reading\":[2,0,0]}}\n",
+        OCTETS[3]
+    )?;
+    write!(
+        text,
+        "{{\"copy\":{answer},\"ev\":\"hear\",\"n\":{report},\"node\":\"S\",\"offset2\":\"1\",\"out\":\"report\",\
+         \"path2\":\"0\",\"tags\":[{sync},{heard},{request},{report}]}}\n"
+    )?;
+    Ok(())
+}
+
+#[test]
+fn tells_of_long_ways_in_few_lines(rt: HostRuntime) -> Result<(), Fail> {
+    let alloc = rt.alloc();
+    for (stays, copy, said) in [
+        (
+            20,
+            1,
+            "  t1  event 1  line 5  M  1.000000000  Sync 0 departs; told by event 43
+      before these in other clocks 0 ns
+      10 to 11  line 14, 15  T in the clock 0 ns
+      12 to 13  line 16, 17  T in the clock 0 ns\n",
+        ),
+        (
+            300,
+            0,
+            "can't be followed back to where it was sent, or a stay on it was left twice
+    the way of the Sync was followed over its last 256 clocks\n",
+        ),
+    ] {
+        let input = staying(alloc, stays, copy)?;
+        let ended = run(alloc, "ptpx explain", input.as_bytes())?;
+        let output = str::from_utf8(ended.output.as_slice())?;
+        assert!(rt; output.contains(said), "{output}");
+        assert_eq!(rt; ended.status, 1, "{stays}");
+    }
+    Ok(())
+}
