@@ -35,10 +35,14 @@ impl Hints {
                 Some("a line that isn't pairs of hexadecimal digits, or has too many")
             }
             (Hints::Replay, FaultKind::Field) => {
-                Some("a line that isn't what a schedule asks for; 'ptpx explain' says what is wrong with it")
+                Some(
+                    "a line that isn't what a schedule asks for; 'ptpx explain' says what is wrong with it",
+                )
             }
             (_, FaultKind::Field) => {
-                Some("a line that isn't what a transcript asks for; 'ptpx explain' says what is wrong with it")
+                Some(
+                    "a line that isn't what a transcript asks for; 'ptpx explain' says what is wrong with it",
+                )
             }
             (_, FaultKind::Json) => {
                 Some("a line that isn't UTF-8 or isn't JSON; 'ptpx explain' says where")
@@ -47,7 +51,9 @@ impl Hints {
                 Some("a network or an event that can't be; 'ptpx explain' says why")
             }
             (_, FaultKind::LineTooLong) => {
-                Some("a line of more than 4096 octets; 'ptpx explain' says what the input looks like")
+                Some(
+                    "a line of more than 4096 octets; 'ptpx explain' says what the input looks like",
+                )
             }
             (_, FaultKind::TooManyLines) => Some("an input of more than 1048576 lines"),
             (_, FaultKind::Read) => Some("an input that can't be read"),

@@ -171,11 +171,7 @@ fn finish<F: Into<Fault>, E: Write>(errors: &mut E, hints: Hints, answer: Result
 }
 
 /// Answers the exit status of `check`, and says its fault.
-fn finish_check<E: Write>(
-    errors: &mut E,
-    hints: Hints,
-    answer: Result<Verdict, Fault>,
-) -> u8
+fn finish_check<E: Write>(errors: &mut E, hints: Hints, answer: Result<Verdict, Fault>) -> u8
     ensures { result ≡ check_status answer }
 {
     match answer {
