@@ -1,0 +1,3 @@
+pub mod Words
+pub mod Refusal
+pub mod Times

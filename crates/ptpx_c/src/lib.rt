@@ -1,0 +1,13 @@
+//! The codec, the ports and the clock for C: `include/ptpx.h` has a wrapper for each export, which tests for null and for lengths
+//! first, and says each contract in words.
+//!
+//! Each call answers 0, or the number of the refusal that applies.
+#![tactic(auto)]
+
+mod refusal;
+mod time;
+mod words;
+
+pub use refusal::InputRefusal;
+pub use time::RawTimestamp;
+pub use words::{RawSigned, RawTime};
