@@ -1,3 +1,5 @@
 pub mod Words
 pub mod Refusal
 pub mod Times
+pub mod Messages
+pub mod Stays
