@@ -3,3 +3,4 @@ pub mod Refusal
 pub mod Times
 pub mod Messages
 pub mod Stays
+pub mod Masters

@@ -4,12 +4,14 @@
 //! Each call answers 0, or the number of the refusal that applies.
 #![tactic(auto)]
 
+mod master;
 mod message;
 mod refusal;
 mod stay;
 mod time;
 mod words;
 
+pub use master::{RawMaster, RawPortConfig};
 pub use message::{RawMessage, RawPortIdentity};
 pub use refusal::InputRefusal;
 pub use stay::RawStay;
