@@ -4,3 +4,5 @@ pub mod Times
 pub mod Messages
 pub mod Stays
 pub mod Masters
+pub mod Slaves
+pub mod Inner

@@ -4,16 +4,20 @@
 //! Each call answers 0, or the number of the refusal that applies.
 #![tactic(auto)]
 
+mod handle;
 mod master;
 mod message;
 mod refusal;
+mod ring;
 mod stay;
 mod time;
 mod words;
 
+pub use handle::RawSlave;
 pub use master::{RawMaster, RawPortConfig};
 pub use message::{RawMessage, RawPortIdentity};
 pub use refusal::InputRefusal;
+pub use ring::RingSlave;
 pub use stay::RawStay;
 pub use time::RawTimestamp;
 pub use words::{RawSigned, RawTime};
