@@ -4,5 +4,6 @@ pub mod Times
 pub mod Messages
 pub mod Stays
 pub mod Masters
+pub mod Answers
 pub mod Slaves
 pub mod Inner

@@ -5,15 +5,18 @@
 #![tactic(auto)]
 
 mod handle;
+mod heard;
 mod master;
 mod message;
 mod refusal;
 mod ring;
+mod slave;
 mod stay;
 mod time;
 mod words;
 
 pub use handle::RawSlave;
+pub use heard::RawHeard;
 pub use master::{RawMaster, RawPortConfig};
 pub use message::{RawMessage, RawPortIdentity};
 pub use refusal::InputRefusal;
