@@ -39,5 +39,5 @@ pub heard_by_handle : (call : Call) (handle : RawSlave) (ring : RingSlave) (afte
     → IsHeard call handle (with_port handle (record { port = after })) said
 heard_by_handle call handle ring after said answer lies says is stands ignored = λ before there.
     let P : RingSlave → Type 0 = λ r. (x : RingSlave) × (y : Heard) × ((with_port handle (record { port = after }) ≡ with_port handle x) × Says said y
-        × IsAnswer call r.port y × StandsAfter call r.port x.port × ((reason : Reason) → y ≡ answers.Ignored reason → x.port ≡ r.port)) in
+    × IsAnswer call r.port y × StandsAfter call r.port x.port × ((reason : Reason) → y ≡ answers.Ignored reason → x.port ≡ r.port)) in
     subst P (one_port handle.port ring before lies there) (record { port = after }, answer, (refl, says, is, stands, ignored))

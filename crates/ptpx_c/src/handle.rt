@@ -5,7 +5,7 @@ ghost use Rattle.std.specs.Borrow.{sem};
 ghost use Rattle.ptpx_c.specs.declared.ring.RingSlave.{RingSlave};
 
 use crate::ring::RingSlave;
-use std::marker::Model;
+use std::marker::{Model, Send};
 
 /// A slave port, in memory that C gave.
 #[repr(C)]
@@ -21,6 +21,8 @@ impl Model for RawSlave {
 
     ghost also_owns = { λ h. memory h.at h.port };
 }
+
+unsafe impl Send for RawSlave {}
 
 impl RawSlave {
     ghost use Rattle.ptpx_c.specs.Slaves.{with_port};

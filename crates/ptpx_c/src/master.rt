@@ -86,9 +86,9 @@ pub extern "C" fn ptpx_raw_master_next_sync(
     ensures octets { Packet (sync (config_of master.old.config) master.old.next) octets.new }
     ensures number { number.new ≡ master.old.next }
     ensures port { port_of master.new ≡ record (port_of master.old) {
-        next = next master.old.next;
-        waiting = Some master.old.next;
-      } }
+      next = next master.old.next;
+      waiting = Some master.old.next;
+    } }
 {
     let drawn = Seq(master.next);
     let (written, _) = master.port(drawn.0).next_sync();

@@ -8,7 +8,9 @@ ghost use Rattle.ptpx_c.specs.Messages.{has_nibbles, IsDecoded, IsEncoded};
 
 use crate::refusal::InputRefusal;
 use crate::time::RawTimestamp;
-use event_codec::{Body, DecodeRefusal, Header, Message, Nibble, PortIdentity, decode, encode, patch_correction};
+use event_codec::{
+    Body, DecodeRefusal, Header, Message, Nibble, PortIdentity, decode, encode, patch_correction,
+};
 use ptp_units::{Interval, Seq, Timestamp};
 
 /// A port's identity (IEEE 1588-2019, 5.3.5).

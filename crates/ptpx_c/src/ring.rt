@@ -1,6 +1,6 @@
 //! The slave port that C has memory for.
 
-ghost use Rattle.std.specs.Prelude.{[]};
+ghost use Rattle.std.specs.Prelude.{◌≡◌, []};
 ghost use Rattle.slave_port.specs.StandsFor.{StandsFor};
 ghost use Rattle.slave_port.specs.History.{setup_of};
 
@@ -16,7 +16,27 @@ pub const CAPACITY: usize = 16;
 #[derive(Drop)]
 pub struct RingSlave {
     /// The port.
-    pub port: SlavePort<RingTable<HeldSync, 16>, RingTable<HeldFollow, 16>, RingTable<HeldRequest, 16>>,
+    pub port: SlavePort<
+        RingTable<HeldSync, 16>,
+        RingTable<HeldFollow, 16>,
+        RingTable<HeldRequest, 16>,
+    >,
+}
+
+/// How many octets the memory of a port takes.
+#[unsafe(no_mangle)]
+pub extern "C" fn ptpx_raw_slave_size() -> usize
+    ensures { result ≡ 2944 }
+{
+    size_of::<RingSlave>()
+}
+
+/// What the address of that memory is a multiple of.
+#[unsafe(no_mangle)]
+pub extern "C" fn ptpx_raw_slave_alignment() -> usize
+    ensures { result ≡ 16 }
+{
+    align_of::<RingSlave>()
 }
 
 impl RingSlave {

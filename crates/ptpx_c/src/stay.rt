@@ -42,7 +42,11 @@ pub extern "C" fn ptpx_raw_clock_enter(stay: &mut RawStay, reading: RawTime) -> 
 /// is inside, else with 101 where a reading is no moment, and the stay is as before; else with the first of 401 to 403 that applies,
 /// and the stay is over, as where the message leaves. On a refusal the octets are unchanged, and aren't to be sent.
 #[unsafe(no_mangle)]
-pub extern "C" fn ptpx_raw_clock_leave(stay: &mut RawStay, octets: &mut [u8], reading: RawTime) -> u16
+pub extern "C" fn ptpx_raw_clock_leave(
+    stay: &mut RawStay,
+    octets: &mut [u8],
+    reading: RawTime,
+) -> u16
     ensures outside { stay.old.inside ≡ false → (result ≡ 905) × (stay.new ≡ stay.old) × (octets.new ≡ octets.old) }
     ensures no_moment { stay.old.inside ≡ true → bound ≤ max (units_of stay.old.entered) (units_of reading)
         → (result ≡ 101) × (stay.new ≡ stay.old) × (octets.new ≡ octets.old) }

@@ -136,7 +136,8 @@ pub extern "C" fn ptpx_raw_delay_bracket(
 fn is_bracket(value: i128) -> bool
     ensures { result ≡ is_bracket value }
 {
-    -79_228_162_514_264_337_593_543_950_336 < value && value < 79_228_162_514_264_337_593_543_950_336
+    -79_228_162_514_264_337_593_543_950_336 < value
+        && value < 79_228_162_514_264_337_593_543_950_336
 }
 
 /// Twice offsetFromMaster, in 2^-16 ns, of the two brackets. Refused with 908 where one isn't strictly between -2^96 and 2^96;

@@ -90,7 +90,7 @@ port_spec 𝓤 𝓛 𝓜 𝓡 wired =
     let lent : MutBor RingSlave = record { ref_ptr = (b, o); ghost_name = δ; now = v } in
     let Lent = (MutRef (named 0) κ T).own_val lent (vptr b o ∷ []) in let Follows = follows R T γ δ (with_port h) in
     let exits : ent 𝓤 (sep 𝓤 (sem 𝓛 Lent) (sep 𝓤 (𝓛.A.lft κ q) (sem 𝓛 Follows))) (W.post y (vptr b o)) =
-        qed 𝓛 (‵ Lent ∷ ‵ (flft κ q) ∷ ‵ Follows ∷ []) ∵
-        suffices ! _ (ends_at 𝓛 f.ended stayed c y (vptr b o) lent (tt, tt) (tt, tt)) $
-        nothing ! $ nothing ! $ fjoin ! $ join ! $ nothing ! $ move ! (2 ∷ 0 ∷ []) $ join ! $ join ! $ frame ! $ says ! there $ done ! in
+    qed 𝓛 (‵ Lent ∷ ‵ (flft κ q) ∷ ‵ Follows ∷ []) ∵
+    suffices ! _ (ends_at 𝓛 f.ended stayed c y (vptr b o) lent (tt, tt) (tt, tt)) $
+    nothing ! $ nothing ! $ fjoin ! $ join ! $ nothing ! $ move ! (2 ∷ 0 ∷ []) $ join ! $ join ! $ frame ! $ says ! there $ done ! in
     by ! exits)))))))
