@@ -1,5 +1,5 @@
 -- What a decoder answers, as fields.
-use Rattle.std.proofs.Common.{◌≡◌, ℕ, ◌+◌, ◌*◌, ◌<◌, ◌≤◌, ◌^◌, List, length, drop, Ok, Err, refl, ap, arith, lit≤}
+use Rattle.std.proofs.Common.{ℕ, ◌<◌, ◌≤◌, List, length, Ok, Err, refl, ap, arith, lit≤}
 use Rattle.std.specs.Prelude.{slice_index}
 use Rattle.std.proofs.lemmas.List.{length-drop}
 use Rattle.event_codec.specs.declared.message.Message.{Message}

@@ -1,6 +1,5 @@
 -- A transparent clock's stays as C passes them.
-use Rattle.std.specs.Prelude.{◌≡◌, ℕ, List, Result, Ok, Err, MatchResult}
-use Rattle.event_codec.specs.Packet.{Contents}
+use Rattle.std.specs.Prelude.{◌≡◌, ℕ, List, Ok, MatchResult}
 use Rattle.event_codec.specs.Reading.{Reading, IsReading}
 use Rattle.transparent_clock.specs.Forwarding.{forwarded}
 use Rattle.transparent_clock.specs.Refusal.{code_of}

@@ -1,6 +1,5 @@
 use Rattle.std.proofs.Common.{sym}
 use Rattle.slave_port.specs.History.{Event}
-use Rattle.ptpx_c.specs.Words.{units_of}
 use Rattle.ptpx_c.proofs.Slaves.{heard_by_handle}
 use Rattle.ptpx_c.proofs.slave.ptpx_raw_slave_sync.Goals as goal
 

@@ -1,6 +1,6 @@
 -- `RawSlave::port` meets its contract: a walk of its MIR. The memory behind the handle is lent, and the handle ends with what was left there.
 use Rattle.std.proofs.Common.{◌≡◌, ℕ, List, [], ◌∷◌, refl, sym, ap, ◌∙◌, MutBor}
-use Rattle.std.specs.Prelude.{IsSome, Option, Some}
+use Rattle.std.specs.Prelude.{IsSome, Option}
 use Rattle.std.proofs.raw_atomic.Walks.{proved}
 use Rattle.std.proofs.VecSteps.Shapes.{after}
 use seplogic.Ra.Ura.{Ura}
@@ -19,7 +19,7 @@ use types.ByLocal.{alloc_all, pass_all, free_all, look_at, get, through, sets, s
 use denote.Exit.{no}
 use denote.Follow.{follows, Part, lends_Part}
 use denote.Laws.{shows}
-use denote.Memory.{cell_at, part_at, part_of, mem}
+use denote.Memory.{cell_at, part_of, mem}
 use denote.RawPtr.{Ptr, block_ptr, lies_at, in_a_block}
 use denote.Ref.{MutRef, mut_vals, mut_Tells}
 use denote.Signature.{plain, mut_ref_to}
