@@ -22,7 +22,8 @@ port_of master = record {
   waiting = if master.waits then Some master.waiting else None;
 }
 
--- the octets of the answer to what octets say that arrived at t4 are put there, or it is refused and what was there stays
+-- the octets of the answer to what octets say that arrived at t4 are put there, or it is refused and what was there
+-- stays
 abbrev pub IsAnswered : PortConfig → Reading → (t4 : ℕ) → (code : ℕ) → (old new : List ℕ) → Type 0
 IsAnswered config said t4 code old new = MatchResult (answer config said t4)
     (λ response. (code ≡ 0) × Packet response new)

@@ -1,6 +1,6 @@
 -- Messages as C passes them.
-use Rattle.std.specs.Prelude.{◌≡◌, ℕ, ◌≤◌, List, [], ◌∷◌, length, take, drop, nat_lt, ◌&&◌, ◌==◌, Bool, if◌then◌else◌, Option, Some, None}
-use Rattle.std.specs.Prelude.{MatchOption, Result, Ok, Err}
+use Rattle.std.specs.Prelude.{◌≡◌, ℕ, ◌≤◌, List, [], ◌∷◌, length, take, drop, nat_lt, ◌&&◌, ◌==◌, Bool, Option, Some}
+use Rattle.std.specs.Prelude.{None, if◌then◌else◌, MatchOption, Result, Ok, Err}
 use Rattle.ptp_units.specs.Moment.{Stamp}
 use Rattle.ptp_units.specs.declared.refusal.UnitRefusal.{UnitRefusal}
 use Rattle.ptp_units.specs.Refusal.{timestamp_refusal, code_of}
@@ -112,5 +112,6 @@ contents_said message suffix = typed_said
 abbrev pub IsEncoded : Contents → (code : ℕ) → (old new : List ℕ) → (old_length new_length : ℕ) → Type 0
 IsEncoded m code old new old_length new_length =
     MatchOption (encode_refusal m (length old))
-    ((code ≡ 0) × (new_length ≤ length old) × Packet m (take new_length new) × (drop new_length new ≡ drop new_length old))
+    ((code ≡ 0) × (new_length ≤ length old) × Packet m (take new_length new)
+    × (drop new_length new ≡ drop new_length old))
     (λ refusal. (code ≡ code_of_writing refusal) × (new ≡ old) × (new_length ≡ old_length))

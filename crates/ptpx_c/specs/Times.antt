@@ -1,5 +1,6 @@
 -- Timestamps and brackets as C passes them.
-use Rattle.std.specs.Prelude.{◌≡◌, ℕ, ◌-◌, ◌^◌, ℤ, pos, negsuc, int_lt, Bool, ◌&&◌, if◌then◌else◌, Some, None, MatchOption}
+use Rattle.std.specs.Prelude.{◌≡◌, ℕ, ◌-◌, ◌^◌, ℤ, pos, negsuc, int_lt, Bool, ◌&&◌, if◌then◌else◌, Some, None}
+use Rattle.std.specs.Prelude.{MatchOption}
 use Rattle.ptp_units.specs.Moment.{Stamp, stamp}
 use Rattle.ptpx_c.specs.declared.time.RawTimestamp.{RawTimestamp}
 use Rattle.ptpx_c.specs.declared.words.RawSigned.{RawSigned}

@@ -1,6 +1,6 @@
 -- Numbers of more than 64 bits as C passes them, in two words.
-use Rattle.std.specs.Prelude.{◌≡◌, ℕ, ◌+◌, ◌-◌, ◌*◌, ◌^◌, ℤ, pos, negsuc, ◌+ℤ◌, ◌*ℤ◌, int_lt, ◌&&◌, not, Option, Some, None}
-use Rattle.std.specs.Prelude.{MatchOption, if◌then◌else◌}
+use Rattle.std.specs.Prelude.{◌≡◌, ℕ, ◌+◌, ◌-◌, ◌*◌, ◌^◌, ℤ, pos, negsuc, ◌+ℤ◌, ◌*ℤ◌, int_lt, ◌&&◌, not, Option, Some}
+use Rattle.std.specs.Prelude.{None, MatchOption, if◌then◌else◌}
 use Rattle.ptpx_c.specs.declared.words.RawTime.{RawTime}
 use Rattle.ptpx_c.specs.declared.words.RawSigned.{RawSigned}
 

@@ -9,8 +9,8 @@ use slave_port::{Heard, Report};
 #[repr(C)]
 #[derive(Clone, Copy)]
 pub struct RawHeard {
-    /// 0: it is held; 1: it completed one half of a report, and the other half isn't there; 2: it completed one half, and the other
-    /// half is there; 3: it is ignored.
+    /// 0: it is held; 1: it completed one half of a report, and the other half isn't there; 2: it completed one half,
+    /// and the other half is there; 3: it is ignored.
     pub kind: u16,
     /// Why it is ignored, else 0.
     pub reason: u16,

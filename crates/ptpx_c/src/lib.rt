@@ -1,5 +1,5 @@
-//! The codec, the ports and the clock for C: `include/ptpx.h` has a wrapper for each export, which tests for null and for lengths
-//! first, and says each contract in words.
+//! The codec, the ports and the clock for C: `include/ptpx.h` has a wrapper for each export, which tests for null and
+//! for lengths first, and says each contract in words.
 //!
 //! Each call answers 0, or the number of the refusal that applies.
 #![tactic(auto)]

@@ -75,8 +75,8 @@ pub extern "C" fn ptpx_raw_master_init(master: &mut RawMaster, config: &RawPortC
     };
 }
 
-/// Draws a number: the octets of its two-step Sync, and the number. From now on that Sync is the one that waits to be told when it
-/// departed; one that was waiting is given up.
+/// Draws a number: the octets of its two-step Sync, and the number. From now on that Sync is the one that waits to be
+/// told when it departed; one that was waiting is given up.
 #[unsafe(no_mangle)]
 pub extern "C" fn ptpx_raw_master_next_sync(
     master: &mut RawMaster,
@@ -99,8 +99,8 @@ pub extern "C" fn ptpx_raw_master_next_sync(
     master.waits = true;
 }
 
-/// Draws a number from the same pool: the octets of its one-step Sync, which leaves at `t1`, and the number. A Sync that was waiting
-/// goes on waiting. Refused with 101 where `t1` is no moment; nothing changes then.
+/// Draws a number from the same pool: the octets of its one-step Sync, which leaves at `t1`, and the number. A Sync
+/// that was waiting goes on waiting. Refused with 101 where `t1` is no moment; nothing changes then.
 #[unsafe(no_mangle)]
 pub extern "C" fn ptpx_raw_master_one_step_sync(
     master: &mut RawMaster,
@@ -127,8 +127,8 @@ pub extern "C" fn ptpx_raw_master_one_step_sync(
     0
 }
 
-/// The octets of the Follow_Up of the waiting Sync, which left at `t1`; no Sync waits then. Refused with 101 where `t1` is no moment,
-/// else with 301 where no Sync of this number waits; nothing changes then.
+/// The octets of the Follow_Up of the waiting Sync, which left at `t1`; no Sync waits then. Refused with 101 where
+/// `t1` is no moment, else with 301 where no Sync of this number waits; nothing changes then.
 #[unsafe(no_mangle)]
 pub extern "C" fn ptpx_raw_master_sync_left(
     master: &mut RawMaster,
@@ -155,8 +155,8 @@ pub extern "C" fn ptpx_raw_master_sync_left(
     0
 }
 
-/// The octets of the Delay_Resp to a Delay_Req that arrived at `t4`. Refused with 101 where `t4` is no moment, else with the first
-/// of 302 to 305 that applies; `response` stays then.
+/// The octets of the Delay_Resp to a Delay_Req that arrived at `t4`. Refused with 101 where `t4` is no moment, else
+/// with the first of 302 to 305 that applies; `response` stays then.
 #[unsafe(no_mangle)]
 pub extern "C" fn ptpx_raw_master_delay_req(
     master: &RawMaster,

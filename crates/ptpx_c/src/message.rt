@@ -47,8 +47,8 @@ impl RawPortIdentity {
     }
 }
 
-/// The fields of a message (IEEE 1588-2019, 13.3 and 13.6 to 13.8). versionPTP is 2, and messageLength is that of the fields and the
-/// suffix, the octets of the TLVs after them.
+/// The fields of a message (IEEE 1588-2019, 13.3 and 13.6 to 13.8). versionPTP is 2, and messageLength is that of the
+/// fields and the suffix, the octets of the TLVs after them.
 #[repr(C)]
 #[derive(Clone, Copy)]
 pub struct RawMessage {
@@ -205,7 +205,8 @@ fn body_of(kind: u8, timestamp: Timestamp, requesting: PortIdentity) -> Option<B
     }
 }
 
-/// The fields of the message that the octets begin with. Refused with the first of 201 to 206 that applies; `message` stays then.
+/// The fields of the message that the octets begin with. Refused with the first of 201 to 206 that applies; `message`
+/// stays then.
 #[unsafe(no_mangle)]
 pub extern "C" fn ptpx_raw_decode(octets: &[u8], message: &mut RawMessage) -> u16
     ensures { (said : Reading) → IsReading octets.now said → IsDecoded said result message.old message.new }
@@ -219,9 +220,9 @@ pub extern "C" fn ptpx_raw_decode(octets: &[u8], message: &mut RawMessage) -> u1
     }
 }
 
-/// Writes the message with this suffix into the front of the buffer, and its messageLength to `length`. What `suffix_length` says
-/// doesn't matter, nor does `requesting` but in a Delay_Resp. Refused with the first of 903, 904, 102, 103, 211 and 212 that applies;
-/// nothing is written then.
+/// Writes the message with this suffix into the front of the buffer, and its messageLength to `length`. What
+/// `suffix_length` says doesn't matter, nor does `requesting` but in a Delay_Resp. Refused with the first of 903,
+/// 904, 102, 103, 211 and 212 that applies; nothing is written then.
 #[unsafe(no_mangle)]
 pub extern "C" fn ptpx_raw_encode(
     message: &RawMessage,
@@ -245,8 +246,8 @@ pub extern "C" fn ptpx_raw_encode(
     }
 }
 
-/// Puts the correctionField, in 2^-16 ns, into octets 8 to 15. Refused with 201 where there are fewer than 34 octets; nothing is
-/// written then.
+/// Puts the correctionField, in 2^-16 ns, into octets 8 to 15. Refused with 201 where there are fewer than 34 octets;
+/// nothing is written then.
 #[unsafe(no_mangle)]
 pub extern "C" fn ptpx_raw_patch_correction(octets: &mut [u8], correction: i64) -> u16
     ensures patched { 34 ≤ length octets.old → (result ≡ 0) × (octets.new ≡ corrected octets.old correction) }

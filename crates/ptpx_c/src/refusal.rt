@@ -6,7 +6,7 @@ use thiserror::Error;
 #[derive(Clone, Copy, Debug, PartialEq, Eq, Error)]
 pub enum InputRefusal {
     /// The type of a message that is to be written isn't one of the four.
-    #[error("the type isn't that of a Sync (0), Delay_Req (1), Follow_Up (8) or Delay_Resp (9)")]
+    #[error("the type isn't Sync (0), Delay_Req (1), Follow_Up (8) or Delay_Resp (9)")]
     OtherType,
     /// Half an octet can't hold it.
     #[error("majorSdoId or minorVersionPTP is 16 or more")]

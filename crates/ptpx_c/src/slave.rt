@@ -16,7 +16,8 @@ use crate::ring::RingSlave;
 use crate::words::RawTime;
 use ptp_units::Seq;
 
-/// Makes a slave port in the memory of the handle: it has no master and holds nothing, and its requests are numbered from `first` on.
+/// Makes a slave port in the memory of the handle: it has no master and holds nothing, and its requests are numbered
+/// from `first` on.
 #[unsafe(no_mangle)]
 pub extern "C" fn ptpx_raw_slave_init(slave: &mut RawSlave, config: &RawPortConfig, first: u16)
     requires { slave.old.port ≡ None }
@@ -25,7 +26,8 @@ pub extern "C" fn ptpx_raw_slave_init(slave: &mut RawSlave, config: &RawPortConf
     slave.put(RingSlave::new(config.config(), Seq(first)));
 }
 
-/// As a new port of the same configuration, whose requests are numbered from `first` on: it has no master and holds nothing.
+/// As a new port of the same configuration, whose requests are numbered from `first` on: it has no master and holds
+/// nothing.
 #[unsafe(no_mangle)]
 pub extern "C" fn ptpx_raw_slave_restart(slave: &mut RawSlave, first: u16)
     requires { IsSome slave.old.port }
@@ -55,7 +57,8 @@ pub extern "C" fn ptpx_raw_slave_tick(slave: &mut RawSlave)
     ring.port.tick();
 }
 
-/// Draws a number: the octets of its Delay_Req, and the number. The request is held, and completes once it is known when it left.
+/// Draws a number: the octets of its Delay_Req, and the number. The request is held, and completes once it is known
+/// when it left.
 #[unsafe(no_mangle)]
 pub extern "C" fn ptpx_raw_slave_next_request(
     slave: &mut RawSlave,
@@ -73,8 +76,8 @@ pub extern "C" fn ptpx_raw_slave_next_request(
     *number = drawn.0;
 }
 
-/// The request of this number has left at `t3`. Refused with 101 where `t3` is no moment, else with 511 where no request of this
-/// number is held; nothing changes then.
+/// The request of this number has left at `t3`. Refused with 101 where `t3` is no moment, else with 511 where no
+/// request of this number is held; nothing changes then.
 #[unsafe(no_mangle)]
 pub extern "C" fn ptpx_raw_slave_request_left(slave: &mut RawSlave, number: u16, t3: RawTime) -> u16
     requires { IsSome slave.old.port }
@@ -94,7 +97,8 @@ pub extern "C" fn ptpx_raw_slave_request_left(slave: &mut RawSlave, number: u16,
     }
 }
 
-/// A message arrived on the event port at `t2`. Refused with 101 where `t2` is no moment; nothing changes then, `heard` neither.
+/// A message arrived on the event port at `t2`. Refused with 101 where `t2` is no moment; nothing changes then,
+/// `heard` neither.
 #[unsafe(no_mangle)]
 pub extern "C" fn ptpx_raw_slave_sync(
     slave: &mut RawSlave,

@@ -21,11 +21,12 @@ pub struct RawStay {
     pub inside: bool,
 }
 
-/// A message enters at this reading of the clock; whatever stayed here before is given up. Refused with 101 where the reading is no
-/// moment; `stay` is as before then.
+/// A message enters at this reading of the clock; whatever stayed here before is given up. Refused with 101 where the
+/// reading is no moment; `stay` is as before then.
 #[unsafe(no_mangle)]
 pub extern "C" fn ptpx_raw_clock_enter(stay: &mut RawStay, reading: RawTime) -> u16
-    ensures entered { units_of reading < bound → (result ≡ 0) × (stay.new ≡ record { entered = reading; inside = true }) }
+    ensures entered { units_of reading < bound
+        → (result ≡ 0) × (stay.new ≡ record { entered = reading; inside = true }) }
     ensures refused { bound ≤ units_of reading → (result ≡ 101) × (stay.new ≡ stay.old) }
 {
     if let Err(refusal) = reading.moment() {
@@ -38,9 +39,10 @@ pub extern "C" fn ptpx_raw_clock_enter(stay: &mut RawStay, reading: RawTime) -> 
     0
 }
 
-/// The message leaves at this reading of the clock: the residence is added to octets 8 to 15 of its octets. Refused with 905 where none
-/// is inside, else with 101 where a reading is no moment, and the stay is as before; else with the first of 401 to 403 that applies,
-/// and the stay is over, as where the message leaves. On a refusal the octets are unchanged, and aren't to be sent.
+/// The message leaves at this reading of the clock: the residence is added to octets 8 to 15 of its octets. Refused
+/// with 905 where none is inside, else with 101 where a reading is no moment, and the stay is as before; else with
+/// the first of 401 to 403 that applies, and the stay is over, as where the message leaves. On a refusal the octets
+/// are unchanged, and aren't to be sent.
 #[unsafe(no_mangle)]
 pub extern "C" fn ptpx_raw_clock_leave(
     stay: &mut RawStay,

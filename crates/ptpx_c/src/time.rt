@@ -40,8 +40,8 @@ impl RawTimestamp {
     }
 }
 
-/// The one moment that a timestamp and a fraction of a nanosecond, in 2^-16 ns, name. Refused with 102 where the seconds don't
-/// fit 48 bits, else with 103 where the nanoseconds are 10^9 or more; `time` stays then.
+/// The one moment that a timestamp and a fraction of a nanosecond, in 2^-16 ns, name. Refused with 102 where the
+/// seconds don't fit 48 bits, else with 103 where the nanoseconds are 10^9 or more; `time` stays then.
 #[unsafe(no_mangle)]
 pub extern "C" fn ptpx_raw_time_join(
     timestamp: RawTimestamp,
@@ -61,8 +61,8 @@ pub extern "C" fn ptpx_raw_time_join(
     }
 }
 
-/// The timestamp of a moment without its fraction of a nanosecond, and that fraction in 2^-16 ns. Refused with 101 where it is no
-/// moment; nothing is written then.
+/// The timestamp of a moment without its fraction of a nanosecond, and that fraction in 2^-16 ns. Refused with 101
+/// where it is no moment; nothing is written then.
 #[unsafe(no_mangle)]
 pub extern "C" fn ptpx_raw_time_split(
     time: RawTime,
@@ -85,8 +85,9 @@ pub extern "C" fn ptpx_raw_time_split(
     }
 }
 
-/// The Sync's arrival at the slave, less its corrected departure and its own correction: `a`, in 2^-16 ns, strictly between -2^96
-/// and 2^96. Refused with 101 where `t2` is no moment, else with 102 or 103 where `precise` is no timestamp; `bracket` stays then.
+/// The Sync's arrival at the slave, less its corrected departure and its own correction: `a`, in 2^-16 ns, strictly
+/// between -2^96 and 2^96. Refused with 101 where `t2` is no moment, else with 102 or 103 where `precise` is no
+/// timestamp; `bracket` stays then.
 #[unsafe(no_mangle)]
 pub extern "C" fn ptpx_raw_sync_bracket(
     t2: RawTime,
@@ -109,8 +110,9 @@ pub extern "C" fn ptpx_raw_sync_bracket(
     }
 }
 
-/// The Delay_Req's corrected arrival at the master, less its departure from the slave: `b`, in 2^-16 ns, strictly between -2^96
-/// and 2^96. Refused with 101 where `t3` is no moment, else with 102 or 103 where `receive` is no timestamp; `bracket` stays then.
+/// The Delay_Req's corrected arrival at the master, less its departure from the slave: `b`, in 2^-16 ns, strictly
+/// between -2^96 and 2^96. Refused with 101 where `t3` is no moment, else with 102 or 103 where `receive` is no
+/// timestamp; `bracket` stays then.
 #[unsafe(no_mangle)]
 pub extern "C" fn ptpx_raw_delay_bracket(
     receive: RawTimestamp,
@@ -140,8 +142,8 @@ fn is_bracket(value: i128) -> bool
         && value < 79_228_162_514_264_337_593_543_950_336
 }
 
-/// Twice offsetFromMaster, in 2^-16 ns, of the two brackets. Refused with 908 where one isn't strictly between -2^96 and 2^96;
-/// `twice` stays then.
+/// Twice offsetFromMaster, in 2^-16 ns, of the two brackets. Refused with 908 where one isn't strictly between -2^96
+/// and 2^96; `twice` stays then.
 #[unsafe(no_mangle)]
 pub extern "C" fn ptpx_raw_offset2(a: RawSigned, b: RawSigned, twice: &mut RawSigned) -> u16
     ensures { IsTwice (offset2 (signed_of a) (signed_of b)) a b result twice.old twice.new }
@@ -154,8 +156,8 @@ pub extern "C" fn ptpx_raw_offset2(a: RawSigned, b: RawSigned, twice: &mut RawSi
     0
 }
 
-/// Twice meanPathDelay, in 2^-16 ns, of the two brackets. Refused with 908 where one isn't strictly between -2^96 and 2^96;
-/// `twice` stays then.
+/// Twice meanPathDelay, in 2^-16 ns, of the two brackets. Refused with 908 where one isn't strictly between -2^96 and
+/// 2^96; `twice` stays then.
 #[unsafe(no_mangle)]
 pub extern "C" fn ptpx_raw_path2(a: RawSigned, b: RawSigned, twice: &mut RawSigned) -> u16
     ensures { IsTwice (path2 (signed_of a) (signed_of b)) a b result twice.old twice.new }

@@ -15,7 +15,8 @@ const SIGNED_WORD: i128 = 18_446_744_073_709_551_616;
 /// What twice a nanosecond is in units of 2^-16 ns.
 const TWICE_NANOSECOND: i128 = 131_072;
 
-/// A number of 2^-16 ns, `high * 2^64 + low`: a moment where it is below 2^48 s, which is [`BOUND`](ptp_units::BOUND).
+/// A number of 2^-16 ns, `high * 2^64 + low`: a moment where it is below 2^48 s, which is
+/// [`BOUND`](ptp_units::BOUND).
 #[repr(C)]
 #[derive(Clone, Copy)]
 pub struct RawTime {
@@ -84,8 +85,8 @@ pub extern "C" fn ptpx_raw_signed_to_int64(value: RawSigned, narrow: &mut i64) -
     narrowed(value.value(), narrow)
 }
 
-/// Half of the number in whole nanoseconds, rounded down: offsetFromMaster of twice it, or meanPathDelay. Refused with 909 where
-/// that doesn't fit 64 bits, and `nanoseconds` stays then.
+/// Half of the number in whole nanoseconds, rounded down: offsetFromMaster of twice it, or meanPathDelay. Refused
+/// with 909 where that doesn't fit 64 bits, and `nanoseconds` stays then.
 #[unsafe(no_mangle)]
 pub extern "C" fn ptpx_raw_nanoseconds_of_twice(twice: RawSigned, nanoseconds: &mut i64) -> u16
     ensures { IsNarrowed (int_div_euclid (signed_of twice) (pos 131072)) result nanoseconds.old nanoseconds.new }
