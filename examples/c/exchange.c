@@ -21,7 +21,7 @@ static void must(uint16_t refusal)
 static struct ptpx_time at(uint64_t seconds, uint32_t nanos, uint16_t fraction)
 {
     struct ptpx_timestamp timestamp = {seconds, nanos};
-    struct ptpx_time time;
+    struct ptpx_time time = {0, 0};
     must(ptpx_time_join(timestamp, fraction, &time));
     return time;
 }
@@ -35,7 +35,7 @@ static void print(const uint8_t *octets, size_t length)
 
 static void through_clock(uint8_t *octets, size_t length, struct ptpx_time entry, struct ptpx_time exit)
 {
-    struct ptpx_stay stay;
+    struct ptpx_stay stay = {{0, 0}, false};
     must(ptpx_clock_enter(&stay, entry));
     must(ptpx_clock_leave(&stay, octets, length, exit));
     print(octets, length);
@@ -46,13 +46,13 @@ int main(void)
     static struct ptpx_slave_memory memory;
     const struct ptpx_config of_master = {{{0x00, 0x11, 0x22, 0xff, 0xfe, 0x33, 0x44, 0x55}, 1}, 0, 0};
     const struct ptpx_config of_slave = {{{0x00, 0xaa, 0xbb, 0xff, 0xfe, 0xcc, 0xdd, 0xee}, 1}, 0, 0};
-    struct ptpx_master master;
-    struct ptpx_slave slave;
-    struct ptpx_heard heard;
-    uint8_t sync[PTPX_SYNC_LENGTH], follow[PTPX_FOLLOW_UP_LENGTH];
-    uint8_t request[PTPX_DELAY_REQ_LENGTH], response[PTPX_DELAY_RESP_LENGTH];
-    uint16_t number;
-    int64_t offset2, path2;
+    struct ptpx_master master = {{{{0}, 0}, 0, 0}, 0, 0, false};
+    struct ptpx_slave slave = {NULL};
+    struct ptpx_heard heard = {0, 0, false, {0, 0}, {0, 0}, 0, 0, 0, 0};
+    uint8_t sync[PTPX_SYNC_LENGTH] = {0}, follow[PTPX_FOLLOW_UP_LENGTH] = {0};
+    uint8_t request[PTPX_DELAY_REQ_LENGTH] = {0}, response[PTPX_DELAY_RESP_LENGTH] = {0};
+    uint16_t number = 0;
+    int64_t offset2 = 0, path2 = 0;
 
     must(ptpx_master_init(&master, &of_master, 0));
     must(ptpx_slave_init(&slave, &memory, sizeof memory, &of_slave, 0));

@@ -24,3 +24,24 @@ pub use ring::RingSlave;
 pub use stay::RawStay;
 pub use time::RawTimestamp;
 pub use words::{RawSigned, RawTime};
+
+// The sizes that the header's structs have.
+const _: () = prove!(size_of::<RawTime>() == 16);
+
+const _: () = prove!(size_of::<RawSigned>() == 16);
+
+const _: () = prove!(size_of::<RawTimestamp>() == 16);
+
+const _: () = prove!(size_of::<RawPortIdentity>() == 10);
+
+const _: () = prove!(size_of::<RawPortConfig>() == 12);
+
+const _: () = prove!(size_of::<RawMessage>() == 72);
+
+const _: () = prove!(size_of::<RawStay>() == 24);
+
+const _: () = prove!(size_of::<RawMaster>() == 18);
+
+const _: () = prove!(size_of::<RawSlave>() == 8);
+
+const _: () = prove!(size_of::<RawHeard>() == 72);
