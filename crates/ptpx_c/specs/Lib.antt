@@ -5,5 +5,6 @@ pub mod Messages
 pub mod Stays
 pub mod Masters
 pub mod Answers
+pub mod Memory
 pub mod Slaves
 pub mod Inner

@@ -17,7 +17,7 @@ pub struct RawSlave {
 }
 
 impl Model for RawSlave {
-    ghost use Rattle.ptpx_c.specs.Inner.Memory.{memory};
+    ghost use Rattle.ptpx_c.specs.Memory.{memory};
 
     ghost also_owns = { λ h. memory h.at h.port };
 }

@@ -9,7 +9,7 @@ use denote.RawPtr.{Ptr, block_ptr, null_ptr}
 use denote.Struct.Owning.{fields, shape, to}
 use denote.Struct.Struct.{exits_of}
 use Rattle.ptpx_c.specs.declared.ring.RingSlave.{RingSlave}
-use Rattle.ptpx_c.specs.Inner.Memory.{memory}
+use Rattle.ptpx_c.specs.Memory.{memory}
 use Rattle.ptpx_c.specs.contracts.handle.RawSlave.{the_row, the_type}
 use Rattle.ptpx_c.specs.contracts.ring.RingSlave.{the_row as port_row}
 use Rattle.ptpx_c.proofs.ring.RingSlave.TheSendSync.{the_send}

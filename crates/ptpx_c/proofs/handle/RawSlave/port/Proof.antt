@@ -30,7 +30,7 @@ use denote.Triple.Walked.{Stays, walk_of, says, stay_dropped, Goes-spent_ref, en
 use Rattle.ptpx_c.specs.declared.handle.RawSlave.{RawSlave}
 use Rattle.ptpx_c.specs.declared.ring.RingSlave.{RingSlave}
 use Rattle.ptpx_c.specs.Slaves.{with_port}
-use Rattle.ptpx_c.specs.Inner.Memory.{memory}
+use Rattle.ptpx_c.specs.Memory.{memory}
 use Rattle.ptpx_c.specs.contracts.handle.RawSlave.port as f
 use Rattle.ptpx_c.specs.contracts.handle.RawSlave.{the_row as R, the_type}
 use Rattle.ptpx_c.specs.contracts.ring.RingSlave.{the_row as T}

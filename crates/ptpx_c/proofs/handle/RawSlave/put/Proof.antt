@@ -28,7 +28,7 @@ use denote.Triple.Walked.{Stays, walk_of, says, stay_ref, stay_dropped, Goes-ref
 use Rattle.ptpx_c.specs.declared.handle.RawSlave.{RawSlave}
 use Rattle.ptpx_c.specs.declared.ring.RingSlave.{RingSlave}
 use Rattle.ptpx_c.specs.Slaves.{with_port}
-use Rattle.ptpx_c.specs.Inner.Memory.{memory}
+use Rattle.ptpx_c.specs.Memory.{memory}
 use Rattle.ptpx_c.specs.contracts.handle.RawSlave.put as f
 use Rattle.ptpx_c.specs.contracts.handle.RawSlave.{the_row as R}
 use Rattle.ptpx_c.specs.contracts.ring.RingSlave.{the_row as T}
