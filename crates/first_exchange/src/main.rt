@@ -9,8 +9,11 @@ use slave_port::{Heard, HeldFollow, HeldRequest, HeldSync, Report, SlavePort};
 use std::io;
 
 /// A slave that holds 16 Syncs, 16 Follow_Ups and 16 Delay_Reqs at most.
-type Slave =
-    SlavePort<RingTable<HeldSync, 16>, RingTable<HeldFollow, 16>, RingTable<HeldRequest, 16>>;
+type Slave = SlavePort<
+    RingTable<HeldSync, 16>,
+    RingTable<HeldFollow, 16>,
+    RingTable<HeldRequest, 16>,
+>;
 
 /// Units of 2^-16 ns in two nanoseconds.
 const TWO_NANOSECONDS: i128 = 131_072;
