@@ -26,9 +26,9 @@ class Identity(ctypes.Structure):
 
 
 class Message(ctypes.Structure):
-    _fields_ = [("kind", c_uint8), ("major_sdo", c_uint8), ("minor_version", c_uint8), ("domain", c_uint8),
-                ("minor_sdo", c_uint8), ("flags", c_uint8 * 2), ("correction", c_int64), ("specific", c_uint8 * 4),
-                ("source", Identity), ("sequence", c_uint16), ("control", c_uint8), ("log", c_int8),
+    _fields_ = [("kind", c_uint8), ("domain", c_uint8), ("major_sdo", c_uint8), ("minor_sdo", c_uint8),
+                ("minor_version", c_uint8), ("flags", c_uint8 * 2), ("correction", c_int64), ("specific", c_uint8 * 4),
+                ("source", Identity), ("sequence", c_uint16), ("log", c_int8), ("control", c_uint8),
                 ("timestamp", Timestamp), ("requesting", Identity), ("suffix_length", c_uint16)]
 
 

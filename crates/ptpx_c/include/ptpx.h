@@ -147,17 +147,17 @@ struct ptpx_identity {
 /* The fields of a message (13.3, 13.6 to 13.8). versionPTP is 2. */
 struct ptpx_message {
     uint8_t kind;                    /* messageType, one of enum ptpx_kind */
-    uint8_t major_sdo;               /* majorSdoId, 0 to 15 */
-    uint8_t minor_version;           /* minorVersionPTP, 0 to 15 */
     uint8_t domain;                  /* domainNumber */
+    uint8_t major_sdo;               /* majorSdoId, 0 to 15 */
     uint8_t minor_sdo;               /* minorSdoId */
+    uint8_t minor_version;           /* minorVersionPTP, 0 to 15 */
     uint8_t flags[2];                /* flagField; the twoStepFlag is 0x02 of flags[0] */
     int64_t correction;              /* correctionField, in 2^-16 ns; INT64_MAX says too big */
     uint8_t specific[4];             /* messageTypeSpecific */
     struct ptpx_identity source;     /* sourcePortIdentity */
     uint16_t sequence;               /* sequenceId */
-    uint8_t control;                 /* controlField */
     int8_t log;                      /* logMessageInterval */
+    uint8_t control;                 /* controlField */
     struct ptpx_timestamp timestamp; /* originTimestamp, preciseOriginTimestamp or receiveTimestamp */
     struct ptpx_identity requesting; /* requestingPortIdentity of a Delay_Resp, else 0 */
     uint16_t suffix_length;          /* octets from the end of the fields to messageLength: the TLVs */

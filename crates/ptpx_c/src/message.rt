@@ -54,14 +54,14 @@ impl RawPortIdentity {
 pub struct RawMessage {
     /// messageType: 0 for a Sync, 1 for a Delay_Req, 8 for a Follow_Up, 9 for a Delay_Resp.
     pub kind: u8,
-    /// majorSdoId, 0 to 15.
-    pub major_sdo: u8,
-    /// minorVersionPTP, 0 to 15.
-    pub minor_version: u8,
     /// domainNumber.
     pub domain: u8,
+    /// majorSdoId, 0 to 15.
+    pub major_sdo: u8,
     /// minorSdoId.
     pub minor_sdo: u8,
+    /// minorVersionPTP, 0 to 15.
+    pub minor_version: u8,
     /// flagField.
     pub flags: [u8; 2],
     /// correctionField, in 2^-16 ns.
@@ -72,10 +72,10 @@ pub struct RawMessage {
     pub source: RawPortIdentity,
     /// sequenceId.
     pub sequence: u16,
-    /// controlField.
-    pub control: u8,
     /// logMessageInterval.
     pub log: i8,
+    /// controlField.
+    pub control: u8,
     /// originTimestamp, preciseOriginTimestamp or receiveTimestamp.
     pub timestamp: RawTimestamp,
     /// requestingPortIdentity of a Delay_Resp.
