@@ -408,10 +408,10 @@ static inline uint16_t ptpx_clock_enter(struct ptpx_stay *stay, struct ptpx_time
 
 /*
  * The message leaves at this reading of the same clock: the residence is added to its correction, in octets 8 to 15,
- * and all others stay. A sum of INT64_MAX or more becomes INT64_MAX, too big, which a slave ignores (507). Send it
- * then; a checksum of UDP is the caller's. 905, 101: the stay is as before. 401, 402, 403: the stay is over. On any
- * refusal the octets are as before, and aren't to be sent as they are. General messages, as Follow_Up and Delay_Resp,
- * pass a clock without a call; to one of another type, as Pdelay_Req, the answer is 401.
+ * and all others stay; then it is to be sent. A sum of INT64_MAX or more becomes INT64_MAX, too big, which a slave
+ * ignores (507). A checksum of UDP is the caller's. 905, 101: the stay is as before. 401, 402, 403: the stay is over.
+ * On any refusal the octets are as before, and no Sync or Delay_Req is to be sent so. Follow_Up and Delay_Resp (402)
+ * pass a clock as they are, best without a call; messages of other types, as Pdelay_Req, are 401.
  */
 PTPX_LOOK_AT_IT
 static inline uint16_t ptpx_clock_leave(struct ptpx_stay *stay, uint8_t *octets, size_t length,
