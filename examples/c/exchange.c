@@ -1,6 +1,6 @@
 /*
- * One exchange of a master, a transparent clock and a slave that is 1,000 ns ahead, as examples/exchange.schedule.jsonl tells it:
- * each message as its octets, and the report as ptpx replay writes it.
+ * One exchange of a master, a transparent clock and a slave that is 1,000 ns ahead, as
+ * examples/exchange.schedule.jsonl tells it: each message as its octets, and the report as ptpx replay writes it.
  *
  *     cc -std=c99 -I INCLUDE examples/c/exchange.c LIBRARY -o exchange
  */

@@ -1,10 +1,11 @@
 /*
- * A master on the loopback, which sends two-step Syncs with their Follow_Ups and answers Delay_Reqs, with the kernel's time stamps.
+ * A master on the loopback, which sends two-step Syncs with their Follow_Ups and answers Delay_Reqs, with the
+ * kernel's time stamps.
  *
- *     ./master EVENT GENERAL SLAVE_EVENT SLAVE_GENERAL COUNT
+ * ./master EVENT GENERAL SLAVE_EVENT SLAVE_GENERAL COUNT
  *
- * EVENT and GENERAL are its own UDP ports, 319 and 320 by the standard, SLAVE_EVENT and SLAVE_GENERAL those of the slave. It sends
- * COUNT Syncs, eight a second.
+ * EVENT and GENERAL are its own UDP ports, 319 and 320 by the standard, SLAVE_EVENT and SLAVE_GENERAL those of the
+ * slave. It sends COUNT Syncs, eight a second.
  */
 #define _GNU_SOURCE
 #include "udp.h"

@@ -1,11 +1,11 @@
 /*
- * A slave on the loopback, which prints offsetFromMaster and meanPathDelay of each report in nanoseconds, with the kernel's time stamps.
- * Master and slave read one clock here, so the offset is near 0.
+ * A slave on the loopback, which prints offsetFromMaster and meanPathDelay of each report in nanoseconds, with the
+ * kernel's time stamps. Master and slave read one clock here, so the offset is near 0.
  *
- *     ./slave EVENT GENERAL MASTER_EVENT COUNT
+ * ./slave EVENT GENERAL MASTER_EVENT COUNT
  *
- * EVENT and GENERAL are its own UDP ports, MASTER_EVENT is the master's. It sends a Delay_Req for each Sync half that completes, and
- * ends after COUNT reports, or with status 1 where none comes for five seconds.
+ * EVENT and GENERAL are its own UDP ports, MASTER_EVENT is the master's. It sends a Delay_Req for each Sync half that
+ * completes, and ends after COUNT reports, or with status 1 where none comes for five seconds.
  */
 #define _GNU_SOURCE
 #include <inttypes.h>

@@ -63,7 +63,10 @@ static inline int stamped_socket(const char *port)
     return fd;
 }
 
-/* Takes a datagram, or with MSG_ERRQUEUE the copy of one that was sent; its stamp is the time at which it came or left. */
+/*
+ * Takes a datagram, or with MSG_ERRQUEUE the copy of one that was sent; its stamp is the time at which it came or
+ * left.
+ */
 static inline size_t take(int fd, int flags, uint8_t *octets, size_t room, struct timespec *stamp)
 {
     char control[512] = {0};

@@ -4,8 +4,8 @@
     cc -shared -Wl,--whole-archive libptpx.a -Wl,--no-whole-archive -o libptpx.so
     ./ptpx.py ./libptpx.so < datagrams.hex
 
-It calls the library's own calls, which don't test for null, and states each result's type: the upper bits of a register may hold
-anything.
+It calls the library's own calls, which don't test for null, and states each result's type: the upper bits of a register
+may hold anything.
 """
 import ctypes
 import sys

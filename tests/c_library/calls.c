@@ -1,4 +1,7 @@
-/* Each call of ptpx.h: what it answers, where the fields of each struct lie, each refusal, and that a refusal writes nothing. */
+/*
+ * Each call of ptpx.h: what it answers, where the fields of each struct lie, each refusal, and that a refusal writes
+ * nothing.
+ */
 #include "check.h"
 
 /* A Delay_Resp with three octets of suffix, and no two fields alike. */
@@ -170,7 +173,8 @@ static void clocks(void)
     octets[0] = 8;
     CHECK(ptpx_clock_enter(&stay, at(1, 0, 0)) == PTPX_DONE);
     CHECK(ptpx_clock_leave(&stay, octets, 44, at(2, 0, 0)) == PTPX_NOT_EVENT);
-    CHECK(ptpx_clock_enter(NULL, at(1, 0, 0)) == PTPX_NULL && ptpx_clock_leave(NULL, octets, 44, at(1, 0, 0)) == PTPX_NULL);
+    CHECK(ptpx_clock_enter(NULL, at(1, 0, 0)) == PTPX_NULL);
+    CHECK(ptpx_clock_leave(NULL, octets, 44, at(1, 0, 0)) == PTPX_NULL);
     CHECK(ptpx_clock_leave(&stay, NULL, 44, at(1, 0, 0)) == PTPX_NULL);
     CHECK(ptpx_clock_leave(&stay, octets, (size_t)PTRDIFF_MAX + 1, at(1, 0, 0)) == PTPX_TOO_LONG);
 }

@@ -1,4 +1,7 @@
-/* Slave ports of ptpx.h: each answer and each reason, what ticks drop, the refusals, and that no call writes past its memory. */
+/*
+ * Slave ports of ptpx.h: each answer and each reason, what ticks drop, the refusals, and that no call writes past its
+ * memory.
+ */
 #include "check.h"
 
 #define GUARD 0xA7
