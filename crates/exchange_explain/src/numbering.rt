@@ -184,7 +184,8 @@ fn push_too_big(text: &mut String, name: &'static str, leg: &Leg) -> Result<(), 
     }
     write!(
         text,
-        "    the {name} is to have {} in its correctionField, of clocks and of its departure; it can say less than {}\n",
+        "    the {name} is to have {} in its correctionField, of clocks and of its departure; it can say less \
+         than {}\n",
         Length(sum),
         Length(TOO_BIG)
     )

@@ -168,9 +168,9 @@ python3 -c 'import ast, json, sys; [print(json.dumps(ast.literal_eval(s))) for s
 #[test]
 fn tells_of_input_of_other_kinds(rt: HostRuntime) -> Result<(), Fail> {
     let alloc = rt.alloc();
-    for (input, said) in FOREIGN {
+    for (input, said) in &FOREIGN {
         let ended = run(alloc, "ptpx explain", input)?;
-        assert_eq!(rt; str::from_utf8(ended.output.as_slice())?, said);
+        assert_eq!(rt; str::from_utf8(ended.output.as_slice())?, *said);
         assert_eq!(rt; ended.status, 3, "{said}");
     }
     Ok(())
@@ -331,10 +331,10 @@ one of S, event 8\nno event happens from line 17 on\n",
 #[test]
 fn tells_why_an_event_is_refused(rt: HostRuntime) -> Result<(), Fail> {
     let alloc = rt.alloc();
-    for (place, old, new, said) in REFUSED {
-        let input = replaced(alloc, &SCHEDULE, place, old, new)?;
+    for (place, old, new, said) in &REFUSED {
+        let input = replaced(alloc, &SCHEDULE, *place, old, new)?;
         let ended = run(alloc, "ptpx explain", input.as_bytes())?;
-        assert_eq!(rt; str::from_utf8(ended.output.as_slice())?, said);
+        assert_eq!(rt; str::from_utf8(ended.output.as_slice())?, *said);
         assert_eq!(rt; ended.status, 3, "{said}");
     }
     Ok(())
