@@ -1,0 +1,146 @@
+//! The lines of a report, for a person: when its messages departed, were in clocks and arrived.
+
+use crate::moments::{Length, Moment, signed, signed_units};
+use exchange_check::{Exchange, ExchangeLine, Leg, Stay};
+use std::alloc::AllocError;
+use std::fmt;
+use std::fmt::{Display, Formatter};
+
+/// A moment of the mechanism: its name, and the line that tells it.
+#[derive(Clone, Copy)]
+struct Stamp<'a> {
+    name: &'static str,
+    at: &'a ExchangeLine,
+    /// How many nodes stand before the first event.
+    nodes: u64,
+}
+
+impl Display for Stamp<'_> {
+    fn fmt<W: fmt::Write>(&self, f: &mut Formatter<W>) -> fmt::Result {
+        let Stamp { name, at, nodes } = *self;
+        write!(
+            f,
+            "  {name}  event {}  line {}  {}  {}",
+            at.number,
+            line_of(nodes, at),
+            at.event.node().text(),
+            Moment(at.reading)
+        )
+    }
+}
+
+/// The line of the input, counted from 1.
+fn line_of(nodes: u64, at: &ExchangeLine) -> u64 {
+    nodes.saturating_add(at.number).saturating_add(1)
+}
+
+/// How long a message was in a clock, by its readings.
+fn length_of(stay: &Stay) -> i128 {
+    signed_units(stay.left.reading).saturating_sub(signed_units(stay.entered.reading))
+}
+
+/// Appends the stays of a message in clocks, the first one first.
+fn push_stays(text: &mut String, nodes: u64, leg: &Leg) -> Result<(), AllocError> {
+    if let Some(earlier) = leg.earlier {
+        write!(
+            text,
+            "      before these in other clocks {}\n",
+            Length(signed(earlier))
+        )?;
+    }
+    for stay in leg.stays.iter().rev().flatten() {
+        write!(
+            text,
+            "      {} to {}  line {}, {}  {} in the clock {}\n",
+            stay.entered.number,
+            stay.left.number,
+            line_of(nodes, &stay.entered),
+            line_of(nodes, &stay.left),
+            stay.left.event.node().text(),
+            Length(length_of(stay))
+        )?;
+    }
+    Ok(())
+}
+
+/// What a clock read at the arrival, less what another read at the departure, less the residence.
+fn elapsed(leg: &Leg) -> i128 {
+    signed_units(leg.arrived.reading)
+        .saturating_sub(signed_units(leg.departed.reading))
+        .saturating_sub(signed(leg.residence))
+}
+
+/// How the letters of a way are called.
+#[derive(Clone, Copy)]
+struct Letters {
+    departed: &'static str,
+    arrived: &'static str,
+    bracket: &'static str,
+    message: &'static str,
+}
+
+const SYNC: Letters = Letters {
+    departed: "t1",
+    arrived: "t2",
+    bracket: "a",
+    message: "Sync",
+};
+
+const REQUEST: Letters = Letters {
+    departed: "t3",
+    arrived: "t4",
+    bracket: "b",
+    message: "Delay_Req",
+};
+
+/// Appends the way of a message, with the event that told when it departed.
+fn push_leg(
+    text: &mut String,
+    nodes: u64,
+    letters: Letters,
+    leg: &Leg,
+    told: Option<u64>,
+) -> Result<(), AllocError> {
+    let Letters {
+        departed,
+        arrived,
+        bracket,
+        message,
+    } = letters;
+    let stamp = Stamp {
+        name: departed,
+        at: &leg.departed,
+        nodes,
+    };
+    write!(
+        text,
+        "{stamp}  {message} {} departs",
+        leg.departed.sequence.0
+    )?;
+    match told {
+        Some(event) => write!(text, "; told by event {event}\n")?,
+        None => text.push('\n')?,
+    }
+    push_stays(text, nodes, leg)?;
+    let stamp = Stamp {
+        name: arrived,
+        at: &leg.arrived,
+        nodes,
+    };
+    let residence = Length(signed(leg.residence));
+    write!(
+        text,
+        "{stamp}  {bracket} = {arrived} - {departed} - {residence} = {}\n",
+        Length(elapsed(leg))
+    )
+}
+
+/// Appends the ways of the Sync and of the Delay_Req of a report.
+pub(crate) fn push_exchange(
+    text: &mut String,
+    nodes: u64,
+    exchange: &Exchange,
+) -> Result<(), AllocError> {
+    push_leg(text, nodes, SYNC, &exchange.sync, exchange.follow)?;
+    push_leg(text, nodes, REQUEST, &exchange.request, exchange.stamped)
+}
