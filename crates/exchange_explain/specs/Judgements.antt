@@ -1,5 +1,5 @@
 -- What `write_judgements` answers and writes, by the input that it reads.
-use Rattle.std.specs.Prelude.{◌≡◌, ℕ, ◌==◌, Bool, true, false, List, [], if◌then◌else◌, Option, Some, None, Result}
+use Rattle.std.specs.Prelude.{◌≡◌, ◌≢◌, ℕ, ◌==◌, Bool, true, false, List, [], if◌then◌else◌, Option, Some, None, Result}
 use Rattle.std.specs.Option.{ForSome}
 use Rattle.trace_model.specs.declared.verdict.Verdict.{Verdict}
 use Rattle.trace_model.specs.declared.verdict.Verdict.TheVariants as verdicts
@@ -45,9 +45,10 @@ told_text first later None = []
 told_text first later (Some judged) = if is_told first judged.event later then judged_text judged else []
 
 -- the fault of a line: that of the line itself, or that what is written of it couldn't go out
-abbrev pub StopsJudging : TaskFault → Input → List ℕ → Type 0
-StopsJudging Write input line = (later : Input) × (judged : Option Judged) × Takes line input later judged
-StopsJudging fault input line = Faults fault input line
+abbrev pub StopsJudging : Bool → TaskFault → Input → List ℕ → Type 0
+StopsJudging first Write input line = (later : Input) × (judged : Option Judged) × Takes line input later judged
+    × (told_text first later judged ≢ [])
+StopsJudging first fault input line = Faults fault input line
 
 -- Of each report that is told a line is written; the answer is what the input is.
 abbrev pub judgement_rules : Rules Told Found TaskFault
@@ -55,7 +56,7 @@ judgement_rules = record {
   lines_limit = lines_limit;
   Takes = λ line told later written. (judged : Option Judged) × Takes line told.input later.input judged
       × (later.first ≡ told.first) × (written ≡ told_text told.first later.input judged);
-  Stops = λ line told fault written. StopsJudging fault told.input line × (written ≡ []);
+  Stops = λ line told fault written. StopsJudging told.first fault told.input line × (written ≡ []);
   Ends = λ lines told answer written. IsFound told.input answer × (written ≡ []);
   StopsAtEnd = λ told fault written. FaultsAtEnd fault told.input × (written ≡ []);
   is_of_writer = is_write;

@@ -1,5 +1,5 @@
 //! What is wrong with a transcript or a schedule, for a person.
-ghost use Rattle.std.specs.Prelude.{◌≡◌, ◌+◌, ℕ, List, MatchResult, OnOk, Some, None, option_map};
+ghost use Rattle.std.specs.Prelude.{◌≡◌, ◌+◌, ℕ, List, MatchResult, OnOk, Some, None, option_map, string_bytes};
 ghost use Rattle.std.specs.Io.KnownBytes.{Appends};
 ghost use Rattle.schedule_reading.specs.declared.fault.TaskFault.TheVariants.{World};
 ghost use Rattle.schedule_reading.specs.Entry.{lines_limit};
@@ -7,18 +7,19 @@ ghost use Rattle.schedule_reading.specs.Fault.{is_write};
 ghost use Rattle.exchange_explain.specs.declared.explaining.Explained.TheVariants.{Flawed};
 ghost use Rattle.text_lines.specs.Counted.{device_of, HasFailedIf, HasNotFailed};
 ghost use Rattle.text_lines.specs.Lines.{input_limit, GivesWithin};
-ghost use Rattle.exchange_explain.specs.Explained.{Seen, Sees, SeesFirst, EndsIn, explain_rules, ExplainsAnswer};
-ghost use Rattle.exchange_explain.specs.Explained.{HasFailedReading};
+ghost use Rattle.exchange_explain.specs.Explained.{Seen, Sees, SeesFirst, EndsIn, TellsEnd, explain_rules};
+ghost use Rattle.exchange_explain.specs.Explained.{ExplainsAnswer, ExplainFailedWith};
 ghost use Rattle.exchange_explain.specs.Input.{lines_in};
 ghost use Rattle.exchange_explain.specs.Inner.Explaining.{IsExplaining, IsSeenAlike, fault_kept};
 
 use crate::case::Case;
-use crate::flaws::Flaws;
+use crate::flaws::{Flaws, push_foreign};
 use crate::input::{Found, Input};
 use crate::record::Record;
 use crate::refusal::{Before, push_clash};
 use crate::report::{is_sound, push_sound};
 use crate::tally::{Tally, push_found};
+use line_flaws::Foreign;
 use network_model::WorldRefusal;
 use schedule_reading::{Judged, LINES_LIMIT, TaskFault, Transcript, write_text};
 use std::alloc::{AllocError, Global};
@@ -53,6 +54,8 @@ struct Explaining {
     record: Record,
     /// What is told of the last line, in the one text that all share.
     text: String,
+    /// The kind of another input that the line begins with which can't be read.
+    begins: Option<Foreign>,
 }
 
 impl LineTask for Explaining {
@@ -77,6 +80,15 @@ impl LineTask for Explaining {
         self.write(output)
     }
 
+    /// Keeps which kind of another input a line begins with that can't be read.
+    fn leave(&mut self, start: &[u8]) {
+        self.begins = match Foreign::of(start) {
+            // Its first line was to be seen whole.
+            Some(Foreign::ObjectOverLines) => None,
+            kind => kind,
+        };
+    }
+
     /// What the input is or its first fault, and what there is to tell at the end, in one write.
     fn finish<W: Write>(
         &mut self,
@@ -94,7 +106,7 @@ impl Explaining {
     /// Writes what is to be told, where there is something.
     fn write<W: Write>(&self, output: &mut Counted<W>) -> Result<(), TaskFault>
         ensures written { MatchResult result
-            (λ _. (written : List ℕ) × Appends (W.contents (device_of output.old)) (W.contents (device_of output.new)) written)
+            (λ _. Appends (W.contents (device_of output.old)) (W.contents (device_of output.new)) (string_bytes self.now.text))
             (λ fault. fault ≡ TaskFault.Write) }
         ensures failures { MatchResult result
             (λ _. HasNotFailed output.old output.new)
@@ -194,7 +206,7 @@ impl Explaining {
     /// Tells what there is to tell at the end.
     fn tell_end(&mut self) -> Result<Explained, TaskFault>
         ensures { (seen : Seen) → IsExplaining self.old seen → MatchResult result
-            (λ answer. EndsIn seen.input seen.fault answer)
+            (λ answer. EndsIn seen.input seen.fault answer × TellsEnd answer (string_bytes self.new.text))
             (λ fault. fault ≡ TaskFault.Memory) }
     {
         if let Some(flaws) = &self.flaws {
@@ -245,8 +257,21 @@ impl Explaining {
     /// Writes why a line can't be read. What can't be written is lost.
     fn tell_unread<W: Write>(&mut self, line: u64, what: ReadingFault, output: &mut Counted<W>) {
         self.text.clear();
-        let _ = push_unread(&mut self.text, line, what);
+        let _ = self.push_unread(line, what);
         let _ = self.write(output);
+    }
+
+    /// Appends why a line can't be read; of an input of another kind, which it is.
+    fn push_unread(&mut self, line: u64, what: ReadingFault) -> Result<(), AllocError> {
+        if let Some(flaws) = &self.flaws
+            && flaws.is_foreign()
+        {
+            return Ok(());
+        }
+        match (line, what, self.begins) {
+            (1, ReadingFault::LineTooLong, Some(kind)) => push_foreign(&mut self.text, kind),
+            _ => push_unread(&mut self.text, line, what),
+        }
     }
 }
 
@@ -279,12 +304,10 @@ pub fn explain<R: Read, W: Write>(
     input: &mut Counted<R>,
     output: &mut Counted<W>,
 ) -> Result<Explained, Stopped<Cause<TaskFault>>>
-    ensures explained { ExplainsAnswer R.remaining result input.old input.new }
+    ensures explained { ExplainsAnswer R.remaining W.contents result input.old input.new output.old output.new }
     // Of any reader only so much is read, whatever the writer is.
     ensures bounded { GivesWithin R.remaining (input_limit lines_limit) input.old input.new }
-    ensures failures { MatchResult result
-        (λ _. HasNotFailed input.old input.new × HasNotFailed output.old output.new)
-        (λ stop. HasFailedReading stop.what input.old input.new) }
+    ensures failures { ExplainFailedWith result input.old input.new output.old output.new }
 {
     let mut task = Explaining {
         alloc,
@@ -294,16 +317,18 @@ pub fn explain<R: Read, W: Write>(
         tally: Tally::new(),
         record: Record::new(alloc),
         text: String::new(alloc),
+        begins: None,
     };
     let answer = answer_lines(&mut task, input, output);
-    if let Err(
+    let Err(
         Stopped {
             line,
             what: Cause::Reading(what),
         },
     ) = answer
-    {
-        task.tell_unread(line, what, output);
-    }
+    else {
+        return answer;
+    };
+    task.tell_unread(line, what, output);
     answer
 }

@@ -111,7 +111,12 @@ impl Flaws {
     {
         self.foreign = true;
         self.empty = false;
-        write!(text, "this is {kind}\n")
+        push_foreign(text, kind)
+    }
+
+    /// Whether the input is of another kind.
+    pub(crate) fn is_foreign(&self) -> bool {
+        self.foreign
     }
 
     /// Looks at a line after that of the first fault, and appends what is wrong with it.
@@ -216,6 +221,11 @@ impl Flaws {
             _ => write!(text, "no report was judged from line {} on\n", self.line),
         }
     }
+}
+
+/// Appends which other kind an input is of.
+pub(crate) fn push_foreign(text: &mut String, kind: Foreign) -> Result<(), AllocError> {
+    write!(text, "this is {kind}\n")
 }
 
 /// Whether a line has this text somewhere.

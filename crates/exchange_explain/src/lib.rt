@@ -3,7 +3,9 @@
 #![tactic(auto)]
 
 mod case;
+mod differing;
 mod explaining;
+mod field;
 mod flaws;
 mod happening;
 mod input;

@@ -20,6 +20,28 @@ impl Display for Moment {
     }
 }
 
+impl Moment {
+    /// How many characters it has.
+    pub(crate) fn length(self) -> usize {
+        let (timestamp, fraction) = self.0.split();
+        let whole = digits(timestamp.seconds()).saturating_add(".000000000".len());
+        match fraction {
+            0 => whole,
+            _ => whole
+                .saturating_add(" + /65536 ns".len())
+                .saturating_add(digits(u64::from(fraction))),
+        }
+    }
+}
+
+/// How many digits a number has in decimal.
+pub(crate) fn digits(number: u64) -> usize {
+    match number.checked_ilog10() {
+        Some(power) => (power as usize).saturating_add(1),
+        None => 1,
+    }
+}
+
 /// A length of time in units of 2^-16 ns, or its negative, as nanoseconds with all decimals.
 #[derive(Clone, Copy)]
 pub(crate) struct Length(pub(crate) i128);

@@ -1,6 +1,7 @@
 //! The octets of messages that no port and no clock writes.
 
 use crate::case::Case;
+use crate::field::{VERSION, field_name};
 use crate::readings::Told;
 use crate::record::{Record, Recorded};
 use crate::way::{Message, push_event};
@@ -12,12 +13,9 @@ use std::fmt;
 use std::fmt::{Display, Formatter};
 use trace_model::TraceOut;
 
-/// Where minorVersionPTP and versionPTP stand (IEEE 1588-2019, 13.3).
-const VERSION: usize = 1;
-
 /// How the octets of a message differ from those that its port or its clock writes.
 #[derive(Clone, Copy)]
-struct Difference {
+pub(crate) struct Difference {
     /// The first octet that differs, from 0; None where one just ends before the other.
     first: Option<Octet>,
     /// How many octets differ, of those that both have.
@@ -66,8 +64,13 @@ impl Difference {
         })
     }
 
+    /// The place of the first octet that differs; None where one just ends before the other.
+    pub(crate) fn first_place(self) -> Option<usize> {
+        Some(self.first?.place)
+    }
+
     /// Whether minorVersionPTP is all that differs, and is 0 in place of 1.
-    fn is_minor_version(self) -> bool {
+    pub(crate) fn is_minor_version(self) -> bool {
         let minor = matches!(
             self.first,
             Some(Octet {
@@ -77,36 +80,6 @@ impl Difference {
             })
         );
         minor && self.count == 1 && self.found == self.wanted
-    }
-}
-
-/// The field of a message in which an octet stands (IEEE 1588-2019, 13.3, 13.6 to 13.8).
-fn field_at(place: usize, body: &Body) -> &'static str {
-    match place {
-        0 => "majorSdoId and messageType",
-        VERSION => "minorVersionPTP and versionPTP",
-        2..=3 => "messageLength",
-        4 => "domainNumber",
-        5 => "minorSdoId",
-        6..=7 => "flagField",
-        8..=15 => "correctionField",
-        16..=19 => "messageTypeSpecific",
-        20..=29 => "sourcePortIdentity",
-        30..=31 => "sequenceId",
-        32 => "controlField",
-        33 => "logMessageInterval",
-        34..=43 => timestamp_field(body),
-        44..=53 => "requestingPortIdentity",
-        _ => "the suffix",
-    }
-}
-
-/// The name of the timestamp of a message.
-fn timestamp_field(body: &Body) -> &'static str {
-    match body {
-        Body::Sync { .. } | Body::DelayReq { .. } => "originTimestamp",
-        Body::FollowUp { .. } => "preciseOriginTimestamp",
-        Body::DelayResp { .. } => "receiveTimestamp",
     }
 }
 
@@ -131,7 +104,7 @@ impl Display for Differs<'_> {
                 f,
                 "octet {} from 0, in {}, is {:02x} where {:02x} is written",
                 octet.place,
-                field_at(octet.place, self.body),
+                field_name(octet.place, self.body),
                 octet.found,
                 octet.wanted
             )?;
@@ -164,7 +137,7 @@ fn octets_made(recorded: &Recorded) -> Option<&[u8]> {
 #[derive(Clone, Copy)]
 pub(crate) struct Compared {
     message: PortMessage,
-    difference: Option<Difference>,
+    pub(crate) difference: Option<Difference>,
 }
 
 /// How the octets that an event made differ from those of the message that is written; none where it makes none.
@@ -233,60 +206,5 @@ impl Case<'_> {
             body: &compared.message.body,
         };
         write!(text, ": {differs}\n")
-    }
-}
-
-/// How many messages of a transcript differ from those that ports and clocks write. Counts stay at 2^64 - 1.
-#[derive(Clone, Copy, Debug)]
-pub(crate) struct Differing {
-    messages: u64,
-    differ: u64,
-    minor_version: u64,
-}
-
-impl Differing {
-    /// There is no message yet.
-    pub(crate) fn new() -> Differing {
-        Differing {
-            messages: 0,
-            differ: 0,
-            minor_version: 0,
-        }
-    }
-
-    /// One more event, whose message differs so, where it makes one.
-    pub(crate) fn count(&mut self, found: Option<Compared>) {
-        let Some(Compared { difference, .. }) = found else {
-            return;
-        };
-        self.messages = self.messages.saturating_add(1);
-        let Some(difference) = difference else {
-            return;
-        };
-        self.differ = self.differ.saturating_add(1);
-        if difference.is_minor_version() {
-            self.minor_version = self.minor_version.saturating_add(1);
-        }
-    }
-
-    /// Appends how many messages differ, and how many of them in minorVersionPTP alone.
-    pub(crate) fn push(self, text: &mut String) -> Result<(), AllocError> {
-        let Differing {
-            messages,
-            differ,
-            minor_version,
-        } = self;
-        write!(
-            text,
-            "other octets than a port or a clock writes: {differ} of {messages} messages\n"
-        )?;
-        if minor_version == 0 {
-            return Ok(());
-        }
-        write!(
-            text,
-            "  in one nibble alone: {minor_version}; minorVersionPTP is 0, as real devices of IEEE 1588-2008 write it, \
-             where IEEE 1588-2019 has 1\n"
-        )
     }
 }

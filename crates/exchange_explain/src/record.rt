@@ -1,7 +1,8 @@
 //! What was recorded of the events of a transcript, for what is asked of it when a report is refused.
 
+use crate::differing::Differing;
 use crate::input::Input;
-use crate::octets::{Differing, difference_at};
+use crate::octets::difference_at;
 use network_model::{Event, Name, NodeKind, NodeSpec};
 use ptp_units::Seq;
 use schedule_lines::TranscriptLine;

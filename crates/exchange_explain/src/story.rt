@@ -1,10 +1,73 @@
 //! The lines of a report, for a person: when its messages departed, were in clocks and arrived.
 
-use crate::moments::{Length, Moment, signed, signed_units};
+use crate::moments::{Length, Moment, digits, signed, signed_units};
 use exchange_check::{Exchange, ExchangeLine, Leg, Stay};
 use std::alloc::AllocError;
 use std::fmt;
 use std::fmt::{Display, Formatter};
+
+/// How many characters the columns of a report's moments have.
+#[derive(Clone, Copy)]
+struct Columns {
+    event: usize,
+    line: usize,
+    node: usize,
+    moment: usize,
+}
+
+impl Columns {
+    /// The widest entries of the four moments.
+    fn of(nodes: u64, exchange: &Exchange) -> Columns {
+        let mut widest = Columns {
+            event: 0,
+            line: 0,
+            node: 0,
+            moment: 0,
+        };
+        for leg in [&exchange.sync, &exchange.request] {
+            for at in [&leg.departed, &leg.arrived] {
+                let columns = Columns::at(nodes, at);
+                widest = Columns {
+                    event: widest.event.max(columns.event),
+                    line: widest.line.max(columns.line),
+                    node: widest.node.max(columns.node),
+                    moment: widest.moment.max(columns.moment),
+                };
+            }
+        }
+        widest
+    }
+
+    /// The entries of one moment.
+    fn at(nodes: u64, at: &ExchangeLine) -> Columns {
+        Columns {
+            event: digits(at.number),
+            line: digits(line_of(nodes, at)),
+            node: at.event.node().text().len(),
+            moment: Moment(at.reading).length(),
+        }
+    }
+}
+
+/// So many blanks.
+#[derive(Clone, Copy)]
+struct Blanks(usize);
+
+impl Blanks {
+    /// Those that an entry leaves of its column.
+    fn after(column: usize, entry: usize) -> Blanks {
+        Blanks(column.saturating_sub(entry))
+    }
+}
+
+impl Display for Blanks {
+    fn fmt<W: fmt::Write>(&self, f: &mut Formatter<W>) -> fmt::Result {
+        for _ in 0..self.0 {
+            f.write_str(" ")?;
+        }
+        Ok(())
+    }
+}
 
 /// A moment of the mechanism: its name, and the line that tells it.
 #[derive(Clone, Copy)]
@@ -13,18 +76,29 @@ struct Stamp<'a> {
     at: &'a ExchangeLine,
     /// How many nodes stand before the first event.
     nodes: u64,
+    columns: Columns,
 }
 
 impl Display for Stamp<'_> {
     fn fmt<W: fmt::Write>(&self, f: &mut Formatter<W>) -> fmt::Result {
-        let Stamp { name, at, nodes } = *self;
+        let Stamp {
+            name,
+            at,
+            nodes,
+            columns,
+        } = *self;
+        let own = Columns::at(nodes, at);
         write!(
             f,
-            "  {name}  event {}  line {}  {}  {}",
+            "  {name}  event {}{}  line {}{}  {}{}  {}{}",
+            Blanks::after(columns.event, own.event),
             at.number,
+            Blanks::after(columns.line, own.line),
             line_of(nodes, at),
             at.event.node().text(),
-            Moment(at.reading)
+            Blanks::after(columns.node, own.node),
+            Moment(at.reading),
+            Blanks::after(columns.moment, own.moment)
         )
     }
 }
@@ -97,6 +171,7 @@ const REQUEST: Letters = Letters {
 fn push_leg(
     text: &mut String,
     nodes: u64,
+    columns: Columns,
     letters: Letters,
     leg: &Leg,
     told: Option<u64>,
@@ -111,6 +186,7 @@ fn push_leg(
         name: departed,
         at: &leg.departed,
         nodes,
+        columns,
     };
     write!(
         text,
@@ -126,6 +202,7 @@ fn push_leg(
         name: arrived,
         at: &leg.arrived,
         nodes,
+        columns,
     };
     let residence = Length(signed(leg.residence));
     write!(
@@ -141,6 +218,14 @@ pub(crate) fn push_exchange(
     nodes: u64,
     exchange: &Exchange,
 ) -> Result<(), AllocError> {
-    push_leg(text, nodes, SYNC, &exchange.sync, exchange.follow)?;
-    push_leg(text, nodes, REQUEST, &exchange.request, exchange.stamped)
+    let columns = Columns::of(nodes, exchange);
+    push_leg(text, nodes, columns, SYNC, &exchange.sync, exchange.follow)?;
+    push_leg(
+        text,
+        nodes,
+        columns,
+        REQUEST,
+        &exchange.request,
+        exchange.stamped,
+    )
 }

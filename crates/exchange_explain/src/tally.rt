@@ -1,7 +1,10 @@
 //! How many reports there are, and how many fail which conditions.
+ghost use Rattle.std.specs.Prelude.{OnOk, string_bytes};
+ghost use Rattle.exchange_explain.specs.Explained.{IsLastText};
 
 use crate::input::Found;
-use exchange_check::{Reasons, Verdict, Why};
+use exchange_check::{Reasons, Why};
+use schedule_reading::push_verdict;
 use std::alloc::AllocError;
 
 /// All reasons, in the order in which they are told.
@@ -91,17 +94,26 @@ impl Tally {
     }
 }
 
-/// Appends what an input is found to be.
-pub(crate) fn push_found(text: &mut String, found: Found) -> Result<(), AllocError> {
+/// Appends what an input is found to be; of a transcript its verdict.
+pub(crate) fn push_found(text: &mut String, found: Found) -> Result<(), AllocError>
+    ensures { OnOk result (IsLastText found (string_bytes text.new)) }
+{
     match found {
-        Found::Transcript(Verdict::Accepted(count)) => write!(text, "verdict: accepted {count}\n"),
-        Found::Transcript(Verdict::Refused { line, why }) => {
-            write!(text, "verdict: refused event {line}: {}\n", why.code())
+        Found::Transcript(verdict) => {
+            text.push_str("verdict: ")?;
+            push_verdict(text, verdict)
         }
-        Found::Schedule(1) => text.push_str(
+        Found::Schedule(count) => push_happening(text, count),
+    }
+}
+
+/// Appends that a schedule's events happen, and what tells more.
+fn push_happening(text: &mut String, count: u64) -> Result<(), AllocError> {
+    match count {
+        1 => text.push_str(
             "a schedule of 1 event, which happens; 'ptpx replay' tells what comes of it\n",
         ),
-        Found::Schedule(count) => write!(
+        _ => write!(
             text,
             "a schedule of {count} events, which all happen; 'ptpx replay' tells what comes of them\n"
         ),

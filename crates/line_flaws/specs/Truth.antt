@@ -1,9 +1,15 @@
 -- What a flaw says, which is so of the line. Of the octets that it quotes, of a key near another or too much, and of why
 -- octets are no JSON, nothing is said here.
-use Rattle.std.specs.Prelude.{◌≡◌, ◌≢◌, ℕ, List, codes, Option, Some, None, IsSome, ⊤}
+use Rattle.std.specs.Prelude.{◌≡◌, ◌≢◌, ◌⊎◌, ℕ, List, codes, Option, Some, None, IsSome, ⊤}
 use Rattle.std.specs.Str.{IsUtf8}
 use Rattle.serde_json.specs.Data.{Data}
 use Rattle.serde_json.specs.Find.{get, as_object}
+use Rattle.network_model.specs.declared.node.NodeSpec.{NodeSpec}
+use Rattle.trace_model.specs.declared.line.TraceLine.{TraceLine}
+use Rattle.schedule_lines.specs.Line.{line_of}
+use Rattle.schedule_lines.specs.TranscriptLine.{transcript_line_of}
+use Rattle.schedule_lines.specs.declared.reading.schedule.Line.TheVariants as schedules
+use Rattle.schedule_lines.specs.declared.reading.transcript.TranscriptLine.TheVariants as transcripts
 use Rattle.line_flaws.specs.declared.flaw.Flaw.{Flaw}
 use Rattle.line_flaws.specs.declared.key.Key.{Key}
 use Rattle.line_flaws.specs.declared.flaw.Flaw.TheVariants as flaws
@@ -39,6 +45,15 @@ IsSoOfOctets line (flaws.NoText octet) = ¬ IsUtf8 line
 IsSoOfOctets line (flaws.NoJson octet why) = IsUtf8 line
 IsSoOfOctets line flaw = ⊥
 
+-- whether a value is a node's, in a schedule or in a transcript
+abbrev pub IsNodeLine : Data → Type 0
+IsNodeLine d = ((node : NodeSpec) × (line_of d ≡ Some (schedules.Node node)))
+    ⊎ ((node : NodeSpec) × (transcript_line_of d ≡ Some (transcripts.Node node)))
+
+-- whether it is that of an event of a transcript that gives this number
+abbrev pub IsEventLine : ℕ → Data → Type 0
+IsEventLine number d = (line : TraceLine) × (transcript_line_of d ≡ Some (transcripts.Event number line))
+
 -- a flaw of a value after so many events
 abbrev pub IsSoOfValue : ℕ → Data → Flaw → Type 0
 IsSoOfValue events d (flaws.NoText octet) = ⊥
@@ -50,8 +65,9 @@ IsSoOfValue events d (flaws.Wrong key found) = IsSome (get (text_of key) d)
 IsSoOfValue events d (flaws.WrongPart key part found) = IsSome (get (text_of key) d)
 IsSoOfValue events d (flaws.HasOutcome) = IsSome (get (codes "n") d) × IsSome (get (codes "out") d)
 IsSoOfValue events d (flaws.NoOutcome) = (get (codes "n") d ≡ None) × (get (codes "out") d ≡ None)
-IsSoOfValue events d (flaws.NodeAfterEvent) = events ≢ 0
-IsSoOfValue events d (flaws.OutOfPlace number place) = (place ≡ events) × (number ≢ events)
+IsSoOfValue events d (flaws.NodeAfterEvent) = (events ≢ 0) × IsNodeLine d
+IsSoOfValue events d (flaws.OutOfPlace number place) =
+    (place ≡ events) × (number ≢ events) × IsEventLine number d
 IsSoOfValue events d flaw = ⊤
 
 -- a flaw of a line after so many events, by the JSON value that it is, if it is one

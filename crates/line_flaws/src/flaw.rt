@@ -184,7 +184,11 @@ impl Display for Flaw<'_> {
             }
             Flaw::Missing { key, near } => {
                 write!(f, "\"{}\"", key.text())?;
-                write_missing(f, *near)
+                write_missing(f, *near)?;
+                match near {
+                    Some(_) => Ok(()),
+                    None => write!(f, "; {}", key.wanted()),
+                }
             }
             Flaw::Wrong { key, found } => {
                 write!(f, "\"{}\" ", key.text())?;
@@ -218,10 +222,17 @@ impl Display for Flaw<'_> {
             Flaw::NodeAfterEvent => {
                 f.write_str("a node after an event; wanted are all nodes before the first event")
             }
-            Flaw::OutOfPlace { number, place } => write!(
-                f,
-                "\"n\" is {number}; wanted is {place}, the place among the events from 0"
-            ),
+            Flaw::OutOfPlace { number, place } => {
+                let why = if number > place {
+                    "an event before it is missing"
+                } else {
+                    "an event comes twice"
+                };
+                write!(
+                    f,
+                    "\"n\" is {number}; wanted is {place}, the place among the events from 0: {why}, or \"n\" is wrong"
+                )
+            }
             Flaw::Unknown(form) => write!(f, "no line of a {form}"),
         }
     }

@@ -31,6 +31,8 @@ pub enum Foreign {
     ArrayOfLines,
     /// Objects in single quotes, as Python prints them.
     SingleQuotes,
+    /// A list of objects in single quotes, as Python prints it.
+    ListInSingleQuotes,
 }
 
 impl Foreign {
@@ -56,10 +58,20 @@ impl Foreign {
     fn of_text(line: &[u8]) -> Option<Foreign> {
         match line {
             [b'{', rest @ ..] => Foreign::of_object(rest.trim_ascii()),
-            [b'[', ..] => Some(Foreign::ArrayOfLines),
+            [b'[', rest @ ..] => Some(Foreign::of_array(rest.trim_ascii())),
             _ if is_recording(line) => Some(Foreign::Recording),
             _ if is_hexadecimal(line) => Some(Foreign::Datagrams),
             _ => None,
+        }
+    }
+
+    /// The kind of a text that begins with an array, by what stands after the `[` in its first line.
+    fn of_array(rest: &[u8]) -> Foreign {
+        match rest {
+            [b'{', object @ ..] if object.trim_ascii().starts_with(b"'".as_slice()) => {
+                Foreign::ListInSingleQuotes
+            }
+            _ => Foreign::ArrayOfLines,
         }
     }
 
@@ -67,6 +79,7 @@ impl Foreign {
     fn of_object(rest: &[u8]) -> Option<Foreign> {
         match rest {
             [b'\'', ..] => Some(Foreign::SingleQuotes),
+            [.., b'}', b','] => None,
             [] | [.., b',' | b'{' | b'[' | b':'] => Some(Foreign::ObjectOverLines),
             _ => None,
         }
@@ -91,6 +104,9 @@ impl Foreign {
             Foreign::SingleQuotes => {
                 "python3 -c 'import ast, json, sys; [print(json.dumps(ast.literal_eval(s))) for s in sys.stdin]'"
             }
+            Foreign::ListInSingleQuotes => {
+                "python3 -c 'import ast, json, sys; [print(json.dumps(o)) for o in ast.literal_eval(sys.stdin.read())]'"
+            }
         }
     }
 }
@@ -98,20 +114,24 @@ impl Foreign {
 impl Display for Foreign {
     fn fmt<W: fmt::Write>(&self, f: &mut Formatter<W>) -> fmt::Result {
         f.write_str(match self {
-            Foreign::Pcap => "a capture (pcap); its messages are shown by: ",
-            Foreign::PcapNg => "a capture (pcapng); its messages are shown by: ",
-            Foreign::Gzip => "compressed by gzip; what is in it gives: ",
-            Foreign::ByteOrderMark => "it begins with a byte order mark; what is after it gives: ",
+            Foreign::Pcap => "a capture (pcap); show its messages by: ",
+            Foreign::PcapNg => "a capture (pcapng); show its messages by: ",
+            Foreign::Gzip => "compressed by gzip; unpack it by: ",
+            Foreign::ByteOrderMark => "text behind a byte order mark; take the mark away by: ",
             Foreign::Utf16 | Foreign::Utf16LowFirst | Foreign::Utf16HighFirst => {
-                "UTF-16; UTF-8 of it gives: "
+                "UTF-16; make UTF-8 of it by: "
             }
-            Foreign::Datagrams => "datagrams in hexadecimal; they are read by: ",
-            Foreign::Recording => "times with datagrams in hexadecimal; they are read by: ",
-            Foreign::ObjectOverLines =>
-                "a JSON object over several lines; one object a line gives: ",
-            Foreign::ArrayOfLines => "a JSON array; one object a line gives: ",
+            Foreign::Datagrams => "datagrams in hexadecimal; show them by: ",
+            Foreign::Recording => "times with datagrams in hexadecimal; measure by them with: ",
+            Foreign::ObjectOverLines => {
+                "a JSON object over several lines; make one line of it by: "
+            }
+            Foreign::ArrayOfLines => "a JSON array; make a line of each of its objects by: ",
             Foreign::SingleQuotes => {
-                "objects in single quotes, as Python prints them; JSON of them gives: "
+                "objects in single quotes, as Python prints them; make JSON of them by: "
+            }
+            Foreign::ListInSingleQuotes => {
+                "a list in single quotes, as Python prints it; make a line of each of its objects by: "
             }
         })?;
         f.write_str(self.command())

@@ -5,7 +5,7 @@ ghost use Rattle.serde_json.specs.View.{view};
 ghost use Rattle.schedule_lines.specs.Json.{value_in};
 ghost use Rattle.line_flaws.specs.Sound.{is_schedule_line, is_transcript_line};
 ghost use Rattle.line_flaws.specs.Sound.{is_schedule_value, is_transcript_value};
-ghost use Rattle.line_flaws.specs.Truth.{IsSo, IsSoOfOctets, IsSoOfValue};
+ghost use Rattle.line_flaws.specs.Truth.{IsSo, IsSoOfOctets, IsSoOfValue, IsNodeLine, IsEventLine};
 
 use crate::flaw::{Flaw, Form};
 use crate::json_fault::json_flaw;
@@ -88,7 +88,7 @@ fn told_flaw<'a>(line: &'a [u8], value: &Value, events: u64) -> Option<Flaw<'a>>
 /// The flaw of a node after so many events.
 fn misplaced_node<'a>(events: u64) -> Option<Flaw<'a>>
     ensures flawless { is_none result ≡ (events == 0) }
-    ensures so { (d : Data) → IfSome result (IsSoOfValue events d) }
+    ensures so { (d : Data) → IsNodeLine d → IfSome result (IsSoOfValue events d) }
 {
     if events == 0 {
         None
@@ -100,7 +100,7 @@ fn misplaced_node<'a>(events: u64) -> Option<Flaw<'a>>
 /// The flaw of an event of this number after so many events.
 fn misplaced_event<'a>(number: u64, events: u64) -> Option<Flaw<'a>>
     ensures flawless { is_none result ≡ (number == events) }
-    ensures so { (d : Data) → IfSome result (IsSoOfValue events d) }
+    ensures so { (d : Data) → IsEventLine number d → IfSome result (IsSoOfValue events d) }
 {
     if number == events {
         None

@@ -22,7 +22,7 @@ pub enum Wanted {
     Whole { most: u64 },
     /// A whole number from -128 to 127.
     SignedOctet,
-    /// An array of seconds, nanoseconds and fraction.
+    /// An array of seconds, nanoseconds and units of 2^-16 ns.
     Moment,
     /// A text of a whole number.
     Difference,
@@ -100,13 +100,15 @@ impl Display for Wanted {
                 "wanted is one of done, made, entered, held, completed, report, ignored, refused",
             ),
             Wanted::Name => f.write_str("wanted are 1 to 16 letters, digits, _ or -"),
-            Wanted::Identity => f.write_str("wanted are 16 hexadecimal digits"),
+            Wanted::Identity => f.write_str(
+                "wanted are 16 hexadecimal digits, and nothing between them",
+            ),
             Wanted::Whole { most: u64::MAX } => {
                 f.write_str("wanted is a whole number from 0 to 2^64 - 1")
             }
             Wanted::Whole { most } => write!(f, "wanted is a whole number from 0 to {most}"),
             Wanted::SignedOctet => f.write_str("wanted is a whole number from -128 to 127"),
-            Wanted::Moment => f.write_str("wanted is [seconds, nanoseconds, fraction]"),
+            Wanted::Moment => f.write_str("wanted is [seconds, nanoseconds, units of 2^-16 ns]"),
             Wanted::Difference => f.write_str(
                 "wanted is a whole number of at most 32 octets, without +, point or zeros in front",
             ),

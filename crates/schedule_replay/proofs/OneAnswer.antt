@@ -44,7 +44,8 @@ use Rattle.schedule_replay.specs.Replay.{IsEventLine, NodesGoOut, GoesOut, repla
 use Rattle.schedule_reading.specs.Transcript as transcripts
 use Rattle.schedule_reading.specs.Transcript.{Recorded, IsOutOfPlace, FaultsInTranscript}
 use Rattle.schedule_reading.specs.Entry.{recorded_in}
-use Rattle.schedule_replay.specs.CheckText.{FaultsAtTranscriptEnd, verdict_text, check_rules, Checks}
+use Rattle.schedule_replay.specs.CheckText.{FaultsAtTranscriptEnd, check_rules, Checks}
+use Rattle.schedule_reading.specs.Verdict.{verdict_text}
 use Rattle.schedule_replay.specs.Accepted.{IsOfDevice}
 use Rattle.schedule_replay.specs.OneAnswer.{IsOfInput, WroteOneText, HasOneAnswer}
 use Rattle.schedule_replay.proofs.OneText as texts

@@ -10,7 +10,8 @@ use Rattle.schedule_lines.specs.declared.reading.transcript.TranscriptLine.{Tran
 use Rattle.schedule_replay.specs.Replay.{nodes_text}
 use Rattle.schedule_reading.specs.Transcript.{nothing, Recorded, Follows}
 use Rattle.schedule_replay.specs.CheckText.{numbered, transcript_of, AreRecorded, check_rules}
-use Rattle.schedule_replay.specs.CheckText.{ChecksAll, verdict_text}
+use Rattle.schedule_replay.specs.CheckText.{ChecksAll}
+use Rattle.schedule_reading.specs.Verdict.{verdict_text}
 use Rattle.schedule_replay.specs.Accepted.{EachRunIsAccepted, IsOfDevice, EachRunIsChecked}
 use Rattle.network_model.proofs.ExactPremises.{IsExact}
 use Rattle.schedule_replay.proofs.Transcribed.{transcribed}

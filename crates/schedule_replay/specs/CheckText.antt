@@ -1,24 +1,23 @@
 -- What `check_text` answers and writes, by the transcript that it reads.
-use Rattle.std.specs.Prelude.{◌≡◌, ℕ, List, [], ◌∷◌, ◌++◌, length, map, codes, decimal, Option, Some, None}
+use Rattle.std.specs.Prelude.{◌≡◌, ℕ, List, [], ◌∷◌, ◌++◌, length, map, Option, Some, None}
 use Rattle.std.specs.Prelude.{Result, Ok, ⊤}
 use Rattle.network_model.specs.Network.{Network}
 use Rattle.network_model.specs.Clash.{first_clash}
 use Rattle.trace_model.specs.declared.verdict.Verdict.{Verdict}
 use Rattle.trace_model.specs.Line.{Lines}
 use Rattle.trace_model.specs.Verdict.{verdict}
-use Rattle.trace_model.specs.Refusal.{code_of}
 use Rattle.schedule_lines.specs.declared.reading.transcript.TranscriptLine.{TranscriptLine}
 use Rattle.schedule_replay.specs.declared.fault.Fault.{Fault}
 use Rattle.schedule_reading.specs.declared.fault.TaskFault.{TaskFault}
 use Rattle.schedule_reading.specs.declared.fault.TaskFault.TheVariants.{Write, World, Memory}
 use Rattle.schedule_reading.specs.Entry.{lines_limit, recorded_in}
 use Rattle.schedule_reading.specs.Fault.{is_write}
+use Rattle.schedule_reading.specs.Verdict.{verdict_text}
 use Rattle.schedule_reading.specs.Transcript.{Recorded, Follows, FaultsInTranscript, nothing}
 use Rattle.text_lines.specs.declared.counted.Counted.{Counted}
 use Rattle.text_lines.specs.Lines.{AreRead}
 use Rattle.text_lines.specs.Task.{Rules, AnswersAll}
 use Rattle.schedule_replay.specs.Answer.{SaysUntil, Says, SaysAnswer}
-use Rattle.trace_model.specs.declared.verdict.Verdict.TheVariants as verdicts
 use Rattle.schedule_lines.specs.declared.reading.transcript.TranscriptLine.TheVariants as recorded
 
 -- lines, of which the first has this number, are these nodes and recorded events in turn
@@ -41,12 +40,6 @@ FaultsAtTranscriptEnd (World why) nodes lines = (lines ≡ []) × (first_clash n
 FaultsAtTranscriptEnd Write nodes lines = first_clash nodes ≡ None
 FaultsAtTranscriptEnd Memory nodes lines = ⊤
 FaultsAtTranscriptEnd fault nodes lines = ⊥
-
--- the line that tells a verdict
-abbrev pub verdict_text : Verdict → List ℕ
-verdict_text (verdicts.Accepted count) = codes "accepted " ++ (decimal count ++ 10 ∷ [])
-verdict_text (verdicts.Refused number why) =
-    codes "refused event " ++ (decimal number ++ (codes ": " ++ (decimal (code_of why) ++ 10 ∷ [])))
 
 -- Each line is a node, or an event with its place among the events for a number. Only the verdict is written.
 abbrev pub check_rules : Rules Recorded Verdict TaskFault

@@ -16,7 +16,7 @@ use Rattle.exchange_explain.specs.declared.explaining.Explained.TheVariants.{Who
 use Rattle.exchange_explain.specs.declared.input.Found.{Found}
 use Rattle.exchange_explain.specs.declared.input.Found.TheVariants.{Transcript, Schedule}
 use Rattle.schedule_reading.specs.declared.fault.TaskFault.{TaskFault}
-use Rattle.exchange_explain.specs.Explained.{ExplainsAnswer}
+use Rattle.exchange_explain.specs.Explained.{ExplainsAnswer, ExplainFailedWith}
 use Rattle.exchange_explain.specs.Judgements.{JudgesAnswer, judgement_rules}
 use Rattle.text_lines.specs.declared.fault.Cause.{Cause}
 use Rattle.text_lines.specs.declared.fault.Stopped.{Stopped}
@@ -88,7 +88,7 @@ JudgingFailedWith answer input input' output output' = MatchResult answer
     (λ _. HasNotFailed input input' × HasNotFailed output output')
     (λ stop. FailedAt judgement_rules stop.what input input' output output')
 
--- `explain` ran, as JSON or as text: its answer gave the status, and says what was read and of JSON what was written
+-- `explain` ran, as JSON or as text: its answer gave the status, and says what was read and written
 abbrev pub RunsForm : {R W : Type 0} → Bool → (R → Option (List ℕ)) → (W → Option (List ℕ)) → ExplainOptions → ℕ
     → (input input' : Counted R) (output output' : Counted W) → Type 0
 RunsForm true remaining contents options status input input' output output' =
@@ -97,7 +97,8 @@ RunsForm true remaining contents options status input input' output output' =
     × JudgesAnswer options.first remaining contents answer input input' output output'
 RunsForm false remaining contents options status input input' output output' =
     (answer : Result Explained (Stopped (Cause TaskFault))) × (status ≡ explaining_status answer)
-    × ExplainsAnswer remaining answer input input'
+    × ExplainFailedWith answer input input' output output'
+    × ExplainsAnswer remaining contents answer input input' output output'
 
 abbrev pub RunsExplain : {R W : Type 0} → (R → Option (List ℕ)) → (W → Option (List ℕ)) → ExplainOptions → ℕ
     → (input input' : Counted R) (output output' : Counted W) → Type 0

@@ -1,15 +1,15 @@
 //! A transcript that is checked line by line.
-ghost use Rattle.std.specs.Prelude.{◌≡◌, IfOk, string_bytes};
+ghost use Rattle.std.specs.Prelude.{◌≡◌};
 ghost use Rattle.schedule_reading.specs.Entry.{lines_limit};
 ghost use Rattle.schedule_reading.specs.Transcript.{Recorded};
 ghost use Rattle.schedule_replay.specs.Fault.{FailedWith};
-ghost use Rattle.schedule_replay.specs.CheckText.{check_rules, ChecksAnswer, verdict_text};
+ghost use Rattle.schedule_replay.specs.CheckText.{check_rules, ChecksAnswer};
 ghost use Rattle.text_lines.specs.Lines.{input_limit, GivesWithin};
 
 use crate::fault::Fault;
 use exchange_check::Verdict;
-use schedule_reading::{LINES_LIMIT, TaskFault, Transcript, write_text};
-use std::alloc::{AllocError, Global};
+use schedule_reading::{LINES_LIMIT, TaskFault, Transcript, push_verdict, write_text};
+use std::alloc::Global;
 use std::io::{Read, Write};
 use text_lines::{Counted, LineTask, answer_lines};
 
@@ -47,21 +47,10 @@ impl LineTask for Checking {
         output: &mut Counted<W>,
     ) -> Result<Verdict, TaskFault> {
         let verdict = self.transcript.verdict()?;
-        let text = verdict_text(self.alloc, verdict)?;
+        let mut text = String::new(self.alloc);
+        push_verdict(&mut text, verdict)?;
         write_text(text.as_str(), output)?;
         Ok(verdict)
-    }
-}
-
-/// The line that tells a verdict.
-fn verdict_text(alloc: Global, verdict: Verdict) -> Result<String, AllocError>
-    ensures { IfOk result (λ text. string_bytes text ≡ verdict_text verdict) }
-{
-    match verdict {
-        Verdict::Accepted(count) => format!(in alloc; "accepted {count}\n"),
-        Verdict::Refused { line, why } => {
-            format!(in alloc; "refused event {line}: {}\n", why.code())
-        }
     }
 }
 
