@@ -131,7 +131,7 @@ impl Display for Foreign {
                 "objects in single quotes, as Python prints them; make JSON of them by: "
             }
             Foreign::ListInSingleQuotes => {
-                "a list in single quotes, as Python prints it; make a line of each of its objects by: "
+                "a list in single quotes, as Python prints it; make a line of each object by: "
             }
         })?;
         f.write_str(self.command())

@@ -17,10 +17,10 @@ const NO_NAME: &str = r#"{"diff":"65536000","ev":"stepclock","n":0,"node":"S 1",
 /// What is said of a report with one unit too much.
 const STORY: &str = "\
 event 13, line 17, slave S: refused, 706: the two results aren't those of the readings
-  t1  event 2  line 6  M  1.000000000  Sync 0 departs; told by event 6
+  t1  event  2  line  6  M  1.000000000                   Sync 0 departs; told by event 6
       3 to 4  line 7, 8  T in the clock 2000 ns
-  t2  event 5  line 9  S  1.000004000  a = t2 - t1 - 2000 ns = 2000 ns
-  t3  event 8  line 12  S  2.000001000  Delay_Req 0 departs; told by event 12
+  t2  event  5  line  9  S  1.000004000                   a = t2 - t1 - 2000 ns = 2000 ns
+  t3  event  8  line 12  S  2.000001000                   Delay_Req 0 departs; told by event 12
       9 to 10  line 13, 14  T in the clock 3500.25 ns
   t4  event 11  line 15  M  2.000004500 + 16384/65536 ns  b = t4 - t3 - 3500.25 ns = 0 ns
   offset2  reported 131072001  by the readings 131072000  1 unit of 2^-16 ns too much
@@ -111,57 +111,62 @@ fn tells_of_input_that_has_no_report(rt: HostRuntime) -> Result<(), Fail> {
 }
 
 /// Inputs of other kinds, and what is said of them.
-const FOREIGN: [(&[u8], &str); 12] = [
+const FOREIGN: [(&[u8], &str); 13] = [
     (
         b"\xd4\xc3\xb2\xa1\x02\n",
-        "this is a capture (pcap); its messages are shown by: \
+        "this is a capture (pcap); show its messages by: \
 tshark -n -r - -Y ptp -T jsonraw | jq -r '.[]._source.layers.ptp_raw[0]' | ptpx show\n",
     ),
     (
         b"\n\r\r\n\x1c\x00\x00\x00",
-        "this is a capture (pcapng); its messages are shown by: \
+        "this is a capture (pcapng); show its messages by: \
 tshark -n -r - -Y ptp -T jsonraw | jq -r '.[]._source.layers.ptp_raw[0]' | ptpx show\n",
     ),
     (
         b"\x1f\x8b\x08\x00\n",
-        "this is compressed by gzip; what is in it gives: gzip -dc\n",
+        "this is compressed by gzip; unpack it by: gzip -dc\n",
     ),
     (
         b"\xef\xbb\xbf{\"kind\":\"clock\",\"node\":\"T\"}\n",
-        "this is it begins with a byte order mark; what is after it gives: tail -c +4\n",
+        "this is text behind a byte order mark; take the mark away by: tail -c +4\n",
     ),
     (
         b"\xff\xfe{\x00\n\x00",
-        "this is UTF-16; UTF-8 of it gives: iconv -f UTF-16 -t UTF-8\n",
+        "this is UTF-16; make UTF-8 of it by: iconv -f UTF-16 -t UTF-8\n",
     ),
     (
         b"{\x00\"\x00\n\x00",
-        "this is UTF-16; UTF-8 of it gives: iconv -f UTF-16LE -t UTF-8\n",
+        "this is UTF-16; make UTF-8 of it by: iconv -f UTF-16LE -t UTF-8\n",
     ),
     (
         b"\x00{\x00\"\x00\n",
-        "this is UTF-16; UTF-8 of it gives: iconv -f UTF-16BE -t UTF-8\n",
+        "this is UTF-16; make UTF-8 of it by: iconv -f UTF-16BE -t UTF-8\n",
     ),
     (
         b"0012002c\n0112002c\n",
-        "this is datagrams in hexadecimal; they are read by: ptpx show\n",
+        "this is datagrams in hexadecimal; show them by: ptpx show\n",
     ),
     (
         b"1.000004 0012002c\n",
-        "this is times with datagrams in hexadecimal; they are read by: ptpx measure\n",
+        "this is times with datagrams in hexadecimal; measure by them with: ptpx measure\n",
     ),
     (
         b"{\n  \"kind\": \"clock\",\n  \"node\": \"T\"\n}\n",
-        "this is a JSON object over several lines; one object a line gives: jq -c .\n",
+        "this is a JSON object over several lines; make one line of it by: jq -c .\n",
     ),
     (
         b"[{\"kind\":\"clock\",\"node\":\"T\"}]\n",
-        "this is a JSON array; one object a line gives: jq -c '.[]'\n",
+        "this is a JSON array; make a line of each of its objects by: jq -c '.[]'\n",
     ),
     (
         b"{'kind': 'clock', 'node': 'T'}\n",
-        "this is objects in single quotes, as Python prints them; JSON of them gives: \
+        "this is objects in single quotes, as Python prints them; make JSON of them by: \
 python3 -c 'import ast, json, sys; [print(json.dumps(ast.literal_eval(s))) for s in sys.stdin]'\n",
+    ),
+    (
+        b"[{'kind': 'clock', 'node': 'T'}]\n",
+        "this is a list in single quotes, as Python prints it; make a line of each object by: \
+python3 -c 'import ast, json, sys; [print(json.dumps(o)) for o in ast.literal_eval(sys.stdin.read())]'\n",
     ),
 ];
 
@@ -170,6 +175,37 @@ fn tells_of_input_of_other_kinds(rt: HostRuntime) -> Result<(), Fail> {
     let alloc = rt.alloc();
     for (input, said) in &FOREIGN {
         let ended = run(alloc, "ptpx explain", input)?;
+        assert_eq!(rt; str::from_utf8(ended.output.as_slice())?, *said);
+        assert_eq!(rt; ended.status, 3, "{said}");
+    }
+    Ok(())
+}
+
+/// Inputs of other kinds whose first line is longer than lines may be: their beginning, and what is said of them.
+const LONG: [(&str, &str); 3] = [
+    (
+        "[{\"kind\":\"clock\",\"node\":\"T\"},",
+        "this is a JSON array; make a line of each of its objects by: jq -c '.[]'\n",
+    ),
+    (
+        "0012002c",
+        "this is datagrams in hexadecimal; show them by: ptpx show\n",
+    ),
+    (
+        "{\"kind\":\"clock\",",
+        "line 1: more than 4096 octets; wanted is an LF after each node and each event\n",
+    ),
+];
+
+#[test]
+fn tells_of_other_kinds_whose_first_line_is_long(rt: HostRuntime) -> Result<(), Fail> {
+    let alloc = rt.alloc();
+    for (begins, said) in &LONG {
+        let mut input = String::new(alloc);
+        for _ in 0..1000 {
+            input.push_str(begins)?;
+        }
+        let ended = run(alloc, "ptpx explain", input.as_bytes())?;
         assert_eq!(rt; str::from_utf8(ended.output.as_slice())?, *said);
         assert_eq!(rt; ended.status, 3, "{said}");
     }
@@ -438,7 +474,7 @@ before which its master sent none
 the slave was told this master
     S, domain 0, was told no master
     the Sync is of M, domain 0; M answered the Delay_Req
-  t1  event 2  ",
+  t1  event  2  ",
     ),
     (
         0,
@@ -487,7 +523,7 @@ it can say less than 140737488355327.9999847412109375 ns
         "07d10000",
         "event 13, line 17, slave S: refused, 708: the octets of a message aren't those that a port or a clock writes
     event 4, line 8, a leave at T: octet 13 from 0, in correctionField, is d1 where d0 is written
-  t1  event 2  ",
+  t1  event  2  ",
     ),
     (
         5,
@@ -495,7 +531,7 @@ it can say less than 140737488355327.9999847412109375 ns
         "0000000000001122\"",
         "event 13, line 17, slave S: refused, 708: the octets of a message aren't those that a port or a clock writes
     event 2, line 6, a sync at M: all its octets are right; it has 46 octets where 44 are written
-  t1  event 2  ",
+  t1  event  2  ",
     ),
     (
         9,
@@ -504,7 +540,7 @@ it can say less than 140737488355327.9999847412109375 ns
         "event 13, line 17, slave S: refused, 708: the octets of a message aren't those that a port or a clock writes
     event 6, line 10, a follow at M: octet 39 from 0, in preciseOriginTimestamp, is 02 where 01 is written, \
 and 1 more differ
-  t1  event 2  ",
+  t1  event  2  ",
     ),
 ];
 
@@ -539,7 +575,7 @@ fn tells_which_request_was_answered(rt: HostRuntime) -> Result<(), Fail> {
 isn't the one of the report
     the Delay_Req that the master answered is number 0, event 8, line 12, a request at S; it was taken for number 1, \
 event 13, line 17, a request at S
-  t1  event 2  ";
+  t1  event  2  ";
     let output = str::from_utf8(ended.output.as_slice())?;
     assert!(rt; output.starts_with(said), "{output}");
     Ok(())
@@ -574,6 +610,34 @@ verdict: refused event 13: 708\n";
     Ok(())
 }
 
+#[test]
+fn tells_from_which_field_on_messages_differ(rt: HostRuntime) -> Result<(), Fail> {
+    let alloc = rt.alloc();
+    let mut input = joined(alloc, &TRANSCRIPT)?;
+    for (old, new) in [
+        // The correctionField of the Sync as it was sent.
+        (
+            "000002000000000000000000000000",
+            "000002000000000000000100000000",
+        ),
+        // An octet behind the Delay_Req as it was sent.
+        (
+            "017f00000000000000000000\",\"n\":8",
+            "017f0000000000000000000000\",\"n\":8",
+        ),
+    ] {
+        input = input.replace(alloc, old, new)?;
+    }
+    let ended = run(alloc, "ptpx explain", input.as_bytes())?;
+    let output = str::from_utf8(ended.output.as_slice())?;
+    let end = "other octets than a port or a clock writes: 2 of 6 messages
+  from correctionField on: 1
+  in the suffix or in length alone: 1
+verdict: refused event 13: 708\n";
+    assert!(rt; output.ends_with(end), "{output}");
+    Ok(())
+}
+
 /// The slave is told its master again, and reports what came before.
 const TOLD_AGAIN: [&str; 2] = [
     r#"{"ev":"setmaster","master":"M","n":13,"node":"S","out":"done"}"#,
@@ -594,7 +658,7 @@ before the slave was told this master
     the Sync of event 5, line 9 is earlier
     the Follow_Up of event 7, line 11 is earlier
     the Delay_Req of event 8, line 12 is earlier
-  t1  event 2  ";
+  t1  event  2  ";
     let output = str::from_utf8(ended.output.as_slice())?;
     assert!(rt; output.starts_with(said), "{output}");
     Ok(())
@@ -696,7 +760,7 @@ fn tells_of_long_ways_in_few_lines(rt: HostRuntime) -> Result<(), Fail> {
         (
             20,
             1,
-            "  t1  event 1  line 5  M  1.000000000  Sync 0 departs; told by event 43
+            "  t1  event  1  line  5  M  1.000000000  Sync 0 departs; told by event 43
       before these in other clocks 0 ns
       10 to 11  line 14, 15  T in the clock 0 ns
       12 to 13  line 16, 17  T in the clock 0 ns\n",

@@ -54,15 +54,15 @@ const NODES: [(&str, &str); 18] = [
     ),
     (
         r#"{"node":"M","kind":"master","id":"00:11:22:ff:fe:33:44:55","port":1,"domain":0,"first":0,"log":0}"#,
-        r#"line 4: "id" is "00:11:22:ff:fe:33:44:55"; wanted are 16 hexadecimal digits"#,
+        r#"line 4: "id" is "00:11:22:ff:fe:33:44:55"; wanted are 16 hexadecimal digits, and nothing between them"#,
     ),
     (
         r#"{"node":"M","kind":"master","id":"001122334455","port":1,"domain":0,"first":0,"log":0}"#,
-        r#"line 4: "id" is "001122334455"; wanted are 16 hexadecimal digits"#,
+        r#"line 4: "id" is "001122334455"; wanted are 16 hexadecimal digits, and nothing between them"#,
     ),
     (
         r#"{"node":"M","kind":"master","id":"001122fffe33445g","port":1,"domain":0,"first":0,"log":0}"#,
-        r#"line 4: "id" is "001122fffe33445g"; wanted are 16 hexadecimal digits"#,
+        r#"line 4: "id" is "001122fffe33445g"; wanted are 16 hexadecimal digits, and nothing between them"#,
     ),
     (
         r#"{"node":"M","kind":"master","id":"001122fffe334455","port":65536,"domain":0,"first":0,"log":0}"#,
@@ -86,7 +86,7 @@ const NODES: [(&str, &str); 18] = [
     ),
     (
         r#"{"node":"M","kind":"slave","id":"001122fffe334455","port":1,"domain":0,"log":0}"#,
-        r#"line 4: "first" is missing"#,
+        r#"line 4: "first" is missing; wanted is a whole number from 0 to 65535"#,
     ),
     (
         r#"{"node":"M","kind":"slave","id":"001122fffe334455","Port":1,"domain":0,"first":0,"log":0}"#,
@@ -118,7 +118,7 @@ const EVENTS: [(&str, &str); 24] = [
     ),
     (
         r#"{"ev":"leave","node":"S","copy":1,"at":[1,0,0]}"#,
-        r#"line 4: "transit" is missing"#,
+        r#"line 4: "transit" is missing; wanted is a whole number from 0 to 2^64 - 1"#,
     ),
     (
         r#"{"ev":"hear","node":"S","copy":-1}"#,
@@ -138,15 +138,15 @@ const EVENTS: [(&str, &str); 24] = [
     ),
     (
         r#"{"ev":"sync","node":"M","at":1.5}"#,
-        r#"line 4: "at" is 1.5; wanted is [seconds, nanoseconds, fraction]"#,
+        r#"line 4: "at" is 1.5; wanted is [seconds, nanoseconds, units of 2^-16 ns]"#,
     ),
     (
         r#"{"ev":"sync","node":"M","at":[1, 0]}"#,
-        r#"line 4: "at" is [1, 0]; wanted is [seconds, nanoseconds, fraction]"#,
+        r#"line 4: "at" is [1, 0]; wanted is [seconds, nanoseconds, units of 2^-16 ns]"#,
     ),
     (
         r#"{"ev":"sync","node":"M","at":"1.000000000"}"#,
-        r#"line 4: "at" is "1.000000000"; wanted is [seconds, nanoseconds, fraction]"#,
+        r#"line 4: "at" is "1.000000000"; wanted is [seconds, nanoseconds, units of 2^-16 ns]"#,
     ),
     (
         r#"{"ev":"sync","node":"M","at":[281474976710656,0,0]}"#,
@@ -206,7 +206,7 @@ const TOLD: [(&str, &str); 18] = [
     ),
     (
         r#"{"at":[1,0,0],"copy":1,"ev":"arrive","n":3,"node":"S","out":"held"}"#,
-        r#"line 9: "reading" is missing"#,
+        r#"line 9: "reading" is missing; wanted is [seconds, nanoseconds, units of 2^-16 ns]"#,
     ),
     (
         r#"{"at":[1,0,0],"copy":1,"ev":"arrive","n":3,"node":"S","out":"held","reading":[1,0,65536]}"#,
@@ -222,11 +222,11 @@ const TOLD: [(&str, &str); 18] = [
     ),
     (
         r#"{"ev":"tick","n":4,"node":"S","out":"done"}"#,
-        r#"line 9: "n" is 4; wanted is 3, the place among the events from 0"#,
+        r#"line 9: "n" is 4; wanted is 3, the place among the events from 0: an event before it is missing, or "n" is wrong"#,
     ),
     (
         r#"{"ev":"tick","node":"S","out":"done"}"#,
-        r#"line 9: "n" is missing"#,
+        r#"line 9: "n" is missing; wanted is a whole number from 0 to 2^64 - 1"#,
     ),
     (
         r#"{"ev":"tick","n":3,"node":"S","out":"ok"}"#,
@@ -234,7 +234,7 @@ const TOLD: [(&str, &str); 18] = [
     ),
     (
         r#"{"ev":"follow","n":3,"node":"S","out":"made"}"#,
-        r#"line 9: "hex" is missing"#,
+        r#"line 9: "hex" is missing; wanted are at most 54 octets in hexadecimal"#,
     ),
     (
         r#"{"ev":"follow","n":3,"node":"S","out":"made","hex":"001"}"#,
@@ -462,59 +462,64 @@ fn of_transcripts(rt: HostRuntime) -> Result<(), Fail> {
 }
 
 /// The kinds of input by their beginnings, with what is said of them.
-const FOREIGN: [(&[u8], &str); 15] = [
+const FOREIGN: [(&[u8], &str); 17] = [
     (
         b"\xd4\xc3\xb2\xa1\x02\x00\x04\x00",
-        "a capture (pcap); its messages are shown by: tshark -n -r - -Y ptp -T jsonraw | jq -r '.[]._source.layers.ptp_raw[0]' | ptpx show",
+        "a capture (pcap); show its messages by: tshark -n -r - -Y ptp -T jsonraw | jq -r '.[]._source.layers.ptp_raw[0]' | ptpx show",
     ),
     (
         b"\xa1\xb2\x3c\x4d\x00\x02\x00\x04",
-        "a capture (pcap); its messages are shown by: tshark -n -r - -Y ptp -T jsonraw | jq -r '.[]._source.layers.ptp_raw[0]' | ptpx show",
+        "a capture (pcap); show its messages by: tshark -n -r - -Y ptp -T jsonraw | jq -r '.[]._source.layers.ptp_raw[0]' | ptpx show",
     ),
     (
         b"\x0a\x0d\x0d\x0a\x1c\x00\x00\x00",
-        "a capture (pcapng); its messages are shown by: tshark -n -r - -Y ptp -T jsonraw | jq -r '.[]._source.layers.ptp_raw[0]' | ptpx show",
+        "a capture (pcapng); show its messages by: tshark -n -r - -Y ptp -T jsonraw | jq -r '.[]._source.layers.ptp_raw[0]' | ptpx show",
     ),
     (
         b"\x1f\x8b\x08\x00",
-        "compressed by gzip; what is in it gives: gzip -dc",
+        "compressed by gzip; unpack it by: gzip -dc",
     ),
     (
         b"\xef\xbb\xbf{\"node\":\"T\",\"kind\":\"clock\"}\n",
-        "it begins with a byte order mark; what is after it gives: tail -c +4",
+        "text behind a byte order mark; take the mark away by: tail -c +4",
     ),
     (
         b"\xff\xfe{\x00\"\x00",
-        "UTF-16; UTF-8 of it gives: iconv -f UTF-16 -t UTF-8",
+        "UTF-16; make UTF-8 of it by: iconv -f UTF-16 -t UTF-8",
     ),
     (
         b"\x00{\x00\"",
-        "UTF-16; UTF-8 of it gives: iconv -f UTF-16BE -t UTF-8",
+        "UTF-16; make UTF-8 of it by: iconv -f UTF-16BE -t UTF-8",
     ),
     (
         b"0012002c00000200000000000000000000000000001122fffe33445500010000000000000000000000000000\n",
-        "datagrams in hexadecimal; they are read by: ptpx show",
+        "datagrams in hexadecimal; show them by: ptpx show",
     ),
     (
         b"1795328934.357259633 0012002c0000020000000000\n1795328935.3 00\n",
-        "times with datagrams in hexadecimal; they are read by: ptpx measure",
+        "times with datagrams in hexadecimal; measure by them with: ptpx measure",
     ),
     (
         b"{\n  \"node\": \"T\",\n",
-        "a JSON object over several lines; one object a line gives: jq -c .",
+        "a JSON object over several lines; make one line of it by: jq -c .",
     ),
     (
         b"{\"node\": \"T\",\n\"kind\":\"clock\"}\n",
-        "a JSON object over several lines; one object a line gives: jq -c .",
+        "a JSON object over several lines; make one line of it by: jq -c .",
     ),
     (
         b"[{\"node\":\"T\",\"kind\":\"clock\"},\n",
-        "a JSON array; one object a line gives: jq -c '.[]'",
+        "a JSON array; make a line of each of its objects by: jq -c '.[]'",
     ),
     (
         b"{'node': 'T', 'kind': 'clock'}\n",
-        "objects in single quotes, as Python prints them; JSON of them gives: python3 -c 'import ast, json, sys; [print(json.dumps(ast.literal_eval(s))) for s in sys.stdin]'",
+        "objects in single quotes, as Python prints them; make JSON of them by: python3 -c 'import ast, json, sys; [print(json.dumps(ast.literal_eval(s))) for s in sys.stdin]'",
     ),
+    (
+        b"[{'node': 'T', 'kind': 'clock'}, {'node': 'U', 'kind': 'clock'}]\n",
+        "a list in single quotes, as Python prints it; make a line of each object by: python3 -c 'import ast, json, sys; [print(json.dumps(o)) for o in ast.literal_eval(sys.stdin.read())]'",
+    ),
+    (b"{\"node\":\"T\",\"kind\":\"clock\"},\n", ""),
     (b"{\"node\":\"T\",\"kind\":\"clock\"}\n", ""),
     (b"", ""),
 ];
