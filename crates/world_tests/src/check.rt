@@ -457,10 +457,10 @@ fn one_line_changed(rt: HostRuntime) -> Result<(), Fail> {
 fn judgements(alloc: Global, lines: Vec<TraceLine>) -> Result<(usize, Option<Judgement>), Fail> {
     let mut checker = Checker::new(alloc, nodes(alloc)?)?;
     let mut told = None;
-    let mut judged = 0;
+    let mut judged = 0usize;
     for line in lines {
         if told.is_some() {
-            judged += 1;
+            judged = judged.saturating_add(1);
         }
         told = checker.feed_judged(line)?;
     }
