@@ -12,7 +12,7 @@
 
 #include "udp.h"
 
-/* A tick for so many Syncs: at least one is due in 16,384. */
+/* A tick for so many Syncs that come: at least one is due in 16,384 that the master sends. */
 #define SYNCS_A_TICK 4096
 
 struct station {
@@ -52,6 +52,15 @@ static void told(struct station *station, const struct ptpx_heard *heard)
     }
 }
 
+/* Ticks by the Syncs of the master, ignored ones too. What others send on the event port doesn't count. */
+static void count_sync(struct station *station, const struct ptpx_heard *heard)
+{
+    const bool is_of_master = heard->kind != PTPX_IGNORED || heard->reason == PTPX_REASON_NOT_NEWER
+        || heard->reason == PTPX_REASON_TOO_BIG;
+    if (is_of_master && ++station->syncs % SYNCS_A_TICK == 0)
+        must(ptpx_slave_tick(&station->slave));
+}
+
 static void hear_event(struct station *station)
 {
     uint8_t octets[1500] = {0};
@@ -60,9 +69,7 @@ static void hear_event(struct station *station)
     size_t length = take(station->event, 0, octets, sizeof octets, &came);
     must(ptpx_slave_sync(&station->slave, octets, length, moment_of(came), station->tag++, &heard));
     told(station, &heard);
-    station->syncs++;
-    if (station->syncs % SYNCS_A_TICK == 0)
-        must(ptpx_slave_tick(&station->slave));
+    count_sync(station, &heard);
 }
 
 static void hear_general(struct station *station)

@@ -14,13 +14,82 @@ static const uint8_t distinct[57] = {
     0x50, 0x51, 0x52,
 };
 
+/* A slave's memory, which is to stand where its alignment allows. */
+struct behind_an_octet {
+    uint8_t octet;
+    struct ptpx_slave_memory memory;
+};
+
+/* Where a field lies, and where the next octet after it does. */
+#define LIES(type, field, from, to)                   \
+    CHECK(offsetof(struct type, field) == (from)      \
+          && offsetof(struct type, field) + sizeof(((struct type *)NULL)->field) == (to))
+
 static void sizes(void)
 {
     CHECK(sizeof(struct ptpx_time) == 16 && sizeof(struct ptpx_signed) == 16 && sizeof(struct ptpx_timestamp) == 16);
     CHECK(sizeof(struct ptpx_identity) == 10 && sizeof(struct ptpx_config) == 12 && sizeof(struct ptpx_stay) == 24);
     CHECK(sizeof(struct ptpx_message) == 72 && sizeof(struct ptpx_master) == 18 && sizeof(struct ptpx_heard) == 72);
+    CHECK(sizeof(struct ptpx_slave) == 8 && PTPX_SLAVE_SIZE == 2944 && PTPX_SLAVE_ALIGNMENT == 16);
     CHECK(ptpx_raw_slave_size() == PTPX_SLAVE_SIZE && ptpx_raw_slave_alignment() == PTPX_SLAVE_ALIGNMENT);
     CHECK(sizeof(struct ptpx_slave_memory) == PTPX_SLAVE_SIZE);
+    CHECK(offsetof(struct behind_an_octet, memory) == PTPX_SLAVE_ALIGNMENT);
+}
+
+/* The table of docs/EMBEDDING.md. */
+static void places(void)
+{
+    LIES(ptpx_time, high, 0, 8);
+    LIES(ptpx_time, low, 8, 16);
+    LIES(ptpx_signed, high, 0, 8);
+    LIES(ptpx_signed, low, 8, 16);
+    LIES(ptpx_timestamp, seconds, 0, 8);
+    LIES(ptpx_timestamp, nanos, 8, 12);
+    LIES(ptpx_identity, clock, 0, 8);
+    LIES(ptpx_identity, port, 8, 10);
+    LIES(ptpx_config, identity, 0, 10);
+    LIES(ptpx_config, domain, 10, 11);
+    LIES(ptpx_config, log, 11, 12);
+    LIES(ptpx_stay, entered, 0, 16);
+    LIES(ptpx_stay, inside, 16, 17);
+    LIES(ptpx_master, config, 0, 12);
+    LIES(ptpx_master, next, 12, 14);
+    LIES(ptpx_master, waiting, 14, 16);
+    LIES(ptpx_master, waits, 16, 17);
+    LIES(ptpx_slave, memory, 0, 8);
+    LIES(ptpx_slave_memory, octets, 0, PTPX_SLAVE_SIZE);
+}
+
+static void places_in_messages(void)
+{
+    LIES(ptpx_message, kind, 0, 1);
+    LIES(ptpx_message, domain, 1, 2);
+    LIES(ptpx_message, major_sdo, 2, 3);
+    LIES(ptpx_message, minor_sdo, 3, 4);
+    LIES(ptpx_message, minor_version, 4, 5);
+    LIES(ptpx_message, flags, 5, 7);
+    LIES(ptpx_message, correction, 8, 16);
+    LIES(ptpx_message, specific, 16, 20);
+    LIES(ptpx_message, source, 20, 30);
+    LIES(ptpx_message, sequence, 30, 32);
+    LIES(ptpx_message, log, 32, 33);
+    LIES(ptpx_message, control, 33, 34);
+    LIES(ptpx_message, timestamp, 40, 56);
+    LIES(ptpx_message, requesting, 56, 66);
+    LIES(ptpx_message, suffix_length, 66, 68);
+}
+
+static void places_in_answers(void)
+{
+    LIES(ptpx_heard, kind, 0, 2);
+    LIES(ptpx_heard, reason, 2, 4);
+    LIES(ptpx_heard, one_step, 4, 5);
+    LIES(ptpx_heard, offset2, 8, 24);
+    LIES(ptpx_heard, path2, 24, 40);
+    LIES(ptpx_heard, sync_tag, 40, 48);
+    LIES(ptpx_heard, follow_tag, 48, 56);
+    LIES(ptpx_heard, request_tag, 56, 64);
+    LIES(ptpx_heard, response_tag, 64, 72);
 }
 
 static void numbers(void)
@@ -237,6 +306,9 @@ static void answers_of_masters(void)
 int main(void)
 {
     sizes();
+    places();
+    places_in_messages();
+    places_in_answers();
     numbers();
     times();
     brackets();

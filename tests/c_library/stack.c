@@ -1,6 +1,6 @@
 /*
- * How much stack the calls take, seen on a stack of their own that was painted before. Fails above the limits of
- * docs/EMBEDDING.md.
+ * How much stack the calls take, seen on a stack of their own that was painted before. Fails far above what
+ * docs/EMBEDDING.md says.
  */
 #define _GNU_SOURCE
 #include <ucontext.h>

@@ -183,10 +183,10 @@ impl Flaws {
     fn see(&mut self, line: &[u8])
         ensures { (self.new.line ≡ self.old.line) × (self.new.what ≡ self.old.what) }
     {
-        if self.form.is_some() || !has_text(line, b"\"ev\"") {
+        if self.form.is_some() || !has_key(line, b"\"ev\"") {
             return;
         }
-        self.form = Some(if has_text(line, b"\"out\"") || has_text(line, b"\"n\"") {
+        self.form = Some(if has_key(line, b"\"out\"") || has_key(line, b"\"n\"") {
             Form::Transcript
         } else {
             Form::Schedule
@@ -197,7 +197,7 @@ impl Flaws {
     fn pass(&mut self, line: &[u8])
         ensures { (self.new.line ≡ self.old.line) × (self.new.what ≡ self.old.what) }
     {
-        if self.events > 0 || has_text(line, b"\"ev\"") {
+        if self.events > 0 || has_key(line, b"\"ev\"") {
             self.events = self.events.saturating_add(1);
         }
     }
@@ -228,10 +228,19 @@ pub(crate) fn push_foreign(text: &mut String, kind: Foreign) -> Result<(), Alloc
     write!(text, "this is {kind}\n")
 }
 
-/// Whether a line has this text somewhere.
-fn has_text(line: &[u8], wanted: &[u8]) -> bool {
-    match wanted.len() {
+/// Whether a line has this key somewhere, which is given in its quotes: it stands before a colon.
+fn has_key(line: &[u8], key: &[u8]) -> bool {
+    match key.len() {
         0 => true,
-        length => line.windows(length).any(|octets| octets == wanted),
+        length => line.windows(length).enumerate().any(|(at, octets)| octets == key
+            && is_before_colon(line, at.saturating_add(length))),
+    }
+}
+
+/// Whether what is left of a line from here on begins with a colon, after blanks.
+fn is_before_colon(line: &[u8], at: usize) -> bool {
+    match line.get(at..) {
+        Some(rest) => rest.trim_ascii_start().starts_with(b":".as_slice()),
+        None => false,
     }
 }

@@ -533,11 +533,11 @@ static inline uint16_t ptpx_slave_set_master(struct ptpx_slave *slave, const str
  * Drops what came before the tick before this one: Syncs and Follow_Ups that are held, and the last completed half of
  * each kind. So what came is used up to the second tick after it. Delay_Reqs don't go at a tick.
  *
- * One is due at least once in 16,384 Syncs of the master, so that no message meets one whose number came round: at
- * 128 Syncs a second each two minutes. None is due before the first Sync. Where ticks come so often that two of them
- * fall between a Sync and its Follow_Up, or between the two halves of a report, these don't meet: let the time
- * between two ticks be longer than both, that is longer than the longest time from Sync to Sync and from Delay_Req to
- * Delay_Req.
+ * One is due at least once in 16,384 Syncs that the master sends, lost ones too, so that no message meets one whose
+ * number came round: at 128 Syncs a second each two minutes. None is due before the first Sync, and a change of
+ * master counts as one. Where ticks come so often that two of them fall between a Sync and its Follow_Up, or between
+ * the two halves of a report, these don't meet: a time between two ticks that is longer than the longest from Sync to
+ * Sync and from Delay_Req to Delay_Req does.
  */
 static inline uint16_t ptpx_slave_tick(struct ptpx_slave *slave)
 {
@@ -574,10 +574,10 @@ static inline uint16_t ptpx_slave_request_left(struct ptpx_slave *slave, uint16_
 
 /*
  * A message arrived on the event port (UDP port 319) at t2 by the slave's clock. A two-step Sync of the master is
- * held, and completes a Sync half with the newest held Follow_Up of its number; a one-step Sync completes one by
- * itself; all else is ignored. With 16 held before, the oldest of these goes. The slave doesn't look at majorSdoId,
- * minorSdoId and flags other than the twoStepFlag, nor whether a time is plausible: what isn't for it has to be
- * sorted out before. 101.
+ * held, with 16 of them held before in place of the oldest, and completes a Sync half with the newest held Follow_Up
+ * of its number; a one-step Sync completes one by itself, and isn't held; all else is ignored. The slave doesn't look
+ * at majorSdoId, minorSdoId and flags other than the twoStepFlag, nor whether a time is plausible: what isn't for it
+ * has to be sorted out before. 101.
  *
  * The last completed Sync half and the last completed Delay_Req half stay. Each half that completes gives a report
  * with the last one of the other kind, or PTPX_COMPLETED where none is there. So one half may stand in several
@@ -595,9 +595,10 @@ static inline uint16_t ptpx_slave_sync(struct ptpx_slave *slave, const uint8_t *
 }
 
 /*
- * A message arrived on the general port (UDP port 320). A Follow_Up of the master is held, and completes a Sync half
- * with the newest held Sync of its number. A Delay_Resp completes a Delay_Req half with the newest held Delay_Req of
- * its number, which stays held: a Delay_Resp that comes twice completes it twice. All else is ignored.
+ * A message arrived on the general port (UDP port 320). A Follow_Up of the master is held, with 16 of them held before
+ * in place of the oldest, and completes a Sync half with the newest held Sync of its number; both stay held. A
+ * Delay_Resp completes a Delay_Req half with the newest held Delay_Req of its number, which stays held: a Delay_Resp
+ * that comes twice completes it twice. All else is ignored.
  */
 PTPX_LOOK_AT_IT
 static inline uint16_t ptpx_slave_general(struct ptpx_slave *slave, const uint8_t *octets, size_t length,
