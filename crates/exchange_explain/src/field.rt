@@ -1,9 +1,10 @@
 //! The fields of messages, and the octets that they have (IEEE 1588-2019, 13.3, 13.6 to 13.8).
+ghost use Rattle.std.specs.Prelude.{◌<◌, IfSome};
 
 use event_codec::Body;
 
 /// The fields in their order, each with the place of its first octet.
-pub(crate) const FIELDS: [(usize, &str); 14] = [
+pub(crate) const FIELDS: [(usize, &'static str); 14] = [
     (0, "majorSdoId and messageType"),
     (1, "minorVersionPTP and versionPTP"),
     (2, "messageLength"),
@@ -23,8 +24,13 @@ pub(crate) const FIELDS: [(usize, &str); 14] = [
 /// The place of minorVersionPTP and versionPTP.
 pub(crate) const VERSION: usize = 1;
 
+/// The index of the timestamp among the fields.
+const TIMESTAMP: usize = 12;
+
 /// The index of the field that an octet is of; None of an octet of the suffix.
-pub(crate) fn field_at(place: usize) -> Option<usize> {
+pub(crate) fn field_at(place: usize) -> Option<usize>
+    ensures { IfSome result (λ index. index < 14) }
+{
     if place >= 54 {
         return None;
     }
@@ -33,12 +39,10 @@ pub(crate) fn field_at(place: usize) -> Option<usize> {
 
 /// The name of the field that an octet of a message is of.
 pub(crate) fn field_name(place: usize, body: &Body) -> &'static str {
-    match place {
-        34..=43 => timestamp_name(body),
-        _ => match field_at(place).and_then(|index| FIELDS.get(index)) {
-            Some((_, name)) => name,
-            None => "the suffix",
-        },
+    match field_at(place) {
+        Some(TIMESTAMP) => timestamp_name(body),
+        Some(index) => FIELDS[index].1,
+        None => "the suffix",
     }
 }
 

@@ -98,6 +98,8 @@ impl Flaws {
         if let WorldRefusal::SameName | WorldRefusal::SameIdentity = why {
             return push_clash(alloc, text, before.nodes, why);
         }
+        // Events of a transcript are refused for nothing else.
+        self.form = Some(Form::Schedule);
         match read_entry(alloc, line) {
             Ok(Line::Event(event)) => push_refused(text, self.line, before, &event, why),
             Err(TaskFault::Memory) => Err(AllocError),
