@@ -227,7 +227,7 @@ impl Flaws {
 
 /// Appends which other kind an input is of.
 pub(crate) fn push_foreign(text: &mut String, kind: Foreign) -> Result<(), AllocError> {
-    write!(text, "this is {kind}\n")
+    write!(text, "the input isn't lines of JSON, but {kind}\n")
 }
 
 /// Whether a line has this key somewhere, which is given in its quotes: it stands before a colon.

@@ -101,7 +101,7 @@ impl Display for Wanted {
             ),
             Wanted::Name => f.write_str("wanted are 1 to 16 letters, digits, _ or -"),
             Wanted::Identity => f.write_str(
-                "wanted are 16 hexadecimal digits, and nothing between them",
+                "wanted are 16 hexadecimal digits of either case, and nothing between them",
             ),
             Wanted::Whole { most: u64::MAX } => {
                 f.write_str("wanted is a whole number from 0 to 2^64 - 1")

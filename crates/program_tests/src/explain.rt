@@ -114,58 +114,58 @@ fn tells_of_input_that_has_no_report(rt: HostRuntime) -> Result<(), Fail> {
 const FOREIGN: [(&[u8], &str); 13] = [
     (
         b"\xd4\xc3\xb2\xa1\x02\n",
-        "this is a capture (pcap); show its messages by: \
+        "the input isn't lines of JSON, but a capture (pcap); show its messages by: \
 tshark -n -r - -Y ptp -T jsonraw | jq -r '.[]._source.layers.ptp_raw[0]' | ptpx show\n",
     ),
     (
         b"\n\r\r\n\x1c\x00\x00\x00",
-        "this is a capture (pcapng); show its messages by: \
+        "the input isn't lines of JSON, but a capture (pcapng); show its messages by: \
 tshark -n -r - -Y ptp -T jsonraw | jq -r '.[]._source.layers.ptp_raw[0]' | ptpx show\n",
     ),
     (
         b"\x1f\x8b\x08\x00\n",
-        "this is compressed by gzip; unpack it by: gzip -dc\n",
+        "the input isn't lines of JSON, but compressed by gzip; unpack it by: gzip -dc\n",
     ),
     (
         b"\xef\xbb\xbf{\"kind\":\"clock\",\"node\":\"T\"}\n",
-        "this is text behind a byte order mark; take the mark away by: tail -c +4\n",
+        "the input isn't lines of JSON, but text behind a byte order mark; take the mark away by: tail -c +4\n",
     ),
     (
         b"\xff\xfe{\x00\n\x00",
-        "this is UTF-16; make UTF-8 of it by: iconv -f UTF-16 -t UTF-8\n",
+        "the input isn't lines of JSON, but UTF-16; make UTF-8 of it by: iconv -f UTF-16 -t UTF-8\n",
     ),
     (
         b"{\x00\"\x00\n\x00",
-        "this is UTF-16; make UTF-8 of it by: iconv -f UTF-16LE -t UTF-8\n",
+        "the input isn't lines of JSON, but UTF-16; make UTF-8 of it by: iconv -f UTF-16LE -t UTF-8\n",
     ),
     (
         b"\x00{\x00\"\x00\n",
-        "this is UTF-16; make UTF-8 of it by: iconv -f UTF-16BE -t UTF-8\n",
+        "the input isn't lines of JSON, but UTF-16; make UTF-8 of it by: iconv -f UTF-16BE -t UTF-8\n",
     ),
     (
         b"0012002c\n0112002c\n",
-        "this is datagrams in hexadecimal; show them by: ptpx show\n",
+        "the input isn't lines of JSON, but datagrams in hexadecimal; show them by: ptpx show\n",
     ),
     (
         b"1.000004 0012002c\n",
-        "this is times with datagrams in hexadecimal; measure by them with: ptpx measure\n",
+        "the input isn't lines of JSON, but times with datagrams in hexadecimal; measure by them with: ptpx measure\n",
     ),
     (
         b"{\n  \"kind\": \"clock\",\n  \"node\": \"T\"\n}\n",
-        "this is a JSON object over several lines; make one line of it by: jq -c .\n",
+        "the input isn't lines of JSON, but JSON objects over several lines; make a line of each by: jq -c .\n",
     ),
     (
         b"[{\"kind\":\"clock\",\"node\":\"T\"}]\n",
-        "this is a JSON array; make a line of each of its objects by: jq -c '.[]'\n",
+        "the input isn't lines of JSON, but a JSON array; make a line of each of its objects by: jq -c '.[]'\n",
     ),
     (
         b"{'kind': 'clock', 'node': 'T'}\n",
-        "this is objects in single quotes, as Python prints them; make JSON of them by: \
+        "the input isn't lines of JSON, but objects in single quotes, as Python prints them; make JSON of them by: \
 python3 -c 'import ast, json, sys; [print(json.dumps(ast.literal_eval(s))) for s in sys.stdin]'\n",
     ),
     (
         b"[{'kind': 'clock', 'node': 'T'}]\n",
-        "this is a list in single quotes, as Python prints it; make a line of each object by: \
+        "the input isn't lines of JSON, but a list in single quotes, as Python prints it; make a line of each object by: \
 python3 -c 'import ast, json, sys; [print(json.dumps(o)) for o in ast.literal_eval(sys.stdin.read())]'\n",
     ),
 ];
@@ -185,11 +185,11 @@ fn tells_of_input_of_other_kinds(rt: HostRuntime) -> Result<(), Fail> {
 const LONG: [(&str, &str); 3] = [
     (
         "[{\"kind\":\"clock\",\"node\":\"T\"},",
-        "this is a JSON array; make a line of each of its objects by: jq -c '.[]'\n",
+        "the input isn't lines of JSON, but a JSON array; make a line of each of its objects by: jq -c '.[]'\n",
     ),
     (
         "0012002c",
-        "this is datagrams in hexadecimal; show them by: ptpx show\n",
+        "the input isn't lines of JSON, but datagrams in hexadecimal; show them by: ptpx show\n",
     ),
     (
         "{\"kind\":\"clock\",",

@@ -54,15 +54,15 @@ const NODES: [(&str, &str); 18] = [
     ),
     (
         r#"{"node":"M","kind":"master","id":"00:11:22:ff:fe:33:44:55","port":1,"domain":0,"first":0,"log":0}"#,
-        r#"line 4: "id" is "00:11:22:ff:fe:33:44:55"; wanted are 16 hexadecimal digits, and nothing between them"#,
+        r#"line 4: "id" is "00:11:22:ff:fe:33:44:55"; wanted are 16 hexadecimal digits of either case, and nothing between them"#,
     ),
     (
         r#"{"node":"M","kind":"master","id":"001122334455","port":1,"domain":0,"first":0,"log":0}"#,
-        r#"line 4: "id" is "001122334455"; wanted are 16 hexadecimal digits, and nothing between them"#,
+        r#"line 4: "id" is "001122334455"; wanted are 16 hexadecimal digits of either case, and nothing between them"#,
     ),
     (
         r#"{"node":"M","kind":"master","id":"001122fffe33445g","port":1,"domain":0,"first":0,"log":0}"#,
-        r#"line 4: "id" is "001122fffe33445g"; wanted are 16 hexadecimal digits, and nothing between them"#,
+        r#"line 4: "id" is "001122fffe33445g"; wanted are 16 hexadecimal digits of either case, and nothing between them"#,
     ),
     (
         r#"{"node":"M","kind":"master","id":"001122fffe334455","port":65536,"domain":0,"first":0,"log":0}"#,
@@ -501,11 +501,11 @@ const FOREIGN: [(&[u8], &str); 17] = [
     ),
     (
         b"{\n  \"node\": \"T\",\n",
-        "a JSON object over several lines; make one line of it by: jq -c .",
+        "JSON objects over several lines; make a line of each by: jq -c .",
     ),
     (
         b"{\"node\": \"T\",\n\"kind\":\"clock\"}\n",
-        "a JSON object over several lines; make one line of it by: jq -c .",
+        "JSON objects over several lines; make a line of each by: jq -c .",
     ),
     (
         b"[{\"node\":\"T\",\"kind\":\"clock\"},\n",
