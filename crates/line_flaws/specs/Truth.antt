@@ -1,5 +1,5 @@
--- What a flaw says, which is so of the line. Of the octets that it quotes, of a key near another or too much, and of why
--- octets are no JSON, nothing is said here.
+-- What a flaw says, which is so of the line. Of the octets that it quotes, of a key near another or too much, of why octets
+-- are no JSON, and that a key that is missing is wanted or that a value that is told is wrong, nothing is said here.
 use Rattle.std.specs.Prelude.{◌≡◌, ◌≢◌, ◌⊎◌, ℕ, List, codes, Option, Some, None, IsSome, ⊤}
 use Rattle.std.specs.Str.{IsUtf8}
 use Rattle.serde_json.specs.Data.{Data}

@@ -44,7 +44,8 @@ pub enum Flaw<'a> {
         octet: usize,
     },
     /// It isn't JSON: the first octet at which none goes on, counted from 1, and why. Where the line
-    /// ends too early, this is the octet after its last.
+    /// ends too early, this is the octet after its last, and of a text without its closing quote that
+    /// of its first quote.
     NoJson {
         octet: usize,
         why: JsonFault,
@@ -169,7 +170,7 @@ impl Display for Flaw<'_> {
     /// The sentence that stands after the line, the octet and a colon.
     fn fmt<W: fmt::Write>(&self, f: &mut Formatter<W>) -> fmt::Result {
         match self {
-            Flaw::NoText { .. } => f.write_str("no UTF-8"),
+            Flaw::NoText { .. } => f.write_str("no UTF-8; wanted is the line in UTF-8"),
             Flaw::NoJson { why, .. } => write!(f, "no JSON: {why}"),
             Flaw::NoObject { found } => {
                 write!(

@@ -25,7 +25,7 @@ pub enum Foreign {
     Datagrams,
     /// Lines of times and datagrams, as `ptpx measure` reads them.
     Recording,
-    /// A JSON object over several lines.
+    /// JSON objects over several lines.
     ObjectOverLines,
     /// A JSON array of objects.
     ArrayOfLines,
@@ -124,7 +124,7 @@ impl Display for Foreign {
             Foreign::Datagrams => "datagrams in hexadecimal; show them by: ",
             Foreign::Recording => "times with datagrams in hexadecimal; measure by them with: ",
             Foreign::ObjectOverLines => {
-                "a JSON object over several lines; make one line of it by: "
+                "JSON objects over several lines; make a line of each by: "
             }
             Foreign::ArrayOfLines => "a JSON array; make a line of each of its objects by: ",
             Foreign::SingleQuotes => {

@@ -81,7 +81,7 @@ impl Display for JsonFault {
     fn fmt<W: fmt::Write>(&self, f: &mut Formatter<W>) -> fmt::Result {
         f.write_str(match self {
             JsonFault::Empty => "nothing; wanted is an object",
-            JsonFault::ByteOrderMark => "a byte order mark",
+            JsonFault::ByteOrderMark => "a byte order mark; wanted is none",
             JsonFault::OpenObject => "the line ends before the } of an object",
             JsonFault::OpenArray => "the line ends before the ] of an array",
             JsonFault::NoValueAtEnd => "the line ends before a value",
@@ -107,14 +107,14 @@ impl Display for JsonFault {
             JsonFault::BarePoint => "a point without a digit in front of it",
             JsonFault::NoDigit => "no digit; wanted is one in the number",
             JsonFault::Hexadecimal => "a number in hexadecimal; wanted are decimal digits",
-            JsonFault::OddNumber => "what belongs to no number",
-            JsonFault::LargeNumber => "a number too large for a float",
+            JsonFault::OddNumber => "a character that belongs to no number; wanted is a comma or a bracket after it",
+            JsonFault::LargeNumber => "a number too large for a float; wanted is a smaller one",
             JsonFault::ControlOctet => "a control character in a text; wanted is an escape, as \\t",
             JsonFault::OddEscape =>
                 "a \\ without an escape; wanted is \\\\, or another escape of JSON",
             JsonFault::HalfPair => "an escape that is half of a character; wanted are both halves",
-            JsonFault::TooDeep => "brackets that nest deeper than 127",
-            JsonFault::Other => "it isn't read",
+            JsonFault::TooDeep => "brackets that nest deeper than 127; wanted are fewer",
+            JsonFault::Other => "something that JSON doesn't have",
         })
     }
 }

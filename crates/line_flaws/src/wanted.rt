@@ -101,7 +101,7 @@ impl Display for Wanted {
             ),
             Wanted::Name => f.write_str("wanted are 1 to 16 letters, digits, _ or -"),
             Wanted::Identity => f.write_str(
-                "wanted are 16 hexadecimal digits, and nothing between them",
+                "wanted are 16 hexadecimal digits of either case, and nothing between them",
             ),
             Wanted::Whole { most: u64::MAX } => {
                 f.write_str("wanted is a whole number from 0 to 2^64 - 1")
@@ -110,9 +110,9 @@ impl Display for Wanted {
             Wanted::SignedOctet => f.write_str("wanted is a whole number from -128 to 127"),
             Wanted::Moment => f.write_str("wanted is [seconds, nanoseconds, units of 2^-16 ns]"),
             Wanted::Difference => f.write_str(
-                "wanted is a whole number of at most 32 octets, without +, point or zeros in front",
+                "wanted is a whole number of at most 32 characters, without +, point or zeros in front",
             ),
-            Wanted::Octets => f.write_str("wanted are at most 54 octets in hexadecimal"),
+            Wanted::Octets => f.write_str("wanted are at most 54 octets, of two hexadecimal digits each"),
             Wanted::Tags => f.write_str(
                 "wanted are the tags of [Sync, Follow_Up, Delay_Req, Delay_Resp]",
             ),

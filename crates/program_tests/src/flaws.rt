@@ -54,15 +54,15 @@ const NODES: [(&str, &str); 18] = [
     ),
     (
         r#"{"node":"M","kind":"master","id":"00:11:22:ff:fe:33:44:55","port":1,"domain":0,"first":0,"log":0}"#,
-        r#"line 4: "id" is "00:11:22:ff:fe:33:44:55"; wanted are 16 hexadecimal digits, and nothing between them"#,
+        r#"line 4: "id" is "00:11:22:ff:fe:33:44:55"; wanted are 16 hexadecimal digits of either case, and nothing between them"#,
     ),
     (
         r#"{"node":"M","kind":"master","id":"001122334455","port":1,"domain":0,"first":0,"log":0}"#,
-        r#"line 4: "id" is "001122334455"; wanted are 16 hexadecimal digits, and nothing between them"#,
+        r#"line 4: "id" is "001122334455"; wanted are 16 hexadecimal digits of either case, and nothing between them"#,
     ),
     (
         r#"{"node":"M","kind":"master","id":"001122fffe33445g","port":1,"domain":0,"first":0,"log":0}"#,
-        r#"line 4: "id" is "001122fffe33445g"; wanted are 16 hexadecimal digits, and nothing between them"#,
+        r#"line 4: "id" is "001122fffe33445g"; wanted are 16 hexadecimal digits of either case, and nothing between them"#,
     ),
     (
         r#"{"node":"M","kind":"master","id":"001122fffe334455","port":65536,"domain":0,"first":0,"log":0}"#,
@@ -166,19 +166,19 @@ const EVENTS: [(&str, &str); 24] = [
     ),
     (
         r#"{"ev":"stepclock","node":"S","diff":65536}"#,
-        r#"line 4: "diff" is 65536; wanted is a whole number of at most 32 octets, without +, point or zeros in front, in quotes"#,
+        r#"line 4: "diff" is 65536; wanted is a whole number of at most 32 characters, without +, point or zeros in front, in quotes"#,
     ),
     (
         r#"{"ev":"stepclock","node":"S","diff":"+65536"}"#,
-        r#"line 4: "diff" is "+65536"; wanted is a whole number of at most 32 octets, without +, point or zeros in front"#,
+        r#"line 4: "diff" is "+65536"; wanted is a whole number of at most 32 characters, without +, point or zeros in front"#,
     ),
     (
         r#"{"ev":"stepclock","node":"S","diff":"-0"}"#,
-        r#"line 4: "diff" is "-0"; wanted is a whole number of at most 32 octets, without +, point or zeros in front"#,
+        r#"line 4: "diff" is "-0"; wanted is a whole number of at most 32 characters, without +, point or zeros in front"#,
     ),
     (
         r#"{"ev":"stepclock","node":"S","diff":"123456789012345678901234567890123"}"#,
-        r#"line 4: "diff" is "123456789012345678901234567890123"; wanted is a whole number of at most 32 octets, without +, point or zeros in front"#,
+        r#"line 4: "diff" is "123456789012345678901234567890123"; wanted is a whole number of at most 32 characters, without +, point or zeros in front"#,
     ),
     (
         r#"{"ev":"setmaster","node":"S","master":null}"#,
@@ -234,15 +234,15 @@ const TOLD: [(&str, &str); 18] = [
     ),
     (
         r#"{"ev":"follow","n":3,"node":"S","out":"made"}"#,
-        r#"line 9: "hex" is missing; wanted are at most 54 octets in hexadecimal"#,
+        r#"line 9: "hex" is missing; wanted are at most 54 octets, of two hexadecimal digits each"#,
     ),
     (
         r#"{"ev":"follow","n":3,"node":"S","out":"made","hex":"001"}"#,
-        r#"line 9: "hex" is "001"; wanted are at most 54 octets in hexadecimal"#,
+        r#"line 9: "hex" is "001"; wanted are at most 54 octets, of two hexadecimal digits each"#,
     ),
     (
         r#"{"ev":"follow","n":3,"node":"S","out":"made","hex":"0012002c00000200000000000000000000000000001122fffe3344550001000000000000000000000000000000000000000000000000000000"}"#,
-        r#"line 9: "hex" is "0012002c0000020000000000000000000000000..; wanted are at most 54 octets in hexadecimal"#,
+        r#"line 9: "hex" is "0012002c0000020000000000000000000000000..; wanted are at most 54 octets, of two hexadecimal digits each"#,
     ),
     (
         r#"{"copy":1,"ev":"hear","n":3,"node":"S","out":"ignored","code":"507"}"#,
@@ -254,7 +254,7 @@ const TOLD: [(&str, &str); 18] = [
     ),
     (
         r#"{"copy":1,"ev":"hear","n":3,"node":"S","out":"report","offset2":0,"path2":"0","tags":[0,1,2,3]}"#,
-        r#"line 9: "offset2" is 0; wanted is a whole number of at most 32 octets, without +, point or zeros in front, in quotes"#,
+        r#"line 9: "offset2" is 0; wanted is a whole number of at most 32 characters, without +, point or zeros in front, in quotes"#,
     ),
     (
         r#"{"copy":1,"ev":"hear","n":3,"node":"S","out":"report","offset2":"0","path2":"0","tags":[0,2,3]}"#,
@@ -396,11 +396,11 @@ const NO_JSON: [(&str, &str); 40] = [
     ),
     (
         r#"{"at":[1,1_000,0]}"#,
-        "line 4, octet 11: no JSON: what belongs to no number",
+        "line 4, octet 11: no JSON: a character that belongs to no number; wanted is a comma or a bracket after it",
     ),
     (
         r#"{"copy":1e999}"#,
-        "line 4, octet 9: no JSON: a number too large for a float",
+        "line 4, octet 9: no JSON: a number too large for a float; wanted is a smaller one",
     ),
     (
         r#"{"node":"\ud83d"}"#,
@@ -424,7 +424,7 @@ const NO_JSON: [(&str, &str); 40] = [
     ),
     (
         "\u{feff}{\"node\":\"T\",\"kind\":\"clock\"}",
-        "line 4, octet 1: no JSON: a byte order mark",
+        "line 4, octet 1: no JSON: a byte order mark; wanted is none",
     ),
     (
         r#"{"port":}"#,
@@ -444,7 +444,7 @@ fn of_schedules(rt: HostRuntime) -> Result<(), Fail> {
         b"{\"node\":\"M\xfcnchen\",\"kind\":\"clock\"}",
         0,
     )?;
-    assert_eq!(rt; text.as_str(), "line 4, octet 11: no UTF-8");
+    assert_eq!(rt; text.as_str(), "line 4, octet 11: no UTF-8; wanted is the line in UTF-8");
     Ok(())
 }
 
@@ -501,11 +501,11 @@ const FOREIGN: [(&[u8], &str); 17] = [
     ),
     (
         b"{\n  \"node\": \"T\",\n",
-        "a JSON object over several lines; make one line of it by: jq -c .",
+        "JSON objects over several lines; make a line of each by: jq -c .",
     ),
     (
         b"{\"node\": \"T\",\n\"kind\":\"clock\"}\n",
-        "a JSON object over several lines; make one line of it by: jq -c .",
+        "JSON objects over several lines; make a line of each by: jq -c .",
     ),
     (
         b"[{\"node\":\"T\",\"kind\":\"clock\"},\n",
