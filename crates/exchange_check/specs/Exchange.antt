@@ -42,7 +42,7 @@ abbrev pub earlier_told : LineJourney → Option ℕ
 earlier_told journey =
     option_map (λ stay. sum_by line_stay_length (drop 16 journey.stays)) (slice_get journey.stays 16)
 
--- the way of a message to its arrival
+-- the journey of a message to its arrival
 abbrev pub leg_told : Network → (arrival : LinePlace) → LineJourney → Leg
 leg_told network arrival journey = record {
   departed = line_told network journey.origin;

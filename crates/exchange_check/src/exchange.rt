@@ -40,7 +40,7 @@ pub struct Stay {
     pub left: ExchangeLine,
 }
 
-/// The way of an event message from a port to another one.
+/// The journey of an event message from a port to another one.
 #[derive(Clone, Copy, Debug, PartialEq, Eq)]
 pub struct Leg {
     /// It departed.
@@ -58,11 +58,11 @@ pub struct Leg {
 /// The lines that a report is of.
 #[derive(Clone, Copy, Debug, PartialEq, Eq)]
 pub struct Exchange {
-    /// The way of the Sync, from t1 to t2.
+    /// The journey of the Sync, from t1 to t2.
     pub sync: Leg,
     /// The event that sent the Follow_Up, by its place among the events; none of a one-step Sync.
     pub follow: Option<u64>,
-    /// The way of the Delay_Req, from t3 to t4.
+    /// The journey of the Delay_Req, from t3 to t4.
     pub request: Leg,
     /// The event by which the slave learned when the Delay_Req departed, by its place among the events.
     pub stamped: Option<u64>,
@@ -156,7 +156,7 @@ impl Kept {
         Some(self.kept_journey_at(copy?)?.residence.units())
     }
 
-    /// What is told of the way of a message that arrives at a line.
+    /// What is told of the journey of a message that arrives at a line.
     fn leg(&self, arrived: &Fact, journey: &FoundJourney) -> Leg
         ensures { result ≡ leg_by (facts_of self.now) arrived.now journey.now }
     {

@@ -263,10 +263,11 @@ impl Explaining {
 
     /// Appends why a line can't be read; of an input of another kind, which it is.
     fn push_unread(&mut self, line: u64, what: ReadingFault) -> Result<(), AllocError> {
-        if let Some(flaws) = &self.flaws
-            && flaws.is_foreign()
-        {
-            return Ok(());
+        if let Some(flaws) = &self.flaws {
+            if flaws.is_foreign() {
+                return Ok(());
+            }
+            flaws.push_untold(self.alloc, &mut self.text)?;
         }
         match (line, what, self.begins) {
             (1, ReadingFault::LineTooLong, Some(kind)) => push_foreign(&mut self.text, kind),
@@ -285,7 +286,7 @@ fn push_unread(text: &mut String, line: u64, what: ReadingFault) -> Result<(), A
         ),
         ReadingFault::TooManyLines => write!(
             text,
-            "line {line}: an octet after the last of 1048576 lines; a longer transcript is to be cut\n"
+            "line {line}: an octet after the last of 1048576 lines; a longer input is to be cut\n"
         ),
     }
 }

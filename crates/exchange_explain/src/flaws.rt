@@ -204,15 +204,22 @@ impl Flaws {
         }
     }
 
-    /// Appends how many lines weren't told, and from where on nothing was judged or happened.
-    pub(crate) fn push_end(&self, alloc: Global, text: &mut String) -> Result<(), AllocError> {
+    /// Appends a first line that is empty, where it wasn't told, and how many lines weren't.
+    pub(crate) fn push_untold(&self, alloc: Global, text: &mut String) -> Result<(), AllocError> {
         if self.empty {
             let mut flaws = *self;
             flaws.look_at_empty(alloc, text)?;
         }
-        if self.count > TOLD_MOST {
-            write!(text, "and {} lines more\n", self.count - TOLD_MOST)?;
+        match self.count.checked_sub(TOLD_MOST) {
+            None | Some(0) => Ok(()),
+            Some(1) => text.push_str("and 1 line more\n"),
+            Some(more) => write!(text, "and {more} lines more\n"),
         }
+    }
+
+    /// Appends how many lines weren't told, and from where on nothing was judged or happened.
+    pub(crate) fn push_end(&self, alloc: Global, text: &mut String) -> Result<(), AllocError> {
+        self.push_untold(alloc, text)?;
         match (self.foreign, self.form) {
             (true, _) => Ok(()),
             (_, Some(Form::Schedule)) => write!(
@@ -227,7 +234,7 @@ impl Flaws {
 
 /// Appends which other kind an input is of.
 pub(crate) fn push_foreign(text: &mut String, kind: Foreign) -> Result<(), AllocError> {
-    write!(text, "this is {kind}\n")
+    write!(text, "the input isn't lines of JSON, but {kind}\n")
 }
 
 /// Whether a line has this key somewhere, which is given in its quotes: it stands before a colon.

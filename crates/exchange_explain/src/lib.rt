@@ -22,7 +22,7 @@ mod report;
 mod schedule;
 mod story;
 mod tally;
-mod way;
+mod journey;
 
 pub use explaining::{Explained, explain};
 pub use input::Found;

@@ -2,7 +2,7 @@
 
 use crate::case::Case;
 use crate::record::Recorded;
-use crate::way::{Message, push_event, push_stop, way_to};
+use crate::journey::{Message, push_event, push_stop, journey_to};
 use network_model::Event;
 use std::alloc::AllocError;
 use trace_model::TraceOut;
@@ -218,7 +218,7 @@ impl Case<'_> {
         }
     }
 
-    /// Appends where the ways of the Sync and of the Delay_Req stop.
+    /// Appends where the journeys of the Sync and of the Delay_Req stop.
     pub(crate) fn push_broken(&self, text: &mut String) -> Result<(), AllocError> {
         let sync = self.judged.report.sync_tag;
         let copy = self
@@ -234,7 +234,7 @@ impl Case<'_> {
         }
     }
 
-    /// Appends where the way of a message stops.
+    /// Appends where the journey of a message stops.
     fn push_way(
         &self,
         text: &mut String,
@@ -242,7 +242,7 @@ impl Case<'_> {
         arrival: u64,
         copy: u64,
     ) -> Result<(), AllocError> {
-        let way = way_to(self.alloc, self.record, message, arrival, copy)?;
-        push_stop(text, self.record, message, way.end)
+        let journey = journey_to(self.alloc, self.record, message, arrival, copy)?;
+        push_stop(text, self.record, message, journey.end)
     }
 }

@@ -2,7 +2,7 @@
 
 use crate::case::Case;
 use crate::moments::{Length, signed};
-use crate::way::push_event;
+use crate::journey::push_event;
 use exchange_check::{Exchange, Leg};
 use network_model::{Name, NodeKind};
 use std::alloc::AllocError;
@@ -139,7 +139,7 @@ impl Case<'_> {
             {
                 write!(
                     text,
-                    "    the {message} of {} is earlier\n",
+                    "    the {message} of {} is earlier than that\n",
                     self.record.place(tag)
                 )?;
             }

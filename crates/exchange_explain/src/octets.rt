@@ -4,7 +4,7 @@ use crate::case::Case;
 use crate::field::{VERSION, field_name};
 use crate::readings::Told;
 use crate::record::{Record, Recorded};
-use crate::way::{Message, push_event};
+use crate::journey::{Message, push_event};
 use event_codec::{Body, PortMessage, encode};
 use exchange_check::Exchange;
 use schedule_reading::Transcript;
@@ -95,8 +95,8 @@ impl Display for Differs<'_> {
         let difference = self.difference;
         if difference.is_minor_version() {
             return f.write_str(
-                "minorVersionPTP is 0, of IEEE 1588-2008, where 1 is written, of IEEE 1588-2019; all other octets are \
-                 right",
+                "minorVersionPTP, the high half of octet 1 from 0, is 0 (IEEE 1588-2008), where 1 is written (IEEE \
+                 1588-2019); all other octets are right",
             );
         }
         if let Some(octet) = difference.first {
@@ -171,8 +171,9 @@ impl Case<'_> {
             (Message::Request, &exchange.request),
         ] {
             self.push_message(text, &mut told, leg.departed.number)?;
-            let way = self.way_of(message, leg)?;
-            for stay in way.stays.iter().rev() {
+            let journey = self.journey_of(message, leg)?;
+            journey.push_cut(text, message)?;
+            for stay in journey.stays.iter().rev() {
                 self.push_message(text, &mut told, stay.left)?;
             }
         }
@@ -191,7 +192,7 @@ impl Case<'_> {
         number: u64,
     ) -> Result<(), AllocError> {
         let Some(compared) = difference_at(self.transcript, self.record, number) else {
-            return Ok(());
+            return self.push_unsent(text, told, number);
         };
         let Some(difference) = compared.difference else {
             return Ok(());
@@ -206,5 +207,20 @@ impl Case<'_> {
             body: &compared.message.body,
         };
         write!(text, ": {differs}\n")
+    }
+
+    /// Appends that a Follow_Up is of no Sync, so that no port writes it.
+    fn push_unsent(
+        &self,
+        text: &mut String,
+        told: &mut Told,
+        number: u64,
+    ) -> Result<(), AllocError> {
+        if !told.has_room() {
+            return Ok(());
+        }
+        text.push_str("    ")?;
+        push_event(text, self.record, number)?;
+        text.push_str(": no two-step Sync was sent before it, so no octets are right\n")
     }
 }

@@ -3,7 +3,7 @@
 use crate::case::Case;
 use crate::moments::{Length, Moment, signed_units};
 use crate::record::Recorded;
-use crate::way::{Message, Way, push_event, way_to};
+use crate::journey::{Message, Journey, push_event, journey_to};
 use exchange_check::{Exchange, Leg};
 use ptp_units::ScaledTime;
 use std::alloc::AllocError;
@@ -62,14 +62,14 @@ impl Read {
 }
 
 impl Case<'_> {
-    /// The way of a message of the report.
-    pub(crate) fn way_of(&self, message: Message, leg: &Leg) -> Result<Way, AllocError> {
+    /// The journey of a message of the report.
+    pub(crate) fn journey_of(&self, message: Message, leg: &Leg) -> Result<Journey, AllocError> {
         let copy = leg
             .arrived
             .event
             .heard_copy()
             .unwrap_or(leg.departed.number);
-        way_to(self.alloc, self.record, message, leg.arrived.number, copy)
+        journey_to(self.alloc, self.record, message, leg.arrived.number, copy)
     }
 
     /// Appends the readings of the report that aren't those of the clocks.
@@ -84,8 +84,9 @@ impl Case<'_> {
             (Message::Request, &exchange.request),
         ] {
             self.push_reading(text, &mut told, leg.departed.number)?;
-            let way = self.way_of(message, leg)?;
-            for stay in way.stays.iter().rev() {
+            let journey = self.journey_of(message, leg)?;
+            journey.push_cut(text, message)?;
+            for stay in journey.stays.iter().rev() {
                 self.push_reading(text, &mut told, stay.entered)?;
                 self.push_reading(text, &mut told, stay.left)?;
                 self.push_fall(text, &mut told, stay.entered, stay.left)?;

@@ -150,7 +150,7 @@ impl Record {
     fn push_event(&mut self, line: TraceLine) -> Result<(), AllocError> {
         let number = self.events.len() as u64;
         let event = line.event;
-        let counts = self.is_good(&line);
+        let counts = self.counts(&line);
         let site = self.sites.get(&event.node()).copied();
         self.events.push(Recorded {
             line,
@@ -220,7 +220,7 @@ impl Record {
     }
 
     /// Whether the nodes of a line are of the kinds that its event is for, and it was done or made its message.
-    fn is_good(&self, line: &TraceLine) -> bool {
+    fn counts(&self, line: &TraceLine) -> bool {
         let Some(kind) = self.kind(&line.event.node()) else {
             return false;
         };

@@ -191,7 +191,7 @@ fn push_no_reading(text: &mut String, events: &[Event], event: &Event) -> Result
     match (event, event.true_moment()) {
         (Event::StepClock { diff, .. }, _) => write!(
             text,
-            "\"diff\" is {diff}, which is {}; wanted are less than 2^48 s, ahead or behind",
+            "\"diff\" is {diff}, which is {}; wanted is less than 2^48 s, ahead or behind",
             Length(*diff)
         ),
         (_, Some(at)) => push_shown(text, clock_set(events, &event.node()), &event.node(), at),

@@ -118,7 +118,7 @@ fn push_stays(text: &mut String, nodes: u64, leg: &Leg) -> Result<(), AllocError
     if let Some(earlier) = leg.earlier {
         write!(
             text,
-            "      before these in other clocks {}\n",
+            "      before these in clocks {}\n",
             Length(signed(earlier))
         )?;
     }
@@ -144,7 +144,7 @@ fn elapsed(leg: &Leg) -> i128 {
         .saturating_sub(signed(leg.residence))
 }
 
-/// How the letters of a way are called.
+/// How the letters of a journey are called.
 #[derive(Clone, Copy)]
 struct Letters {
     departed: &'static str,
@@ -167,7 +167,7 @@ const REQUEST: Letters = Letters {
     message: "Delay_Req",
 };
 
-/// Appends the way of a message, with the event that told when it departed.
+/// Appends the journey of a message, with the event that told when it departed.
 fn push_leg(
     text: &mut String,
     nodes: u64,
@@ -212,7 +212,7 @@ fn push_leg(
     )
 }
 
-/// Appends the ways of the Sync and of the Delay_Req of a report.
+/// Appends the journeys of the Sync and of the Delay_Req of a report.
 pub(crate) fn push_exchange(
     text: &mut String,
     nodes: u64,

@@ -53,6 +53,49 @@ fn tells_by_how_much(rt: HostRuntime) -> Result<(), Fail> {
     Ok(())
 }
 
+/// One more report, of the same messages, with one unit too much.
+const TOLD_TWICE: &str =
+    r#"{"copy":11,"ev":"hear","n":14,"node":"S","offset2":"131072000","out":"report","path2":"131072001","tags":[5,7,8,14]}"#;
+
+#[test]
+fn tells_the_first_that_is_refused(rt: HostRuntime) -> Result<(), Fail> {
+    let alloc = rt.alloc();
+    let mut input = changed(alloc, 16, TOO_MUCH)?;
+    writeln!(&mut input, "{TOLD_TWICE}")?;
+    let first = STORY.replace(
+        alloc,
+        "1 report: 0 sound\n  706 stands against 1",
+        "2 reports: 0 sound\n  706 stands against 2",
+    )?;
+    let ended = run(alloc, "ptpx explain --first", input.as_bytes())?;
+    assert_eq!(rt; str::from_utf8(ended.output.as_slice())?, first.as_str());
+    let ended = run(alloc, "ptpx explain", input.as_bytes())?;
+    let output = str::from_utf8(ended.output.as_slice())?;
+    let second = "\nevent 14, line 18, slave S: refused, 706: ";
+    assert!(rt; output.contains(second), "{output}");
+    Ok(())
+}
+
+#[test]
+fn counts_each_reason(rt: HostRuntime) -> Result<(), Fail> {
+    let alloc = rt.alloc();
+    let mut input = joined(alloc, &TRANSCRIPT)?;
+    writeln!(&mut input, "{TOLD_TWICE}")?;
+    for (old, new) in VERSIONS {
+        input = input.replace(alloc, old, new)?;
+    }
+    let ended = run(alloc, "ptpx explain", input.as_bytes())?;
+    let output = str::from_utf8(ended.output.as_slice())?;
+    let counts = "
+2 reports: 0 sound
+  706 stands against 1: the two results aren't those of the readings
+  708 stands against 2: ";
+    assert!(rt; output.contains(counts), "{output}");
+    let octets = "\nwere octets left aside (708), 1 of 2 reports would be sound\n";
+    assert!(rt; output.contains(octets), "{output}");
+    Ok(())
+}
+
 #[test]
 fn tells_of_a_sound_report(rt: HostRuntime) -> Result<(), Fail> {
     let alloc = rt.alloc();
@@ -114,58 +157,58 @@ fn tells_of_input_that_has_no_report(rt: HostRuntime) -> Result<(), Fail> {
 const FOREIGN: [(&[u8], &str); 13] = [
     (
         b"\xd4\xc3\xb2\xa1\x02\n",
-        "this is a capture (pcap); show its messages by: \
+        "the input isn't lines of JSON, but a capture (pcap); show its messages by: \
 tshark -n -r - -Y ptp -T jsonraw | jq -r '.[]._source.layers.ptp_raw[0]' | ptpx show\n",
     ),
     (
         b"\n\r\r\n\x1c\x00\x00\x00",
-        "this is a capture (pcapng); show its messages by: \
+        "the input isn't lines of JSON, but a capture (pcapng); show its messages by: \
 tshark -n -r - -Y ptp -T jsonraw | jq -r '.[]._source.layers.ptp_raw[0]' | ptpx show\n",
     ),
     (
         b"\x1f\x8b\x08\x00\n",
-        "this is compressed by gzip; unpack it by: gzip -dc\n",
+        "the input isn't lines of JSON, but compressed by gzip; unpack it by: gzip -dc\n",
     ),
     (
         b"\xef\xbb\xbf{\"kind\":\"clock\",\"node\":\"T\"}\n",
-        "this is text behind a byte order mark; take the mark away by: tail -c +4\n",
+        "the input isn't lines of JSON, but text behind a byte order mark; take the mark away by: tail -c +4\n",
     ),
     (
         b"\xff\xfe{\x00\n\x00",
-        "this is UTF-16; make UTF-8 of it by: iconv -f UTF-16 -t UTF-8\n",
+        "the input isn't lines of JSON, but UTF-16; make UTF-8 of it by: iconv -f UTF-16 -t UTF-8\n",
     ),
     (
         b"{\x00\"\x00\n\x00",
-        "this is UTF-16; make UTF-8 of it by: iconv -f UTF-16LE -t UTF-8\n",
+        "the input isn't lines of JSON, but UTF-16; make UTF-8 of it by: iconv -f UTF-16LE -t UTF-8\n",
     ),
     (
         b"\x00{\x00\"\x00\n",
-        "this is UTF-16; make UTF-8 of it by: iconv -f UTF-16BE -t UTF-8\n",
+        "the input isn't lines of JSON, but UTF-16; make UTF-8 of it by: iconv -f UTF-16BE -t UTF-8\n",
     ),
     (
         b"0012002c\n0112002c\n",
-        "this is datagrams in hexadecimal; show them by: ptpx show\n",
+        "the input isn't lines of JSON, but datagrams in hexadecimal; show them by: ptpx show\n",
     ),
     (
         b"1.000004 0012002c\n",
-        "this is times with datagrams in hexadecimal; measure by them with: ptpx measure\n",
+        "the input isn't lines of JSON, but times with datagrams in hexadecimal; measure by them with: ptpx measure\n",
     ),
     (
         b"{\n  \"kind\": \"clock\",\n  \"node\": \"T\"\n}\n",
-        "this is a JSON object over several lines; make one line of it by: jq -c .\n",
+        "the input isn't lines of JSON, but JSON objects over several lines; make a line of each by: jq -c .\n",
     ),
     (
         b"[{\"kind\":\"clock\",\"node\":\"T\"}]\n",
-        "this is a JSON array; make a line of each of its objects by: jq -c '.[]'\n",
+        "the input isn't lines of JSON, but a JSON array; make a line of each of its objects by: jq -c '.[]'\n",
     ),
     (
         b"{'kind': 'clock', 'node': 'T'}\n",
-        "this is objects in single quotes, as Python prints them; make JSON of them by: \
+        "the input isn't lines of JSON, but objects in single quotes, as Python prints them; make JSON of them by: \
 python3 -c 'import ast, json, sys; [print(json.dumps(ast.literal_eval(s))) for s in sys.stdin]'\n",
     ),
     (
         b"[{'kind': 'clock', 'node': 'T'}]\n",
-        "this is a list in single quotes, as Python prints it; make a line of each object by: \
+        "the input isn't lines of JSON, but a list in single quotes, as Python prints it; make a line of each object by: \
 python3 -c 'import ast, json, sys; [print(json.dumps(o)) for o in ast.literal_eval(sys.stdin.read())]'\n",
     ),
 ];
@@ -185,11 +228,11 @@ fn tells_of_input_of_other_kinds(rt: HostRuntime) -> Result<(), Fail> {
 const LONG: [(&str, &str); 3] = [
     (
         "[{\"kind\":\"clock\",\"node\":\"T\"},",
-        "this is a JSON array; make a line of each of its objects by: jq -c '.[]'\n",
+        "the input isn't lines of JSON, but a JSON array; make a line of each of its objects by: jq -c '.[]'\n",
     ),
     (
         "0012002c",
-        "this is datagrams in hexadecimal; show them by: ptpx show\n",
+        "the input isn't lines of JSON, but datagrams in hexadecimal; show them by: ptpx show\n",
     ),
     (
         "{\"kind\":\"clock\",",
@@ -209,6 +252,46 @@ fn tells_of_other_kinds_whose_first_line_is_long(rt: HostRuntime) -> Result<(), 
         assert_eq!(rt; str::from_utf8(ended.output.as_slice())?, *said);
         assert_eq!(rt; ended.status, 3, "{said}");
     }
+    Ok(())
+}
+
+#[test]
+fn tells_of_twenty_lines(rt: HostRuntime) -> Result<(), Fail> {
+    let alloc = rt.alloc();
+    let mut input = String::new(alloc);
+    for _ in 0..20 {
+        input.push_str("x\n")?;
+    }
+    for more in [
+        "",
+        "and 1 line more\n",
+        "and 2 lines more\n",
+    ] {
+        let mut end = String::new(alloc);
+        write!(&mut end, "{more}no report was judged from line 1 on\n")?;
+        let ended = run(alloc, "ptpx explain", input.as_bytes())?;
+        let output = str::from_utf8(ended.output.as_slice())?;
+        assert!(rt; output.contains("\nline 20, octet 1: "), "{output}");
+        assert!(rt; !output.contains("line 21"), "{output}");
+        assert!(rt; output.ends_with(end.as_str()), "{output}");
+        input.push_str("x\n")?;
+    }
+    Ok(())
+}
+
+#[test]
+fn tells_what_was_read_before_a_line_that_is_too_long(rt: HostRuntime) -> Result<(), Fail> {
+    let alloc = rt.alloc();
+    let mut input = String::new(alloc);
+    input.push('\n')?;
+    for _ in 0..4097 {
+        input.push('x')?;
+    }
+    let ended = run(alloc, "ptpx explain", input.as_bytes())?;
+    let said = "line 1, octet 1: no JSON: nothing; wanted is an object\n\
+line 2: more than 4096 octets; wanted is an LF after each node and each event\n";
+    assert_eq!(rt; str::from_utf8(ended.output.as_slice())?, said);
+    assert_eq!(rt; ended.status, 3);
     Ok(())
 }
 
@@ -324,7 +407,7 @@ no event happens from line 14 on\n",
         "65536000",
         "18446744073709551616000000000",
         "event 0, line 4: refused, 607: \"diff\" is 18446744073709551616000000000, which is \
-281474976710656000000000 ns; wanted are less than 2^48 s, ahead or behind\nno event happens from line 4 on\n",
+281474976710656000000000 ns; wanted is less than 2^48 s, ahead or behind\nno event happens from line 4 on\n",
     ),
     (
         3,
@@ -434,7 +517,7 @@ or no event tells when the Delay_Req left
         "\"copy\":4",
         "event 13, line 17, slave S: refused, 704: the journey of the Sync or of the Delay_Req can't be followed back \
 to where it was sent, or a stay on it was left twice
-    the way of the Sync stops at event 3, line 7, which names event 4; wanted is one before it
+    the journey of the Sync stops at event 3, line 7, which names event 4; wanted is one before it
 1 report: 0 sound\n",
     ),
     (
@@ -443,7 +526,7 @@ to where it was sent, or a stay on it was left twice
         "\"transit\":2",
         "event 13, line 17, slave S: refused, 704: the journey of the Sync or of the Delay_Req can't be followed back \
 to where it was sent, or a stay on it was left twice
-    the way of the Sync stops at event 4, line 8: it names event 2, line 6, a sync at M, which is no enter of this clock
+    the journey of the Sync stops at event 4, line 8: it names event 2, line 6, a sync at M, which is no enter of this clock
 1 report: 0 sound\n",
     ),
     (
@@ -557,6 +640,18 @@ fn tells_what_each_reason_met(rt: HostRuntime) -> Result<(), Fail> {
     Ok(())
 }
 
+#[test]
+fn tells_of_a_follow_up_of_no_sync(rt: HostRuntime) -> Result<(), Fail> {
+    let alloc = rt.alloc();
+    let input = replaced(alloc, &TRANSCRIPT, 5, "\"sync\"", "\"syncone\"")?;
+    let ended = run(alloc, "ptpx explain", input.as_bytes())?;
+    let output = str::from_utf8(ended.output.as_slice())?;
+    let said =
+        "    event 6, line 10, a follow at M: no two-step Sync was sent before it, so no octets are right\n";
+    assert!(rt; output.contains(said), "{output}");
+    Ok(())
+}
+
 /// A second Delay_Req, for which the Delay_Resp to the first one is taken.
 const TAKEN_FOR_ANOTHER: [&str; 3] = [
     r#"{"at":[3,0,0],"ev":"request","hex":"0112002c0000000000000000000000000000000000aabbfffeccddee00010001017f00000000000000000000","n":13,"node":"S","out":"made","reading":[3,1000,0]}"#,
@@ -599,8 +694,8 @@ fn tells_of_devices_of_the_older_standard(rt: HostRuntime) -> Result<(), Fail> {
     let ended = run(alloc, "ptpx explain", input.as_bytes())?;
     let output = str::from_utf8(ended.output.as_slice())?;
     let met =
-        "    event 2, line 6, a sync at M: minorVersionPTP is 0, of IEEE 1588-2008, where 1 is written, of IEEE \
-1588-2019; all other octets are right\n";
+        "    event 2, line 6, a sync at M: minorVersionPTP, the high half of octet 1 from 0, is 0 (IEEE 1588-2008), where 1 is written (IEEE \
+1588-2019); all other octets are right\n";
     let end = "were octets left aside (708), 1 of 1 report would be sound
 other octets than a port or a clock writes: 6 of 6 messages
   in one nibble alone: 6; minorVersionPTP is 0, as real devices of IEEE 1588-2008 write it, where IEEE 1588-2019 has 1
@@ -655,9 +750,9 @@ fn tells_what_came_before_the_master_was_told(rt: HostRuntime) -> Result<(), Fai
 before the slave was told this master
     event 13, line 17 told S, domain 0, the master M
     the Sync is of M, domain 0; M answered the Delay_Req
-    the Sync of event 5, line 9 is earlier
-    the Follow_Up of event 7, line 11 is earlier
-    the Delay_Req of event 8, line 12 is earlier
+    the Sync of event 5, line 9 is earlier than that
+    the Follow_Up of event 7, line 11 is earlier than that
+    the Delay_Req of event 8, line 12 is earlier than that
   t1  event  2  ";
     let output = str::from_utf8(ended.output.as_slice())?;
     assert!(rt; output.starts_with(said), "{output}");
@@ -754,14 +849,14 @@ fn push_rest(text: &mut String, sync: u64) -> Result<(), Fail> {
 }
 
 #[test]
-fn tells_of_long_ways_in_few_lines(rt: HostRuntime) -> Result<(), Fail> {
+fn tells_of_long_journeys_in_few_lines(rt: HostRuntime) -> Result<(), Fail> {
     let alloc = rt.alloc();
     for (stays, copy, said) in [
         (
             20,
             1,
             "  t1  event  1  line  5  M  1.000000000  Sync 0 departs; told by event 43
-      before these in other clocks 0 ns
+      before these in clocks 0 ns
       10 to 11  line 14, 15  T in the clock 0 ns
       12 to 13  line 16, 17  T in the clock 0 ns\n",
         ),
@@ -769,7 +864,7 @@ fn tells_of_long_ways_in_few_lines(rt: HostRuntime) -> Result<(), Fail> {
             300,
             0,
             "can't be followed back to where it was sent, or a stay on it was left twice
-    the way of the Sync was followed over its last 256 clocks\n",
+    the journey of the Sync doesn't stop in its last 256 stays; those before them weren't looked at\n",
         ),
     ] {
         let input = staying(alloc, stays, copy)?;
@@ -778,5 +873,16 @@ fn tells_of_long_ways_in_few_lines(rt: HostRuntime) -> Result<(), Fail> {
         assert!(rt; output.contains(said), "{output}");
         assert_eq!(rt; ended.status, 1, "{stays}");
     }
+    Ok(())
+}
+
+#[test]
+fn tells_how_much_of_a_journey_was_looked_at(rt: HostRuntime) -> Result<(), Fail> {
+    let alloc = rt.alloc();
+    let input = staying(alloc, 300, 1)?.replace(alloc, "\"hex\":\"0812", "\"hex\":\"0802")?;
+    let ended = run(alloc, "ptpx explain", input.as_bytes())?;
+    let output = str::from_utf8(ended.output.as_slice())?;
+    let said = "    of the journey of the Sync only the last 256 stays were looked at\n";
+    assert!(rt; output.contains(said), "{output}");
     Ok(())
 }

@@ -1,4 +1,4 @@
-//! The way of a message, followed back from its arrival over what was recorded.
+//! The journey of a message, followed back from its arrival over what was recorded.
 
 use crate::happening::AnEvent;
 use crate::record::{Leaves, Record, Recorded};
@@ -8,7 +8,7 @@ use std::alloc::{AllocError, Global};
 /// The most stays that are followed.
 const STAYS_MOST: usize = 256;
 
-/// Which message it is the way of.
+/// Which message it is the journey of.
 #[derive(Clone, Copy, PartialEq, Eq)]
 pub(crate) enum Message {
     Sync,
@@ -40,11 +40,11 @@ pub(crate) struct Stay {
     pub(crate) left: u64,
 }
 
-/// Where a way ends, followed back.
+/// Where a journey ends, followed back.
 #[derive(Clone, Copy)]
 pub(crate) enum End {
-    /// It was sent by this event.
-    Sent(u64),
+    /// It was sent there.
+    Sent,
     /// This event names one that isn't before it.
     NotBefore {
         by: u64,
@@ -81,11 +81,25 @@ enum Back {
     End(End),
 }
 
-/// A way: its stays, the last one first, and where it ends.
+/// A journey: its stays, the last one first, and where it ends.
 #[derive(Drop)]
-pub(crate) struct Way {
+pub(crate) struct Journey {
     pub(crate) stays: Vec<Stay>,
     pub(crate) end: End,
+}
+
+impl Journey {
+    /// Appends that stays weren't looked at, where it has more than are followed.
+    pub(crate) fn push_cut(&self, text: &mut String, message: Message) -> Result<(), AllocError> {
+        match self.end {
+            End::TooLong => write!(
+                text,
+                "    of the journey of the {} only the last {STAYS_MOST} stays were looked at\n",
+                message.name()
+            ),
+            _ => Ok(()),
+        }
+    }
 }
 
 /// The stay of a message that left by an event, with the copy that entered.
@@ -145,25 +159,25 @@ fn step(record: &Record, message: Message, by: u64, copy: u64) -> Back {
     };
     match recorded.line.event.named_transit() {
         Some(transit) => stay_before(record, copy, transit, recorded),
-        None if message.is_sent_by(&recorded.line.event) => Back::End(End::Sent(copy)),
+        None if message.is_sent_by(&recorded.line.event) => Back::End(End::Sent),
         None => Back::End(End::NotSending { by, named: copy }),
     }
 }
 
-/// The way of a message that arrives by an event, which names this copy.
-pub(crate) fn way_to(
+/// The journey of a message that arrives by an event, which names this copy.
+pub(crate) fn journey_to(
     alloc: Global,
     record: &Record,
     message: Message,
     arrival: u64,
     copy: u64,
-) -> Result<Way, AllocError> {
+) -> Result<Journey, AllocError> {
     let mut stays = Vec::new(alloc);
     let mut by = arrival;
     let mut named = copy;
     for _stay in 0..STAYS_MOST {
         match step(record, message, by, named) {
-            Back::End(end) => return Ok(Way { stays, end }),
+            Back::End(end) => return Ok(Journey { stays, end }),
             Back::Stay(stay, entered) => {
                 stays.push(stay)?;
                 by = stay.entered;
@@ -171,13 +185,13 @@ pub(crate) fn way_to(
             }
         }
     }
-    Ok(Way {
+    Ok(Journey {
         stays,
         end: End::TooLong,
     })
 }
 
-/// Appends where a way ends, unless it was sent there.
+/// Appends where a journey ends, unless it was sent there.
 pub(crate) fn push_stop(
     text: &mut String,
     record: &Record,
@@ -186,10 +200,10 @@ pub(crate) fn push_stop(
 ) -> Result<(), AllocError> {
     let name = message.name();
     match end {
-        End::Sent(_) => Ok(()),
+        End::Sent => Ok(()),
         End::NotBefore { by, named } => write!(
             text,
-            "    the way of the {name} stops at {}, which names event {named}; wanted is one before it\n",
+            "    the journey of the {name} stops at {}, which names event {named}; wanted is one before it\n",
             record.place(by)
         ),
         End::NotCounting { by, named } => push_named(
@@ -229,12 +243,12 @@ pub(crate) fn push_stop(
         ),
         End::TooLong => write!(
             text,
-            "    the way of the {name} was followed over its last {STAYS_MOST} clocks\n"
+            "    the journey of the {name} doesn't stop in its last {STAYS_MOST} stays; those before them weren't looked at\n"
         ),
     }
 }
 
-/// Appends that a way stops at an event, and what is wrong with the one that it names.
+/// Appends that a journey stops at an event, and what is wrong with the one that it names.
 fn push_named(
     text: &mut String,
     record: &Record,
@@ -245,7 +259,7 @@ fn push_named(
 ) -> Result<(), AllocError> {
     write!(
         text,
-        "    the way of the {name} stops at {}: it names ",
+        "    the journey of the {name} stops at {}: it names ",
         record.place(by)
     )?;
     push_event(text, record, named)?;
