@@ -50,6 +50,7 @@ impl Hints {
             (_, FaultKind::World(_)) => {
                 Some("a network or an event that can't be; 'ptpx explain' says why")
             }
+            (Hints::Show, FaultKind::LineTooLong) => Some("a line of more than 4096 octets"),
             (_, FaultKind::LineTooLong) => {
                 Some(
                     "a line of more than 4096 octets; 'ptpx explain' says what the input looks like",

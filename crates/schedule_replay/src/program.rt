@@ -24,7 +24,7 @@ use text_lines::Counted;
 
 /// The whole program over its arguments, of which the first is its own name: runs the subcommand that
 /// they name, and answers the exit status. Status 0: done or accepted, or help was asked for, which
-/// goes to `output`. Status 1: `check` refused the transcript. Status 2: the arguments are no command,
+/// goes to `output`. Status 1: `check` or `explain` refused the transcript. Status 2: the arguments are no command,
 /// and the reason goes to `errors`. Status 3: a fault, whose number and line go to `errors`; at line 0
 /// stand want of memory before the subcommand ran, and a help text that can't be written. What can't
 /// be written to `errors` is lost. Where that is a terminal, a line after the fault of `show`, `replay` or
