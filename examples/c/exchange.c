@@ -33,11 +33,11 @@ static void print(const uint8_t *octets, size_t length)
     printf("\n");
 }
 
-static void through_clock(uint8_t *octets, size_t length, struct ptpx_time entry, struct ptpx_time exit)
+static void through_clock(uint8_t *octets, size_t length, struct ptpx_time entered, struct ptpx_time left)
 {
     struct ptpx_stay stay = {{0, 0}, false};
-    must(ptpx_clock_enter(&stay, entry));
-    must(ptpx_clock_leave(&stay, octets, length, exit));
+    must(ptpx_clock_enter(&stay, entered));
+    must(ptpx_clock_leave(&stay, octets, length, left));
     print(octets, length);
 }
 

@@ -47,6 +47,15 @@ static void answer(const struct ptpx_master *master, const struct ports *ports)
         fprintf(stderr, "not answered: %u\n", (unsigned)refusal);
 }
 
+/* What a clock shows that nobody sets. */
+static int64_t milliseconds(void)
+{
+    struct timespec now = {0, 0};
+    if (clock_gettime(CLOCK_MONOTONIC, &now) != 0)
+        fail("clock_gettime");
+    return (int64_t)now.tv_sec * 1000 + now.tv_nsec / 1000000;
+}
+
 int main(int argc, char **argv)
 {
     const struct ptpx_config config = {{{0x00, 0x11, 0x22, 0xff, 0xfe, 0x33, 0x44, 0x55}, 1}, 0, -3};
@@ -58,10 +67,12 @@ int main(int argc, char **argv)
     }
     struct ports ports = {stamped_socket(argv[1]), stamped_socket(argv[2]), argv[3], argv[4]};
     must(ptpx_master_init(&master, &config, 0));
+    int64_t due = milliseconds();
     for (unsigned long left = strtoul(argv[5], NULL, 10); left > 0; left--) {
         send_sync(&master, &ports);
-        for (int wait = 0; wait < 5; wait++)
-            if (is_there(ports.event, 25))
+        due += 125;
+        for (int64_t wait = due - milliseconds(); wait > 0; wait = due - milliseconds())
+            if (is_there(ports.event, (int)wait))
                 answer(&master, &ports);
     }
     close(ports.event);

@@ -5,7 +5,7 @@
  * ./slave EVENT GENERAL MASTER_EVENT COUNT
  *
  * EVENT and GENERAL are its own UDP ports, MASTER_EVENT is the master's. It sends a Delay_Req for each Sync half that
- * completes, and ends after COUNT reports, or with status 1 where none comes for five seconds.
+ * completes, and ends after COUNT reports, or with status 1 where nothing comes for five seconds.
  */
 #define _GNU_SOURCE
 #include <inttypes.h>
@@ -61,6 +61,12 @@ static void count_sync(struct station *station, const struct ptpx_heard *heard)
         must(ptpx_slave_tick(&station->slave));
 }
 
+static bool is_completed(const struct ptpx_heard *heard)
+{
+    return heard->kind == PTPX_COMPLETED || heard->kind == PTPX_REPORT;
+}
+
+/* What completes here is a Sync half: a one-step Sync, or a Sync that comes after its Follow_Up. */
 static void hear_event(struct station *station)
 {
     uint8_t octets[1500] = {0};
@@ -70,8 +76,11 @@ static void hear_event(struct station *station)
     must(ptpx_slave_sync(&station->slave, octets, length, moment_of(came), station->tag++, &heard));
     told(station, &heard);
     count_sync(station, &heard);
+    if (is_completed(&heard))
+        send_request(station);
 }
 
+/* What completes here is a Sync half by its Follow_Up, or a Delay_Req half by its Delay_Resp. */
 static void hear_general(struct station *station)
 {
     uint8_t octets[1500] = {0};
@@ -81,8 +90,7 @@ static void hear_general(struct station *station)
     size_t length = take(station->general, 0, octets, sizeof octets, &came);
     must(ptpx_slave_general(&station->slave, octets, length, station->tag++, &heard));
     told(station, &heard);
-    if (ptpx_decode(octets, length, &message) == PTPX_DONE && message.kind == PTPX_FOLLOW_UP
-        && (heard.kind == PTPX_COMPLETED || heard.kind == PTPX_REPORT))
+    if (is_completed(&heard) && ptpx_decode(octets, length, &message) == PTPX_DONE && message.kind == PTPX_FOLLOW_UP)
         send_request(station);
 }
 

@@ -22,6 +22,12 @@ static inline void fail(const char *what)
     exit(1);
 }
 
+static inline void stop(const char *why)
+{
+    fprintf(stderr, "%s\n", why);
+    exit(1);
+}
+
 static inline void must(uint16_t refusal)
 {
     if (refusal != PTPX_DONE) {
@@ -30,11 +36,13 @@ static inline void must(uint16_t refusal)
     }
 }
 
-/* The moment of a time of the kernel, which isn't before 1970. */
-static inline struct ptpx_time moment_of(struct timespec time)
+/* The moment of a stamp of the kernel, which is 0 where the kernel gave none. */
+static inline struct ptpx_time moment_of(struct timespec stamp)
 {
-    struct ptpx_timestamp timestamp = {(uint64_t)time.tv_sec, (uint32_t)time.tv_nsec};
+    struct ptpx_timestamp timestamp = {(uint64_t)stamp.tv_sec, (uint32_t)stamp.tv_nsec};
     struct ptpx_time moment = {0, 0};
+    if (stamp.tv_sec == 0)
+        stop("no time stamp");
     must(ptpx_time_join(timestamp, 0, &moment));
     return moment;
 }
@@ -65,17 +73,21 @@ static inline int stamped_socket(const char *port)
 
 /*
  * Takes a datagram, or with MSG_ERRQUEUE the copy of one that was sent; its stamp is the time at which it came or
- * left.
+ * left, and stays where the kernel gives none.
  */
 static inline size_t take(int fd, int flags, uint8_t *octets, size_t room, struct timespec *stamp)
 {
-    char control[512] = {0};
+    union {
+        struct cmsghdr aligned;
+        char octets[512];
+    } control;
     struct iovec part = {octets, room};
     struct msghdr message;
+    memset(&control, 0, sizeof control);
     memset(&message, 0, sizeof message);
     message.msg_iov = &part;
     message.msg_iovlen = 1;
-    message.msg_control = control;
+    message.msg_control = &control;
     message.msg_controllen = sizeof control;
     ssize_t count = recvmsg(fd, &message, flags);
     if (count < 0)
@@ -104,7 +116,7 @@ static inline struct ptpx_time send_stamped(int fd, const char *port, const uint
         fail("sendto");
     /* the stamp comes as an error */
     if (poll(&wait, 1, 1000) <= 0 || (wait.revents & POLLERR) == 0)
-        fail("no stamp of what was sent");
+        stop("no time stamp of what was sent");
     (void)take(fd, MSG_ERRQUEUE, copy, sizeof copy, &left);
     return moment_of(left);
 }
