@@ -274,6 +274,9 @@ static void masters(void)
     CHECK(ptpx_master_next_sync(&master, NULL, &number) == PTPX_NULL);
     CHECK(ptpx_master_next_sync(&master, octets, NULL) == PTPX_NULL);
     CHECK(ptpx_master_one_step_sync(NULL, at(1, 0, 0), octets, &number) == PTPX_NULL);
+    CHECK(ptpx_master_one_step_sync(&master, at(1, 0, 0), NULL, &number) == PTPX_NULL);
+    CHECK(ptpx_master_one_step_sync(&master, at(1, 0, 0), octets, NULL) == PTPX_NULL);
+    CHECK(ptpx_master_sync_left(NULL, 0, at(1, 0, 0), octets) == PTPX_NULL);
     CHECK(ptpx_master_sync_left(&master, 0, at(1, 0, 0), NULL) == PTPX_NULL);
 }
 

@@ -202,6 +202,20 @@ static void refused_pointers(void)
     CHECK(ptpx_slave_general(slave, octets, wide, 0, &pair.heard) == PTPX_TOO_LONG);
 }
 
+static void refused_slaves(void)
+{
+    struct ptpx_heard heard = {0, 0, false, {0, 0}, {0, 0}, 0, 0, 0, 0};
+    uint8_t octets[44] = {0};
+    uint16_t number = 0;
+    CHECK(ptpx_slave_restart(NULL, 0) == PTPX_NULL && ptpx_slave_tick(NULL) == PTPX_NULL);
+    CHECK(ptpx_slave_set_master(NULL, &config_of_master.identity) == PTPX_NULL);
+    CHECK(ptpx_slave_next_request(NULL, 0, octets, &number) == PTPX_NULL);
+    CHECK(ptpx_slave_request_left(NULL, 0, at(1, 0, 0)) == PTPX_NULL);
+    CHECK(ptpx_slave_sync(NULL, octets, 44, at(1, 0, 0), 0, &heard) == PTPX_NULL);
+    CHECK(ptpx_slave_general(NULL, octets, 44, 0, &heard) == PTPX_NULL);
+    CHECK(is_all(octets, 0, sizeof octets) && number == 0 && heard.kind == 0 && heard.reason == 0);
+}
+
 int main(void)
 {
     reports();
@@ -212,6 +226,7 @@ int main(void)
     fullness();
     refused_memory();
     refused_pointers();
+    refused_slaves();
     printf("slaves: %lu checks\n", checks_made);
     return 0;
 }
