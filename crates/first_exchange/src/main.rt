@@ -59,8 +59,8 @@ fn exchange() -> Option<Report> {
 fn main(rt: HostRuntime) -> io::Result<()> {
     match exchange() {
         Some(report) => {
-            let offset = report.offset2 / TWO_NANOSECONDS;
-            let delay = report.path2 / TWO_NANOSECONDS;
+            let offset = report.offset2.div_euclid(TWO_NANOSECONDS);
+            let delay = report.path2.div_euclid(TWO_NANOSECONDS);
             println!(rt; "offset {offset} ns, path delay {delay} ns")
         }
         None => println!(rt; "no report"),
