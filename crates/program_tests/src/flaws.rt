@@ -574,18 +574,30 @@ fn says_why(flaw: Option<Flaw<'_>>) -> bool {
     )
 }
 
-/// Each line that the library refuses gets a reason.
+/// Each line of a schedule that the library refuses gets a reason.
 #[test]
 fn of_each_refused_line(rt: HostRuntime) -> Result<(), Fail> {
-    for line in ILL_FORMED {
+    for line in &ILL_FORMED {
         let flaw = schedule_flaw(rt.alloc(), line.as_bytes(), 0)?;
         assert!(rt; says_why(flaw), "{line}");
     }
-    for line in NOT_TRACED {
+    Ok(())
+}
+
+/// And each line of a transcript.
+#[test]
+fn of_each_refused_line_of_a_transcript(rt: HostRuntime) -> Result<(), Fail> {
+    for line in &NOT_TRACED {
         let flaw = transcript_flaw(rt.alloc(), line.as_bytes(), 0)?;
         assert!(rt; says_why(flaw), "{line}");
     }
-    for line in OCTETS {
+    Ok(())
+}
+
+/// And each that isn't UTF-8.
+#[test]
+fn of_each_line_of_octets(rt: HostRuntime) -> Result<(), Fail> {
+    for line in &OCTETS {
         let flaw = schedule_flaw(rt.alloc(), line, 0)?;
         assert!(rt; says_why(flaw), "{line:?}");
     }
