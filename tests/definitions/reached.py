@@ -1,9 +1,9 @@
 #!/usr/bin/env python3
 """Lists the definitions of specs/ that the clauses of public functions reach, and compares them with docs/DEFINITIONS.md.
 
-A definition is reached where a clause of a public function or of a public trait, the value of a public type's model or
-what a public conversion gives names it, or where a definition that is reached names it. Views and invariants don't count:
-no caller sees them. docs/DEFINITIONS.md has a section for each crate, and has to name there, in backquotes, each definition
+A definition is reached where a clause of a public function or of a public trait, the value of a public type's model, the
+memory that it owns, which a caller in C owes, or what a public conversion gives names it, or where a definition that is
+reached names it. Views and invariants don't count: no caller sees them. docs/DEFINITIONS.md has a section for each crate, and has to name there, in backquotes, each definition
 of that crate that is reached, and no other. What isn't reached has to stand in specs/Inner, and nothing else may.
 
 'list' lists the definitions that are reached, 'rests NAME ..' those that the definitions of these names rest on.
@@ -41,7 +41,7 @@ def imports_of(lines):
 
 
 def words_of(text):
-    return WORD.findall(re.sub(r"--.*", "", text))
+    return WORD.findall(re.sub(r'"[^"\n]*"|--.*', "", text))
 
 
 def resolved(text, names, files, own):
@@ -92,9 +92,11 @@ def clauses_of(lines):
             in_trait_impl = "Model for" not in line and of in public_types
         if line == "}":
             in_public_trait = in_trait_impl = in_model = False
-        if (in_model and re.match(r"^\s*ghost Value\b", line)) or (in_trait_impl and re.match(r"^\s*ghost from_gives\b", line)):
+        seen = r"^\s*ghost (?:Value|also_owns)\b" if in_model else r"^\s*ghost from_gives\b"
+        if (in_model or in_trait_impl) and re.match(seen, line):
             yield line
-        if re.match(r"^\s*pub (?:const )?fn ", line) or ((in_public_trait or in_trait_impl) and re.match(r"^\s*fn ", line)):
+        public = re.match(r'^\s*pub (?:const |extern "C" )?fn ', line)
+        if public or ((in_public_trait or in_trait_impl) and re.match(r"^\s*fn ", line)):
             taking, clause = True, []
         elif in_public_trait and re.match(r"^\s*ghost (?!use)", line):
             yield line

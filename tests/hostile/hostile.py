@@ -8,6 +8,7 @@
 - what `replay` writes is what told.py says, but for what came of each event. `check` accepts it with all its reports, and refuses it
   with 706 where one result is another;
 - what `check` accepts has as many reports as it says, and what it refuses is a report;
+- what `explain` says of one in five of these inputs ends as `check` or `replay` did, and judges the reports as the verdict does;
 - no run takes more than 64 MiB of memory.
 
 At the end each fault, each reason and a report must have been seen."""
@@ -22,7 +23,9 @@ import re
 import resource
 import subprocess
 import sys
+import zlib
 
+import explained
 import inputs
 import measured
 import recordings
@@ -62,6 +65,9 @@ SEEN = {
 
 # How the files are called that a subcommand reads.
 ENDINGS = {'show': '.hex', 'replay': '.schedule.jsonl', 'check': '.transcript.jsonl', 'measure': '.lines'}
+
+# Of so many inputs of `replay` and `check` one is given to `explain`, too.
+EXPLAINED = 5
 
 # How many transcripts with reports `check` gets changed.
 TRANSCRIPTS = 40
@@ -144,9 +150,9 @@ def misjudged(text, status, output):
         yield f'{output!r}, where no report is'
 
 
-def start(subcommand, text):
+def start(subcommand, text, *options):
     """The status, standard output and standard error of the program."""
-    arguments = recordings.arguments(text) if subcommand == 'measure' else []
+    arguments = recordings.arguments(text) if subcommand == 'measure' else options
     ended = subprocess.run([PROGRAM, subcommand, *arguments], input=text, capture_output=True, timeout=20)
     return ended.returncode, ended.stdout, ended.stderr
 
@@ -188,6 +194,9 @@ def run(subcommand, text):
         wrong = list(faults(subcommand, text, *answer))
         if subcommand == 'replay' and not wrong and answer[0] == 0:
             wrong = list(rejudged(answer[1]))
+        if subcommand in ('replay', 'check') and not wrong and zlib.crc32(text) % EXPLAINED == 0:
+            answers = {subcommand: answer, **{other: start(other, text) for other in {'replay', 'check'} - {subcommand}}}
+            wrong = list(explained.misexplained(text, answers['check'], answers['replay'], start))
     except subprocess.TimeoutExpired:
         return ['no end'], ['no end within 20 s'], b''
     except (ArithmeticError, AttributeError, LookupError, TypeError, ValueError) as error:

@@ -1,5 +1,5 @@
 #!/usr/bin/env python3
-"""Compares what docs/NUMBERS.md and the help of ptpx say of each number with what the code says.
+"""Compares what docs/NUMBERS.md, the help of ptpx and the header for C say of each number with what the code says.
 
 The code's texts are those of the types whose `code` answers numbers: the attribute `error` of each variant, and of FaultKind, which
 shows its number alone, the words beside it. In docs/NUMBERS.md each number has one row, in the order in which the types try
@@ -18,9 +18,12 @@ ARM = re.compile(r"(\w+)::(\w+)(?:\([^)]*\))? => (\d{3}),")
 WORDS = re.compile(r'FaultKind::(\w+)(?:\(\w+\))? => (?:\{\s*)?(?:f\.write_str\("([^"]*)"\)|write!)')
 ROW = re.compile(r"^\| (\d{3}) \| (.*) \|$", re.M)
 SAID = re.compile(r"^ +(?:refused )?\(?(\d{3})\)?(?: type \d+)? +(\S.*(?:\n {7,}(?!refused|\(?\d{3}\)? |sync |ignored)\S.*)*)", re.M)
+DECLARED = re.compile(r"^ +PTPX_\w+ = (\d{3}),? +/\* (.*) \*/$", re.M)
 OWN = {806, 807}
+# What the inline functions of the header answer.
+OF_HEADER = {901, 902, 906, 907}
 # What calls of the crates answer, and no subcommand.
-OF_CALLS = {101, 102, 103, 104, 211, 212, 301, 302, 305, 401, 501, 609, 709}
+OF_CALLS = {101, 102, 103, 104, 211, 212, 301, 302, 305, 401, 501, 609, 709} | set(range(901, 910))
 
 
 def texts_of_code():
@@ -44,6 +47,17 @@ def texts_of_help():
                 yield int(number), re.sub(r"\s+", " ", text).rstrip('";#')
 
 
+def texts_of_header():
+    """What the header for C says of each number."""
+    declared = DECLARED.findall((TOP / "crates/ptpx_c/include/ptpx.h").read_text())
+    return {int(number): text for number, text in declared}
+
+
+def without_value(text):
+    """The text of a number without what differs from case to case."""
+    return re.sub(r":? \{0\}", "", text)
+
+
 def is_same(said, text):
     """Whether this is the text, with any number in the place of a value."""
     pattern = re.escape(text).replace(re.escape("{0}"), r"(\{0\}|\d+)")
@@ -51,7 +65,8 @@ def is_same(said, text):
 
 
 def main():
-    code = texts_of_code()
+    header = texts_of_header()
+    code = texts_of_code() | {number: header[number] for number in OF_HEADER if number in header}
     rows = ROW.findall((TOP / "docs/NUMBERS.md").read_text())
     page = {int(number): text for number, text in rows}
     wrong = [f"docs/NUMBERS.md has {number} twice" for number in page if [n for n, _ in rows].count(str(number)) > 1]
@@ -59,13 +74,16 @@ def main():
     wrong += [f"docs/NUMBERS.md has {number}, which no code answers" for number in sorted(page.keys() - code.keys())]
     wrong += [f"docs/NUMBERS.md says of {n}: {page[n]}\n  and the code: {code[n]}"
               for n in sorted(code.keys() & page.keys()) if n not in OWN and page[n] != code[n]]
+    wrong += [f"ptpx.h says of {n}: {text}\n  and the code: {code.get(n)}"
+              for n, text in header.items() if text != without_value(code.get(n, ""))]
+    wrong += [f"ptpx.h doesn't have {n}" for n in sorted(code.keys() - header.keys()) if n < 600 and n != 104 or n > 900]
     helped = list(texts_of_help())
     wrong += [f"help says of {n}: {text}\n  and the code: {code.get(n)}"
               for n, text in helped if n not in OWN and not is_same(text, code.get(n, ""))]
     wrong += [f"help doesn't say {n}: {code[n]}" for n in sorted(code.keys() - OF_CALLS - {n for n, _ in helped})]
     for line in wrong:
         print(line)
-    print(f"{len(page)} numbers, of which help says {len({n for n, _ in helped})}")
+    print(f"{len(page)} numbers, of which help says {len({n for n, _ in helped})}, and ptpx.h {len(header)}")
     return 1 if wrong or not helped else 0
 
 

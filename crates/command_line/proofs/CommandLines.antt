@@ -10,14 +10,15 @@ use Rattle.clap.specs.Simple.{is_simple, subcommand_of}
 use Rattle.clap.specs.Faults.{fault_of, is_simple_and_free, walk_fault}
 use Rattle.clap.specs.declared.error.kind.ErrorKind.TheVariants as kind
 use Rattle.clap.proofs.OnLiterals.{clap_on_literals}
-use Rattle.command_line.specs.Arguments.{AsksHelp, BeginsWithHelp, BeginsWithMeasure, HasEarlyHelpFlag, HasHelpFlag}
+use Rattle.command_line.specs.Arguments.{AsksHelp, BeginsWith, BeginsWithHelp, HasEarlyHelpFlag, HasHelpFlag}
 use Rattle.command_line.specs.Arguments.{Names, NamesAlone, name_of}
 use Rattle.command_line.specs.Options.{Reading, Between, Awaiting, Closed, Asking, Failed, Use}
-use Rattle.command_line.specs.Options.{reading_of, uses_of, with_word}
-use Rattle.command_line.specs.declared.arguments.Subcommand.TheVariants.{Show, Replay, Check, Measure}
-use Rattle.command_line.proofs.MeasureRows.{rows_found}
-use Rattle.command_line.proofs.MeasureVerdict.{Says, end_of, measure_says, options_pass}
-use Rattle.command_line.proofs.MeasureWalk.{asking_lasts, help_read}
+use Rattle.command_line.specs.Options.{uses_of, with_word}
+use Rattle.command_line.specs.declared.arguments.Subcommand.TheVariants.{Show, Replay, Check, Measure, Explain}
+use Rattle.command_line.proofs.OptionRows.{rows_found}
+use Rattle.command_line.proofs.OptionVerdict.{Says, end_of, name_by, options_pass, reading_by, words_say}
+use Rattle.command_line.proofs.OptionWalk.{asking_lasts, help_read}
+use Rattle.command_line.proofs.OptionWords.{OfExplain, OfMeasure, Optioned, known_by}
 use Rattle.command_line.specs.Inner.Clap.{program}
 use Rattle.command_line.specs.declared.arguments.Subcommand.{Subcommand}
 use Rattle.command_line.proofs.ErrorKinds.{IsFlagOrMistake, IsHelp, IsMistake, flag_or_mistake_lasts, help_lasts}
@@ -65,9 +66,9 @@ help_first program_name rest = refl
 -- what a parse says of the words
 pub data Verdict (words : List Text) : Type 0 where
   Runs : (s : Subcommand) → HasNoOptions s → NamesAlone words s → Meets s words → Verdict words
-  Measures : (rest : List Text) (uses : List Use) → BeginsWithMeasure words rest
-      → uses_of (reading_of rest) ≡ Some uses
-      → fault_of program words ≡ [] → subcommand_of program words ≡ Some (codes "measure", rows_found uses)
+  Takes : (k : Optioned) (rest : List Text) (uses : List Use) → BeginsWith (name_by k) words rest
+      → uses_of (reading_by k rest) ≡ Some uses
+      → fault_of program words ≡ [] → subcommand_of program words ≡ Some (name_by k, rows_found k uses)
       → Verdict words
   Helps : IsHelp (fault_of program words) → HasHelpFlag words → Verdict words
   Begins : BeginsWithHelp words → fault_of program words ≡ kind.DisplayHelp ∷ kind.InvalidSubcommand ∷ []
@@ -101,32 +102,41 @@ alone_verdict s none program_name (word ∷ rest) = by_mark (bytes_eq word (code
     by_mark false is rest = flag_verdict (program_name ∷ name_of s ∷ word ∷ rest) word (inr (s, refl, refl))
         (flag_or_mistake_after_name s none program_name word rest is)
 
--- words with `measure` in the place of a name
-measure_verdict : (program_name : Text) (rest : List Text) → Verdict (program_name ∷ codes "measure" ∷ rest)
-measure_verdict program_name rest = by_reading (reading_of rest) refl (measure_says program_name rest)
+-- help is asked for after options
+asks_after : (k : Optioned) (words rest : List Text) → BeginsWith (name_by k) words rest → reading_by k rest ≡ Asking
+    → HasHelpFlag words
+asks_after OfMeasure words rest begins asking = inr (inl (rest, begins, asking))
+asks_after OfExplain words rest begins asking = inr (inr (rest, begins, asking))
+
+-- words with the name of a subcommand in its place that has options
+options_verdict : (k : Optioned) (program_name : Text) (rest : List Text) → Verdict (program_name ∷ name_by k ∷ rest)
+options_verdict k program_name rest = by_reading (reading_by k rest) refl (words_say k program_name rest)
   where
     words : List Text
-    words = program_name ∷ codes "measure" ∷ rest
+    words = program_name ∷ name_by k ∷ rest
 
-    passes : (uses : List Use) → uses_of (reading_of rest) ≡ Some uses → Verdict words
-    passes uses are = let pass = options_pass program_name rest uses are in Measures rest uses refl are pass.0 pass.1
+    -- what the reading says
+    SaysSo : Reading → Type 0
+    SaysSo reading = Says k reading (fault_of program words) (end_of k rest)
 
-    by_reading : (reading : Reading) → reading_of rest ≡ reading
-        → Says (reading_of rest) (fault_of program words) (end_of rest) → Verdict words
+    passes : (uses : List Use) → uses_of (reading_by k rest) ≡ Some uses → Verdict words
+    passes uses are =
+        let pass = options_pass k program_name rest uses are in Takes k rest uses refl are pass.0 pass.1
+
+    by_reading : (reading : Reading) → reading_by k rest ≡ reading → SaysSo (reading_by k rest) → Verdict words
     by_reading (Between uses) is says = passes uses (ap uses_of is)
-    by_reading (Awaiting uses name) is says = Mistakes
-        (subst (λ r. Says r (fault_of program words) (end_of rest)) is says)
+    by_reading (Awaiting uses name) is says = Mistakes (subst SaysSo is says)
     by_reading (Closed uses) is says = passes uses (ap uses_of is)
-    by_reading Asking is says = Helps (subst (λ r. Says r (fault_of program words) (end_of rest)) is says)
-        (inr (rest, refl, is))
-    by_reading Failed is says = Mistakes (subst (λ r. Says r (fault_of program words) (end_of rest)) is says)
+    by_reading Asking is says = Helps (subst SaysSo is says) (asks_after k words rest refl is)
+    by_reading Failed is says = Mistakes (subst SaysSo is says)
 
 -- words with any subcommand's name in its place
 name_verdict : (s : Subcommand) (program_name : Text) (rest : List Text) → Verdict (program_name ∷ name_of s ∷ rest)
 name_verdict Show program_name rest = alone_verdict Show tt program_name rest
 name_verdict Replay program_name rest = alone_verdict Replay tt program_name rest
 name_verdict Check program_name rest = alone_verdict Check tt program_name rest
-name_verdict (Measure options) program_name rest = measure_verdict program_name rest
+name_verdict (Measure options) program_name rest = options_verdict OfMeasure program_name rest
+name_verdict (Explain options) program_name rest = options_verdict OfExplain program_name rest
 
 pub verdict : (words : List Text) → Verdict words
 verdict [] = Mistakes no_words
@@ -161,17 +171,20 @@ alone_runs (program_name ∷ rest) s none (inl is) = ap (λ words. fault_of prog
 alone_runs (program_name ∷ rest) s none (inr is) = ap (λ words. fault_of program (program_name ∷ words)) is
     ∙ ((computed s none).marked program_name).0
 
-measure_runs : (words rest : List Text) (uses : List Use) → BeginsWithMeasure words rest
-    → uses_of (reading_of rest) ≡ Some uses → fault_of program words ≡ []
-measure_runs [] rest uses begins are = cc
-measure_runs (program_name ∷ others) rest uses begins are =
-    ap (λ words. fault_of program (program_name ∷ words)) begins ∙ (options_pass program_name rest uses are).0
+options_run : (k : Optioned) (words rest : List Text) (uses : List Use) → BeginsWith (name_by k) words rest
+    → uses_of (reading_by k rest) ≡ Some uses → fault_of program words ≡ []
+options_run k [] rest uses begins are = cc
+options_run k (program_name ∷ others) rest uses begins are =
+    ap (λ words. fault_of program (program_name ∷ words)) begins ∙ (options_pass k program_name rest uses are).0
 
 pub names_run : (words : List Text) (s : Subcommand) → Names words s → fault_of program words ≡ []
 names_run words Show is = alone_runs words Show tt is
 names_run words Replay is = alone_runs words Replay tt is
 names_run words Check is = alone_runs words Check tt is
-names_run words (Measure options) (rest, begins, (uses, are, makes)) = measure_runs words rest uses begins are
+names_run words (Measure options) (rest, begins, (uses, are, makes)) =
+    options_run OfMeasure words rest uses begins are
+names_run words (Explain options) (rest, begins, (uses, are, makes)) =
+    options_run OfExplain words rest uses begins are
 
 flag_is_no_name : (word : Text) → AsksHelp word → subcommand_met known_names idle word ≡ None
 flag_is_no_name word asks = by_form (word_form word)
@@ -183,18 +196,20 @@ flag_is_no_name word asks = by_form (word_form word)
     by_form (IsShort y ys letter is first unmark long short flag after help) = ap (subcommand_met known_names idle) is
     by_form (IsPlain unmark long short flag after unhelp) = absurd (true≢false (sym asks ∙ unhelp))
 
--- help that is asked for after options of `measure`
-asking_helps : (words rest : List Text) → BeginsWithMeasure words rest → reading_of rest ≡ Asking
-    → IsHelp (fault_of program words)
-asking_helps [] rest begins asking = cc
-asking_helps (program_name ∷ others) rest begins asking =
+-- help that is asked for after options
+asking_helps : (k : Optioned) (words rest : List Text) → BeginsWith (name_by k) words rest
+    → reading_by k rest ≡ Asking → IsHelp (fault_of program words)
+asking_helps k [] rest begins asking = cc
+asking_helps k (program_name ∷ others) rest begins asking =
     ap (λ words. fault_of program (program_name ∷ words)) begins
-    ∙ subst (λ r. Says r (fault_of program (program_name ∷ codes "measure" ∷ rest)) (end_of rest)) asking
-    (measure_says program_name rest)
+    ∙ subst (λ r. Says k r (fault_of program (program_name ∷ name_by k ∷ rest)) (end_of k rest)) asking
+    (words_say k program_name rest)
 
-early_reading : (word : Text) (rest : List Text) → AsksHelp word → reading_of (word ∷ rest) ≡ Asking
-early_reading word rest asks = ap (λ r. fold with_word r rest) (help_read [] word asks)
-    ∙ asking_lasts rest
+-- help that is asked for where options may stand
+option_helps : (k : Optioned) (program_name word : Text) (rest : List Text) → AsksHelp word
+    → IsHelp (fault_of program (program_name ∷ name_by k ∷ word ∷ rest))
+option_helps k program_name word rest asks = asking_helps k (program_name ∷ name_by k ∷ word ∷ rest) (word ∷ rest)
+    refl (ap (λ r. fold (with_word (known_by k)) r rest) (help_read k [] word asks) ∙ asking_lasts k rest)
 
 -- a flag for help right after a subcommand's name
 early_helps : (s : Subcommand) (program_name word : Text) (rest : List Text) → AsksHelp word
@@ -202,8 +217,8 @@ early_helps : (s : Subcommand) (program_name word : Text) (rest : List Text) →
 early_helps Show program_name word rest asks = flag_is_help_after_name Show tt program_name word rest asks
 early_helps Replay program_name word rest asks = flag_is_help_after_name Replay tt program_name word rest asks
 early_helps Check program_name word rest asks = flag_is_help_after_name Check tt program_name word rest asks
-early_helps (Measure options) program_name word rest asks =
-    asking_helps (program_name ∷ codes "measure" ∷ word ∷ rest) (word ∷ rest) refl (early_reading word rest asks)
+early_helps (Measure options) program_name word rest asks = option_helps OfMeasure program_name word rest asks
+early_helps (Explain options) program_name word rest asks = option_helps OfExplain program_name word rest asks
 
 early_flags_help : (words : List Text) → HasEarlyHelpFlag words → IsHelp (fault_of program words)
 early_flags_help [] (word, asks, inl at) = absurd cc
@@ -221,4 +236,5 @@ early_flags_help (program_name ∷ one ∷ two ∷ rest) (word, asks, inr (s, fi
 
 pub flags_help : (words : List Text) → HasHelpFlag words → IsHelp (fault_of program words)
 flags_help words (inl early) = early_flags_help words early
-flags_help words (inr (rest, begins, asking)) = asking_helps words rest begins asking
+flags_help words (inr (inl (rest, begins, asking))) = asking_helps OfMeasure words rest begins asking
+flags_help words (inr (inr (rest, begins, asking))) = asking_helps OfExplain words rest begins asking

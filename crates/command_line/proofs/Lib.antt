@@ -2,11 +2,12 @@ pub mod ErrorKinds
 pub mod WordForms
 pub mod Turns
 pub mod FlagWords
-pub mod MeasureWords
-pub mod MeasureWalk
-pub mod MeasureRows
+pub mod FlagRows
+pub mod OptionWords
+pub mod OptionWalk
+pub mod OptionRows
 pub mod SubcommandNames
-pub mod MeasureVerdict
+pub mod OptionVerdict
 pub mod CommandLines
 pub mod Invocations
 pub mod WorkedOptions

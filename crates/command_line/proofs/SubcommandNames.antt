@@ -20,7 +20,7 @@ use Rattle.clap.proofs.OnLiterals.{clap_on_literals}
 use Rattle.command_line.specs.Arguments.{AsksHelp, name_of}
 use Rattle.command_line.specs.Inner.Clap.{program, subcommands}
 use Rattle.command_line.specs.declared.arguments.Subcommand.{Subcommand}
-use Rattle.command_line.specs.declared.arguments.Subcommand.TheVariants.{Show, Replay, Check, Measure}
+use Rattle.command_line.specs.declared.arguments.Subcommand.TheVariants.{Show, Replay, Check, Measure, Explain}
 use Rattle.command_line.proofs.ErrorKinds.{IsFlagOrMistake, IsHelp, IsMistake, LastsFirst, help_lasts}
 use Rattle.command_line.proofs.ErrorKinds.{flag_or_mistake_lasts, mistake_lasts, unknown_argument}
 use Rattle.command_line.proofs.FlagWords.{at_first_word, flag_is_help, flag_or_mistake, help_rules, with_help_alone}
@@ -89,6 +89,7 @@ HasNoOptions Show = ⊤
 HasNoOptions Replay = ⊤
 HasNoOptions Check = ⊤
 HasNoOptions (Measure options) = ⊥
+HasNoOptions (Explain options) = ⊥
 
 -- what clap computes after its name
 pub record IsComputed (s : Subcommand) : Type 0 where
@@ -103,6 +104,7 @@ entered_at Show = record { walk_on = λ r. refl; stop = λ r. refl; held = λ r.
 entered_at Replay = record { walk_on = λ r. refl; stop = λ r. refl; held = λ r. refl; enters = λ r. refl }
 entered_at Check = record { walk_on = λ r. refl; stop = λ r. refl; held = λ r. refl; enters = λ r. refl }
 entered_at (Measure options) = record { walk_on = λ r. refl; stop = λ r. refl; held = λ r. refl; enters = λ r. refl }
+entered_at (Explain options) = record { walk_on = λ r. refl; stop = λ r. refl; held = λ r. refl; enters = λ r. refl }
 
 pub computed : (s : Subcommand) → HasNoOptions s → IsComputed s
 unfolding clap_on_literals walk_fault walked
@@ -128,6 +130,7 @@ computed Check none = record {
       (refl, refl);
 }
 computed (Measure options) none = absurd none
+computed (Explain options) none = absurd none
 
 -- ---- a word in the place of a subcommand's name
 
@@ -226,7 +229,7 @@ mistake_after_mark s none program_name word rest = subst IsMistake
     (mistake_lasts (inner_fault s (codes "--" ∷ word ∷ rest)) _
     (subst IsMistake (sym ((computed s none).mark word rest)) unknown_argument))
 
--- ---- the words after `measure`
+-- ---- the words after `measure` and `explain`
 
 held_stays : (name : Text) (before after : List Text)
     → (fold (walked help_rules known_names) (record at_first_word { stopped = Some (name, before) }) after).held

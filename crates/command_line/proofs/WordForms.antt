@@ -29,6 +29,13 @@ name_is_text text e = before_first-Lacks 61 text (lacks_byte 61 text (by_equals_
     by_equals_sign true value e = cc
     by_equals_sign false value e = refl
 
+pub other_side : (letter : ℕ) → (104 == letter) ≡ false → (letter == 104) ≡ false
+other_side letter h = by_test (letter == 104) refl
+  where
+    by_test : (is_h : Bool) → (letter == 104) ≡ is_h → (letter == 104) ≡ false
+    by_test false is = is
+    by_test true is = absurd (true≢false (sym (ap (λ n. 104 == n) ((Decides-eqb letter 104).0 is)) ∙ h))
+
 -- what a word is, as clap's lexer and `Options` see it
 pub data WordForm (word : Text) : Type 0 where
   IsMark : word ≡ codes "--" → WordForm word

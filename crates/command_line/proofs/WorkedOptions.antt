@@ -1,9 +1,10 @@
--- Words after `measure`, and what they say.
-use Rattle.std.proofs.Common.{◌≡◌, refl, [], ◌∷◌, Some, None, codes}
+-- Words after `measure` and `explain`, and what they say.
+use Rattle.std.proofs.Common.{◌≡◌, false, true, refl, [], ◌∷◌, Some, None, codes}
 use Rattle.std.specs.Str.{chars}
 use Rattle.hex.proofs.OnLiterals.{hex_on_literals}
 use Rattle.command_line.specs.Number.{domain_of}
-use Rattle.command_line.specs.Options.{Asking, Between, Closed, Csv, Domain, Failed, Slave, reading_of}
+use Rattle.command_line.specs.Options.{Asking, Between, Closed, Csv, Domain, Failed, First, Json, Slave}
+use Rattle.command_line.specs.Options.{explain_options, flags_made, measure_options, reading_of}
 use Rattle.command_line.specs.PortText.{port_identity_of}
 
 shown_port : port_identity_of (codes "00aabbfffeccddee/1")
@@ -44,27 +45,55 @@ too_high_domain = refl
 long_domain : domain_of (codes "0000") ≡ None
 long_domain = refl
 
-two_options : reading_of (codes "--domain=7" ∷ codes "--slave" ∷ codes "x" ∷ [])
+two_options : reading_of measure_options (codes "--domain=7" ∷ codes "--slave" ∷ codes "x" ∷ [])
     ≡ Between ((Domain, codes "7") ∷ (Slave, codes "x") ∷ [])
 unfolding chars
 two_options = refl
 
-closed : reading_of (codes "--csv" ∷ codes "--" ∷ []) ≡ Closed ((Csv, []) ∷ [])
+closed : reading_of measure_options (codes "--csv" ∷ codes "--" ∷ []) ≡ Closed ((Csv, []) ∷ [])
 unfolding chars
 closed = refl
 
-word_past_mark : reading_of (codes "--" ∷ codes "--csv" ∷ []) ≡ Failed
+word_past_mark : reading_of measure_options (codes "--" ∷ codes "--csv" ∷ []) ≡ Failed
 unfolding chars
 word_past_mark = refl
 
-repeated : reading_of (codes "--slave" ∷ codes "x" ∷ codes "--slave=y" ∷ codes "--help" ∷ []) ≡ Failed
+repeated : reading_of measure_options (codes "--slave" ∷ codes "x" ∷ codes "--slave=y" ∷ codes "--help" ∷ []) ≡ Failed
 unfolding chars
 repeated = refl
 
-without_value : reading_of (codes "--slave" ∷ codes "--csv" ∷ []) ≡ Failed
+without_value : reading_of measure_options (codes "--slave" ∷ codes "--csv" ∷ []) ≡ Failed
 unfolding chars
 without_value = refl
 
-help_later : reading_of (codes "--slave=" ∷ codes "-hx" ∷ codes "y" ∷ []) ≡ Asking
+help_later : reading_of measure_options (codes "--slave=" ∷ codes "-hx" ∷ codes "y" ∷ []) ≡ Asking
 unfolding chars
 help_later = refl
+
+two_flags : reading_of explain_options (codes "--json" ∷ codes "--first" ∷ [])
+    ≡ Between ((Json, []) ∷ (First, []) ∷ [])
+unfolding chars
+two_flags = refl
+
+one_flag_made : flags_made ((Json, []) ∷ []) ≡ record { first = false; json = true }
+one_flag_made = refl
+
+closed_flag : reading_of explain_options (codes "--first" ∷ codes "--" ∷ []) ≡ Closed ((First, []) ∷ [])
+unfolding chars
+closed_flag = refl
+
+repeated_flag : reading_of explain_options (codes "--json" ∷ codes "--json" ∷ codes "--help" ∷ []) ≡ Failed
+unfolding chars
+repeated_flag = refl
+
+flag_with_value : reading_of explain_options (codes "--json=yes" ∷ []) ≡ Failed
+unfolding chars
+flag_with_value = refl
+
+option_of_the_other : reading_of explain_options (codes "--csv" ∷ []) ≡ Failed
+unfolding chars
+option_of_the_other = refl
+
+help_after_flag : reading_of explain_options (codes "--first" ∷ codes "--help" ∷ codes "y" ∷ []) ≡ Asking
+unfolding chars
+help_after_flag = refl

@@ -1,11 +1,12 @@
--- The options of `measure`: what the words after its name say, read from left to right.
-use Rattle.std.specs.Prelude.{◌≡◌, ℕ, ◌==◌, ◌&&◌, ◌||◌, ◌++◌, Bool, false, List, [], ◌∷◌, Option, Some, None, codes}
-use Rattle.std.specs.Prelude.{find, fold, if◌then◌else◌, is_some, option_map, slice_get}
+-- The options of `measure` and of `explain`: what the words after the name say, read from left to right.
+use Rattle.std.specs.Prelude.{◌≡◌, ℕ, ◌==◌, ◌&&◌, ◌||◌, ◌++◌, Bool, true, false, List, [], ◌∷◌, Option, Some, None}
+use Rattle.std.specs.Prelude.{codes, find, fold, if◌then◌else◌, is_some, option_map, slice_get}
 use Rattle.std.specs.List.{after_first, before_first, list_any}
 use Rattle.std.specs.Option.{IsSome, option_map_or}
 use Rattle.std.specs.Str.{bytes_eq, chars}
 use Rattle.command_line.specs.Number.{domain_of}
 use Rattle.command_line.specs.PortText.{port_identity_of}
+use Rattle.command_line.specs.declared.explain.ExplainOptions.{ExplainOptions}
 use Rattle.command_line.specs.declared.measure.MeasureOptions.{MeasureOptions}
 
 -- an option, by its name
@@ -14,6 +15,16 @@ pub data OptionName : Type 0 where
   Master : OptionName
   Domain : OptionName
   Csv : OptionName
+  First : OptionName
+  Json : OptionName
+
+-- the options of `measure`
+abbrev pub measure_options : List OptionName
+measure_options = Slave ∷ Master ∷ Domain ∷ Csv ∷ []
+
+-- the options of `explain`
+abbrev pub explain_options : List OptionName
+explain_options = First ∷ Json ∷ []
 
 -- the text of the name, which stands after two hyphens
 abbrev pub option_text : OptionName → List ℕ
@@ -21,12 +32,23 @@ option_text Slave = codes "slave"
 option_text Master = codes "master"
 option_text Domain = codes "domain"
 option_text Csv = codes "csv"
+option_text First = codes "first"
+option_text Json = codes "json"
 
--- the option of a name
-abbrev pub option_named : List ℕ → Option OptionName
-option_named text = find (λ name. bytes_eq (option_text name) text) (Slave ∷ Master ∷ Domain ∷ Csv ∷ [])
+-- whether the option has a value
+abbrev pub has_value : OptionName → Bool
+has_value Slave = true
+has_value Master = true
+has_value Domain = true
+has_value Csv = false
+has_value First = false
+has_value Json = false
 
--- a use of an option, with its value; that of `--csv` is empty
+-- the option of a name, among these
+abbrev pub option_named : List OptionName → List ℕ → Option OptionName
+option_named known text = find (λ name. bytes_eq (option_text name) text) known
+
+-- a use of an option, with its value, which is empty where the option has none
 abbrev pub Use : Type 0
 Use = OptionName × List ℕ
 
@@ -52,7 +74,7 @@ pub data Reading : Type 0 where
   Closed : List Use → Reading
   -- help was asked for, and what follows isn't read
   Asking : Reading
-  -- these are no options of `measure`
+  -- these are no such options
   Failed : Reading
 
 -- the character after a first hyphen (45)
@@ -85,26 +107,26 @@ with_use uses name value = if is_used name uses then Failed else Between (uses +
 -- a word of two hyphens is read, with this option's name and this value
 abbrev pub with_option : List Use → Option OptionName → Option (List ℕ) → Reading
 with_option uses None value = Failed
-with_option uses (Some Csv) None = with_use uses Csv []
-with_option uses (Some Csv) (Some value) = Failed
-with_option uses (Some name) None = Awaiting uses name
-with_option uses (Some name) (Some value) = with_use uses name value
+with_option uses (Some name) None = if has_value name then Awaiting uses name else with_use uses name []
+with_option uses (Some name) (Some value) = if has_value name then with_use uses name value else Failed
 
--- one more word is read. A value that isn't behind `=` begins with no hyphen, or is a hyphen alone
-abbrev pub with_word : Reading → List ℕ → Reading
-with_word (Between uses) word =
+-- one more word is read, where there are these options. A value that isn't behind `=` begins with no hyphen, or is a
+-- hyphen alone
+abbrev pub with_word : List OptionName → Reading → List ℕ → Reading
+with_word known (Between uses) word =
     if is_help_flag word then Asking
     else if bytes_eq word (codes "--") then Closed uses
-    else option_map_or (λ text. with_option uses (option_named (name_in text)) (value_in text))
+    else option_map_or (λ text. with_option uses (option_named known (name_in text)) (value_in text))
     (after_hyphens word) Failed
-with_word (Awaiting uses name) word = if is_some (flag_letter word) then Failed else with_use uses name word
-with_word (Closed uses) word = Failed
-with_word Asking word = Asking
-with_word Failed word = Failed
+with_word known (Awaiting uses name) word =
+    if is_some (flag_letter word) then Failed else with_use uses name word
+with_word known (Closed uses) word = Failed
+with_word known Asking word = Asking
+with_word known Failed word = Failed
 
 -- all words are read
-abbrev pub reading_of : List (List ℕ) → Reading
-reading_of words = fold with_word (Between []) words
+abbrev pub reading_of : List OptionName → List (List ℕ) → Reading
+reading_of known words = fold (with_word known) (Between []) words
 
 -- the uses, where the words may end so
 abbrev pub uses_of : Reading → Option (List Use)
@@ -128,4 +150,14 @@ pub record Makes (uses : List Use) (options : MeasureOptions) : Type 0 where
 
 -- the words after `measure` are these options
 abbrev pub AreOptions : List (List ℕ) → MeasureOptions → Type 0
-AreOptions words options = (uses : List Use) × (uses_of (reading_of words) ≡ Some uses) × Makes uses options
+AreOptions words options =
+    (uses : List Use) × (uses_of (reading_of measure_options words) ≡ Some uses) × Makes uses options
+
+-- the options of `explain` that these uses make
+abbrev pub flags_made : List Use → ExplainOptions
+flags_made uses = record { first = is_used First uses; json = is_used Json uses }
+
+-- the words after `explain` are these options
+abbrev pub AreExplainOptions : List (List ℕ) → ExplainOptions → Type 0
+AreExplainOptions words options =
+    (uses : List Use) × (uses_of (reading_of explain_options words) ≡ Some uses) × (options ≡ flags_made uses)

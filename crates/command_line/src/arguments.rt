@@ -4,13 +4,15 @@ ghost use Rattle.clap.specs.Matches.{subcommand_name_of};
 ghost use Rattle.clap.specs.declared.builder.command.Command.TheViews.{out-Command as fields_of};
 ghost use Rattle.clap.specs.Simple.{app_of, new_shape, shape_of, subcommand_rows_of};
 ghost use Rattle.clap.specs.Values.{kind_of};
+ghost use Rattle.clap.specs.Walk.{rule_of};
 ghost use Rattle.command_line.specs.Arguments.{Asks, name_of};
-ghost use Rattle.command_line.specs.Inner.Clap.{Chooses, ShowsKind, bare_program, program};
+ghost use Rattle.command_line.specs.Inner.Clap.{Chooses, ShowsKind, bare_program, flag_rule, program};
 
+use crate::explain::{ExplainOptions, explain, explain_options};
 use crate::help;
 use crate::measure::{MeasureOptions, measure, mistake, options_in};
 use clap::error::ErrorKind;
-use clap::{ArgMatches, Command, Error};
+use clap::{Arg, ArgAction, ArgMatches, Command, Error};
 use std::alloc::{AllocError, Global};
 
 /// A subcommand of `ptpx`.
@@ -24,6 +26,8 @@ pub enum Subcommand {
     Check,
     /// Print what the datagrams that standard input gives, recorded at a slave, say of its clock.
     Measure(MeasureOptions),
+    /// Print what is wrong with the transcript or the schedule that standard input gives.
+    Explain(ExplainOptions),
 }
 
 /// What the arguments ask for.
@@ -48,6 +52,17 @@ pub(crate) fn with_help<'a>(
     ensures local { (fields_of result).has_globals ≡ false }
 {
     Command::new(alloc, name).about(about).after_help(help)
+}
+
+/// An option without a value, as `clap` has it, with a line that says what it is.
+pub(crate) fn flag<'a>(alloc: Global, name: &'static str, help: &'static str) -> Arg<'a>
+    ensures rule { rule_of result ≡ flag_rule name.now }
+    ensures local { result.global ≡ false }
+{
+    Arg::new(alloc, name)
+        .long(name)
+        .action(ArgAction::SetTrue)
+        .help(help)
 }
 
 /// `ptpx` without its subcommands, as `clap` has it.
@@ -88,7 +103,8 @@ fn program<'a>(alloc: Global) -> Result<Command<'a>, AllocError>
         .subcommand(show)?
         .subcommand(replay)?
         .subcommand(check)?
-        .subcommand(measure(alloc)?)
+        .subcommand(measure(alloc)?)?
+        .subcommand(explain(alloc)?)
 }
 
 /// Reads the arguments, of which the first is the program's own name. Memory fails by `AllocError`.
@@ -114,6 +130,7 @@ fn chosen(alloc: Global, matches: &ArgMatches<'_>) -> Result<Invocation, AllocEr
             Ok(options) => Subcommand::Measure(options),
             Err(wrong) => return refusal(alloc, mistake(alloc, wrong)?),
         },
+        Some(("explain", options)) => Subcommand::Explain(explain_options(options)),
         _ => unreachable!(),
     };
     Ok(Invocation::Run(subcommand))

@@ -114,6 +114,7 @@ before all lines.
        (607) the clock of the node would read no moment
        (608) no Sync waits for its Follow_Up, or no Delay_Req for its departure time
   808  memory was refused
+'ptpx explain' says what is wrong with the line.
 
 Exit statuses:
   0  each event happened
@@ -141,6 +142,7 @@ Reasons, of which the first in this order is given:
   707  the Sync or the Delay_Req was in clocks for longer than a correction can say
   706  the two results aren't those of the readings
   708  the octets of a message aren't those that a port or a clock writes
+'ptpx explain' says of each report which of them stand against it, and by how much its results are wrong.
 
 Faults, each of which ends the run with 'ptpx: fault 806 at line 3', or 'ptpx: fault 807 (601) at line
 3', on standard error, and with no verdict. Lines count from 1. Line 0 is before all lines.
@@ -153,6 +155,7 @@ Faults, each of which ends the run with 'ptpx: fault 806 at line 3', or 'ptpx: f
        isn't the place of the event, from 0 on
   807  there is no such network: (601) two nodes have one name, (602) two ports have one identity
   808  memory was refused
+'ptpx explain' says what is wrong with the line.
 
 Exit statuses:
   0  accepted
@@ -208,4 +211,42 @@ Exit statuses:
   3  a fault
 
 Limits: a line has 4096 octets before its LF at the most, and there may be any number of lines. Of a line
+that ends in CR this one CR isn't read. The last line may lack its LF."#;
+
+/// The help of `explain`.
+pub(crate) const EXPLAIN: &str =
+    r#"Standard input is a transcript, in lines of JSON as 'ptpx replay' writes them, or a schedule, as it reads
+them, whoever wrote these; the lines tell which. Standard output says, as text for a person:
+  of a line that isn't one        what is wrong with it, and what is wanted; of the first 20 of them, and
+                                  how many more there are. No report is judged after the first
+  of input of another kind        which it is, and the command that makes of it what is wanted
+  of a schedule                   which event its network refuses, and why
+  of each report of a transcript  each reason that stands against it, the journeys of its Sync and its
+                                  Delay_Req, and by how much its results differ from those of the readings
+  at the end                      how many reports there are, how many each reason stands against, and the
+                                  verdict of 'ptpx check'
+What is said of a line goes out before the next is read. The line
+  event 13, line 17, slave S: refused, 706: the two results aren't those of the readings
+is of the report with n 13, at line 17 of the input; lines count from 1. With --first, of all reports only
+the first that is refused is told.
+
+With --json standard output has a line for each report, before the next line is read, or with --first for
+that report alone, and nothing else:
+  {"by_readings":{"offset2":"131072000","path2":"131072000"},"event":13,"line":17,"node":"S",
+  "offset2":"131072001","path2":"131072000","reasons":[706]}
+in one line. reasons are all that stand against the report, none where it is sound: 701 alone, or else 704
+alone, or else each that applies of 702, 703, 705, 707, 706 and 708, in this order. by_readings is what
+the results are by the readings, null where 701 or 704 stands. offset2 is twice offsetFromMaster and path2
+twice meanPathDelay, in units of 2^-16 ns.
+
+Reasons and faults are those that 'ptpx check --help' lists, and of a schedule those of 'ptpx replay --help'.
+The first fault goes as 'ptpx: fault 806 at line 3' to standard error.
+
+Exit statuses:
+  0  each report of the transcript is sound, or each event of the schedule can happen
+  1  a report is refused
+  2  the arguments aren't a command
+  3  a fault
+
+Limits: a line has 4096 octets before its LF at the most, and an input has 1048576 lines. Of a line
 that ends in CR this one CR isn't read. The last line may lack its LF."#;

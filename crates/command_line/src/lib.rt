@@ -2,10 +2,12 @@
 #![tactic(auto)]
 
 mod arguments;
+mod explain;
 mod help;
 mod measure;
 mod number;
 mod port_identity;
 
 pub use arguments::{Invocation, Subcommand, parse};
+pub use explain::ExplainOptions;
 pub use measure::MeasureOptions;

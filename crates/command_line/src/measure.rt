@@ -10,12 +10,12 @@ ghost use Rattle.command_line.specs.Inner.Clap.{AreRead, IsRead, measure_shape, 
 ghost use Rattle.command_line.specs.Number.{domain_of};
 ghost use Rattle.command_line.specs.PortText.{port_identity_of};
 
-use crate::arguments::with_help;
+use crate::arguments::{flag, with_help};
 use crate::help;
 use crate::number::domain_in;
 use crate::port_identity::port_identity_in;
 use clap::error::ErrorKind;
-use clap::{Arg, ArgAction, ArgMatches, Command, Error};
+use clap::{Arg, ArgMatches, Command, Error};
 use event_codec::PortIdentity;
 use std::alloc::{AllocError, Global};
 
@@ -88,10 +88,7 @@ pub(crate) fn measure<'a>(alloc: Global) -> Result<Command<'a>, AllocError>
         "NUMBER",
         "domainNumber; else that of the first Sync, of the master where that is given",
     );
-    let csv = Arg::new(alloc, "csv")
-        .long("csv")
-        .action(ArgAction::SetTrue)
-        .help("Write CSV, in place of JSON");
+    let csv = flag(alloc, "csv", "Write CSV, in place of JSON");
     let about = "Print the offsets and delays in a recording of the datagrams at a slave";
     with_help(alloc, "measure", about, help::MEASURE)
         .arg(slave)?

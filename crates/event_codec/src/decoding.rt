@@ -160,6 +160,7 @@ fn without_padding(kind: MessageType, octets: &[u8]) -> Result<&[u8], DecodeRefu
 }
 
 /// What [`decode`] answers, without the law that follows from it.
+#[inline(always)]
 fn message_at_front(octets: &[u8]) -> Result<(Message<'_>, usize), DecodeRefusal>
     ensures read { IfOk result (λ r. (r.1 ≤ length octets.now) × Packet (contents r.0) (take r.1 octets.now)) }
     ensures refused { MatchResult result
@@ -178,6 +179,7 @@ fn message_at_front(octets: &[u8]) -> Result<(Message<'_>, usize), DecodeRefusal
 ///
 /// What [`encode`](crate::encode) wrote is read again as it was, whatever follows it: see
 /// [`decode_of_encode`](crate::laws::decode_of_encode).
+#[inline(always)]
 pub fn decode(octets: &[u8]) -> Result<(Message<'_>, usize), DecodeRefusal>
     // What is read is what the octets say.
     ensures read { IfOk result (λ r. (r.1 ≤ length octets.now) × Packet (contents r.0) (take r.1 octets.now)) }

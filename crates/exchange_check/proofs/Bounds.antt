@@ -1,5 +1,6 @@
 -- The lines of an exchange are among those that it was found in.
-use Rattle.std.proofs.Common.{◌≡◌, ℕ, ◌<◌, Bool, true, false, ◌&&◌, ◌||◌, cond, length, Option, Some, None, ap, arith}
+use Rattle.std.proofs.Common.{◌≡◌, ℕ, ◌<◌, Bool, true, false, ◌&&◌, ◌||◌, cond, length, Option, Some, None}
+use Rattle.std.proofs.Common.{refl, ap, arith}
 use Rattle.std.specs.Prelude.{option_and_then, is_some}
 use Rattle.std.proofs.lemmas.Option.{same_Some, none-some}
 use Rattle.slave_port.specs.declared.heard.Report.{Report}
@@ -12,10 +13,10 @@ use Rattle.trace_model.proofs.OctetsOfExchanges.{passed}
 use Rattle.trace_model.proofs.Lines.{line_at-bound, line_at-number}
 use Rattle.exchange_check.proofs.Exchanges.{line_chain}
 
-bound : {X Y : Type 0} (f : X → Option Y) (o : Option X) (y : Y) → option_and_then f o ≡ Some y
-    → (x : X) × (f x ≡ Some y)
+pub bound : {X Y : Type 0} (f : X → Option Y) (o : Option X) (y : Y) → option_and_then f o ≡ Some y
+    → (x : X) × (f x ≡ Some y) × (o ≡ Some x)
 bound f None y h = absurd (none-some y h)
-bound f (Some x) y h = (x, h)
+bound f (Some x) y h = (x, h, refl)
 
 under : (network : Network) (lines : Lines) (b : Bool) (n : ℕ) (e : LinePlace)
     → cond b (line_at network lines n) None ≡ Some e → line_number e < length lines
@@ -44,14 +45,18 @@ arrival_within network lines slave n e h =
     let copy = bound (below (line_at network lines) (line_number sent.0)) (heard_copy (event_of sent.0)) e sent.1 in
     under network lines _ copy.0 e copy.1
 
--- the two of an exchange
+-- three of the lines of an exchange
 pub chain_parts : (network : Network) (lines : Lines) (s : Option LinePlace) (f : Option (Option LinePlace))
     (u r : Option LinePlace) (x : Exchange)
-    → line_chain network lines s f u r ≡ Some x → (s ≡ Some x.sync_arrival) × (r ≡ Some x.request_arrival)
+    → line_chain network lines s f u r ≡ Some x
+    → (s ≡ Some x.sync_arrival) × (r ≡ Some x.request_arrival) × (f ≡ Some x.follow)
 chain_parts network lines None f u r x h = absurd (none-some x h)
 chain_parts network lines (Some s) None u r x h = absurd (none-some x h)
 chain_parts network lines (Some s) (Some f) None r x h = absurd (none-some x h)
 chain_parts network lines (Some s) (Some f) (Some u) None x h = absurd (none-some x h)
 chain_parts network lines (Some s) (Some f) (Some u) (Some r) x h =
-    let same = same_Some _ x h in
-    (ap (λ (y : Exchange). Some y.sync_arrival) same, ap (λ (y : Exchange). Some y.request_arrival) same)
+    let same = same_Some _ x h in (
+      ap (λ (y : Exchange). Some y.sync_arrival) same,
+      ap (λ (y : Exchange). Some y.request_arrival) same,
+      ap (λ (y : Exchange). Some y.follow) same,
+    )

@@ -79,7 +79,7 @@ copy_is : (named : Bool) (made limit c : ℕ) → cond (named && nat_lt made lim
 copy_is true made limit c h = grind (arith, nat_tests)
 copy_is false made limit c h = grind arith
 
-entered_is : (node : NodeName) (entered : LinePlace) (o : Option ℕ) (c : ℕ) → entered_copy (event_of entered) ≡ o
+pub entered_is : (node : NodeName) (entered : LinePlace) (o : Option ℕ) (c : ℕ) → entered_copy (event_of entered) ≡ o
     → option_and_then (λ copy. cond (is_named (site entered) node && nat_lt copy (line_number entered))
     (Some copy) None) o ≡ Some c
     → (entered_copy (event_of entered) ≡ Some c) × (c < line_number entered)

@@ -2,28 +2,28 @@
 use Rattle.std.proofs.Common.{◌≡◌, ◌∙◌, ℕ, zero, suc, ◌+◌, ◌<◌, ◌≤◌, Bool, true, false, ◌&&◌, cond, eqb, List, []}
 use Rattle.std.proofs.Common.{◌∷◌, ◌++◌, length, Option, Some, None, refl, sym, ap, subst, arith, length-append}
 use Rattle.std.proofs.Math.Path.{transport}
-use Rattle.std.specs.Prelude.{option_map, option_and_then, is_some, nat_lt}
+use Rattle.std.specs.Prelude.{slice_get, option_map, option_and_then, is_some, nat_lt}
 use Rattle.std.specs.Option.{option_map_or}
 use Rattle.std.proofs.lemmas.Bool.Decides.{nat_tests}
 use Rattle.network_model.specs.Network.{Network}
 use Rattle.exchange_check.specs.declared.facts.Fact.{Fact}
 use Rattle.exchange_check.specs.declared.kept.Kept.{Kept}
 use Rattle.trace_model.specs.declared.line.TraceLine.{TraceLine}
-use Rattle.trace_model.specs.declared.line.TraceOut.{TraceOut}
 use Rattle.trace_model.specs.declared.verdict.Verdict.{Verdict}
 use Rattle.trace_model.specs.declared.verdict.Verdict.TheVariants.{Accepted, Refused}
+use Rattle.trace_model.specs.declared.judgement.Judgement.{Judgement}
 use Rattle.trace_model.specs.declared.verdict.Why.{Why}
-use Rattle.trace_model.specs.Verdict.{one_more, report_in}
-use Rattle.exchange_check.specs.Inner.Kept.{Facts, Sites, Leaves, Stamps, fact_in, fact_by}
+use Rattle.trace_model.specs.Verdict.{one_more}
+use Rattle.exchange_check.specs.Inner.Kept.{Facts, Leaves, fact_in, fact_by}
 use Rattle.exchange_check.specs.declared.stays.Stays.{Stays}
 use Rattle.exchange_check.specs.Inner.Stays.{LastStays, stay_below, stay_of, last_stays, with_stay, is_once}
-use Rattle.exchange_check.specs.Inner.Stays.{once_by, Once, once_of, state_in, is_whole, AreStays, once_in}
-use Rattle.exchange_check.specs.Inner.Judged.{reason_by}
+use Rattle.exchange_check.specs.Inner.Stays.{once_by, once_of, state_in, is_whole, AreStays, once_in}
 use Rattle.network_model.specs.Kinds.{entered_copy, named_transit}
 use Rattle.trace_model.specs.Sound.{where_passes}
 use Rattle.std.proofs.lemmas.Bool.{eqb-true, eq-eqb, ltb-true}
 use Rattle.exchange_check.specs.Inner.Machine.{accepted_count, Machine, IsKept, facts_of, sites_of, stamps_of, with_fact}
-use Rattle.exchange_check.specs.Inner.Machine.{sites_told, leaves_told, stamps_told, judged, after_line}
+use Rattle.exchange_check.specs.Inner.Machine.{sites_told, leaves_told, stamps_told, line_judgement_by}
+use Rattle.exchange_check.specs.Inner.Machine.{with_judgement, after_line, judgement_after}
 
 same_test : (facts later : Facts) (fact : Option Fact) (k l : ℕ) → facts (suc k) ≡ later k
     → with_fact later l fact k ≡ with_fact facts (suc l) fact (suc k)
@@ -52,12 +52,11 @@ one_more-within count n limit None h = omega arith
 one_more-within count n limit (Some None) h = omega arith
 one_more-within count n limit (Some (Some why)) h = omega arith
 
-judged-within : (network : Network) (facts : Facts) (once : Once) (stamps : Stamps) (sites : Sites)
-    (fact : Option Fact) (out : TraceOut) (n limit : ℕ) (v : Verdict)
-    → accepted_count v ≤ limit → accepted_count (judged network facts once stamps sites fact out n v) ≤ limit + 1
-judged-within network facts once stamps sites fact out n limit (Accepted count) h =
-    one_more-within count n limit (option_map (reason_by network facts once stamps sites fact) (report_in out)) h
-judged-within network facts once stamps sites fact out n limit (Refused line why) h = omega arith
+with_judgement-within : (answer : Option Judgement) (n limit : ℕ) (v : Verdict)
+    → accepted_count v ≤ limit → accepted_count (with_judgement answer n v) ≤ limit + 1
+with_judgement-within answer n limit (Accepted count) h =
+    one_more-within count n limit (option_map (λ judgement. slice_get judgement.reasons 0) answer) h
+with_judgement-within answer n limit (Refused line why) h = omega arith
 
 -- the verdict that is kept is of no more lines than were kept
 pub accepted-bound : (kept : Kept) (count : ℕ) (m : Machine) (total : ℕ) → IsKept kept count m → count < total
@@ -125,7 +124,7 @@ module _ (facts : Facts) (count : ℕ) (fact : Option Fact) (none : (n : ℕ) �
   last_stays-more = λ i n. stays_at n (eqb count n) (nat_lt n count) refl refl i
 
 -- what is kept of each copy is what its stays say
-once_kept : (kept : Stays) (stays : LastStays) (leaves : Leaves) (number : ℕ) → AreStays kept stays leaves number
+pub once_kept : (kept : Stays) (stays : LastStays) (leaves : Leaves) (number : ℕ) → AreStays kept stays leaves number
     → once_in kept ≡ once_of stays leaves
 once_kept kept stays leaves number h = λ i copy. at copy i
   where
@@ -145,48 +144,59 @@ once_kept kept stays leaves number h = λ i copy. at copy i
     at : (copy : ℕ) → once_in kept copy ≡ once_of stays leaves copy
     at copy = by (suc copy) copy (omega arith)
 
-pub IsKept-line : (network : Network) (line : TraceLine) (count : ℕ) (m : Machine) (kept after : Kept)
-    (number last : ℕ) (fact : Option Fact) (items : List (Option Fact))
-    → IsKept kept count m
-    → number ≡ length kept.facts.items
-    → last ≡ length kept.facts.items
-    → fact ≡ fact_by network (facts_of kept) (sites_of kept) line number
-    → items ≡ kept.facts.items ++ fact ∷ []
-    → after.facts.items ≡ items
-    → sites_of after ≡ sites_told fact number (sites_of kept)
-    → ((stays : LastStays) (leaves : Leaves) → AreStays kept.stays stays leaves number
-    → AreStays after.stays (with_stay number (option_and_then (stay_of (fact_in items) number) fact) stays)
-    (leaves_told fact leaves) (number + 1))
-    → stamps_of after ≡ stamps_told fact number (sites_of kept) (stamps_of kept)
-    → after.verdict ≡ judged network (fact_in items) (once_in kept.stays) (stamps_of kept)
-    (sites_of kept) fact line.out last kept.verdict
-    → IsKept after (count + 1) (after_line network line count m)
-IsKept-line network line count m kept after number last fact items h number_is last_is fact_is items_is items_after
-    sites_is stays_is stamps_is verdict_is =
-    let counted : number ≡ count = number_is ∙ h.count_is in
-    let placed : last ≡ count = last_is ∙ h.count_is in
-    let found : fact ≡ fact_by network m.facts m.sites line count =
-    fact_is ∙ (λ i. fact_by network (h.facts i) (h.sites i) line (counted i)) in
-    let pushed : fact_in items ≡ with_fact m.facts count (fact_by network m.facts m.sites line count) =
-    ap fact_in items_is ∙ (λ i n. fact_in-push kept.facts.items fact n i)
-    ∙ (λ i. with_fact (h.facts i) (h.count_is i) (found i)) in
-    let stays = last_stays m.facts in
-    let more = last_stays-more m.facts count (fact_by network m.facts m.sites line count)
-    (none_after kept.facts.items m.facts count h.count_is h.facts) in
-    record {
-      count_is = ap length (items_after ∙ items_is) ∙ length-append kept.facts.items (fact ∷ [])
-          ∙ ap (λ (n : ℕ). n + 1) h.count_is;
-      facts = ap fact_in items_after ∙ pushed;
-      sites = sites_is ∙ (λ i. sites_told (found i) (counted i) (h.sites i));
-      stays = transport (λ i. AreStays after.stays (sym more i)
-          (leaves_told (fact_by network m.facts m.sites line count) m.leaves) (count + 1))
-          (transport (λ i. AreStays after.stays
-          (with_stay (counted i) (option_and_then (stay_of (pushed i) (counted i)) (found i)) stays)
-          (leaves_told (found i) m.leaves) (counted i + 1))
-          (stays_is stays m.leaves (transport (λ i. AreStays kept.stays stays m.leaves (sym counted i)) h.stays)));
-      stamps = stamps_is ∙ (λ i. stamps_told (found i) (counted i) (h.sites i) (h.stamps i));
-      verdict = verdict_is ∙ (λ i. judged network (pushed i) (once_kept kept.stays stays m.leaves count h.stays i)
-          (h.stamps i) (h.sites i) (found i) line.out (placed i) (h.verdict i));
-      within = judged-within network _
-          (once_of stays m.leaves) m.stamps m.sites _ line.out count count m.verdict h.within;
-    }
+module _ (network : Network) (line : TraceLine) (count : ℕ) (m : Machine) (kept : Kept) (number : ℕ)
+    (fact : Option Fact) (items : List (Option Fact)) (h : IsKept kept count m)
+    (number_is : number ≡ length kept.facts.items)
+    (fact_is : fact ≡ fact_by network (facts_of kept) (sites_of kept) line number)
+    (items_is : items ≡ kept.facts.items ++ fact ∷ []) where
+  counted : number ≡ count
+  counted = number_is ∙ h.count_is
+
+  found : fact ≡ fact_by network m.facts m.sites line count
+  found = fact_is ∙ (λ i. fact_by network (h.facts i) (h.sites i) line (counted i))
+
+  pushed : fact_in items ≡ with_fact m.facts count (fact_by network m.facts m.sites line count)
+  pushed = ap fact_in items_is ∙ (λ i n. fact_in-push kept.facts.items fact n i)
+      ∙ (λ i. with_fact (h.facts i) (h.count_is i) (found i))
+
+  -- what the report of one more line is judged to be
+  pub judgement-line : (answer : Option Judgement)
+      → answer ≡ line_judgement_by network (fact_in items) (once_in kept.stays) (stamps_of kept) (sites_of kept) fact
+      line.out
+      → answer ≡ judgement_after network line count m
+  judgement-line answer answer_is = answer_is
+      ∙ (λ i. line_judgement_by network (pushed i) (once_kept kept.stays (last_stays m.facts) m.leaves count h.stays i)
+      (h.stamps i) (h.sites i) (found i) line.out)
+
+  pub IsKept-line : (after : Kept) (last : ℕ) (answer : Option Judgement)
+      → last ≡ length kept.facts.items
+      → after.facts.items ≡ items
+      → sites_of after ≡ sites_told fact number (sites_of kept)
+      → ((stays : LastStays) (leaves : Leaves) → AreStays kept.stays stays leaves number
+      → AreStays after.stays (with_stay number (option_and_then (stay_of (fact_in items) number) fact) stays)
+      (leaves_told fact leaves) (number + 1))
+      → stamps_of after ≡ stamps_told fact number (sites_of kept) (stamps_of kept)
+      → answer ≡ line_judgement_by network (fact_in items) (once_in kept.stays) (stamps_of kept) (sites_of kept) fact
+      line.out
+      → after.verdict ≡ with_judgement answer last kept.verdict
+      → IsKept after (count + 1) (after_line network line count m)
+  IsKept-line after last answer last_is items_after sites_is stays_is stamps_is answer_is verdict_is =
+      let placed : last ≡ count = last_is ∙ h.count_is in
+      let stays = last_stays m.facts in
+      let more = last_stays-more m.facts count (fact_by network m.facts m.sites line count)
+      (none_after kept.facts.items m.facts count h.count_is h.facts) in
+      record {
+        count_is = ap length (items_after ∙ items_is) ∙ length-append kept.facts.items (fact ∷ [])
+            ∙ ap (λ (n : ℕ). n + 1) h.count_is;
+        facts = ap fact_in items_after ∙ pushed;
+        sites = sites_is ∙ (λ i. sites_told (found i) (counted i) (h.sites i));
+        stays = transport (λ i. AreStays after.stays (sym more i)
+            (leaves_told (fact_by network m.facts m.sites line count) m.leaves) (count + 1))
+            (transport (λ i. AreStays after.stays
+            (with_stay (counted i) (option_and_then (stay_of (pushed i) (counted i)) (found i)) stays)
+            (leaves_told (found i) m.leaves) (counted i + 1))
+            (stays_is stays m.leaves (transport (λ i. AreStays kept.stays stays m.leaves (sym counted i)) h.stays)));
+        stamps = stamps_is ∙ (λ i. stamps_told (found i) (counted i) (h.sites i) (h.stamps i));
+        verdict = verdict_is ∙ (λ i. with_judgement (judgement-line answer answer_is i) (placed i) (h.verdict i));
+        within = with_judgement-within (judgement_after network line count m) count count m.verdict h.within;
+      }

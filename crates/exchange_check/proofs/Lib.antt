@@ -13,3 +13,6 @@ pub mod Following
 pub mod Exchanges
 pub mod Bounds
 pub mod Standing
+pub mod Made
+pub mod Walks
+pub mod Telling

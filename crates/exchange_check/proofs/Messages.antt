@@ -1,25 +1,15 @@
 -- The message that is kept to be written of a line is the one that the lines say it made.
-use Rattle.std.proofs.Common.{◌≡◌, ◌∙◌, ℕ, pos, Bool, true, false, cond, eqb, min, [], ◌∷◌}
-use Rattle.std.proofs.Common.{length, Option, Some, None, refl, sym, ap, subst, arith}
+use Rattle.std.proofs.Common.{◌≡◌, ◌∙◌, ℕ, Bool, true, false, cond, eqb, [], ◌∷◌}
+use Rattle.std.proofs.Common.{length, Option, Some, None, refl, ap, subst, arith}
 use Rattle.std.specs.Prelude.{option_map, option_and_then}
 use Rattle.std.specs.Option.{option_map_or}
-use Rattle.std.proofs.lemmas.Bool.Decides.{nat_tests}
-use Rattle.std.proofs.lemmas.Int.{ints}
 use Rattle.std.proofs.lemmas.Option.{same_Some}
-use Rattle.ptp_units.specs.Interval.{with_residence}
-use Rattle.ptp_units.specs.Moment.{fraction_of}
-use Rattle.ptp_units.specs.declared.interval.Interval.{Interval}
 use Rattle.event_codec.specs.Packet.{Contents}
-use Rattle.event_codec.specs.Correction.{with_correction}
-use Rattle.event_codec.specs.declared.port.PortConfig.{PortConfig}
-use Rattle.master_port.specs.Written.{sync, one_step_sync}
-use Rattle.slave_port.specs.Written.{delay_req}
 use Rattle.network_model.specs.declared.event.Event.{Event}
 use Rattle.network_model.specs.declared.event.Event.TheVariants.{Sync, SyncOne, Leave}
 use Rattle.network_model.specs.declared.event.Event.TheVariants.{Request}
 use Rattle.network_model.specs.Network.{Network, NodeName, PortSetup}
 use Rattle.exchange_check.specs.declared.facts.Fact.{Fact}
-use Rattle.exchange_check.specs.declared.facts.KeptJourney.{KeptJourney}
 use Rattle.trace_model.specs.declared.line.TraceLine.{TraceLine}
 use Rattle.trace_model.specs.Line.{Lines, counts}
 use Rattle.trace_model.specs.Record.{LinePlace, line_place, line_number, event_of, line_at, reading, sequence}
@@ -28,8 +18,9 @@ use Rattle.trace_model.specs.Journey.{line_left_from, line_journey_made, line_jo
 use Rattle.transparent_clock.specs.Forwarding.{resided}
 use Rattle.trace_model.specs.Octets.{drawing_port, message_sent, sent, sent_after}
 use Rattle.trace_model.proofs.Lines.{line_at-later, line_at-here}
-use Rattle.exchange_check.specs.Inner.Kept.{longest, sent_by, message_after_by}
-use Rattle.exchange_check.proofs.Told.{fact_of, facts_at, number_drawn}
+use Rattle.exchange_check.specs.Exchange.{number_drawn}
+use Rattle.exchange_check.specs.Inner.Kept.{sent_by, message_after_by}
+use Rattle.exchange_check.proofs.Told.{kept_journey_of, fact_of, facts_at}
 
 abbrev IsIn : Network → Lines → LineJourney → Type 0
 IsIn network lines j = line_at network lines (line_number j.origin) ≡ Some j.origin
@@ -104,47 +95,14 @@ pub sent_is : (network : Network) (e : LinePlace)
 sent_is network e = sent_with network (event_of e) (reading e) (λ port. sequence network port e)
     (drawing_port network (event_of e))
 
-corrected_is : (f x y : ℕ) → min x longest ≡ min y longest → with_residence (pos f) x ≡ with_residence (pos f) y
-corrected_is f x y h = grind (arith, ints, nat_tests)
-
-time_is : (m : Contents) (f x y : ℕ) → m.header.correction ≡ record { 0 = pos f } → min x longest ≡ min y longest
-    → resided m x ≡ resided m y
-time_is m f x y same h =
-    let c : with_residence m.header.correction.0 x ≡ with_residence m.header.correction.0 y =
-    ap (λ (k : Interval). with_residence k.0 x) same ∙ corrected_is f x y h
-    ∙ sym (ap (λ (k : Interval). with_residence k.0 y) same) in
-    λ i. with_correction m (record { 0 = c i })
-
-sent_time : (config : PortConfig) (event : Event) (number now x y : ℕ) → min x longest ≡ min y longest
-    → option_map (λ m. resided m x) (message_sent config event number now)
-    ≡ option_map (λ m. resided m y) (message_sent config event number now)
-sent_time config (Sync node at) number now x y h = ap Some (time_is (sync config number) 0 x y refl h)
-sent_time config (SyncOne node at) number now x y h =
-    ap Some (time_is (one_step_sync config number now) (fraction_of now) x y refl h)
-sent_time config (Request node at) number now x y h = ap Some (time_is (delay_req config number) 0 x y refl h)
-sent_time config _ number now x y h = refl
-
-sent_time_at : (event : Event) (now : ℕ) (numbers : PortSetup → ℕ) (x y : ℕ) → min x longest ≡ min y longest
-    → (o : Option PortSetup)
-    → option_map (λ m. resided m x) (option_and_then (λ port. message_sent port.config event (numbers port) now) o)
-    ≡ option_map (λ m. resided m y) (option_and_then (λ port. message_sent port.config event (numbers port) now) o)
-sent_time_at event now numbers x y h None = refl
-sent_time_at event now numbers x y h (Some port) = sent_time port.config event (numbers port) now x y h
-
-pub min_min : (r : ℕ) → min (min r longest) longest ≡ min r longest
-min_min r = omega arith
-
 -- the message at the end of a journey, from what is kept of the journey
-pub message_after_is : (network : Network) (lines : Lines) (j : LineJourney) (kept_journey : KeptJourney)
+pub message_after_is : (network : Network) (lines : Lines) (j : LineJourney)
     → line_at network lines (line_number j.origin) ≡ Some j.origin
-    → kept_journey.origin ≡ line_number j.origin → min kept_journey.residence longest ≡ min (line_residence j) longest
-    → message_after_by network (facts_at network lines) kept_journey ≡ sent_after network j
-message_after_is network lines j kept_journey there same time =
-    let at : facts_at network lines kept_journey.origin ≡ Some (fact_of network j.origin) =
-    ap (facts_at network lines) same ∙ ap (λ (o : Option LinePlace). option_map (fact_of network) o) there in
+    → message_after_by network (facts_at network lines) (kept_journey_of network j) ≡ sent_after network j
+message_after_is network lines j there =
+    let at : facts_at network lines (line_number j.origin) ≡ Some (fact_of network j.origin) =
+    ap (λ (o : Option LinePlace). option_map (fact_of network) o) there in
     ap (λ (o : Option Fact). option_and_then
-    (λ origin. option_map (λ m. resided m kept_journey.residence)
+    (λ origin. option_map (λ m. resided m (line_residence j))
     (sent_by network origin.event origin.number.0 origin.reading)) o) at
-    ∙ ap (λ (o : Option Contents). option_map (λ m. resided m kept_journey.residence) o) (sent_is network j.origin)
-    ∙ sent_time_at (event_of j.origin) (reading j.origin) (λ port. sequence network port j.origin) kept_journey.residence
-    (line_residence j) time (drawing_port network (event_of j.origin))
+    ∙ ap (λ (o : Option Contents). option_map (λ m. resided m (line_residence j)) o) (sent_is network j.origin)

@@ -214,7 +214,7 @@ leaves-line network line earlier fact false h same =
 abbrev pub stamps_at : Network → Lines → Stamps
 stamps_at network lines request = first_stamp network request lines
 
-or_nothing : (o : Option ℕ) → option_or o None ≡ o
+pub or_nothing : (o : Option ℕ) → option_or o None ≡ o
 or_nothing None = refl
 or_nothing (Some n) = refl
 
@@ -232,7 +232,7 @@ stamps_after_is true n last stamps request =
     ap (λ (b : Bool). option_or (stamps request) (cond b (Some n) None)) (asked last request)
 stamps_after_is false n last stamps request = sym (or_nothing (stamps request))
 
-stamp_more : (network : Network) (line : TraceLine) (earlier : Lines) (request : ℕ) (b : Bool)
+pub stamp_more : (network : Network) (line : TraceLine) (earlier : Lines) (request : ℕ) (b : Bool)
     → counts network line ≡ b
     → first_stamp network request (line ∷ earlier)
     ≡ option_or (first_stamp network request earlier)

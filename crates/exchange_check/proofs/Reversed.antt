@@ -1,22 +1,24 @@
 -- What is kept of lines that are given oldest first, and what the verdict on lines says of them.
 use Rattle.std.proofs.Common.{◌≡◌, ◌∙◌, ℕ, ◌+◌, ◌<◌, ◌≤◌, List, [], ◌∷◌, ◌++◌}
-use Rattle.std.proofs.Common.{length, take, get_or, sym, ap, subst, arith}
+use Rattle.std.proofs.Common.{length, take, get_or, Option, sym, ap, subst, arith}
 use Rattle.std.specs.Prelude.{reverse}
 use Rattle.std.proofs.lemmas.Grind.{common_steps}
-use Rattle.std.proofs.lemmas.List.{take_more, length-reverse, length-take-le}
+use Rattle.std.proofs.lemmas.List.{take_more, length-reverse, length-take-le, reverse-reverse}
 use Rattle.network_model.specs.Network.{Network}
 use Rattle.exchange_check.specs.declared.kept.Kept.{Kept}
 use Rattle.trace_model.specs.declared.line.TraceLine.{TraceLine}
-use Rattle.exchange_check.proofs.Standing.{machine-verdict}
+use Rattle.exchange_check.proofs.Standing.{machine-verdict, machine-judgement}
+use Rattle.trace_model.specs.declared.judgement.Judgement.{Judgement}
 use Rattle.trace_model.specs.declared.verdict.Verdict.{Verdict}
 use Rattle.trace_model.specs.Line.{Lines}
-use Rattle.trace_model.specs.Verdict.{verdict}
+use Rattle.trace_model.specs.Record.{line_place}
+use Rattle.trace_model.specs.Verdict.{verdict, line_judgement}
 use Rattle.trace_model.specs.Soundness.{TellsSoundness}
 use Rattle.trace_model.proofs.Soundness.{tells_soundness}
 use Rattle.trace_model.specs.Complete.{AcceptsTruth}
 use Rattle.trace_model.proofs.Complete.{complete, complete_within_one_turn}
 use Rattle.network_model.specs.Premises.{IsFreshAndTicked, IsWithinTurn, exact_limits}
-use Rattle.exchange_check.specs.Inner.Machine.{Machine, IsKept, machine, after_line}
+use Rattle.exchange_check.specs.Inner.Machine.{Machine, IsKept, machine, after_line, judgement_after}
 
 reverse_push : (lines : List TraceLine) (line : TraceLine) → reverse (lines ++ line ∷ []) ≡ line ∷ reverse lines
 reverse_push lines line = grind (arith, common_steps)
@@ -45,6 +47,14 @@ IsKept-more network lines line kept i within read h =
 pub verdict-kept : (network : Network) (lines : Lines) (kept : Kept) (count : ℕ)
     → IsKept kept count (machine network lines) → kept.verdict ≡ verdict network lines
 verdict-kept network lines kept count h = h.verdict ∙ machine-verdict network lines
+
+-- what the report of the next line is judged to be, where these lines were fed before it, newest first
+pub judgement-told : (network : Network) (line : TraceLine) (fed : Lines) (answer : Option Judgement)
+    → answer ≡ judgement_after network line (length fed) (machine network fed)
+    → answer ≡ line_judgement network (line_place line (reverse (reverse fed)))
+judgement-told network line fed answer h =
+    h ∙ machine-judgement network line fed
+    ∙ ap (λ (lines : Lines). line_judgement network (line_place line lines)) (sym (reverse-reverse fed))
 
 take_whole : (lines : List TraceLine) (i : ℕ) → length lines ≤ i → take i lines ≡ lines
 take_whole lines i h = grind (arith, common_steps)

@@ -1,5 +1,5 @@
 -- What is kept of a line is what the line and those before it say.
-use Rattle.std.proofs.Common.{◌≡◌, ◌∙◌, ℕ, ◌+◌, ◌-◌, Bool, true, false, ◌&&◌, cond, eqb, min}
+use Rattle.std.proofs.Common.{◌≡◌, ◌∙◌, ℕ, ◌+◌, ◌-◌, Bool, true, false, ◌&&◌, cond, eqb}
 use Rattle.std.proofs.Common.{[], ◌∷◌, length, Option, Some, None, refl, sym, ap, arith}
 use Rattle.std.specs.Prelude.{option_map, option_and_then, unwrap_or, count_by}
 use Rattle.std.specs.Option.{option_map_or}
@@ -20,12 +20,13 @@ use Rattle.exchange_check.specs.declared.facts.KeptJourney.{KeptJourney}
 use Rattle.trace_model.specs.declared.line.TraceLine.{TraceLine}
 use Rattle.trace_model.specs.Line.{Lines, counts, is_made, completes}
 use Rattle.trace_model.specs.Record.{LinePlace, line_place, line_number, event_of, site, line_at}
-use Rattle.trace_model.specs.Record.{events, last_line, reading, reads_right, sequence}
+use Rattle.trace_model.specs.Record.{events, last_line, reading, reads_right}
 use Rattle.trace_model.specs.Journey.{LineJourney, line_stay_length, line_residence, line_begun, with_stay}
 use Rattle.trace_model.specs.Journey.{copy_entered, line_left_from, line_journey_made, line_journey_of}
 use Rattle.trace_model.specs.Octets.{drawing_port, writes_right}
 use Rattle.trace_model.specs.Sound.{stay_reads_right, journey_reads_right, journey_writes_right}
-use Rattle.exchange_check.specs.Inner.Kept.{Facts, longest, number_by, known_by, kept_journey_at, stayed}
+use Rattle.exchange_check.specs.Exchange.{number_drawn}
+use Rattle.exchange_check.specs.Inner.Kept.{Facts, number_by, known_by, kept_journey_at, stayed}
 use Rattle.exchange_check.specs.Inner.Kept.{left_by, begun_by, kept_journey_by, written_journey}
 use Rattle.exchange_check.proofs.Noted.{site_at}
 
@@ -33,14 +34,10 @@ use Rattle.exchange_check.proofs.Noted.{site_at}
 abbrev pub kept_journey_of : Network → LineJourney → KeptJourney
 kept_journey_of network journey = record {
   origin = line_number journey.origin;
-  residence = min (line_residence journey) longest;
+  residence = line_residence journey;
   reads_right = journey_reads_right network journey;
   writes_right = journey_writes_right network journey;
 }
-
--- the sequenceId that a line draws, 0 where it draws none
-abbrev pub number_drawn : Network → LinePlace → ℕ
-number_drawn network e = option_map_or (λ port. sequence network port e) (drawing_port network (event_of e)) 0
 
 -- the journey of the copy that a line made
 abbrev pub journey_from : Network → LinePlace → Option LineJourney
@@ -152,15 +149,14 @@ begun_is network e = λ i. record {
   writes_right = sym (and_true (writes_right network e)) i;
 }
 
-min_more : (r s : ℕ) → min (min r longest + s) longest ≡ min (s + r) longest
-min_more r s = omega arith
+turned : (r s : ℕ) → r + s ≡ s + r
+turned r s = omega arith
 
 residence_more : (e entered : LinePlace) (j : LineJourney)
-    → min (min (line_residence j) longest + (reading e - reading entered)) longest
-    ≡ min (line_residence (with_stay e entered j)) longest
+    → line_residence j + (reading e - reading entered) ≡ line_residence (with_stay e entered j)
 residence_more e entered j =
-    min_more (line_residence j) (reading e - reading entered)
-    ∙ ap (λ (n : ℕ). min n longest) (sym (sum_by-cons line_stay_length (record { entered = entered; left = e }) j.stays))
+    turned (line_residence j) (reading e - reading entered)
+    ∙ sym (sum_by-cons line_stay_length (record { entered = entered; left = e }) j.stays)
 
 stayed_is : (network : Network) (e entered : LinePlace) (j : LineJourney)
     → written_journey (writes_right network e)

@@ -4,4 +4,5 @@ pub mod Judged
 pub mod Kept
 pub mod Machine
 pub mod Stays
+pub mod Telling
 pub mod History

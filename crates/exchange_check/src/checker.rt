@@ -1,22 +1,28 @@
-ghost use Rattle.std.specs.Prelude.{◌≡◌, reverse, MatchResult, IfOk, ◌++◌, ◌∷◌, [], length};
+ghost use Rattle.std.specs.Prelude.{◌≡◌, reverse, MatchResult, IfOk, ◌++◌, ◌∷◌, [], length, option_map};
+ghost use Rattle.event_codec.specs.Profile.{contents_of};
 ghost use Rattle.network_model.specs.Premises.{IsFreshAndTicked, IsWithinTurn, exact_limits};
-ghost use Rattle.trace_model.specs.Verdict.{verdict};
+ghost use Rattle.trace_model.specs.Record.{line_place};
+ghost use Rattle.trace_model.specs.Verdict.{line_judgement, verdict};
 ghost use Rattle.trace_model.specs.Soundness.{TellsSoundness};
 ghost use Rattle.trace_model.specs.Complete.{AcceptsTruth};
+ghost use Rattle.exchange_check.specs.Exchange.{last_exchange};
+ghost use Rattle.exchange_check.specs.Message.{message_at};
 ghost use Rattle.exchange_check.specs.declared.refusal.CheckFault.TheVariants.{Memory};
 
+use crate::exchange::Exchange;
 use crate::history::History;
 use crate::kept::Kept;
 use crate::refusal::CheckFault;
-use network_model::Nodes;
+use event_codec::PortMessage;
+use network_model::{Nodes, Report};
 use std::alloc::Global;
 use std::marker::Model;
-use trace_model::{TraceLine, Verdict};
+use trace_model::{Judgement, TraceLine, Verdict};
 
 /// The verdict on a transcript of a network, its lines oldest first, whatever their origin: accepted
 /// exactly where every report line is sound, with their number, and refused exactly where one isn't,
 /// with the number of the first such line and the first condition that it fails. Refused with 709
-/// where memory was refused.
+/// where there was no room, as [`CheckFault`] says.
 pub fn check(alloc: Global, nodes: &Nodes, lines: &[TraceLine]) -> Result<Verdict, CheckFault>
     ensures verdict { MatchResult result
         (λ answer. answer ≡ verdict nodes.now (reverse lines.now))
@@ -72,16 +78,51 @@ impl Checker {
         })
     }
 
-    /// Takes in the next line. Refused with 709 where memory was refused: the line is then dropped,
-    /// and the checker is as it was.
+    /// Takes in the next line. Refused with 709 where there was no room: the line is then dropped, and
+    /// the checker is as it was.
     pub fn feed(&mut self, line: TraceLine) -> Result<(), CheckFault>
         ensures { MatchResult result
             (λ _. self.new ≡ record { network = self.old.network; lines = self.old.lines ++ line ∷ [] })
             (λ fault. (fault ≡ Memory) × (self.new ≡ self.old)) }
     {
-        self.kept.step(&self.nodes, &line)?;
-        self.fed.push(&line);
+        self.feed_judged(line)?;
         Ok(())
+    }
+
+    /// Takes in the next line as [`feed`](Checker::feed) does, and answers what its report is judged to
+    /// be, by this line and those before it; none where the line has no report.
+    pub fn feed_judged(&mut self, line: TraceLine) -> Result<Option<Judgement>, CheckFault>
+        ensures fed { MatchResult result
+            (λ _. self.new ≡ record { network = self.old.network; lines = self.old.lines ++ line ∷ [] })
+            (λ fault. (fault ≡ Memory) × (self.new ≡ self.old)) }
+        // Each condition that fails is told, and the results by the readings.
+        ensures judged { IfOk result (λ answer. answer
+            ≡ line_judgement self.old.network (line_place line (reverse self.old.lines))) }
+    {
+        let answer = self.kept.step(&self.nodes, &line)?;
+        self.fed.push(&line);
+        Ok(answer)
+    }
+
+    /// The lines that a report of the line which was fed last is of (IEEE 1588-2019, 11.3), where they are all there
+    /// and the journeys of the Sync and of the Delay_Req can be followed: where neither 701 nor 704 stands against
+    /// the report. The time that it takes doesn't grow with the lines that were fed, but for looking one of them up.
+    pub fn exchange(&self, report: &Report) -> Option<Exchange>
+        ensures { result ≡ last_exchange self.now.network (reverse self.now.lines) report.now }
+    {
+        match self.len() {
+            0 => None,
+            count => self.kept.exchange(count - 1, report),
+        }
+    }
+
+    /// The message that the line of this number, counted from 0, makes by the lines before it, as its port or its
+    /// clock writes it (IEEE 1588-2019, 10.2 and 13.6 to 13.8); none where the line doesn't count or makes none.
+    /// 708 stands against a report where such a line has other octets.
+    pub fn message_at(&self, number: u64) -> Option<PortMessage>
+        ensures { option_map contents_of result ≡ message_at self.now.network (reverse self.now.lines) number }
+    {
+        self.kept.message_at(&self.nodes, number)
     }
 
     /// How many lines were fed so far.

@@ -1,18 +1,19 @@
 //! What is kept of lines and nodes, so that nothing is searched for again.
 
+ghost use Rattle.std.specs.Prelude.{◌≡◌};
+ghost use Rattle.exchange_check.specs.Inner.Telling.{known_again, hears_earlier};
+
+use crate::residence::Residence;
 use network_model::{Event, Name};
 use ptp_units::{ScaledTime, Seq};
-
-/// The longest residence that is counted exactly is below this, in units of 2^-16 ns.
-pub(crate) const LONGEST: u64 = (1 << 63) - 1;
 
 /// What is kept of the journey of a copy of an event message, from the line that sent it.
 #[derive(Clone, Copy, Debug, PartialEq, Eq)]
 pub(crate) struct KeptJourney {
+    /// How long it was in clocks.
+    pub(crate) residence: Residence,
     /// The number of the line that sent it.
     pub(crate) origin: u64,
-    /// How long it was in clocks, in units of 2^-16 ns; [`LONGEST`] stands for more as well.
-    pub(crate) residence: u64,
     /// Whether all readings on it are right.
     pub(crate) reads_right: bool,
     /// Whether all octets on it are right.
@@ -25,10 +26,6 @@ pub(crate) struct KeptJourney {
 pub(crate) struct Fact {
     /// The line's number.
     pub(crate) line: u64,
-    /// The line's event.
-    pub(crate) event: Event,
-    /// The line's reading, 0 where there is none.
-    pub(crate) reading: ScaledTime,
     /// Whether it made a message.
     pub(crate) made: bool,
     /// Whether a message completed a pair.
@@ -39,10 +36,39 @@ pub(crate) struct Fact {
     pub(crate) reads_right: bool,
     /// Whether its octets are right.
     pub(crate) writes_right: bool,
+    /// The line's event.
+    pub(crate) event: Event,
+    /// The line's reading, 0 where there is none.
+    pub(crate) reading: ScaledTime,
     /// The number of the last line before it at which its node sent a two-step Sync.
     pub(crate) last_sync: Option<u64>,
     /// The journey of the copy that it made, where that is a Sync or a Delay_Req.
     pub(crate) journey: Option<KeptJourney>,
+}
+
+impl Fact {
+    /// What was known of the line when it was taken in.
+    pub(crate) fn known(&self) -> Known
+        ensures { result ≡ known_again self.now }
+    {
+        Known {
+            line: self.line,
+            reading: self.reading,
+            number: self.number,
+            reads: self.reads_right,
+            last_sync: self.last_sync,
+        }
+    }
+
+    /// Whether the copy that the line hears, if any, was made before it.
+    pub(crate) fn hears_earlier(&self) -> bool
+        ensures { result ≡ hears_earlier self.now }
+    {
+        match self.event.heard_copy() {
+            Some(copy) => copy < self.line,
+            None => true,
+        }
+    }
 }
 
 /// What the lines so far say of a node.

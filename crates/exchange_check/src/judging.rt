@@ -3,7 +3,7 @@
 
 ghost use Rattle.std.specs.Prelude.{◌≡◌, ◌+◌, ◌<◌, ◌-ℤ◌, ◌&&◌, pos, option_map};
 ghost use Rattle.std.specs.Ordering.{int_eq};
-ghost use Rattle.ptp_units.specs.Exchange.{IsBracket, offset2, path2};
+ghost use Rattle.ptp_units.specs.Exchange.{offset2, path2};
 ghost use Rattle.ptp_units.specs.Moment.{bound};
 ghost use Rattle.trace_model.specs.Sound.{is_of_line, is_domain, are_later};
 ghost use Rattle.exchange_check.specs.Inner.Kept.{port_setup};
@@ -12,16 +12,17 @@ ghost use Rattle.exchange_check.specs.Inner.Judged.{line_of_by, sender_by, sync_
 ghost use Rattle.exchange_check.specs.Inner.Judged.{completion_by, is_of_kind, is_stamped_by, found_by};
 ghost use Rattle.exchange_check.specs.Inner.Judged.{found_journey_at, found_journey_to, is_followed_by, paired_by};
 ghost use Rattle.exchange_check.specs.Inner.Judged.{is_told, of_master_by, readings_by, fraction_by, fits_by};
-ghost use Rattle.exchange_check.specs.Inner.Judged.{bracket_by, results_by, octets_by, journeys_reason_by};
-ghost use Rattle.exchange_check.specs.Inner.Judged.{found_reason, reason_by};
+ghost use Rattle.exchange_check.specs.Inner.Judged.{bracket_by, results_of_by, results_by, octets_by, IsElapsed};
+ghost use Rattle.exchange_check.specs.Inner.Judged.{journeys_judgement_by, alone, found_judgement, judgement_by};
 ghost use Rattle.exchange_check.specs.Inner.Machine.{facts_of, sites_of, stamps_of};
 
-use crate::facts::{Fact, Found, FoundJourney, LONGEST, Site};
+use crate::facts::{Fact, Found, FoundJourney, Site};
 use crate::kept::Kept;
 use crate::octets::{Port, master_at, slave_at};
+use crate::residence::Residence;
 use network_model::{Event, Name, Nodes, Report};
-use ptp_units::{ScaledTime, offset2, path2};
-use trace_model::Why;
+use ptp_units::ScaledTime;
+use trace_model::{Judgement, Reasons, Results, Why};
 
 /// Whether a report is of the line of this number.
 fn is_of_line(number: u64, report: &Report) -> bool
@@ -127,8 +128,7 @@ fn fraction_sent(origin: &Fact) -> u16
 fn fits(journey: &FoundJourney) -> bool
     ensures { result ≡ fits_by journey.now }
 {
-    u128::from(fraction_sent(&journey.origin)) + u128::from(journey.kept.residence)
-        < u128::from(LONGEST)
+    u128::from(fraction_sent(&journey.origin)) + journey.kept.residence.units() < (1 << 63) - 1
 }
 
 /// The units of a moment, as a signed number.
@@ -140,23 +140,53 @@ fn signed_units(time: ScaledTime) -> i128
 }
 
 /// What a clock read at the arrival, less what another read at the departure, less the residence.
-fn elapsed(arrival: ScaledTime, departure: ScaledTime, residence: u64) -> i128
+fn elapsed(arrival: ScaledTime, departure: ScaledTime, residence: Residence) -> i128
     ensures value { result ≡ (pos arrival -ℤ pos departure) -ℤ pos residence }
-    ensures within { IsBracket result }
+    ensures within { IsElapsed result }
 {
-    signed_units(arrival) - signed_units(departure) - i128::from(residence)
+    signed_units(arrival) - signed_units(departure) - residence.units() as i128
 }
 
 /// The same of an arrival and the journey to it.
 fn bracket(arrival: &Fact, journey: &FoundJourney) -> i128
     ensures value { result ≡ bracket_by arrival.now journey.now }
-    ensures within { IsBracket result }
+    ensures within { IsElapsed result }
 {
     elapsed(
         arrival.reading,
         journey.origin.reading,
         journey.kept.residence,
     )
+}
+
+/// Twice offsetFromMaster, of two brackets.
+fn offset2(a: i128, b: i128) -> i128
+    requires a_within { IsElapsed a }
+    requires b_within { IsElapsed b }
+    ensures { result ≡ offset2 a b }
+{
+    a - b
+}
+
+/// Twice meanPathDelay, of two brackets.
+fn path2(a: i128, b: i128) -> i128
+    requires a_within { IsElapsed a }
+    requires b_within { IsElapsed b }
+    ensures { result ≡ path2 a b }
+{
+    a + b
+}
+
+/// The two results of the readings.
+fn results_of(found: &Found, sync: &FoundJourney, request: &FoundJourney) -> Results
+    ensures { result ≡ results_of_by found.now sync.now request.now }
+{
+    let a = bracket(&found.sync_arrival, sync);
+    let b = bracket(&found.request_arrival, request);
+    Results {
+        offset2: offset2(a, b),
+        path2: path2(a, b),
+    }
 }
 
 /// Whether two numbers are one.
@@ -166,22 +196,11 @@ fn is_number(one: i128, other: i128) -> bool
     one == other
 }
 
-/// Whether two results are those of two brackets.
-fn are_of_brackets(offset: i128, path: i128, a: i128, b: i128) -> bool
-    requires a_within { IsBracket a }
-    requires b_within { IsBracket b }
-    ensures { result ≡ (int_eq offset (offset2 a b) && int_eq path (path2 a b)) }
+/// Whether these are the two results of a report.
+fn are_results(report: &Report, results: &Results) -> bool
+    ensures { result ≡ results_by report.now results.now }
 {
-    is_number(offset, offset2(a, b)) && is_number(path, path2(a, b))
-}
-
-/// Whether the two results are those of the readings.
-fn are_results(report: &Report, found: &Found, sync: &FoundJourney, request: &FoundJourney) -> bool
-    ensures { result ≡ results_by report.now found.now sync.now request.now }
-{
-    let a = bracket(&found.sync_arrival, sync);
-    let b = bracket(&found.request_arrival, request);
-    are_of_brackets(report.offset2, report.path2, a, b)
+    is_number(report.offset2, results.offset2) && is_number(report.path2, results.path2)
 }
 
 /// Whether all octets are right.
@@ -198,8 +217,8 @@ fn are_octets(found: &Found, sync: &FoundJourney, request: &FoundJourney) -> boo
         && found.request_arrival.writes_right
 }
 
-/// The first condition on an exchange and its journeys that fails.
-fn journeys_reason_by(
+/// What a report is judged to be whose lines are there, and its two journeys.
+fn journeys_judgement(
     nodes: &Nodes,
     at: &Site,
     slave: &Name,
@@ -207,28 +226,34 @@ fn journeys_reason_by(
     found: &Found,
     sync: &FoundJourney,
     request: &FoundJourney,
-) -> Option<Why>
-    ensures { result ≡ journeys_reason_by nodes.now at.now slave.now report.now found.now sync.now request.now }
+) -> Judgement
+    ensures { result ≡ journeys_judgement_by nodes.now at.now slave.now report.now found.now sync.now request.now }
 {
-    if !are_paired(found, sync, request) {
-        return Some(Why::OtherNumber);
+    let results = results_of(found, sync, request);
+    Judgement {
+        reasons: Reasons::failing(&[
+            (Why::OtherNumber, are_paired(found, sync, request)),
+            (
+                Why::OtherMaster,
+                is_of_master(nodes, at, slave, report, found, sync),
+            ),
+            (Why::WrongReading, are_readings(found, sync, request)),
+            (Why::TooBig, fits(sync) && fits(request)),
+            (Why::WrongValue, are_results(report, &results)),
+            (Why::Bytes, are_octets(found, sync, request)),
+        ]),
+        by_readings: Some(results),
     }
-    if !is_of_master(nodes, at, slave, report, found, sync) {
-        return Some(Why::OtherMaster);
+}
+
+/// What a report is judged to be of which nothing else can be judged.
+fn alone(why: Why) -> Judgement
+    ensures { result ≡ alone why }
+{
+    Judgement {
+        reasons: Reasons::only(why),
+        by_readings: None,
     }
-    if !are_readings(found, sync, request) {
-        return Some(Why::WrongReading);
-    }
-    if !(fits(sync) && fits(request)) {
-        return Some(Why::TooBig);
-    }
-    if !are_results(report, found, sync, request) {
-        return Some(Why::WrongValue);
-    }
-    if !are_octets(found, sync, request) {
-        return Some(Why::Bytes);
-    }
-    None
 }
 
 /// A kind of event that a line has to tell of.
@@ -339,7 +364,7 @@ impl Kept {
     }
 
     /// The lines of a report of the line of this number.
-    fn found(&self, slave: &Name, number: u64, report: &Report) -> Option<Found>
+    pub(crate) fn found(&self, slave: &Name, number: u64, report: &Report) -> Option<Found>
         ensures { result ≡ found_by (facts_of self.now) (stamps_of self.now) slave.now number report.now }
     {
         if !(is_of_line(number, report)
@@ -365,7 +390,7 @@ impl Kept {
     }
 
     /// The journey of the copy that arrives at a line, where it begins at an event of this kind.
-    fn journey_to(&self, kind: LineKind, arrival: &Fact) -> Option<FoundJourney>
+    pub(crate) fn journey_to(&self, kind: LineKind, arrival: &Fact) -> Option<FoundJourney>
         ensures { result ≡ found_journey_to (facts_of self.now) (once_in self.now.stays) (is_of_kind kind) arrival.now }
     {
         let copy = arrival.event.heard_copy()?;
@@ -380,40 +405,40 @@ impl Kept {
         }
     }
 
-    /// Why a report of a slave isn't sound, or nothing where it is.
-    fn found_reason(
+    /// What a report of a slave is judged to be.
+    fn found_judgement(
         &self,
         nodes: &Nodes,
         slave: &Name,
         report: &Report,
         found: Option<Found>,
-    ) -> Option<Why>
-        ensures { result ≡ found_reason nodes.now (facts_of self.now) (once_in self.now.stays)
+    ) -> Judgement
+        ensures { result ≡ found_judgement nodes.now (facts_of self.now) (once_in self.now.stays)
             (sites_of self.now slave.now) slave.now report.now found }
     {
         let Some(found) = found else {
-            return Some(Why::NoSuchLine);
+            return alone(Why::NoSuchLine);
         };
         let Some(sync) = self.journey_to(LineKind::DrawsSync, &found.sync_arrival) else {
-            return Some(Why::BrokenJourney);
+            return alone(Why::BrokenJourney);
         };
         let Some(request) = self.journey_to(LineKind::Request, &found.request_arrival) else {
-            return Some(Why::BrokenJourney);
+            return alone(Why::BrokenJourney);
         };
         let at = self.site(slave);
-        journeys_reason_by(nodes, &at, slave, report, &found, &sync, &request)
+        journeys_judgement(nodes, &at, slave, report, &found, &sync, &request)
     }
 
-    /// Why a report at a line isn't sound, or nothing where it is.
-    pub(crate) fn reason(&self, nodes: &Nodes, fact: &Option<Fact>, report: &Report) -> Option<Why>
-        ensures { result ≡ reason_by nodes.now (facts_of self.now) (once_in self.now.stays) (stamps_of self.now)
+    /// What a report at a line is judged to be.
+    pub(crate) fn judgement(&self, nodes: &Nodes, fact: &Option<Fact>, report: &Report) -> Judgement
+        ensures { result ≡ judgement_by nodes.now (facts_of self.now) (once_in self.now.stays) (stamps_of self.now)
             (sites_of self.now) fact.now report.now }
     {
         let Some(fact) = fact else {
-            return Some(Why::NoSuchLine);
+            return alone(Why::NoSuchLine);
         };
         let slave = fact.event.node();
         let found = self.found(&slave, fact.line, report);
-        self.found_reason(nodes, &slave, report, found)
+        self.found_judgement(nodes, &slave, report, found)
     }
 }

@@ -1,11 +1,12 @@
 //! What is kept of the lines so far, and what one more line adds to it.
 
 ghost use Rattle.std.specs.Prelude.{◌≡◌, ◌≤ℤ◌, ◌+ℤ◌, ◌+◌, pos, option_map, option_and_then, unwrap_or, IfSome, ℕ};
-ghost use Rattle.std.specs.Prelude.{◌==◌, Some, None, OnOk, OnErr, ◌<◌, MatchResult};
+ghost use Rattle.std.specs.Prelude.{◌==◌, Some, None, OnOk, OnErr, ◌<◌, MatchResult, IfOk};
 ghost use Rattle.std.specs.BTreeMap.{get};
 ghost use Rattle.std.specs.Ordering.{nat_cmp};
 ghost use Rattle.exchange_check.specs.Inner.Machine.{accepted_count};
-ghost use Rattle.exchange_check.specs.Inner.Machine.{Machine, IsKept, start, judged, after_line, sites_told};
+ghost use Rattle.exchange_check.specs.Inner.Machine.{Machine, IsKept, start, line_judgement_by, with_judgement};
+ghost use Rattle.exchange_check.specs.Inner.Machine.{after_line, judgement_after, sites_told};
 ghost use Rattle.exchange_check.specs.Inner.Machine.{leaves_told, stamps_told, facts_of, sites_of, stamps_of};
 ghost use Rattle.exchange_check.specs.Inner.Stays.{stay_of, once_in, StaysAfter};
 ghost use Rattle.network_model.specs.Kinds.{named_transit};
@@ -13,16 +14,18 @@ ghost use Rattle.std.specs.Option.{option_map_or};
 ghost use Rattle.exchange_check.specs.Inner.Kept.{moved, moved_at, stamped, sites_after, leaves_after, stamps_after};
 ghost use Rattle.exchange_check.specs.Inner.Kept.{site_in, kept_journey_at, copy_entered_by, stayed, begun_by};
 ghost use Rattle.exchange_check.specs.Inner.Kept.{kept_journey_by, message_after_by, followed_by, answered_by};
-ghost use Rattle.exchange_check.specs.Inner.Kept.{message_by, known_by, number_by, fact_known, fact_by};
+ghost use Rattle.exchange_check.specs.Inner.Kept.{message_by, known_by, number_by, fact_known, fact_from};
 ghost use Rattle.exchange_check.specs.Inner.Kept.{kept_journey_left, written_journey, port_setup};
+ghost use Rattle.exchange_check.specs.Inner.Telling.{message_at_by};
 ghost use Rattle.ptp_units.specs.Sequence.{of_count};
 ghost use Rattle.event_codec.specs.Profile.{contents_of};
 ghost use Rattle.trace_model.specs.Record.{is_reading};
 
-use crate::facts::{Fact, KeptJourney, Known, LONGEST, Site};
+use crate::facts::{Fact, KeptJourney, Known, Site};
 use crate::good::{completes, counts, is_made};
 use crate::octets::{Port, delay_resp, is_written, master_at, resided, sent, slave_at};
 use crate::refusal::CheckFault;
+use crate::residence::Residence;
 use crate::stays::Stays;
 use event_codec::PortMessage;
 use master_port::follow_up;
@@ -30,7 +33,7 @@ use network_model::{Event, Name, Nodes};
 use ptp_units::{ScaledTime, Seq};
 use std::alloc::Global;
 use std::collections::{BTreeMap, HashMap};
-use trace_model::{TraceLine, TraceOut, Verdict};
+use trace_model::{Judgement, TraceLine, TraceOut, Verdict};
 
 /// What is kept of the lines so far.
 #[derive(Drop)]
@@ -90,22 +93,21 @@ fn copy_entered(clock: &Name, entered: &Fact) -> Option<u64>
     }
 }
 
-/// A journey and one more stay.
-fn stayed(known: &Known, entered: &Fact, before: &KeptJourney) -> KeptJourney
-    ensures { result ≡ stayed known.now entered.now before.now }
+/// A journey and one more stay. Refused where there is no room for the residence.
+fn stayed(known: &Known, entered: &Fact, before: &KeptJourney) -> Result<KeptJourney, CheckFault>
+    ensures { IfOk result (λ journey. journey ≡ stayed known.now entered.now before.now) }
 {
     let stay = known
         .reading
         .value()
         .saturating_sub(entered.reading.value());
-    let residence = (u128::from(before.residence) + stay).min(u128::from(LONGEST));
     let rises = known.reading.value() >= entered.reading.value();
-    KeptJourney {
+    Ok(KeptJourney {
+        residence: before.residence.plus(stay)?,
         origin: before.origin,
-        residence: residence as u64,
         reads_right: before.reads_right && (entered.reads_right && known.reads && rises),
         writes_right: before.writes_right,
-    }
+    })
 }
 
 /// The journey of a message that a line sends.
@@ -113,8 +115,8 @@ fn begun(known: &Known) -> KeptJourney
     ensures { result ≡ begun_by known.now }
 {
     KeptJourney {
+        residence: Residence::zero(),
         origin: known.line,
-        residence: 0,
         reads_right: known.reads,
         writes_right: true,
     }
@@ -186,25 +188,36 @@ impl Kept {
     }
 
     /// The journey of a copy that leaves a clock, its own octets left out.
-    fn left(&self, clock: &Name, transit: u64, known: &Known) -> Option<KeptJourney>
-        ensures { result ≡ kept_journey_left (facts_of self.now) clock.now transit known.now }
+    fn left(
+        &self,
+        clock: &Name,
+        transit: u64,
+        known: &Known,
+    ) -> Result<Option<KeptJourney>, CheckFault>
+        ensures { IfOk result (λ journey. journey ≡ kept_journey_left (facts_of self.now) clock.now transit known.now) }
     {
-        let entered = self.at(transit)?;
-        let copy = copy_entered(clock, entered)?;
-        let before = self.kept_journey_at(copy)?;
-        Some(stayed(known, entered, &before))
+        let Some(entered) = self.at(transit) else {
+            return Ok(None);
+        };
+        let Some(copy) = copy_entered(clock, entered) else {
+            return Ok(None);
+        };
+        let Some(before) = self.kept_journey_at(copy) else {
+            return Ok(None);
+        };
+        Ok(Some(stayed(known, entered, &before)?))
     }
 
     /// The journey of the copy that a line made, its own octets left out.
-    fn journey(&self, known: &Known, event: &Event) -> Option<KeptJourney>
-        ensures { result ≡ kept_journey_by (facts_of self.now) known.now event.now }
+    fn journey(&self, known: &Known, event: &Event) -> Result<Option<KeptJourney>, CheckFault>
+        ensures { IfOk result (λ journey. journey ≡ kept_journey_by (facts_of self.now) known.now event.now) }
     {
         match event {
             Event::Sync { .. } | Event::SyncOne { .. } | Event::Request { .. } => {
-                Some(begun(known))
+                Ok(Some(begun(known)))
             }
             Event::Leave { node, transit, .. } => self.left(node, *transit, known),
-            _ => None,
+            _ => Ok(None),
         }
     }
 
@@ -215,7 +228,7 @@ impl Kept {
     {
         let origin = self.at(journey.origin)?;
         let message = sent(nodes, &origin.event, origin.number, origin.reading)?;
-        Some(resided(&message, journey.residence))
+        Some(resided(&message, journey.residence.units()))
     }
 
     /// The Follow_Up of the Sync line of this number.
@@ -265,13 +278,28 @@ impl Kept {
         }
     }
 
-    /// What is kept of a line that counts.
-    fn fact_of(&self, nodes: &Nodes, line: &TraceLine, known: &Known) -> Fact
-        ensures { result ≡ fact_known nodes.now (facts_of self.now) line.now known.now
-            (kept_journey_by (facts_of self.now) known.now line.now.event) }
+    /// The message that the line of this number makes.
+    pub(crate) fn message_at(&self, nodes: &Nodes, number: u64) -> Option<PortMessage>
+        ensures { option_map contents_of result ≡ message_at_by nodes.now (facts_of self.now) number }
     {
-        let journey = self.journey(known, &line.event);
-        let message = self.message(nodes, known, journey, &line.event);
+        let fact = self.at(number)?;
+        if !fact.hears_earlier() {
+            return None;
+        }
+        self.message(nodes, &fact.known(), fact.journey, &fact.event)
+    }
+
+    /// What is kept of a line that counts.
+    fn fact_of(
+        &self,
+        nodes: &Nodes,
+        line: &TraceLine,
+        known: &Known,
+        journey: &Option<KeptJourney>,
+    ) -> Fact
+        ensures { result ≡ fact_known nodes.now (facts_of self.now) line.now known.now journey.now }
+    {
+        let message = self.message(nodes, known, *journey, &line.event);
         let writes_right = is_written(&message, &line.out);
         Fact {
             line: known.line,
@@ -283,18 +311,25 @@ impl Kept {
             reads_right: known.reads,
             writes_right,
             last_sync: known.last_sync,
-            journey: with_octets(journey, writes_right),
+            journey: with_octets(*journey, writes_right),
         }
     }
 
-    /// What is kept of a line of this number.
-    pub(crate) fn fact(&self, nodes: &Nodes, line: &TraceLine, number: u64) -> Option<Fact>
-        ensures { result ≡ fact_by nodes.now (facts_of self.now) (sites_of self.now) line.now number }
+    /// What is kept of a line, where it counts.
+    fn fact(
+        &self,
+        nodes: &Nodes,
+        line: &TraceLine,
+        known: &Known,
+        journey: &Option<KeptJourney>,
+    ) -> Option<Fact>
+        ensures { result ≡ fact_from nodes.now (facts_of self.now) line.now known.now journey.now }
     {
-        if !counts(nodes, line) {
-            return None;
+        if counts(nodes, line) {
+            Some(self.fact_of(nodes, line, known, journey))
+        } else {
+            None
         }
-        Some(self.fact_of(nodes, line, &self.known(nodes, line, number)))
     }
 
     /// The copy that entered at the stay which a Leave line leaves, where the journey of the copy that left
@@ -359,40 +394,64 @@ impl Kept {
         }
     }
 
-    /// The verdict after a line of this number with this fact, which is kept already.
-    fn judged(&self, nodes: &Nodes, fact: &Option<Fact>, out: &TraceOut, number: u64) -> Verdict
-        ensures { accepted_count self.now.verdict < 18446744073709551615
-            → result ≡ judged nodes.now (facts_of self.now) (once_in self.now.stays) (stamps_of self.now)
-            (sites_of self.now) fact.now out.now number self.now.verdict }
+    /// What the report of a line with this fact, which is kept already, is judged to be; none where the
+    /// line has no report.
+    fn line_judgement(
+        &self,
+        nodes: &Nodes,
+        fact: &Option<Fact>,
+        out: &TraceOut,
+    ) -> Option<Judgement>
+        ensures { result ≡ line_judgement_by nodes.now (facts_of self.now) (once_in self.now.stays) (stamps_of self.now)
+            (sites_of self.now) fact.now out.now }
     {
-        let (Verdict::Accepted(count), TraceOut::Report(report)) = (self.verdict, out) else {
-            return self.verdict;
-        };
-        match self.reason(nodes, fact, report) {
-            Some(why) => Verdict::Refused { line: number, why },
-            None => Verdict::Accepted(count.saturating_add(1)),
+        match out {
+            TraceOut::Report(report) => Some(self.judgement(nodes, fact, report)),
+            _ => None,
         }
     }
 
-    /// Takes in one more line. Where memory for it is refused, nothing changes.
-    pub(crate) fn step(&mut self, nodes: &Nodes, line: &TraceLine) -> Result<(), CheckFault>
+    /// Takes in one more line, and answers what its report is judged to be, where it has one. Where
+    /// memory for it is refused, nothing changes.
+    pub(crate) fn step(
+        &mut self,
+        nodes: &Nodes,
+        line: &TraceLine,
+    ) -> Result<Option<Judgement>, CheckFault>
         ensures kept { (count : ℕ) (m : Machine) → IsKept self.old count m → MatchResult result
-            (λ _. IsKept self.new (count + 1) (after_line nodes.now line.now count m))
+            (λ answer. IsKept self.new (count + 1) (after_line nodes.now line.now count m)
+            × (answer ≡ judgement_after nodes.now line.now count m))
             (λ _. IsKept self.new count m) }
     {
         let number = self.facts.len() as u64;
-        let fact = self.fact(nodes, line, number);
+        let known = self.known(nodes, line, number);
+        let journey = self.journey(&known, &line.event)?;
+        let fact = self.fact(nodes, line, &known, &journey);
         if self.facts.push(fact).is_err() {
             return Err(CheckFault::Memory);
         }
         let total = self.facts.len() as u64;
-        let verdict = self.judged(nodes, &fact, &line.out, total - 1);
+        let answer = self.line_judgement(nodes, &fact, &line.out);
+        let verdict = with_judgement(self.verdict, &answer, total - 1);
         if self.note_fact(&fact, number).is_err() {
             self.facts.pop();
             return Err(CheckFault::Memory);
         }
         self.verdict = verdict;
-        Ok(())
+        Ok(answer)
+    }
+}
+
+/// The verdict after the line of this number, whose report is judged to be this.
+fn with_judgement(verdict: Verdict, answer: &Option<Judgement>, number: u64) -> Verdict
+    ensures { accepted_count verdict < 18446744073709551615 → result ≡ with_judgement answer.now number verdict }
+{
+    let (Verdict::Accepted(count), Some(judgement)) = (verdict, answer) else {
+        return verdict;
+    };
+    match judgement.reasons.as_slice().first().copied() {
+        Some(why) => Verdict::Refused { line: number, why },
+        None => Verdict::Accepted(count.saturating_add(1)),
     }
 }
 

@@ -3,6 +3,7 @@
 #![tactic(auto)]
 
 mod checker;
+mod exchange;
 mod facts;
 mod good;
 mod history;
@@ -10,8 +11,10 @@ mod judging;
 mod kept;
 mod octets;
 mod refusal;
+mod residence;
 mod stays;
 
 pub use checker::{Checker, check};
+pub use exchange::{Exchange, ExchangeLine, Leg, STAYS_MOST, Stay};
 pub use refusal::CheckFault;
-pub use trace_model::{TraceLine, TraceOut, Verdict, Why, laws};
+pub use trace_model::{Judgement, Reasons, Results, TraceLine, TraceOut, Verdict, Why, laws};

@@ -88,13 +88,13 @@ pub(crate) fn sent(
 }
 
 /// A message with a residence added to its correction.
-pub(crate) fn resided(message: &PortMessage, time: u64) -> PortMessage
+pub(crate) fn resided(message: &PortMessage, time: u128) -> PortMessage
     requires { pos 0 ≤ℤ message.now.header.correction.0 }
     ensures value { contents_of result ≡ resided (contents_of message.now) time }
     ensures sign { pos 0 ≤ℤ result.header.correction.0 }
 {
     let mut header = message.header;
-    header.correction = header.correction.plus_residence(u128::from(time));
+    header.correction = header.correction.plus_residence(time);
     header.with_body(message.body)
 }
 

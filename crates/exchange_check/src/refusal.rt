@@ -6,7 +6,8 @@ use thiserror::Error;
 /// Why there is no verdict.
 #[derive(Clone, Copy, Debug, PartialEq, Eq, Error)]
 pub enum CheckFault {
-    /// Memory for a growth was refused.
+    /// Memory for a growth was refused, or a message was in clocks for 2^125 units of 2^-16 ns or longer,
+    /// which takes more than 2^31 stays.
     #[error("memory was refused")]
     Memory,
 }

@@ -56,7 +56,7 @@ const EVENTS: [&str; 22] = [
 ];
 
 /// Lines that are neither.
-const ILL_FORMED: [&str; 72] = [
+pub(crate) const ILL_FORMED: [&str; 72] = [
     "null",
     "7",
     "[]",
@@ -526,7 +526,7 @@ fn a_schedule_is_no_transcript(rt: HostRuntime) -> Result<(), Fail> {
 }
 
 /// Lines that are no line of a transcript.
-const NOT_TRACED: [&str; 74] = [
+pub(crate) const NOT_TRACED: [&str; 74] = [
     "null",
     "[]",
     "{}",

@@ -9,6 +9,10 @@ mod datagrams;
 #[cfg(test)]
 mod devices;
 #[cfg(test)]
+mod explain;
+#[cfg(test)]
+mod flaws;
+#[cfg(test)]
 mod json_lines;
 #[cfg(test)]
 mod program;

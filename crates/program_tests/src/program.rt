@@ -43,6 +43,11 @@ pub(crate) struct Ended {
 }
 
 pub(crate) fn run(alloc: Global, line: &str, input: &[u8]) -> Result<Ended, Fail> {
+    run_beside(alloc, line, input, false)
+}
+
+/// The same where a person reads errors on a terminal, or nobody does.
+fn run_beside(alloc: Global, line: &str, input: &[u8], is_terminal: bool) -> Result<Ended, Fail> {
     let mut arguments = Vec::new(alloc);
     for argument in line.split(' ') {
         arguments.push(String::from_str(alloc, argument)?)?;
@@ -56,6 +61,7 @@ pub(crate) fn run(alloc: Global, line: &str, input: &[u8]) -> Result<Ended, Fail
         &mut reader,
         &mut writer,
         &mut errors,
+        is_terminal,
     );
     Ok(Ended {
         status,
@@ -125,6 +131,55 @@ fn checks_with_status_0_or_1_or_3(rt: HostRuntime) -> Result<(), Fail> {
 }
 
 #[test]
+fn says_more_on_a_terminal(rt: HostRuntime) -> Result<(), Fail> {
+    let long = [b'0'; 4097];
+    let cases: [(&str, &[u8], &[u8]); 7] = [
+        ("ptpx show", SYNC, b""),
+        (
+            "ptpx show",
+            b"xy\n",
+            b"ptpx: fault 806 at line 1\n\
+ptpx: 806 is a line that isn't pairs of hexadecimal digits, or has too many\n",
+        ),
+        (
+            "ptpx replay",
+            NO_REPORT,
+            b"ptpx: fault 806 at line 2\n\
+ptpx: 806 is a line that isn't what a schedule asks for; 'ptpx explain' says what is wrong with it\n",
+        ),
+        (
+            "ptpx replay",
+            SCHEDULE,
+            b"ptpx: fault 807 (604) at line 2\n\
+ptpx: 807 is a network or an event that can't be; 'ptpx explain' says why\n",
+        ),
+        (
+            "ptpx check",
+            SCHEDULE,
+            b"ptpx: fault 806 at line 2\n\
+ptpx: 806 is a line that isn't what a transcript asks for; 'ptpx explain' says what is wrong with it\n",
+        ),
+        (
+            "ptpx check",
+            SYNC,
+            b"ptpx: fault 805 at line 1\n\
+ptpx: 805 is a line that isn't UTF-8 or isn't JSON; 'ptpx explain' says where\n",
+        ),
+        (
+            "ptpx check",
+            &long,
+            b"ptpx: fault 803 at line 1\n\
+ptpx: 803 is a line of more than 4096 octets; 'ptpx explain' says what the input looks like\n",
+        ),
+    ];
+    for (line, input, said) in cases {
+        let ended = run_beside(rt.alloc(), line, input, true)?;
+        assert_eq!(rt; ended.errors.as_slice(), said, "{line}");
+    }
+    Ok(())
+}
+
+#[test]
 fn says_faults_with_status_3(rt: HostRuntime) -> Result<(), Fail> {
     let long = [b'0'; 4097];
     let cases: [(&[u8], &[u8]); 3] = [
@@ -174,6 +229,7 @@ fn says_which_device_failed(rt: HostRuntime) -> Result<(), Fail> {
         &mut Counted::new(Broken),
         &mut Counted::new(Vec::new(alloc)),
         &mut errors,
+        false,
     );
     assert_eq!(rt; status, 3);
     assert_eq!(rt;
@@ -188,6 +244,7 @@ fn says_which_device_failed(rt: HostRuntime) -> Result<(), Fail> {
         &mut Counted::new(SYNC),
         &mut Counted::new(Broken),
         &mut errors,
+        false,
     );
     assert_eq!(rt; status, 3);
     assert_eq!(rt;
@@ -203,6 +260,7 @@ fn says_which_device_failed(rt: HostRuntime) -> Result<(), Fail> {
         &mut Counted::new(SYNC),
         &mut full,
         &mut errors,
+        false,
     );
     assert_eq!(rt; status, 3);
     assert_eq!(rt;
@@ -221,6 +279,7 @@ fn says_which_device_failed(rt: HostRuntime) -> Result<(), Fail> {
         &mut Counted::new(Broken),
         &mut Counted::new(Broken),
         &mut Broken,
+        false,
     );
     assert_eq!(rt; status, 3, "what can't be said is passed over");
     Ok(())
@@ -303,7 +362,7 @@ fn says_in_help_what_is_read_and_written(rt: HostRuntime) -> Result<(), Fail> {
 const MISTAKES: [(&str, &str); 30] = [
     (
         "ptpx",
-        "'ptpx' requires a subcommand but one was not provided\n  [subcommands: show, replay, check, measure, help]\n\nUsage: ptpx <COMMAND>\n",
+        "'ptpx' requires a subcommand but one was not provided\n  [subcommands: show, replay, check, measure, explain, help]\n\nUsage: ptpx <COMMAND>\n",
     ),
     ("ptpx --", "'ptpx' requires a subcommand"),
     (
@@ -413,6 +472,7 @@ fn refuses_other_words_with_status_2(rt: HostRuntime) -> Result<(), Fail> {
         &mut Counted::new(SYNC),
         &mut Counted::new(Broken),
         &mut errors,
+        false,
     );
     assert_eq!(rt; status, 2, "no arguments at all");
     Ok(())

@@ -2,7 +2,7 @@
 #![tactic(auto)]
 
 use schedule_replay::{Counted, OctetReader, command};
-use std::io::ErrorKind;
+use std::io::{ErrorKind, IsTerminal};
 use std::process::ExitCode;
 use std::{env, io};
 
@@ -32,6 +32,7 @@ fn run(rt: &HostRuntime) -> u8 {
         &mut input,
         &mut output,
         &mut rt.stderr(),
+        rt.stderr().is_terminal(),
     )
 }
 

@@ -16,3 +16,4 @@ pub mod ToldTags
 pub mod ToldLines
 pub mod ShownTexts
 pub mod LineTexts
+pub mod Values

@@ -1,17 +1,22 @@
--- The values of JSON fields.
+-- The JSON value of a line, and the values of its fields.
 use Rattle.std.specs.Prelude.{ℕ, ◌==◌, ◌&&◌, nat_lt, nat_le, ℤ, pos, negsuc, int_le, neg_ℤ, List, length, drop}
 use Rattle.std.specs.Prelude.{slice_index, codes, Bool, false, if◌then◌else◌, Option, Some, None, option_map}
 use Rattle.std.specs.Prelude.{option_and_then, unwrap_or}
 use Rattle.std.specs.List.{list_all}
 use Rattle.std.specs.Result.{result_ok}
-use Rattle.std.specs.Str.{all_ascii_digits, bytes_eq}
+use Rattle.std.specs.Str.{all_ascii_digits, bytes_eq, is_utf8}
 use Rattle.std.specs.Str.Parse.{digits_value}
 use Rattle.hex.specs.Hex.{decode_of, decode_sized}
 use Rattle.serde_json.specs.Data.{Data}
+use Rattle.serde_json.specs.Read.{read}
 use Rattle.serde_json.specs.Events.{items_len, members_len}
 use Rattle.serde_json.specs.Find.{get, at, as_number, as_str, as_array, as_object, as_u64, as_i64}
 use Rattle.ptp_units.specs.Moment.{stamp, moment}
 use Rattle.network_model.specs.Name.{is_name_octet}
+
+-- the JSON value that a line is; None where it isn't UTF-8 or isn't JSON
+abbrev pub value_in : List ℕ → Option Data
+value_in line = if is_utf8 line then read line else None
 
 -- a whole number from 0 to 2^64 - 1, written without a point or an exponent
 abbrev pub whole_in : Data → Option ℕ

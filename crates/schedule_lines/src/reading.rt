@@ -4,6 +4,8 @@ mod fields;
 mod kind;
 mod schedule;
 mod transcript;
+mod value;
 
 pub use schedule::Line;
 pub use transcript::TranscriptLine;
+pub use value::line_value;

@@ -11,11 +11,12 @@ use Rattle.network_model.specs.Run.{Run}
 use Rattle.schedule_lines.specs.declared.reading.schedule.Line.{Line}
 use Rattle.schedule_lines.specs.declared.reading.schedule.Line.TheVariants as entries
 use Rattle.text_lines.specs.Lines.{AreRead}
-use Rattle.schedule_replay.specs.declared.fault.TaskFault.{TaskFault}
-use Rattle.schedule_replay.specs.declared.fault.TaskFault.TheVariants.{Json, Field, Memory}
-use Rattle.schedule_replay.specs.Lines.{lines_limit, value_in, read_by}
-use Rattle.schedule_replay.specs.Schedule.{entry_in}
-use Rattle.schedule_replay.specs.Inner.Stage.{IsOwnFault}
+use Rattle.schedule_reading.specs.declared.fault.TaskFault.{TaskFault}
+use Rattle.schedule_reading.specs.declared.fault.TaskFault.TheVariants.{Json, Field, Memory}
+use Rattle.schedule_reading.specs.Entry.{lines_limit, read_by}
+use Rattle.schedule_lines.specs.Json.{value_in}
+use Rattle.schedule_reading.specs.Entry.{entry_in}
+use Rattle.schedule_reading.specs.Entry.{IsOwnFault}
 
 -- ---- a line
 

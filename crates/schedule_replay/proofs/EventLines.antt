@@ -10,10 +10,10 @@ use Rattle.world_model.specs.State.{State, after}
 use Rattle.trace_model.specs.declared.line.TraceLine.{TraceLine}
 use Rattle.trace_model.specs.Told.{TellsAnswer}
 use Rattle.schedule_lines.specs.Written.{event_data, line_text}
-use Rattle.schedule_replay.specs.declared.fault.TaskFault.{TaskFault}
-use Rattle.schedule_replay.specs.declared.fault.TaskFault.TheVariants as tasks
+use Rattle.schedule_reading.specs.declared.fault.TaskFault.{TaskFault}
+use Rattle.schedule_reading.specs.declared.fault.TaskFault.TheVariants as tasks
 use Rattle.schedule_replay.specs.Replay.{IsEventLine}
-use Rattle.schedule_replay.specs.Inner.Stage.{LeavesUnwritten}
+use Rattle.schedule_replay.specs.Inner.Replaying.{LeavesUnwritten}
 use Rattle.schedule_replay.specs.Inner.Replaying.{WritesNone, StopsEvent}
 
 pub told_line : (old new : State) (event : Event) (stepped : Stepped) (recorded : TraceLine) (value : Data)

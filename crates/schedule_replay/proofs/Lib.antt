@@ -2,7 +2,6 @@ pub mod Entries
 pub mod NodeLines
 pub mod EventLines
 pub mod StageLines
-pub mod RecordLines
 pub mod WorkedSchedule
 pub mod Transcribed
 pub mod OneTranscript

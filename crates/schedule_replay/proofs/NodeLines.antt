@@ -8,14 +8,14 @@ use Rattle.network_model.specs.declared.refusal.WorldRefusal.TheVariants.{SameNa
 use Rattle.network_model.specs.Network.{Network}
 use Rattle.network_model.specs.Clash.{first_clash}
 use Rattle.schedule_lines.specs.Written.{node_data, line_text}
-use Rattle.schedule_replay.specs.declared.fault.TaskFault.{TaskFault}
-use Rattle.schedule_replay.specs.declared.fault.TaskFault.TheVariants as tasks
-use Rattle.schedule_replay.specs.Inner.Fault.{fault_of}
-use Rattle.schedule_replay.specs.Schedule.{FaultsAtEnd}
+use Rattle.schedule_reading.specs.declared.fault.TaskFault.{TaskFault}
+use Rattle.schedule_reading.specs.declared.fault.TaskFault.TheVariants as tasks
+use Rattle.schedule_reading.specs.Fault.{fault_of}
+use Rattle.schedule_reading.specs.Schedule.{FaultsAtEnd}
 use Rattle.schedule_replay.specs.Replay.{nodes_text, NodesGoOut}
 use Rattle.text_lines.specs.Task.{WentOut}
-use Rattle.schedule_replay.specs.Fault.{is_write}
-use Rattle.schedule_replay.specs.Inner.Stage.{LeavesUnwritten}
+use Rattle.schedule_reading.specs.Fault.{is_write}
+use Rattle.schedule_replay.specs.Inner.Replaying.{LeavesUnwritten}
 
 -- one node more
 pub nodes_text-more : (count : ℕ) (nodes : Network) (node : NodeSpec) → count < length nodes → node ≡ get_or nodes count node

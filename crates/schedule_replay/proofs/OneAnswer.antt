@@ -22,8 +22,8 @@ use Rattle.text_lines.specs.declared.fault.Stopped.{Stopped}
 use Rattle.text_lines.specs.Task.{Rules, Answers}
 use Rattle.text_lines.proofs.OneAnswer.{HasOneCourse, AreOneAnswer, one_answer, course_of_all, course_until}
 use Rattle.text_lines.proofs.OneAnswer as courses
-use Rattle.schedule_replay.specs.declared.fault.TaskFault.{TaskFault}
-use Rattle.schedule_replay.specs.declared.fault.TaskFault.TheVariants.{Write, Json, Field, World, Memory}
+use Rattle.schedule_reading.specs.declared.fault.TaskFault.{TaskFault}
+use Rattle.schedule_reading.specs.declared.fault.TaskFault.TheVariants.{Write, Json, Field, World, Memory}
 use Rattle.schedule_replay.specs.declared.fault.FaultKind.{FaultKind}
 use Rattle.capture_measure.specs.declared.measuring.Form.{Form}
 use Rattle.capture_measure.specs.declared.measuring.MeasureFault.{MeasureFault}
@@ -33,14 +33,19 @@ use Rattle.capture_measure.specs.Row.{Row}
 use Rattle.capture_measure.specs.Measure as recordings
 use Rattle.capture_measure.specs.Measure.{Recording, IsNext, Takes, Stops, with_row, written_of, is_of_writer, measure_rules, head_text, Measures}
 use Rattle.schedule_replay.specs.declared.fault.Fault.{Fault}
-use Rattle.schedule_replay.specs.Fault.{of_task, kind_of, kind_at, of_measuring, measuring_kind, is_write}
+use Rattle.schedule_replay.specs.Fault.{of_task, kind_of, kind_at, of_measuring, measuring_kind}
+use Rattle.schedule_reading.specs.Fault.{is_write}
 use Rattle.schedule_replay.specs.Answer.{Says}
-use Rattle.schedule_replay.specs.Schedule.{entry_in, refusal_of, FaultsIn, FaultsAtEnd}
+use Rattle.schedule_reading.specs.Entry.{entry_in}
+use Rattle.schedule_reading.specs.Schedule.{refusal_of, FaultsIn, FaultsAtEnd}
 use Rattle.schedule_replay.specs.Show.{StopsShowing, show_rules, Shows}
 use Rattle.schedule_replay.specs.Replay as replays
 use Rattle.schedule_replay.specs.Replay.{IsEventLine, NodesGoOut, GoesOut, replay_rules, Replays}
-use Rattle.schedule_replay.specs.CheckText as checks
-use Rattle.schedule_replay.specs.CheckText.{Recorded, recorded_in, IsOutOfPlace, FaultsInTranscript, FaultsAtTranscriptEnd, verdict_text, check_rules, Checks}
+use Rattle.schedule_reading.specs.Transcript as transcripts
+use Rattle.schedule_reading.specs.Transcript.{Recorded, IsOutOfPlace, FaultsInTranscript}
+use Rattle.schedule_reading.specs.Entry.{recorded_in}
+use Rattle.schedule_replay.specs.CheckText.{FaultsAtTranscriptEnd, check_rules, Checks}
+use Rattle.schedule_reading.specs.Verdict.{verdict_text}
 use Rattle.schedule_replay.specs.Accepted.{IsOfDevice}
 use Rattle.schedule_replay.specs.OneAnswer.{IsOfInput, WroteOneText, HasOneAnswer}
 use Rattle.schedule_replay.proofs.OneText as texts
@@ -259,12 +264,12 @@ the_record_fault s line Field sure (inl error) = ap (record_fault s) error
 the_record_fault s line Field sure (inr (entry, is, out)) = ap (record_fault s) is ∙ out_of_place s entry out
 the_record_fault s line (World why) sure (first, is, none, clash) = ap (record_fault s) is ∙ clashes s why none clash
 
-no_record_fault : (s later : Recorded) (entry : TranscriptLine) → checks.Follows entry s later → record_fault s (Ok entry) ≡ None
+no_record_fault : (s later : Recorded) (entry : TranscriptLine) → transcripts.Follows entry s later → record_fault s (Ok entry) ≡ None
 no_record_fault s later (recorded.Node node) (first, is) = ap where_begun first
 no_record_fault s later (recorded.Event number line) (place, network, is) =
     ap (at_place s) place ∙ rw (eq-eqb (length s.lines) (length s.lines) refl) (ap (option_map World) network)
 
-one_recorded : (s one other : Recorded) (entry : TranscriptLine) → checks.Follows entry s one → checks.Follows entry s other → other ≡ one
+one_recorded : (s one other : Recorded) (entry : TranscriptLine) → transcripts.Follows entry s one → transcripts.Follows entry s other → other ≡ one
 one_recorded s one other (recorded.Node node) h k = k.1 ∙ sym h.1
 one_recorded s one other (recorded.Event number line) h k = k.2 ∙ sym h.2
 
@@ -279,7 +284,7 @@ pub check_course : HasOneCourse check_rules IsDevices
 check_course = record {
   one_step = λ line s one other text text' (entry, is, follows, none) (entry', is', follows', none').
       let same : entry' ≡ entry = cc (is, is') in
-      (one_recorded s one other entry follows (subst (λ (e : TranscriptLine). checks.Follows e s other) same follows'), none' ∙ sym none);
+      (one_recorded s one other entry follows (subst (λ (e : TranscriptLine). transcripts.Follows e s other) same follows'), none' ∙ sym none);
   no_fault = λ line s later text text' kind sure (entry, is, follows, nothing) stops.
       let none = ap (record_fault s) is ∙ no_record_fault s later entry follows in
       let some = the_record_fault s line kind sure stops.0 in
@@ -351,7 +356,7 @@ pub replays_one : HasOneAnswer kind_at Replays
 replays_one = says_one replay_rules replays.nothing replay_course
 
 pub checks_one : HasOneAnswer kind_at Checks
-checks_one = says_one check_rules checks.nothing check_course
+checks_one = says_one check_rules transcripts.nothing check_course
 
 pub measures_one : (form : Form) (wanted : Wanted) → HasOneAnswer measuring_kind (Measures form wanted)
 measures_one form wanted octets left before after left' before' after' answer answer' (headed, head, says) (headed', head', says') sure sure' =

@@ -8,8 +8,10 @@ use Rattle.trace_model.specs.Verdict.{verdict}
 use Rattle.trace_model.specs.Complete.{MissesNothing}
 use Rattle.schedule_lines.specs.declared.reading.transcript.TranscriptLine.{TranscriptLine}
 use Rattle.schedule_replay.specs.Replay.{nodes_text}
-use Rattle.schedule_replay.specs.CheckText.{nothing, numbered, transcript_of, Recorded, AreRecorded, Follows, check_rules}
-use Rattle.schedule_replay.specs.CheckText.{ChecksAll, verdict_text}
+use Rattle.schedule_reading.specs.Transcript.{nothing, Recorded, Follows}
+use Rattle.schedule_replay.specs.CheckText.{numbered, transcript_of, AreRecorded, check_rules}
+use Rattle.schedule_replay.specs.CheckText.{ChecksAll}
+use Rattle.schedule_reading.specs.Verdict.{verdict_text}
 use Rattle.schedule_replay.specs.Accepted.{EachRunIsAccepted, IsOfDevice, EachRunIsChecked}
 use Rattle.network_model.proofs.ExactPremises.{IsExact}
 use Rattle.schedule_replay.proofs.Transcribed.{transcribed}

@@ -15,9 +15,10 @@ use Rattle.schedule_lines.specs.declared.reading.schedule.Line.{Line}
 use Rattle.schedule_lines.specs.Line.{line_of}
 use Rattle.schedule_lines.specs.Ranges.{IsNode, IsEvent, IsLine}
 use Rattle.schedule_lines.proofs.Ranges.{reads_in_range}
-use Rattle.schedule_replay.specs.declared.fault.TaskFault.{TaskFault}
-use Rattle.schedule_replay.specs.declared.fault.TaskFault.TheVariants.{Field}
-use Rattle.schedule_replay.specs.Lines.{lines_limit, value_in, read_by}
+use Rattle.schedule_reading.specs.declared.fault.TaskFault.{TaskFault}
+use Rattle.schedule_reading.specs.declared.fault.TaskFault.TheVariants.{Field}
+use Rattle.schedule_reading.specs.Entry.{lines_limit, read_by}
+use Rattle.schedule_lines.specs.Json.{value_in}
 use Rattle.schedule_replay.proofs.Entries.{AreEntries, schedule_of}
 use Rattle.schedule_replay.specs.Accepted.{IsInRange, EachReplayIsAccepted}
 use Rattle.network_model.proofs.ExactPremises.{IsExact}

@@ -12,14 +12,16 @@ use Rattle.network_model.specs.Run.{Run}
 use Rattle.network_model.specs.Clash.{first_clash}
 use Rattle.world_model.specs.State.{State, new_state, after}
 use Rattle.schedule_lines.specs.declared.reading.schedule.Line.TheVariants as entries
-use Rattle.schedule_replay.specs.declared.fault.TaskFault.{TaskFault}
-use Rattle.schedule_replay.specs.declared.fault.TaskFault.TheVariants.{Write, Json, Field, World, Memory}
-use Rattle.schedule_replay.specs.declared.stage.Stage.{Stage}
-use Rattle.schedule_replay.specs.declared.stage.Stage.TheVariants.{Nodes, Events}
-use Rattle.schedule_replay.specs.Fault.{is_write}
-use Rattle.schedule_replay.specs.Schedule.{entry_in, FaultsIn, FaultsAtEnd}
+use Rattle.schedule_reading.specs.declared.fault.TaskFault.{TaskFault}
+use Rattle.schedule_reading.specs.declared.fault.TaskFault.TheVariants.{Write, Json, Field, World, Memory}
+use Rattle.schedule_reading.specs.declared.stage.Stage.{Stage}
+use Rattle.schedule_reading.specs.declared.stage.Stage.TheVariants.{Nodes, Events}
+use Rattle.schedule_reading.specs.Fault.{is_write}
+use Rattle.schedule_reading.specs.Entry.{entry_in}
+use Rattle.schedule_reading.specs.Schedule.{FaultsIn, FaultsAtEnd}
 use Rattle.schedule_replay.specs.Replay.{nodes_text, IsEventLine, owed, NodesGoOut, GoesOut, Follows, replay_rules}
-use Rattle.schedule_replay.specs.Inner.Stage.{nodes_in, HasOneMore, IsOwnFault}
+use Rattle.schedule_reading.specs.Stage.{nodes_in, HasOneMore, IsStill}
+use Rattle.schedule_reading.specs.Entry.{IsOwnFault}
 use Rattle.schedule_replay.specs.Inner.Replaying.{state_of, IsReplaying, WritesNone, StopsEvent, StopsAt}
 use Rattle.text_lines.specs.Task.{WentOut}
 use Rattle.schedule_replay.proofs.NodeLines.{Unbegun}
@@ -184,14 +186,14 @@ pub node_taken : {A : Type 0} (r : Result A TaskFault) (stage later : Stage Stat
     (node : NodeSpec) (at : Option (List ℕ))
     → entry_in line ≡ Ok (entries.Node node) → (state_of stage ≡ state) × IsReplaying stage
     → MatchResult r (λ _. HasOneMore node stage later)
-    (λ fault. (fault ≡ Memory) ⊎ ((fault ≡ Field) × (nodes_in stage ≡ None)))
+    (λ fault. IsStill stage later × ((fault ≡ Memory) ⊎ ((fault ≡ Field) × (nodes_in stage ≡ None))))
     → IsTaken r later state line at at
 node_taken (Ok x) stage later state line node at is (same, stands) more =
     let (begun, follows) = pushed stage later node more in
     (state_of later, [], (refl, begun), (entries.Node node, is, rw same at follows), Appends-nil at)
-node_taken (Err fault) stage later state line node at is (same, stands) (inl memory) =
+node_taken (Err fault) stage later state line node at is (same, stands) (still, inl memory) =
     untaken_node fault state line node at is (inl memory)
-node_taken (Err fault) stage later state line node at is (same, stands) (inr (field, none)) =
+node_taken (Err fault) stage later state line node at is (same, stands) (still, inr (field, none)) =
     untaken_node fault state line node at is (inr (field, rw same at (after_event stage stands none)))
 
 pub event_taken : {A : Type 0} (r : Result A TaskFault) (stage later : Stage State) (state : State) (line : List ℕ)

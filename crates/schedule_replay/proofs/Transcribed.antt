@@ -25,12 +25,13 @@ use Rattle.schedule_lines.specs.Ranges.{IsNode, IsEvent, IsRecorded, IsTagged}
 use Rattle.schedule_lines.proofs.Nodes.{nodes_back}
 use Rattle.schedule_lines.proofs.Printed.{event_texts_back, node_texts_back}
 use Rattle.schedule_lines.proofs.ReadBack.{reads_back}
-use Rattle.schedule_replay.specs.declared.fault.TaskFault.{TaskFault}
-use Rattle.schedule_replay.specs.declared.fault.TaskFault.TheVariants.{Field}
+use Rattle.schedule_reading.specs.declared.fault.TaskFault.{TaskFault}
+use Rattle.schedule_reading.specs.declared.fault.TaskFault.TheVariants.{Field}
 use Rattle.text_lines.specs.Lines.{lines_of, without_cr, line_limit, reading_fault}
-use Rattle.schedule_replay.specs.Lines.{lines_limit, read_by}
+use Rattle.schedule_reading.specs.Entry.{lines_limit, read_by}
 use Rattle.schedule_replay.specs.Replay.{nodes_text, WritesRun}
-use Rattle.schedule_replay.specs.CheckText.{recorded_in, AreRecorded, numbered}
+use Rattle.schedule_reading.specs.Entry.{recorded_in}
+use Rattle.schedule_replay.specs.CheckText.{AreRecorded, numbered}
 use Rattle.schedule_replay.specs.Accepted.{EachRunIsTranscribed}
 use Rattle.text_lines.proofs.Cutting.{IsUnended, lines_of-ended}
 use Rattle.schedule_replay.proofs.Entries.{value_read}

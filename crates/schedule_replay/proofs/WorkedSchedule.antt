@@ -5,8 +5,8 @@ use Rattle.serde_json.proofs.OnLiterals.{serde_json_on_literals}
 use Rattle.network_model.specs.declared.event.Event.TheVariants as events
 use Rattle.network_model.specs.declared.node.NodeKind.TheVariants as kinds
 use Rattle.schedule_lines.specs.declared.reading.schedule.Line.TheVariants as entries
-use Rattle.schedule_replay.specs.declared.fault.TaskFault.TheVariants.{Json, Field}
-use Rattle.schedule_replay.specs.Schedule.{entry_in}
+use Rattle.schedule_reading.specs.declared.fault.TaskFault.TheVariants.{Json, Field}
+use Rattle.schedule_reading.specs.Entry.{entry_in}
 use Rattle.schedule_replay.proofs.Entries.{schedule_of}
 use Rattle.schedule_replay.specs.Replay.{nodes_text}
 

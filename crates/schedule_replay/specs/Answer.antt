@@ -6,7 +6,7 @@ use Rattle.text_lines.specs.declared.fault.Cause.{Cause}
 use Rattle.text_lines.specs.Counted.{device_of}
 use Rattle.text_lines.specs.Task.{Rules, AnswersAll, AnswersUntil}
 use Rattle.schedule_replay.specs.declared.fault.Fault.{Fault}
-use Rattle.schedule_replay.specs.declared.fault.TaskFault.{TaskFault}
+use Rattle.schedule_reading.specs.declared.fault.TaskFault.{TaskFault}
 use Rattle.schedule_replay.specs.Fault.{kind_of}
 
 -- the lines of an input of these octets were taken up to a fault

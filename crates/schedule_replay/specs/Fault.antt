@@ -1,10 +1,10 @@
 -- The numbers of the faults, and which device failed.
-use Rattle.std.specs.Prelude.{ℕ, Bool, true, false, MatchResult, Result}
+use Rattle.std.specs.Prelude.{ℕ, MatchResult, Result}
 use Rattle.text_lines.specs.declared.counted.Counted.{Counted}
 use Rattle.schedule_replay.specs.declared.fault.Fault.{Fault}
 use Rattle.schedule_replay.specs.declared.fault.FaultKind.{FaultKind}
-use Rattle.schedule_replay.specs.declared.fault.TaskFault.{TaskFault}
-use Rattle.schedule_replay.specs.declared.fault.TaskFault.TheVariants as tasks
+use Rattle.schedule_reading.specs.declared.fault.TaskFault.{TaskFault}
+use Rattle.schedule_reading.specs.declared.fault.TaskFault.TheVariants as tasks
 use Rattle.schedule_replay.specs.declared.fault.FaultKind.TheVariants.{Read, Write, LineTooLong, TooManyLines, Json}
 use Rattle.schedule_replay.specs.declared.fault.FaultKind.TheVariants.{Field, World, Memory}
 use Rattle.capture_measure.specs.declared.measuring.MeasureFault.{MeasureFault}
@@ -60,11 +60,6 @@ kind_at fault = fault.what
 -- the kind of what stopped `measure`
 abbrev pub measuring_kind : Stopped (Cause MeasureFault) → FaultKind
 measuring_kind stop = of_measuring stop.what
-
--- whether this fault says that the writer failed
-abbrev pub is_write : TaskFault → Bool
-is_write tasks.Write = true
-is_write fault = false
 
 -- which of the two devices failed where this is answered
 abbrev pub FailedAs : {R W : Type 0} → FaultKind → (input input' : Counted R) (output output' : Counted W) → Type 0

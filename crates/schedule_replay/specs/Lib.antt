@@ -1,8 +1,6 @@
 pub mod Fault
-pub mod Lines
 pub mod Answer
 pub mod Show
-pub mod Schedule
 pub mod Replay
 pub mod Program
 pub mod CheckText

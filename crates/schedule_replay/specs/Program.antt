@@ -1,5 +1,5 @@
 -- What the program answers: its exit status, by what the arguments ask for.
-use Rattle.std.specs.Prelude.{◌≡◌, ◌⊎◌, ℕ, List, Option, Result, Ok, Err, MatchResult, if◌then◌else◌}
+use Rattle.std.specs.Prelude.{◌≡◌, ◌⊎◌, ℕ, Bool, true, false, List, Option, Result, Ok, Err, MatchResult, if◌then◌else◌}
 use Rattle.std.specs.Io.KnownBytes.{Appends}
 use Rattle.text_lines.specs.declared.counted.Counted.{Counted}
 use Rattle.text_lines.specs.Counted.{device_of, HasFailed, HasNotFailed}
@@ -8,8 +8,16 @@ use Rattle.schedule_replay.specs.declared.fault.Fault.{Fault}
 use Rattle.trace_model.specs.declared.verdict.Verdict.{Verdict}
 use Rattle.trace_model.specs.declared.verdict.Verdict.TheVariants.{Accepted, Refused}
 use Rattle.command_line.specs.declared.arguments.Subcommand.{Subcommand}
-use Rattle.command_line.specs.declared.arguments.Subcommand.TheVariants.{Show, Replay, Check, Measure}
+use Rattle.command_line.specs.declared.arguments.Subcommand.TheVariants.{Show, Replay, Check, Measure, Explain}
 use Rattle.command_line.specs.declared.measure.MeasureOptions.{MeasureOptions}
+use Rattle.command_line.specs.declared.explain.ExplainOptions.{ExplainOptions}
+use Rattle.exchange_explain.specs.declared.explaining.Explained.{Explained}
+use Rattle.exchange_explain.specs.declared.explaining.Explained.TheVariants.{Whole, Flawed}
+use Rattle.exchange_explain.specs.declared.input.Found.{Found}
+use Rattle.exchange_explain.specs.declared.input.Found.TheVariants.{Transcript, Schedule}
+use Rattle.schedule_reading.specs.declared.fault.TaskFault.{TaskFault}
+use Rattle.exchange_explain.specs.Explained.{ExplainsAnswer, ExplainFailedWith}
+use Rattle.exchange_explain.specs.Judgements.{JudgesAnswer, judgement_rules}
 use Rattle.text_lines.specs.declared.fault.Cause.{Cause}
 use Rattle.text_lines.specs.declared.fault.Stopped.{Stopped}
 use Rattle.capture_measure.specs.declared.measuring.Form.{Form}
@@ -56,6 +64,47 @@ RunsMeasure remaining contents options status input input' output output' =
     × MeasureFailedWith answer input input' output output'
     × MeasuresAnswer (form_of options) (wanted_of options) remaining contents answer input input' output output'
 
+-- the exit status of `explain` over a whole input: that of `check` or of `replay`
+abbrev pub found_status : Found → ℕ
+found_status (Transcript (Accepted count)) = 0
+found_status (Transcript (Refused number why)) = 1
+found_status (Schedule events) = 0
+
+-- the exit status of `explain --json`, by its answer
+abbrev pub judging_status : Result Found (Stopped (Cause TaskFault)) → ℕ
+judging_status (Ok found) = found_status found
+judging_status (Err stop) = 3
+
+-- the exit status of `explain`, by its answer
+abbrev pub explaining_status : Result Explained (Stopped (Cause TaskFault)) → ℕ
+explaining_status (Ok (Whole found)) = found_status found
+explaining_status (Ok (Flawed line what)) = 3
+explaining_status (Err stop) = 3
+
+-- which of the two devices failed at this answer of `explain --json`
+abbrev pub JudgingFailedWith : {R W : Type 0} → Result Found (Stopped (Cause TaskFault))
+    → (input input' : Counted R) (output output' : Counted W) → Type 0
+JudgingFailedWith answer input input' output output' = MatchResult answer
+    (λ _. HasNotFailed input input' × HasNotFailed output output')
+    (λ stop. FailedAt judgement_rules stop.what input input' output output')
+
+-- `explain` ran, as JSON or as text: its answer gave the status, and says what was read and written
+abbrev pub RunsForm : {R W : Type 0} → Bool → (R → Option (List ℕ)) → (W → Option (List ℕ)) → ExplainOptions → ℕ
+    → (input input' : Counted R) (output output' : Counted W) → Type 0
+RunsForm true remaining contents options status input input' output output' =
+    (answer : Result Found (Stopped (Cause TaskFault))) × (status ≡ judging_status answer)
+    × JudgingFailedWith answer input input' output output'
+    × JudgesAnswer options.first remaining contents answer input input' output output'
+RunsForm false remaining contents options status input input' output output' =
+    (answer : Result Explained (Stopped (Cause TaskFault))) × (status ≡ explaining_status answer)
+    × ExplainFailedWith answer input input' output output'
+    × ExplainsAnswer remaining contents answer input input' output output'
+
+abbrev pub RunsExplain : {R W : Type 0} → (R → Option (List ℕ)) → (W → Option (List ℕ)) → ExplainOptions → ℕ
+    → (input input' : Counted R) (output output' : Counted W) → Type 0
+RunsExplain remaining contents options status input input' output output' =
+    RunsForm options.json remaining contents options status input input' output output'
+
 -- what an answer means of what is read and written
 abbrev pub Meaning : (A R W : Type 0) → Type 1
 Meaning A R W = Result A Fault → (input input' : Counted R) (output output' : Counted W) → Type 0
@@ -74,6 +123,7 @@ Runs remaining contents Show = EndsIn status_of (ShowsAnswer remaining contents)
 Runs remaining contents Replay = EndsIn status_of (ReplaysAnswer remaining contents)
 Runs remaining contents Check = EndsIn check_status (ChecksAnswer remaining contents)
 Runs remaining contents (Measure options) = RunsMeasure remaining contents options
+Runs remaining contents (Explain options) = RunsExplain remaining contents options
 
 -- memory was refused before a subcommand ran
 abbrev pub EndsBefore : {R W : Type 0} → ℕ → (input input' : Counted R) (output output' : Counted W) → Type 0

@@ -9,16 +9,17 @@ use Rattle.trace_model.specs.declared.line.TraceLine.{TraceLine}
 use Rattle.trace_model.specs.Told.{TellsEvent}
 use Rattle.schedule_lines.specs.Written.{node_data, event_data, line_text}
 use Rattle.schedule_replay.specs.declared.fault.Fault.{Fault}
-use Rattle.schedule_replay.specs.declared.fault.TaskFault.{TaskFault}
-use Rattle.schedule_replay.specs.declared.fault.TaskFault.TheVariants.{Write, World, Memory}
-use Rattle.schedule_replay.specs.Schedule.{FaultsAtEnd, entry_in, FaultsIn}
+use Rattle.schedule_reading.specs.declared.fault.TaskFault.{TaskFault}
+use Rattle.schedule_reading.specs.declared.fault.TaskFault.TheVariants.{Write, World, Memory}
+use Rattle.schedule_reading.specs.Schedule.{FaultsAtEnd, FaultsIn}
+use Rattle.schedule_reading.specs.Entry.{entry_in}
 use Rattle.text_lines.specs.declared.counted.Counted.{Counted}
 use Rattle.text_lines.specs.Task.{Rules, AnswersAll}
 use Rattle.world_model.specs.State.{State}
 use Rattle.schedule_lines.specs.declared.reading.schedule.Line.{Line}
 use Rattle.schedule_replay.specs.Answer.{Says, SaysAnswer}
-use Rattle.schedule_replay.specs.Fault.{is_write}
-use Rattle.schedule_replay.specs.Lines.{lines_limit}
+use Rattle.schedule_reading.specs.Fault.{is_write}
+use Rattle.schedule_reading.specs.Entry.{lines_limit}
 use Rattle.schedule_lines.specs.declared.reading.schedule.Line.TheVariants as entries
 
 -- the lines of the nodes

@@ -2,14 +2,14 @@
 use Rattle.std.specs.Prelude.{◌≡◌, ℕ, List, [], ◌∷◌, ◌++◌, is_ok, Option, Ok, Result, ⊤, true, false}
 use Rattle.hex.specs.Hex.{decode_of}
 use Rattle.schedule_replay.specs.declared.fault.Fault.{Fault}
-use Rattle.schedule_replay.specs.declared.fault.TaskFault.{TaskFault}
-use Rattle.schedule_replay.specs.declared.fault.TaskFault.TheVariants.{Write, Field, Memory}
+use Rattle.schedule_reading.specs.declared.fault.TaskFault.{TaskFault}
+use Rattle.schedule_reading.specs.declared.fault.TaskFault.TheVariants.{Write, Field, Memory}
 use Rattle.datagram_text.specs.Shown.{IsShownAs}
 use Rattle.text_lines.specs.declared.counted.Counted.{Counted}
 use Rattle.text_lines.specs.Task.{Rules}
 use Rattle.schedule_replay.specs.Answer.{Says, SaysAnswer}
-use Rattle.schedule_replay.specs.Fault.{is_write}
-use Rattle.schedule_replay.specs.Lines.{lines_limit}
+use Rattle.schedule_reading.specs.Fault.{is_write}
+use Rattle.schedule_reading.specs.Entry.{lines_limit}
 
 -- the digits are a datagram in hexadecimal, and this is its text with an LF
 pub record IsAnswer (digits written : List ℕ) : Type 0 where

@@ -1,10 +1,8 @@
 ghost use Rattle.std.specs.Prelude.{◌≡◌};
-ghost use Rattle.schedule_replay.specs.declared.fault.TaskFault.TheVariants.{Memory};
 
 use capture_measure::MeasureFault;
-use exchange_check::CheckFault;
 use network_model::WorldRefusal;
-use std::alloc::{AllocError, AllocFailed};
+use schedule_reading::TaskFault;
 use std::fmt;
 use std::fmt::{Display, Formatter};
 use text_lines::{Cause, ReadingFault, Stopped};
@@ -105,21 +103,6 @@ impl From<ReadingFault> for FaultKind {
     }
 }
 
-/// Why a task doesn't take a line, or its end has no answer.
-#[derive(Clone, Copy)]
-pub(crate) enum TaskFault {
-    /// The writer failed.
-    Write,
-    /// A line isn't UTF-8 or isn't JSON.
-    Json,
-    /// A line isn't what is asked for.
-    Field,
-    /// The nodes are no network, or an event can't happen in it, for this reason.
-    World(WorldRefusal),
-    /// Memory was refused.
-    Memory,
-}
-
 impl From<TaskFault> for FaultKind {
     ghost use Rattle.schedule_replay.specs.Fault.{of_task};
 
@@ -169,42 +152,5 @@ impl From<Stopped<Cause<MeasureFault>>> for Fault {
             line: stop.line,
             what,
         }
-    }
-}
-
-impl From<AllocError> for TaskFault {
-    ghost from_gives = { λ _ fault. fault ≡ Memory };
-
-    fn from(_refused: AllocError) -> TaskFault {
-        TaskFault::Memory
-    }
-}
-
-impl From<WorldRefusal> for TaskFault {
-    ghost use Rattle.schedule_replay.specs.Inner.Fault.{fault_of};
-
-    ghost from_gives = { λ why fault. fault ≡ fault_of why };
-
-    fn from(why: WorldRefusal) -> TaskFault {
-        match why {
-            WorldRefusal::Memory => TaskFault::Memory,
-            why => TaskFault::World(why),
-        }
-    }
-}
-
-impl From<CheckFault> for TaskFault {
-    ghost from_gives = { λ _ fault. fault ≡ Memory };
-
-    fn from(_refused: CheckFault) -> TaskFault {
-        TaskFault::Memory
-    }
-}
-
-impl<T: Drop> From<AllocFailed<T>> for TaskFault {
-    ghost from_gives = { λ _ fault. fault ≡ Memory };
-
-    fn from(_refused: AllocFailed<T>) -> TaskFault {
-        TaskFault::Memory
     }
 }

@@ -4,12 +4,11 @@
 
 mod checking;
 mod fault;
+mod hints;
 pub mod laws;
-mod lines;
 mod program;
 mod replaying;
 mod showing;
-mod stage;
 
 pub use checking::check_text;
 pub use fault::{Fault, FaultKind};

@@ -1,36 +1,41 @@
 ghost use Rattle.std.specs.Prelude.{◌≡◌, ◌≢◌, ◌⊎◌, map, string_bytes};
 ghost use Rattle.command_line.specs.declared.measure.MeasureOptions.{MeasureOptions};
 ghost use Rattle.command_line.specs.declared.arguments.Subcommand.TheVariants.{Measure};
-ghost use Rattle.schedule_replay.specs.Program.{EndsBefore, EndsUnread, Runs, RunsMeasure, check_status, status_of};
+ghost use Rattle.schedule_replay.specs.Program.{EndsBefore, EndsUnread, Runs, RunsMeasure, RunsExplain};
+ghost use Rattle.schedule_replay.specs.Program.{check_status, found_status, status_of};
 ghost use Rattle.command_line.specs.Arguments.{AsksNothing, HasHelpFlag, Names, NamesNothing};
 ghost use Rattle.capture_measure.specs.Measure.{measure_rules};
 ghost use Rattle.schedule_replay.specs.Inner.Allowed.{lines_allowed};
-ghost use Rattle.schedule_replay.specs.Lines.{lines_limit};
+ghost use Rattle.schedule_reading.specs.Entry.{lines_limit};
 ghost use Rattle.text_lines.specs.Lines.{input_limit, GivesWithin};
 
 use crate::checking::check_text;
 use crate::fault::{Fault, FaultKind};
+use crate::hints::Hints;
 use crate::replaying::replay;
 use crate::showing::show;
 use capture_measure::{Form, Wanted, measure};
-use command_line::{Invocation, MeasureOptions, Subcommand, parse};
+use command_line::{ExplainOptions, Invocation, MeasureOptions, Subcommand, parse};
 use exchange_check::Verdict;
+use exchange_explain::{Explained, Found, explain, write_judgements};
 use std::alloc::Global;
 use std::io::{Read, Write};
 use text_lines::Counted;
 
 /// The whole program over its arguments, of which the first is its own name: runs the subcommand that
 /// they name, and answers the exit status. Status 0: done or accepted, or help was asked for, which
-/// goes to `output`. Status 1: `check` refused the transcript. Status 2: the arguments are no command,
+/// goes to `output`. Status 1: `check` or `explain` refused the transcript. Status 2: the arguments are no command,
 /// and the reason goes to `errors`. Status 3: a fault, whose number and line go to `errors`; at line 0
 /// stand want of memory before the subcommand ran, and a help text that can't be written. What can't
-/// be written to `errors` is lost.
+/// be written to `errors` is lost. Where that is a terminal, a line after the fault of `show`, `replay` or
+/// `check` says what its number means, and which subcommand says more.
 pub fn command<R: Read, W: Write, E: Write>(
     alloc: Global,
     words: &[String],
     input: &mut Counted<R>,
     output: &mut Counted<W>,
     errors: &mut E,
+    is_terminal: bool,
 ) -> u8
     // Where they name a subcommand, it gives the status and what is read and written, unless memory was
     // refused before it.
@@ -50,7 +55,10 @@ pub fn command<R: Read, W: Write, E: Write>(
         ((result ≡ 2) ⊎ (result ≡ 3)) × (input.new ≡ input.old) × (output.new ≡ output.old) }
 {
     match parse(alloc, words) {
-        Ok(Invocation::Run(subcommand)) => run(alloc, subcommand, input, output, errors),
+        Ok(Invocation::Run(subcommand)) => {
+            let hints = Hints::of(subcommand, is_terminal);
+            run(alloc, subcommand, input, output, errors, hints)
+        }
         Ok(Invocation::Help(text)) => match output.write_all(text.as_bytes()) {
             Ok(()) => 0,
             Err(_) => report(errors, before_lines(FaultKind::Write)),
@@ -70,15 +78,57 @@ fn run<R: Read, W: Write, E: Write>(
     input: &mut Counted<R>,
     output: &mut Counted<W>,
     errors: &mut E,
+    hints: Hints,
 ) -> u8
     ensures runs { Runs R.remaining W.contents subcommand result input.old input.new output.old output.new }
     ensures bounded { GivesWithin R.remaining (input_limit (lines_allowed subcommand)) input.old input.new }
 {
     match subcommand {
-        Subcommand::Show => finish(errors, show(alloc, input, output)),
-        Subcommand::Replay => finish(errors, replay(alloc, input, output)),
-        Subcommand::Check => finish_check(errors, check_text(alloc, input, output)),
+        Subcommand::Show => finish(errors, hints, show(alloc, input, output)),
+        Subcommand::Replay => finish(errors, hints, replay(alloc, input, output)),
+        Subcommand::Check => finish_check(errors, hints, check_text(alloc, input, output)),
         Subcommand::Measure(options) => run_measure(alloc, options, input, output, errors),
+        Subcommand::Explain(options) => run_explain(alloc, options, input, output, errors),
+    }
+}
+
+/// Explains a transcript or a schedule, and answers the exit status, which is that of `check` or of `replay`.
+fn run_explain<R: Read, W: Write, E: Write>(
+    alloc: Global,
+    options: ExplainOptions,
+    input: &mut Counted<R>,
+    output: &mut Counted<W>,
+    errors: &mut E,
+) -> u8
+    ensures runs { RunsExplain R.remaining W.contents options result input.old input.new output.old output.new }
+    ensures bounded { GivesWithin R.remaining (input_limit lines_limit) input.old input.new }
+{
+    if options.json {
+        return match write_judgements(alloc, options.first, input, output) {
+            Ok(found) => found_status(found),
+            Err(stop) => report(errors, stop.into()),
+        };
+    }
+    match explain(alloc, options.first, input, output) {
+        Ok(Explained::Whole(found)) => found_status(found),
+        Ok(Explained::Flawed { line, what }) => report(
+            errors,
+            Fault {
+                line,
+                what: what.into(),
+            },
+        ),
+        Err(stop) => report(errors, stop.into()),
+    }
+}
+
+/// The exit status of `explain` over a whole input: that of `check` or of `replay`.
+fn found_status(found: Found) -> u8
+    ensures { result ≡ found_status found }
+{
+    match found {
+        Found::Transcript(Verdict::Accepted(_)) | Found::Schedule(_) => 0,
+        Found::Transcript(Verdict::Refused { .. }) => 1,
     }
 }
 
@@ -100,7 +150,7 @@ fn run_measure<R: Read, W: Write, E: Write>(
     };
     let form = if options.csv { Form::Table } else { Form::Json };
     let (answer, summary) = measure(alloc, &wanted, form, input, output);
-    let status = finish(errors, answer);
+    let status = finish(errors, Hints::None, answer);
     summary.tell(errors);
     status
 }
@@ -111,24 +161,35 @@ fn before_lines(what: FaultKind) -> Fault {
 }
 
 /// Answers the exit status of a subcommand that ended, and says its fault.
-fn finish<F: Into<Fault>, E: Write>(errors: &mut E, answer: Result<u64, F>) -> u8
+fn finish<F: Into<Fault>, E: Write>(errors: &mut E, hints: Hints, answer: Result<u64, F>) -> u8
     ensures { result ≡ status_of answer }
 {
     match answer {
         Ok(_) => 0,
-        Err(fault) => report(errors, fault.into()),
+        Err(fault) => report_with(errors, hints, fault.into()),
     }
 }
 
 /// Answers the exit status of `check`, and says its fault.
-fn finish_check<E: Write>(errors: &mut E, answer: Result<Verdict, Fault>) -> u8
+fn finish_check<E: Write>(errors: &mut E, hints: Hints, answer: Result<Verdict, Fault>) -> u8
     ensures { result ≡ check_status answer }
 {
     match answer {
         Ok(Verdict::Accepted(_)) => 0,
         Ok(Verdict::Refused { .. }) => 1,
-        Err(fault) => report(errors, fault),
+        Err(fault) => report_with(errors, hints, fault),
     }
+}
+
+/// Says a fault and the hint to it, and answers the exit status.
+fn report_with<E: Write>(errors: &mut E, hints: Hints, fault: Fault) -> u8
+    ensures { result ≡ 3 }
+{
+    let status = report(errors, fault);
+    if let Some(hint) = hints.hint(fault.what) {
+        let _ = writeln!(errors, "ptpx: {} is {hint}", fault.what.code());
+    }
+    status
 }
 
 /// Says a fault, and answers the exit status.

@@ -7,22 +7,24 @@ ghost use Rattle.network_model.specs.Clash.{first_clash};
 ghost use Rattle.world_model.specs.State.{new_state, after, State};
 ghost use Rattle.schedule_lines.specs.Written.{line_text};
 ghost use Rattle.schedule_lines.specs.declared.reading.schedule.Line.TheVariants as entries;
-ghost use Rattle.schedule_replay.specs.Fault.{FailedWith, is_write};
-ghost use Rattle.schedule_replay.specs.Lines.{lines_limit};
-ghost use Rattle.schedule_replay.specs.Schedule.{entry_in, FaultsAtEnd};
+ghost use Rattle.schedule_replay.specs.Fault.{FailedWith};
+ghost use Rattle.schedule_reading.specs.Fault.{is_write};
+ghost use Rattle.schedule_reading.specs.Entry.{lines_limit};
+ghost use Rattle.schedule_reading.specs.Entry.{entry_in};
+ghost use Rattle.schedule_reading.specs.Schedule.{FaultsAtEnd};
 ghost use Rattle.schedule_replay.specs.Replay.{nodes_text, IsEventLine, ReplaysAnswer, NodesGoOut};
 ghost use Rattle.schedule_replay.specs.Replay.{Follows, replay_rules};
-ghost use Rattle.schedule_replay.specs.Inner.Stage.{IsOwnFault, LeavesUnwritten};
+ghost use Rattle.schedule_reading.specs.Entry.{IsOwnFault};
+ghost use Rattle.schedule_replay.specs.Inner.Replaying.{LeavesUnwritten};
 ghost use Rattle.schedule_replay.specs.Inner.Replaying.{state_of, IsReplaying, WritesNone, StopsEvent, StopsAt};
 ghost use Rattle.text_lines.specs.Counted.{device_of, HasNotFailed, HasFailedIf};
 ghost use Rattle.text_lines.specs.Lines.{input_limit, GivesWithin};
 ghost use Rattle.text_lines.specs.Task.{WentOut};
 
-use crate::fault::{Fault, TaskFault};
-use crate::lines::{LINES_LIMIT, read_value, write_text};
-use crate::stage::Stage;
+use crate::fault::Fault;
 use network_model::{Event, NodeSpec, Nodes};
 use schedule_lines::{Line, event_value, line_text, node_value};
+use schedule_reading::{LINES_LIMIT, Stage, TaskFault, read_entry, write_text};
 use serde_json::Value;
 use std::alloc::Global;
 use std::io::{Read, Write};
@@ -92,19 +94,6 @@ impl Replaying {
             }
             Stage::Events(world) => happen(self.alloc, world, event, output),
         }
-    }
-}
-
-/// The node or the event that a line is.
-fn read_entry(alloc: Global, line: &[u8]) -> Result<Line, TaskFault>
-    ensures { MatchResult result
-        (λ entry. entry_in line.now ≡ Ok entry)
-        (λ fault. (fault ≡ TaskFault.Memory) ⊎ IsOwnFault entry_in fault line.now) }
-{
-    let value = read_value(alloc, line)?;
-    match Line::of(&value) {
-        Some(entry) => Ok(entry),
-        None => Err(TaskFault::Field),
     }
 }
 

@@ -1,13 +1,13 @@
 ghost use Rattle.std.specs.Prelude.{◌≡◌, ◌≤◌, length, MatchResult, ◌⊎◌, ⊤};
 ghost use Rattle.std.specs.String.{string_bytes};
 ghost use Rattle.schedule_replay.specs.Fault.{FailedWith};
-ghost use Rattle.schedule_replay.specs.Lines.{lines_limit};
+ghost use Rattle.schedule_reading.specs.Entry.{lines_limit};
 ghost use Rattle.schedule_replay.specs.Show.{IsAnswer, ShowsAnswer, StopsShowing, show_rules};
 ghost use Rattle.text_lines.specs.Lines.{input_limit, line_limit, GivesWithin};
 
-use crate::fault::{Fault, TaskFault};
-use crate::lines::{LINES_LIMIT, write_text};
+use crate::fault::Fault;
 use datagram_text::push_datagram;
+use schedule_reading::{LINES_LIMIT, TaskFault, write_text};
 use std::alloc::Global;
 use std::io::{Read, Write};
 use text_lines::{Counted, LINE_LIMIT, LineTask, answer_lines};

@@ -46,6 +46,9 @@ pub trait LineTask {
             (λ _. HasNotFailed output.old output.new)
             (λ what. HasFailedIf (rules.is_of_writer what) output.old output.new) };
 
+    /// Leaves the input where reading failed. `_start` is what was read of the line that isn't taken.
+    fn leave(&mut self, _start: &[u8]) {}
+
     /// Ends after the last of so many lines.
     fn finish<W: Write>(
         &mut self,
@@ -83,12 +86,21 @@ pub fn answer_lines<T: LineTask, R: Read, W: Write>(
         (λ stop. FailedAt T.rules stop.what input.old input.new output.old output.new) }
 {
     let mut lines = Lines::new(T::lines_limit());
-    while lines.read_next(input)? {
-        if let Err(what) = task.take(lines.line(), output) {
-            return Err(Stopped {
-                line: lines.count(),
-                what: Cause::Task(what),
-            });
+    loop {
+        match lines.read_next(input) {
+            Ok(true) => {
+                if let Err(what) = task.take(lines.line(), output) {
+                    return Err(Stopped {
+                        line: lines.count(),
+                        what: Cause::Task(what),
+                    });
+                }
+            }
+            Ok(false) => break,
+            Err(stop) => {
+                task.leave(lines.line());
+                return Err(stop.into());
+            }
         }
     }
     match task.finish(lines.count(), output) {

@@ -1,6 +1,6 @@
 -- A report line is sound exactly where there is no reason against it, and what verdicts say of that.
-use Rattle.std.proofs.Common.{◌≡◌, ◌∙◌, ℕ, ◌+◌, Bool, true, false, ◌&&◌, cond, [], ◌∷◌, ◌++◌, length}
-use Rattle.std.proofs.Common.{Option, Some, None, option_map, is_some, refl, sym, ap, subst, arith}
+use Rattle.std.proofs.Common.{◌≡◌, ◌∙◌, ℕ, ◌+◌, Bool, true, false, ◌&&◌, cond, List, [], ◌∷◌, ◌++◌, length}
+use Rattle.std.proofs.Common.{Option, Some, None, slice_get, option_map, is_some, refl, sym, ap, subst, arith}
 use Rattle.std.proofs.lemmas.Bool.{and_parts}
 use Rattle.std.proofs.lemmas.List.Sums.{sum_by-cons}
 use Rattle.slave_port.specs.declared.heard.Report.{Report}
@@ -15,21 +15,25 @@ use Rattle.trace_model.specs.declared.verdict.Why.TheVariants.{WrongReading, Wro
 use Rattle.trace_model.specs.Line.{Lines}
 use Rattle.trace_model.specs.Record.{LinePlace, line_place, line_number, site}
 use Rattle.trace_model.specs.Sound.{Sound, exchange_of, unbroken, are_paired, is_of_master, are_readings}
-use Rattle.trace_model.specs.Sound.{fits, are_results, are_octets, needs, first_failing, reason}
+use Rattle.trace_model.specs.Sound.{fits, are_results, are_octets, Conditions, needs, failing, reasons, reason}
 use Rattle.trace_model.specs.Verdict.{report_in, one_more, with_line, verdict}
 use Rattle.trace_model.specs.Soundness.{ReasonsMissNothing, ReportLine, AllSound, report_count}
 use Rattle.trace_model.specs.Soundness.{FirstUnsound, TellsSoundness, VerdictsTellSoundness}
 
+-- the first of the reasons whose conditions fail
+abbrev first_failing : Conditions → Option Why
+first_failing asked = slice_get (failing asked) 0
+
 -- with what was needed, the reason is the one that is found with it
-met : {X : Type 0} (why : Why) (o : Option X) (found : X → Option Why) (x : X) → o ≡ Some x → found x ≡ None
-    → needs why o found ≡ None
-met why o found x there none = ap (λ o. needs why o found) there ∙ none
+met : {X : Type 0} (why : Why) (o : Option X) (asked : X → Conditions) (x : X) → o ≡ Some x
+    → first_failing (asked x) ≡ None → first_failing (needs why o asked) ≡ None
+met why o asked x there none = ap (λ o. first_failing (needs why o asked)) there ∙ none
 
 -- without a reason, what was needed is there, and there is no reason with it
-all_met : {X : Type 0} (why : Why) (o : Option X) (found : X → Option Why) → needs why o found ≡ None
-    → (x : X) × (o ≡ Some x) × (found x ≡ None)
-all_met why None found none = cc
-all_met why (Some x) found none = (x, refl, none)
+all_met : {X : Type 0} (why : Why) (o : Option X) (asked : X → Conditions) → first_failing (needs why o asked) ≡ None
+    → (x : X) × (o ≡ Some x) × (first_failing (asked x) ≡ None)
+all_met why None asked none = cc
+all_met why (Some x) asked none = (x, refl, none)
 
 -- without a reason, all six conditions hold that speak of both journeys
 none_fails : (a b c d f g : Bool) → first_failing ((OtherNumber, a) ∷ (OtherMaster, b) ∷ (WrongReading, c)
@@ -82,14 +86,21 @@ module _ (network : Network) (e : LinePlace) (report : Report) where
         octets = p.5;
       }
 
+-- without a first one there are none
+none_at_all : (whys : List Why) → slice_get whys 0 ≡ None → whys ≡ []
+none_at_all [] none = refl
+none_at_all (why ∷ whys) none = cc
+
 pub reasons_miss_nothing : ReasonsMissNothing
-reasons_miss_nothing network e report = (reason_sound network e report, sound_reason network e report)
+reasons_miss_nothing network e report = record {
+  none = (
+    λ h. reason_sound network e report (ap (λ (whys : List Why). slice_get whys 0) h),
+    λ sound. none_at_all (reasons network e report) (sound_reason network e report sound),
+  );
+  no_first = (reason_sound network e report, sound_reason network e report);
+}
 
 module _ (network : Network) where
-  -- the reason at a line that has a report
-  abbrev reasons : LinePlace → Option (Option Why)
-  reasons e = option_map (reason network e) (report_in e.line.out)
-
   counted : (line : TraceLine) (earlier : Lines) (o : Option Report) → report_in line.out ≡ o
       → report_count (line ∷ earlier) ≡ cond (is_some o) 1 0 + report_count earlier
   counted line earlier o h =

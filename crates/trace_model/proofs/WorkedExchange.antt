@@ -14,7 +14,9 @@ use Rattle.trace_model.specs.declared.line.TraceLine.{TraceLine}
 use Rattle.trace_model.specs.declared.line.TraceOut.{TraceOut}
 use Rattle.trace_model.specs.declared.line.TraceOut.TheVariants as outs
 use Rattle.trace_model.specs.declared.verdict.Verdict.TheVariants.{Accepted}
-use Rattle.trace_model.specs.Verdict.{verdict}
+use Rattle.trace_model.specs.declared.verdict.Why.TheVariants.{OtherMaster, WrongValue, Bytes}
+use Rattle.trace_model.specs.Record.{line_place}
+use Rattle.trace_model.specs.Verdict.{verdict, line_judgement}
 
 abbrev m : NodeName
 m = 77 ∷ []
@@ -25,13 +27,14 @@ s = 83 ∷ []
 abbrev t : NodeName
 t = 84 ∷ []
 
-abbrev config : List ℕ → PortConfig
-config clock = record { identity = record { clock = clock; port = 1 }; domain = 0; log = pos 0 }
+abbrev config : ℕ → List ℕ → PortConfig
+config domain clock = record { identity = record { clock = clock; port = 1 }; domain = domain; log = pos 0 }
 
-abbrev network : Network
-network =
-    record { name = m; kind = Master (config (0 ∷ 17 ∷ 34 ∷ 255 ∷ 254 ∷ 51 ∷ 68 ∷ 85 ∷ [])) (record { 0 = 0 }) }
-    ∷ record { name = s; kind = Slave (config (0 ∷ 170 ∷ 187 ∷ 255 ∷ 254 ∷ 204 ∷ 221 ∷ 238 ∷ [])) (record { 0 = 0 }) }
+-- with a slave of this domain
+abbrev network_with : ℕ → Network
+network_with domain =
+    record { name = m; kind = Master (config 0 (0 ∷ 17 ∷ 34 ∷ 255 ∷ 254 ∷ 51 ∷ 68 ∷ 85 ∷ [])) (record { 0 = 0 }) }
+    ∷ record { name = s; kind = Slave (config domain (0 ∷ 170 ∷ 187 ∷ 255 ∷ 254 ∷ 204 ∷ 221 ∷ 238 ∷ [])) (record { 0 = 0 }) }
     ∷ record { name = t; kind = Clock }
     ∷ []
 
@@ -57,8 +60,8 @@ report_with offset2 sync follow request response =
       response_tag = response;
     }
 
-abbrev lines : List TraceLine
-lines =
+abbrev before : List TraceLine
+before =
     line (StepClock s (pos 65536000)) None outs.Done
     ∷ line (SetMaster s m) None outs.Done
     ∷ line (Sync m (at 1 0 0)) (Some (at 1 0 0))
@@ -84,8 +87,19 @@ lines =
     (made (9 ∷ 18 ∷ 0 ∷ 54 ∷ 0 ∷ 0 ∷ 0 ∷ 0 ∷ 0 ∷ 0 ∷ 0 ∷ 0 ∷ 13 ∷ 172 ∷ 0 ∷ 0 ∷ 0 ∷ 0 ∷ 0 ∷ 0 ∷ 0 ∷ 17 ∷ 34 ∷
     255 ∷ 254 ∷ 51 ∷ 68 ∷ 85 ∷ 0 ∷ 1 ∷ 0 ∷ 0 ∷ 3 ∷ 0 ∷ 0 ∷ 0 ∷ 0 ∷ 0 ∷ 0 ∷ 2 ∷ 0 ∷ 0 ∷ 17 ∷ 148 ∷ 0 ∷ 170 ∷ 187 ∷
     255 ∷ 254 ∷ 204 ∷ 221 ∷ 238 ∷ 0 ∷ 1 ∷ []))
-    ∷ line (Stamped s) None outs.Done
-    ∷ line (Hear s 11) None (outs.Report (report_with (pos 131072000) 5 7 8 13)) ∷ []
+    ∷ line (Stamped s) None outs.Done ∷ []
 
-accepted : verdict network (reverse lines) ≡ Accepted 1
+-- the last line, with this first result
+abbrev reported : ℤ → TraceLine
+reported offset2 = line (Hear s 11) None (outs.Report (report_with offset2 5 7 8 13))
+
+accepted : verdict (network_with 0) (reported (pos 131072000) ∷ reverse before) ≡ Accepted 1
 accepted = refl
+
+-- a slave of another domain has another master than its own, and should have written this domain into its request;
+-- its first result is wrong beside that
+judged : line_judgement (network_with 1) (line_place (reported (pos 131072001)) (reverse before)) ≡ Some (record {
+  reasons = OtherMaster ∷ WrongValue ∷ Bytes ∷ [];
+  by_readings = Some (record { offset2 = pos 131072000; path2 = pos 131072000 });
+})
+judged = refl

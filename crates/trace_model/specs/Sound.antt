@@ -2,7 +2,7 @@
 -- numbers: the Sync's arrival, the hearing of the Follow_Up (none for a one-step Sync), the request, the hearing of
 -- the Delay_Resp.
 use Rattle.std.specs.Prelude.{◌≡◌, ℕ, ◌+◌, ◌-◌, ◌^◌, ℤ, pos, ◌-ℤ◌, Bool, true, false, ◌&&◌, ◌||◌, not, List, [], ◌∷◌}
-use Rattle.std.specs.Prelude.{nat_lt, ◌==◌, is_some, IsTrue, if◌then◌else◌, Option, Some, None}
+use Rattle.std.specs.Prelude.{map, filter, slice_get, nat_lt, ◌==◌, is_some, IsTrue, if◌then◌else◌, Option, Some, None}
 use Rattle.std.specs.Prelude.{option_map, option_and_then}
 use Rattle.std.specs.List.{list_all}
 use Rattle.std.specs.Option.{option_map_or}
@@ -15,6 +15,8 @@ use Rattle.network_model.specs.Network.{Network, NodeName, PortSetup, is_named}
 use Rattle.network_model.specs.Kinds.{is_at, is_sync, is_one_step_sync, draws_sync, is_follow, is_request}
 use Rattle.network_model.specs.Kinds.{is_set_master, named_master, heard_copy, is_arrival, is_hearing}
 use Rattle.network_model.specs.Truth.{master_at, slave_at}
+use Rattle.trace_model.specs.declared.judgement.Judgement.{Judgement}
+use Rattle.trace_model.specs.declared.judgement.Results.{Results}
 use Rattle.trace_model.specs.declared.verdict.Why.{Why}
 use Rattle.trace_model.specs.declared.verdict.Why.TheVariants.{NoSuchLine, OtherNumber, OtherMaster, BrokenJourney}
 use Rattle.trace_model.specs.declared.verdict.Why.TheVariants.{WrongReading, WrongValue, TooBig, Bytes}
@@ -200,11 +202,17 @@ fits journey = nat_lt (fraction_sent journey.origin + line_residence journey) (2
 abbrev pub bracket : (arrival : LinePlace) → LineJourney → ℤ
 bracket arrival journey = (pos (reading arrival) -ℤ pos (reading journey.origin)) -ℤ pos (line_residence journey)
 
--- twice offsetFromMaster and twice meanPathDelay (IEEE 1588-2019, 11.2 and 11.3)
+-- twice offsetFromMaster and twice meanPathDelay (IEEE 1588-2019, 11.2 and 11.3) by the readings
+abbrev pub results_of : Exchange → (sync request : LineJourney) → Results
+results_of x sync request = record {
+  offset2 = offset2 (bracket x.sync_arrival sync) (bracket x.request_arrival request);
+  path2 = path2 (bracket x.sync_arrival sync) (bracket x.request_arrival request);
+}
+
 abbrev pub are_results : Report → Exchange → (sync request : LineJourney) → Bool
 are_results report x sync request =
-    int_eq report.offset2 (offset2 (bracket x.sync_arrival sync) (bracket x.request_arrival request))
-    && int_eq report.path2 (path2 (bracket x.sync_arrival sync) (bracket x.request_arrival request))
+    int_eq report.offset2 (results_of x sync request).offset2
+    && int_eq report.path2 (results_of x sync request).path2
 
 -- 708: the octets are those that ports and clocks write
 
@@ -238,25 +246,52 @@ pub record Sound (network : Network) (e : LinePlace) (report : Report) : Type 0 
   pub exchange : HasExchange network e report
   pub octets : IsTrue (are_octets network exchange.x exchange.sync exchange.request)
 
--- this reason where something isn't there, and else the reason that is found with it
-abbrev pub needs : {X : Type 0} → Why → Option X → (X → Option Why) → Option Why
-needs why None found = Some why
-needs why (Some x) found = found x
+-- what is asked of a report: conditions, each after the reason that stands where it fails
+abbrev pub Conditions : Type 0
+Conditions = List (Why × Bool)
 
--- the first of these reasons whose condition fails
-abbrev pub first_failing : List (Why × Bool) → Option Why
-first_failing [] = None
-first_failing ((why, holds) ∷ others) = if not holds then Some why else first_failing others
+-- one condition that fails where something isn't there, and else the conditions that are asked with it
+abbrev pub needs : {X : Type 0} → Why → Option X → (X → Conditions) → Conditions
+needs why None asked = (why, false) ∷ []
+needs why (Some x) asked = asked x
 
--- why a report line isn't sound, or nothing where it is: the first that fails of 701, 704, 702, 703, 705, 707, 706, 708
-abbrev pub reason : Network → LinePlace → Report → Option Why
-reason network e report =
+-- what is asked of a report: its lines and its journeys, and where they are there the six conditions on them
+abbrev pub conditions : Network → LinePlace → Report → Conditions
+conditions network e report =
     needs NoSuchLine (exchange_of network (site e) e report) (λ x.
     needs BrokenJourney (unbroken network e draws_sync x.sync_arrival) (λ sync.
-    needs BrokenJourney (unbroken network e is_request x.request_arrival) (λ request. first_failing (
+    needs BrokenJourney (unbroken network e is_request x.request_arrival) (λ request.
     (OtherNumber, are_paired network x sync request)
     ∷ (OtherMaster, is_of_master network (site e) e report x sync)
     ∷ (WrongReading, are_readings network x sync request)
     ∷ (TooBig, fits sync && fits request)
     ∷ (WrongValue, are_results report x sync request)
-    ∷ (Bytes, are_octets network x sync request) ∷ []))))
+    ∷ (Bytes, are_octets network x sync request) ∷ [])))
+
+-- the reasons whose conditions fail
+abbrev pub failing : Conditions → List Why
+failing asked = map (λ condition. condition.0) (filter (λ condition. not condition.1) asked)
+
+-- why a report line isn't sound, or nothing where it is: 701 alone, or else 704 alone, or else each that fails of 702,
+-- 703, 705, 707, 706, 708
+abbrev pub reasons : Network → LinePlace → Report → List Why
+reasons network e report = failing (conditions network e report)
+
+-- the first of these
+abbrev pub reason : Network → LinePlace → Report → Option Why
+reason network e report = slice_get (reasons network e report) 0
+
+-- the two results by the readings, where the report's lines and its journeys are there: where 701 and 704 hold
+abbrev pub by_readings : Network → LinePlace → Report → Option Results
+by_readings network e report =
+    option_and_then (λ x.
+    option_and_then (λ sync.
+    option_map (λ request. results_of x sync request)
+    (unbroken network e is_request x.request_arrival))
+    (unbroken network e draws_sync x.sync_arrival))
+    (exchange_of network (site e) e report)
+
+-- what a report line is judged to be
+abbrev pub judgement : Network → LinePlace → Report → Judgement
+judgement network e report =
+    record { reasons = reasons network e report; by_readings = by_readings network e report }

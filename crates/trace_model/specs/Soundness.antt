@@ -1,5 +1,5 @@
 -- What a verdict says of lines: statements on all lines. The functions of `laws` promise them.
-use Rattle.std.specs.Prelude.{◌≡◌, ◌↔◌, ℕ, ◌∷◌, ◌++◌, count_by, is_some, Some, None}
+use Rattle.std.specs.Prelude.{◌≡◌, ◌↔◌, ℕ, [], ◌∷◌, ◌++◌, count_by, is_some, Some, None}
 use Rattle.slave_port.specs.declared.heard.Report.{Report}
 use Rattle.network_model.specs.Network.{Network}
 use Rattle.trace_model.specs.declared.verdict.Verdict.{Verdict}
@@ -7,13 +7,17 @@ use Rattle.trace_model.specs.declared.verdict.Verdict.TheVariants.{Accepted, Ref
 use Rattle.trace_model.specs.declared.verdict.Why.{Why}
 use Rattle.trace_model.specs.Line.{Lines}
 use Rattle.trace_model.specs.Record.{LinePlace, line_number}
-use Rattle.trace_model.specs.Sound.{Sound, reason}
+use Rattle.trace_model.specs.Sound.{Sound, reasons, reason}
 use Rattle.trace_model.specs.Verdict.{report_in, verdict}
+
+-- no reason stands against a report line, and so no first one, exactly where it is sound
+pub record HasReasons (network : Network) (e : LinePlace) (report : Report) : Type 0 where
+  pub none : reasons network e report ≡ [] ↔ Sound network e report
+  pub no_first : reason network e report ≡ None ↔ Sound network e report
 
 -- there is no reason exactly where all eight conditions hold
 abbrev pub ReasonsMissNothing : Type 0
-ReasonsMissNothing =
-    (network : Network) (e : LinePlace) (report : Report) → reason network e report ≡ None ↔ Sound network e report
+ReasonsMissNothing = (network : Network) (e : LinePlace) (report : Report) → HasReasons network e report
 
 -- a line among these lines has this report; it need not be good
 pub record ReportLine (lines : Lines) (e : LinePlace) (report : Report) : Type 0 where

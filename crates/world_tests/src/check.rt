@@ -4,7 +4,9 @@
 use crate::moments::moment;
 use arrayvec::ArrayVec;
 use event_codec::{PortConfig, PortIdentity};
-use exchange_check::{CheckFault, Checker, TraceLine, TraceOut, Verdict, Why, check};
+use exchange_check::{
+    CheckFault, Checker, Judgement, Results, TraceLine, TraceOut, Verdict, Why, check,
+};
 use network_model::{Event, Name, NodeKind, NodeSpec, Nodes, Report};
 use ptp_units::{ScaledTime, Seq};
 use std::alloc::Global;
@@ -448,6 +450,58 @@ fn one_line_changed(rt: HostRuntime) -> Result<(), Fail> {
             "{number}"
         );
     }
+    Ok(())
+}
+
+/// What the report of the last of these lines is judged to be, and how many before it are judged.
+fn judgements(alloc: Global, lines: Vec<TraceLine>) -> Result<(usize, Option<Judgement>), Fail> {
+    let mut checker = Checker::new(alloc, nodes(alloc)?)?;
+    let mut told = None;
+    let mut judged = 0usize;
+    for line in lines {
+        if told.is_some() {
+            judged = judged.saturating_add(1);
+        }
+        told = checker.feed_judged(line)?;
+    }
+    Ok((judged, told))
+}
+
+/// The Sync is in the clock for as long as no correction says: the result and the octets are wrong as well.
+#[test]
+fn each_reason_is_told(rt: HostRuntime) -> Result<(), Fail> {
+    let mut lines = Vec::from_array(rt.alloc(), exchange()?)?;
+    let late = moment(140_738, 488_355_827, 65_535)?;
+    if let Some(place) = lines.get_mut(4) {
+        *place = leave(3, late, &FORWARDED_SYNC)?;
+    }
+    let (judged, told) = judgements(rt.alloc(), lines)?;
+    assert_eq!(rt; judged, 0);
+    let told = told.ok_or("a report is judged")?;
+    let reasons: &[Why] = &[Why::TooBig, Why::WrongValue, Why::Bytes];
+    assert_eq!(rt; told.reasons.as_slice(), reasons);
+    let both = -9_223_372_036_592_631_807;
+    let by_readings = Results {
+        offset2: both,
+        path2: both,
+    };
+    assert_eq!(rt; told.by_readings, Some(by_readings));
+    Ok(())
+}
+
+/// Where the lines of a report aren't there, nothing else is told.
+#[test]
+fn a_missing_line_is_told_alone(rt: HostRuntime) -> Result<(), Fail> {
+    let mut lines = Vec::from_array(rt.alloc(), exchange()?)?;
+    if let Some(place) = lines.get_mut(13) {
+        *place = report(131_072_002, (2, Some(7), 8, 13))?;
+    }
+    let told = judgements(rt.alloc(), lines)?
+        .1
+        .ok_or("a report is judged")?;
+    let reasons: &[Why] = &[Why::NoSuchLine];
+    assert_eq!(rt; told.reasons.as_slice(), reasons);
+    assert_eq!(rt; told.by_readings, None);
     Ok(())
 }
 

@@ -1,8 +1,8 @@
 -- How the checker judges a report by what it keeps. Its own functions cite these; what its callers are told is said
 -- by the lines alone. A definition `x_by` is `x`, `x_line` or `are_x` of trace_model's `Sound` by what is kept, and
 -- `found_by` and `found_journey_to` are its `exchange_of` and `unbroken`: proofs/Exchanges and proofs/Standing show it.
-use Rattle.std.specs.Prelude.{ℕ, ◌+◌, ℤ, pos, ◌-ℤ◌, Bool, true, false, ◌&&◌, ◌||◌, not, nat_lt, ◌==◌, is_some}
-use Rattle.std.specs.Prelude.{if◌then◌else◌, Option, Some, None, option_map, option_and_then}
+use Rattle.std.specs.Prelude.{ℕ, ◌+◌, ◌-◌, ◌^◌, ℤ, pos, negsuc, ◌-ℤ◌, ◌<ℤ◌, Bool, true, false, ◌&&◌, ◌||◌}
+use Rattle.std.specs.Prelude.{nat_lt, ◌==◌, is_some, if◌then◌else◌, [], ◌∷◌, Option, Some, None, option_map, option_and_then}
 use Rattle.std.specs.Option.{option_map_or}
 use Rattle.std.specs.Ordering.{int_eq}
 use Rattle.ptp_units.specs.Exchange.{offset2, path2}
@@ -20,11 +20,13 @@ use Rattle.exchange_check.specs.declared.facts.Site.{Site}
 use Rattle.exchange_check.specs.declared.facts.FoundJourney.{FoundJourney}
 use Rattle.exchange_check.specs.declared.judging.LineKind.{LineKind}
 use Rattle.exchange_check.specs.declared.judging.LineKind.TheVariants.{DrawsSync, Request, Arrival, Hearing}
+use Rattle.trace_model.specs.declared.judgement.Judgement.{Judgement}
+use Rattle.trace_model.specs.declared.judgement.Results.{Results}
 use Rattle.trace_model.specs.declared.verdict.Why.{Why}
 use Rattle.trace_model.specs.declared.verdict.Why.TheVariants.{NoSuchLine, OtherNumber, OtherMaster, BrokenJourney}
 use Rattle.trace_model.specs.declared.verdict.Why.TheVariants.{WrongReading, WrongValue, TooBig, Bytes}
-use Rattle.trace_model.specs.Sound.{where_passes, below, are_later, is_domain, is_of_line}
-use Rattle.exchange_check.specs.Inner.Kept.{Facts, Stamps, Sites, kept_journey_at, longest}
+use Rattle.trace_model.specs.Sound.{where_passes, below, are_later, is_domain, is_of_line, Conditions, failing}
+use Rattle.exchange_check.specs.Inner.Kept.{Facts, Stamps, Sites, kept_journey_at}
 use Rattle.exchange_check.specs.Inner.Stays.{Once}
 
 -- the events of a kind that a line has to tell of
@@ -126,52 +128,74 @@ abbrev pub fraction_by : Fact → ℕ
 fraction_by fact = if is_one_step_sync fact.event then fraction_of fact.reading else 0
 
 abbrev pub fits_by : FoundJourney → Bool
-fits_by journey = nat_lt (fraction_by journey.origin + journey.kept.residence) longest
+fits_by journey = nat_lt (fraction_by journey.origin + journey.kept.residence) (2 ^ 63 - 1)
 
 abbrev pub bracket_by : Fact → FoundJourney → ℤ
 bracket_by arrival journey = (pos arrival.reading -ℤ pos journey.origin.reading) -ℤ pos journey.kept.residence
 
-abbrev pub results_by : Report → Found → (sync request : FoundJourney) → Bool
-results_by report found sync request =
-    int_eq report.offset2 (offset2 (bracket_by found.sync_arrival sync) (bracket_by found.request_arrival request))
-    && int_eq report.path2 (path2 (bracket_by found.sync_arrival sync) (bracket_by found.request_arrival request))
+-- more than -2^126 and less than 2^126, as every bracket is that is kept
+pub record IsElapsed (a : ℤ) : Type 0 where
+  pub above : negsuc (2 ^ 126 - 1) <ℤ a
+  pub below : a <ℤ pos (2 ^ 126)
+
+abbrev pub results_of_by : Found → (sync request : FoundJourney) → Results
+results_of_by found sync request = record {
+  offset2 = offset2 (bracket_by found.sync_arrival sync) (bracket_by found.request_arrival request);
+  path2 = path2 (bracket_by found.sync_arrival sync) (bracket_by found.request_arrival request);
+}
+
+abbrev pub results_by : Report → Results → Bool
+results_by report results = int_eq report.offset2 results.offset2 && int_eq report.path2 results.path2
 
 abbrev pub octets_by : Found → (sync request : FoundJourney) → Bool
 octets_by found sync request =
     sync.kept.writes_right && option_map_or (λ follow. follow.writes_right) found.follow true
     && request.kept.writes_right && found.request_arrival.writes_right
 
-abbrev pub journeys_reason_by : Network → Site → NodeName → Report → Found → (sync request : FoundJourney) → Option Why
-journeys_reason_by network site slave report found sync request =
-    if not (paired_by found sync request) then Some OtherNumber
-    else if not (of_master_by network site slave report found sync) then Some OtherMaster
-    else if not (readings_by found sync request) then Some WrongReading
-    else if not (fits_by sync && fits_by request) then Some TooBig
-    else if not (results_by report found sync request) then Some WrongValue
-    else if not (octets_by found sync request) then Some Bytes
-    else None
+-- the conditions on an exchange and its journeys
+abbrev pub journeys_conditions_by : Network → Site → NodeName → Report → Found → (sync request : FoundJourney)
+    → Conditions
+journeys_conditions_by network site slave report found sync request =
+    (OtherNumber, paired_by found sync request)
+    ∷ (OtherMaster, of_master_by network site slave report found sync)
+    ∷ (WrongReading, readings_by found sync request)
+    ∷ (TooBig, fits_by sync && fits_by request)
+    ∷ (WrongValue, results_by report (results_of_by found sync request))
+    ∷ (Bytes, octets_by found sync request) ∷ []
+
+abbrev pub journeys_judgement_by : Network → Site → NodeName → Report → Found → (sync request : FoundJourney)
+    → Judgement
+journeys_judgement_by network site slave report found sync request = record {
+  reasons = failing (journeys_conditions_by network site slave report found sync request);
+  by_readings = Some (results_of_by found sync request);
+}
+
+-- the judgement where nothing else can be judged
+abbrev pub alone : Why → Judgement
+alone why = record { reasons = why ∷ []; by_readings = None }
 
 abbrev pub both_journeys : Network → Site → NodeName → Report → Found → (sync request : Option FoundJourney)
-    → Option Why
-both_journeys network site slave report found None request = Some BrokenJourney
-both_journeys network site slave report found (Some sync) None = Some BrokenJourney
+    → Judgement
+both_journeys network site slave report found None request = alone BrokenJourney
+both_journeys network site slave report found (Some sync) None = alone BrokenJourney
 both_journeys network site slave report found (Some sync) (Some request) =
-    journeys_reason_by network site slave report found sync request
+    journeys_judgement_by network site slave report found sync request
 
-abbrev pub found_reason : Network → Facts → Once → Site → NodeName → Report → Option Found → Option Why
-found_reason network facts once site slave report None = Some NoSuchLine
-found_reason network facts once site slave report (Some found) =
+abbrev pub found_judgement : Network → Facts → Once → Site → NodeName → Report → Option Found → Judgement
+found_judgement network facts once site slave report None = alone NoSuchLine
+found_judgement network facts once site slave report (Some found) =
     both_journeys network site slave report found
     (found_journey_to facts once draws_sync found.sync_arrival)
     (found_journey_to facts once is_request found.request_arrival)
 
--- why a report at a line that counts isn't sound, or nothing where it is
-abbrev pub fact_reason : Network → Facts → Once → Stamps → Sites → Fact → Report → Option Why
-fact_reason network facts once stamps sites fact report =
-    found_reason network facts once (sites (site_of fact.event)) (site_of fact.event) report
+-- what a report at a line that counts is judged to be
+abbrev pub fact_judgement : Network → Facts → Once → Stamps → Sites → Fact → Report → Judgement
+fact_judgement network facts once stamps sites fact report =
+    found_judgement network facts once (sites (site_of fact.event)) (site_of fact.event) report
     (found_by facts stamps (site_of fact.event) fact.line report)
 
 -- the same at any line
-abbrev pub reason_by : Network → Facts → Once → Stamps → Sites → Option Fact → Report → Option Why
-reason_by network facts once stamps sites None report = Some NoSuchLine
-reason_by network facts once stamps sites (Some fact) report = fact_reason network facts once stamps sites fact report
+abbrev pub judgement_by : Network → Facts → Once → Stamps → Sites → Option Fact → Report → Judgement
+judgement_by network facts once stamps sites None report = alone NoSuchLine
+judgement_by network facts once stamps sites (Some fact) report =
+    fact_judgement network facts once stamps sites fact report

@@ -1,7 +1,7 @@
 -- What the checker keeps of lines, so that it searches for nothing. Its own functions cite these; what its callers
 -- are told is said by the lines alone. A definition `x_by` says by what is kept what trace_model's `Record`, `Journey`
 -- and `Octets` say by the lines, as proofs/Told, proofs/Messages and proofs/FactLines show.
-use Rattle.std.specs.Prelude.{ℕ, ◌+◌, ◌-◌, ◌^◌, ℤ, pos, ◌+ℤ◌, Bool, true, false, ◌&&◌, not, List, min, nat_lt}
+use Rattle.std.specs.Prelude.{ℕ, ◌+◌, ◌-◌, ℤ, pos, ◌+ℤ◌, Bool, true, false, ◌&&◌, not, List, nat_lt}
 use Rattle.std.specs.Prelude.{slice_get, unwrap_or, ◌==◌, is_some, if◌then◌else◌, Option, Some, None, option_map}
 use Rattle.std.specs.Prelude.{option_and_then}
 use Rattle.std.specs.HashMap.{HashMap, get}
@@ -44,10 +44,6 @@ Sites = NodeName → Site
 abbrev pub fact_in : List (Option Fact) → ℕ → Option Fact
 fact_in facts n = option_and_then (λ fact. fact) (slice_get facts n)
 
--- the residence that is still counted exactly
-abbrev pub longest : ℕ
-longest = 2 ^ 63 - 1
-
 -- the sequenceId that an event draws, 0 where it draws none
 abbrev pub number_by : Network → Sites → Event → ℕ
 number_by network sites (Sync node at) =
@@ -85,7 +81,7 @@ copy_entered_by clock entered = option_and_then
 abbrev pub stayed : Known → Fact → KeptJourney → KeptJourney
 stayed known entered before = record {
   origin = before.origin;
-  residence = min (before.residence + (known.reading - entered.reading)) longest;
+  residence = before.residence + (known.reading - entered.reading);
   reads_right = before.reads_right
       && (entered.reads_right && known.reads && not (nat_lt known.reading entered.reading));
   writes_right = before.writes_right;
@@ -177,12 +173,15 @@ abbrev pub fact_known : Network → Facts → TraceLine → Known → Option Kep
 fact_known network facts line known journey =
     fact_made line known (is_written (message_by network facts known journey line.event) line.out) journey
 
+-- the same, where the line counts
+abbrev pub fact_from : Network → Facts → TraceLine → Known → Option KeptJourney → Option Fact
+fact_from network facts line known journey =
+    if counts network line then Some (fact_known network facts line known journey) else None
+
 abbrev pub fact_by : Network → Facts → Sites → TraceLine → ℕ → Option Fact
 fact_by network facts sites line n =
-    if counts network line
-    then Some (fact_known network facts line (known_by network sites line n)
-    (kept_journey_by facts (known_by network sites line n) line.event))
-    else None
+    fact_from network facts line (known_by network sites line n)
+    (kept_journey_by facts (known_by network sites line n) line.event)
 
 -- what is kept of a node after an event of it at the line of this number
 abbrev pub moved : Event → ℕ → Site → Site

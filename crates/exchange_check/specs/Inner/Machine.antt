@@ -1,6 +1,7 @@
 -- What the checker keeps after lines, and its verdict on them. Its own functions cite these; what its callers are
 -- told is said by the lines alone.
-use Rattle.std.specs.Prelude.{◌≡◌, ℕ, ◌≤◌, [], ◌∷◌, length, ◌==◌, if◌then◌else◌, Option, Some, None, option_map}
+use Rattle.std.specs.Prelude.{◌≡◌, ℕ, ◌≤◌, [], ◌∷◌, length, ◌==◌, slice_get, if◌then◌else◌}
+use Rattle.std.specs.Prelude.{Option, Some, None, option_map}
 use Rattle.std.specs.BTreeMap.{get}
 use Rattle.std.specs.Ordering.{nat_cmp}
 use Rattle.network_model.specs.Network.{Network}
@@ -8,6 +9,7 @@ use Rattle.exchange_check.specs.declared.facts.Fact.{Fact}
 use Rattle.exchange_check.specs.declared.kept.Kept.{Kept}
 use Rattle.trace_model.specs.declared.line.TraceLine.{TraceLine}
 use Rattle.trace_model.specs.declared.line.TraceOut.{TraceOut}
+use Rattle.trace_model.specs.declared.judgement.Judgement.{Judgement}
 use Rattle.trace_model.specs.declared.verdict.Verdict.{Verdict}
 use Rattle.trace_model.specs.declared.verdict.Verdict.TheVariants.{Accepted, Refused}
 use Rattle.trace_model.specs.Line.{Lines}
@@ -15,7 +17,7 @@ use Rattle.trace_model.specs.Verdict.{report_in, one_more}
 use Rattle.exchange_check.specs.Inner.Kept.{Facts, Sites, Leaves, Stamps, new_site, fact_in, site_in}
 use Rattle.exchange_check.specs.Inner.Kept.{fact_by, sites_after, leaves_after, stamps_after}
 use Rattle.exchange_check.specs.Inner.Stays.{Once, last_stays, once_of, AreStays}
-use Rattle.exchange_check.specs.Inner.Judged.{reason_by}
+use Rattle.exchange_check.specs.Inner.Judged.{judgement_by}
 
 -- what is kept
 pub record Machine : Type 0 where
@@ -54,11 +56,22 @@ abbrev pub stamps_told : Option Fact → ℕ → Sites → Stamps → Stamps
 stamps_told None n sites stamps = stamps
 stamps_told (Some fact) n sites stamps = stamps_after fact.event n sites stamps
 
--- the verdict after one more line
-abbrev pub judged : Network → Facts → Once → Stamps → Sites → Option Fact → TraceOut → ℕ → Verdict → Verdict
-judged network facts once stamps sites fact out n (Accepted count) =
-    one_more count n (option_map (reason_by network facts once stamps sites fact) (report_in out))
-judged network facts once stamps sites fact out n (Refused line why) = Refused line why
+-- what the report of a line with this fact is judged to be, where the line has one
+abbrev pub line_judgement_by : Network → Facts → Once → Stamps → Sites → Option Fact → TraceOut → Option Judgement
+line_judgement_by network facts once stamps sites fact out =
+    option_map (judgement_by network facts once stamps sites fact) (report_in out)
+
+-- the verdict after the line of this number, whose report is judged to be this
+abbrev pub with_judgement : Option Judgement → ℕ → Verdict → Verdict
+with_judgement answer n (Accepted count) =
+    one_more count n (option_map (λ judgement. slice_get judgement.reasons 0) answer)
+with_judgement answer n (Refused line why) = Refused line why
+
+-- what the report of the line of this number is judged to be, where its fact is this
+abbrev pub judgement_told : Network → TraceOut → ℕ → Machine → Option Fact → Option Judgement
+judgement_told network out n m fact =
+    line_judgement_by network (with_fact m.facts n fact) (once_of (last_stays m.facts) m.leaves) m.stamps m.sites fact
+    out
 
 -- after a line with this fact
 abbrev pub with_line_told : Network → TraceOut → ℕ → Machine → Option Fact → Machine
@@ -67,13 +80,16 @@ with_line_told network out n m fact = record {
   sites = sites_told fact n m.sites;
   leaves = leaves_told fact m.leaves;
   stamps = stamps_told fact n m.sites m.stamps;
-  verdict = judged network (with_fact m.facts n fact)
-      (once_of (last_stays m.facts) m.leaves) m.stamps m.sites fact out n m.verdict;
+  verdict = with_judgement (judgement_told network out n m fact) n m.verdict;
 }
 
 -- after one more line, before which there were so many
 abbrev pub after_line : Network → TraceLine → ℕ → Machine → Machine
 after_line network line n m = with_line_told network line.out n m (fact_by network m.facts m.sites line n)
+
+-- what the report of one more line is judged to be
+abbrev pub judgement_after : Network → TraceLine → ℕ → Machine → Option Judgement
+judgement_after network line n m = judgement_told network line.out n m (fact_by network m.facts m.sites line n)
 
 -- after these lines
 abbrev pub machine : Network → Lines → Machine

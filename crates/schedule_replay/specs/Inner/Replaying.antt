@@ -6,12 +6,12 @@ use Rattle.network_model.specs.Outcome.{outcome_of}
 use Rattle.network_model.specs.Clash.{first_clash}
 use Rattle.world_model.specs.State.{State}
 use Rattle.schedule_lines.specs.declared.reading.schedule.Line.{Line}
-use Rattle.schedule_replay.specs.declared.fault.TaskFault.{TaskFault}
-use Rattle.schedule_replay.specs.declared.fault.TaskFault.TheVariants.{Write, World, Memory}
-use Rattle.schedule_replay.specs.declared.stage.Stage.{Stage}
-use Rattle.schedule_replay.specs.declared.stage.Stage.TheVariants.{Nodes, Events}
-use Rattle.schedule_replay.specs.Fault.{is_write}
-use Rattle.schedule_replay.specs.Schedule.{entry_in}
+use Rattle.schedule_reading.specs.declared.fault.TaskFault.{TaskFault}
+use Rattle.schedule_reading.specs.declared.fault.TaskFault.TheVariants.{Write, World, Memory}
+use Rattle.schedule_reading.specs.declared.stage.Stage.{Stage}
+use Rattle.schedule_reading.specs.declared.stage.Stage.TheVariants.{Nodes, Events}
+use Rattle.schedule_reading.specs.Fault.{is_write}
+use Rattle.schedule_reading.specs.Entry.{entry_in}
 use Rattle.schedule_replay.specs.Replay.{replay_rules}
 use Rattle.text_lines.specs.Task.{WentOut}
 
@@ -45,3 +45,9 @@ StopsAt fault state entry before after =
     (line : List ℕ) → entry_in line ≡ Ok entry
     → (written : List ℕ) × replay_rules.Stops line state fault written
     × WentOut (is_write fault) (Appends before after written)
+
+-- a line wasn't made, or the writer failed
+abbrev pub LeavesUnwritten : TaskFault → Option (List ℕ) → Option (List ℕ) → Type 0
+LeavesUnwritten Memory before after = Keeps before after
+LeavesUnwritten Write before after = ⊤
+LeavesUnwritten fault before after = ⊥

@@ -11,7 +11,9 @@ returns c =
     ∙ ap₂ with_subcommand first c.with_help-replay.ensures.shape in
     let third = c.in_ok-subcommand-3.ensures.shape c.with_help-check.ensures.local
     ∙ ap₂ with_subcommand second c.with_help-check.ensures.shape in
+    let fourth = c.in_ok-subcommand-4.ensures.shape c.in_ok-measure.ensures.local
+    ∙ ap₂ with_subcommand third c.in_ok-measure.ensures.shape in
     record {
-      app = IfOk-weaker c.subcommand-4.result _ _ (λ r adds. adds.shape c.in_ok-measure.ensures.local
-          ∙ ap₂ with_subcommand third c.in_ok-measure.ensures.shape) c.subcommand-4.ensures;
+      app = IfOk-weaker c.subcommand-5.result _ _ (λ r adds. adds.shape c.in_ok-explain.ensures.local
+          ∙ ap₂ with_subcommand fourth c.in_ok-explain.ensures.shape) c.subcommand-5.ensures;
     }

@@ -1,4 +1,4 @@
-use Rattle.std.proofs.Common.{◌≡◌, ◌∙◌, ◌++◌, ◌∷◌, ◌||◌, [], ap, ap₂, false, rules}
+use Rattle.std.proofs.Common.{◌≡◌, ◌∙◌, ◌++◌, ◌∷◌, ◌||◌, [], ap, ap₂, false}
 use Rattle.std.proofs.lemmas.Result.{IfOk-weaker}
 use Rattle.clap.specs.Built.{AddsArg}
 use Rattle.clap.specs.Simple.{Shape, shape_of}
@@ -6,7 +6,6 @@ use Rattle.clap.specs.Walk.{Rule, rule_of}
 use Rattle.clap.specs.declared.builder.arg.Arg.{Arg}
 use Rattle.clap.specs.declared.builder.command.Command.{Command}
 use Rattle.clap.specs.declared.builder.command.Command.TheViews.{out-Command as fields_of}
-use Rattle.command_line.specs.Inner.Clap.{csv_rule}
 use Rattle.command_line.proofs.measure.measure.Goals as goal
 
 -- a shape with one more argument
@@ -31,14 +30,12 @@ returns-clause-shape c =
     c.with_value-master.ensures.local first c.with_value-master.ensures.rule in
     let third = added _ _ _ _ _ c.in_ok-arg-3.ensures
     c.with_value-domain.ensures.local second c.with_value-domain.ensures.rule in
-    let csv : rule_of c.help-csv.result ≡ csv_rule = search rules in
-    let local : c.help-csv.result.global ≡ false = search rules in
-    IfOk-weaker c.arg-4.result _ _ (λ r adds. added _ _ r _ _ adds local third csv) c.arg-4.ensures
+    let csv = c.flag-csv.ensures in
+    IfOk-weaker c.arg-4.result _ _ (λ r adds. added _ _ r _ _ adds csv.local third csv.rule) c.arg-4.ensures
 
 pub returns-clause-local : goal.returns-clause-local
 returns-clause-local c =
-    let local : c.help-csv.result.global ≡ false = search rules in
     let first = stays_local _ _ _ c.in_ok-arg.ensures c.with_value-slave.ensures.local c.with_help.ensures.local in
     let second = stays_local _ _ _ c.in_ok-arg-2.ensures c.with_value-master.ensures.local first in
     let third = stays_local _ _ _ c.in_ok-arg-3.ensures c.with_value-domain.ensures.local second in
-    IfOk-weaker c.arg-4.result _ _ (λ r adds. stays_local _ _ r adds local third) c.arg-4.ensures
+    IfOk-weaker c.arg-4.result _ _ (λ r adds. stays_local _ _ r adds c.flag-csv.ensures.local third) c.arg-4.ensures

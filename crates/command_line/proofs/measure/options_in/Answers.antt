@@ -2,12 +2,13 @@ use Rattle.std.proofs.Common.{◌≡◌, ◌∙◌, sym, subst, codes, List, Opt
 use Rattle.std.specs.Prelude.{IsErr}
 use Rattle.clap.specs.Matches.{found_of}
 use Rattle.clap.specs.Walk.{Row, Text, rows_of}
-use Rattle.clap.proofs.WalkLemmas.{first_value-rows, one_text-rows}
+use Rattle.clap.proofs.WalkLemmas.{first_value-rows}
 use Rattle.command_line.specs.Inner.Clap.{AreRead, RowsSay}
 use Rattle.command_line.specs.declared.measure.MeasureOptions.{MeasureOptions}
 use Rattle.command_line.specs.Number.{domain_of}
 use Rattle.command_line.specs.Options.{IsSaid}
 use Rattle.command_line.specs.PortText.{port_identity_of}
+use Rattle.command_line.proofs.FlagRows.{flag_of}
 use Rattle.command_line.proofs.measure.options_in.Goals as goal
 
 -- an option whose value writes nothing says nothing
@@ -60,9 +61,6 @@ returns c =
           (first_value-rows found (codes "master")) c.in_ok-port_option-2.ensures;
       domain = subst (λ value. IsSaid domain_of value c.in_ok-domain_option.field-0)
           (first_value-rows found (codes "domain")) c.in_ok-domain_option.ensures;
-      csv = (
-        λ none. c.get_flag.ensures.none (one_text-rows found (codes "csv") ∙ none),
-        λ set. c.get_flag.ensures.value (one_text-rows found (codes "csv") ∙ set),
-        λ unset. c.get_flag.ensures.other (one_text-rows found (codes "csv") ∙ unset),
-      );
+      csv = flag_of found (codes "csv") c.get_flag.result
+          c.get_flag.ensures.none c.get_flag.ensures.value c.get_flag.ensures.other;
     }

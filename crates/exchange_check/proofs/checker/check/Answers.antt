@@ -10,7 +10,7 @@ pub loop-line-preserved : goal.loop-line-preserved
 loop-line-preserved c =
     IsKept-more c.args.nodes.now c.args.lines.now c.line-item.result c.step.new.self c.loop-line.line-index
     c.loop-line-test.true c.line-item.is
-    (c.in_ok-step.ensures.kept c.loop-line.line-index _ c.loop-line.invariant)
+    (c.in_ok-step.ensures.kept c.loop-line.line-index _ c.loop-line.invariant).0
 
 pub returns : goal.returns
 returns c =

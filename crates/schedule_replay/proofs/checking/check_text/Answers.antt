@@ -1,7 +1,7 @@
 -- A fault of the lines is told by its own kind, at its line.
 use Rattle.std.proofs.Common.{rules}
 use Rattle.std.proofs.lemmas.Result.{err_from_is_err_and}
-use Rattle.schedule_replay.specs.CheckText.{nothing}
+use Rattle.schedule_reading.specs.Transcript.{nothing}
 use Rattle.schedule_replay.proofs.checking.check_text.Goals as goal
 
 pub returns-in_err-answer_lines-clause-checked : goal.returns-in_err-answer_lines-clause-checked

@@ -3,11 +3,11 @@ use Rattle.std.specs.Prelude.{string_bytes}
 use Rattle.command_line.specs.declared.arguments.Subcommand.{Subcommand}
 use Rattle.command_line.proofs.Invocations.{named_asks_no_help, names_one}
 use Rattle.command_line.specs.Arguments.{Names}
-use Rattle.command_line.specs.declared.arguments.Subcommand.TheVariants.{Show, Replay, Check, Measure}
+use Rattle.command_line.specs.declared.arguments.Subcommand.TheVariants.{Show, Replay, Check, Measure, Explain}
 use Rattle.command_line.specs.declared.measure.MeasureOptions.{MeasureOptions}
 use Rattle.text_lines.specs.Lines.{input_limit, GivesWithin}
 use Rattle.schedule_replay.specs.Inner.Allowed.{lines_allowed}
-use Rattle.schedule_replay.specs.Lines.{lines_limit}
+use Rattle.schedule_reading.specs.Entry.{lines_limit}
 use Rattle.schedule_replay.specs.Program.{Runs}
 use Rattle.schedule_replay.proofs.program.command.Goals as goal
 
@@ -34,6 +34,7 @@ allowed words Show named none = refl
 allowed words Replay named none = refl
 allowed words Check named none = refl
 allowed words (Measure options) named none = absurd (none options named)
+allowed words (Explain options) named none = refl
 
 pub returns-in-Ok-Run-clause-bounded : goal.returns-in-Ok-Run-clause-bounded
 returns-in-Ok-Run-clause-bounded g c = λ none.

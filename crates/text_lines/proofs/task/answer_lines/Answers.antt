@@ -1,5 +1,4 @@
 use Rattle.std.proofs.Common.{rules, ◌∙◌, ◌+◌, ap}
-use Rattle.std.proofs.lemmas.Result.{err_from_is_err_and}
 use Rattle.text_lines.proofs.Bounds.{line_more, input_within}
 use Rattle.text_lines.proofs.TakenLines.{begun, taken_more, taken_all, stopped_reading, stopped_taking, stopped_at_end}
 use Rattle.text_lines.proofs.task.answer_lines.Goals as goal
@@ -16,58 +15,56 @@ loop-task-init g c = record {
   ended = search rules;
 }
 
-pub returns-in_err-read_next-clause-answered : goal.returns-in_err-read_next-clause-answered
-returns-in_err-read_next-clause-answered g c =
-    let p = err_from_is_err_and c.from_residual.result c.from_residual.ensures.1 in
-    let from = p.2 in
+pub returns-in-Err-clause-answered : goal.returns-in-Err-clause-answered
+returns-in-Err-clause-answered g c =
     λ start began octets known.
     let (state, at, so_far) = c.loop-task.invariant.taken start began octets known in
-    let read = c.in_err-read_next.ensures in
-    rw (p.1, from.1) (stopped_reading g.T.LineTask.rules start octets _ _ state _ _ _ _ _ (rw read.before_end at so_far) (from.0 ∙ read.count) (rw c.loop-task.invariant.limit at (read.next _ so_far.input)))
+    let read = c.in-Err.ensures in
+    rw c.into.ensures.1 (stopped_reading g.T.LineTask.rules start octets _ _ state _ _ _ _ _ (rw read.before_end at so_far) (c.into.ensures.0 ∙ read.count) (rw c.loop-task.invariant.limit at (read.next _ so_far.input)))
 
 pub loop-task-preserved : goal.loop-task-preserved
 loop-task-preserved g c = record {
   taken = λ start began octets known.
       let (state, at, so_far) = c.loop-task.invariant.taken start began octets known in
-      let read = c.in_ok-read_next.ensures in
-      let count = rw c.if-branch.true at read.count in
-      let line = rw (c.if-branch.true, c.loop-task.invariant.limit) at (read.next _ so_far.input) in
+      let read = c.in-Ok-true.ensures in
+      let count = rw c.in-Ok-true.field-0-test at read.count in
+      let line = rw (c.in-Ok-true.field-0-test, c.loop-task.invariant.limit) at (read.next _ so_far.input) in
       let (later, written, at_later, takes, appended) = c.in_default.ensures.taken state at in
       rw count (
         later,
         at_later,
-        taken_more g.T.LineTask.rules start octets _ _ _ state later _ _ _ _ _ written (rw (read.before_end c.if-branch.true) at so_far) line
+        taken_more g.T.LineTask.rules start octets _ _ _ state later _ _ _ _ _ written (rw (read.before_end c.in-Ok-true.field-0-test) at so_far) line
             (rw c.line.ensures.line at takes) appended,
       );
   at =
       let (state, at) = c.loop-task.invariant.at in
       let (later, written, at_later, takes, appended) = c.in_default.ensures.taken state at in
       (later, at_later);
-  limit = c.in_ok-read_next.ensures.limit ∙ c.loop-task.invariant.limit;
-  bounded = rw (rw c.if-branch.true at c.in_ok-read_next.ensures.count) (line_more _ _ _ _ _ _ c.loop-task.invariant.bounded c.in_ok-read_next.ensures.given);
+  limit = c.in-Ok-true.ensures.limit ∙ c.loop-task.invariant.limit;
+  bounded = rw (rw c.in-Ok-true.field-0-test at c.in-Ok-true.ensures.count) (line_more _ _ _ _ _ _ c.loop-task.invariant.bounded c.in-Ok-true.ensures.given);
   reader = search rules;
   writer = search rules;
   ended = search rules;
 }
 
-pub returns-in-Err-clause-answered : goal.returns-in-Err-clause-answered
-returns-in-Err-clause-answered g c =
+pub returns-in-Err-take-clause-answered : goal.returns-in-Err-take-clause-answered
+returns-in-Err-take-clause-answered g c =
     λ start began octets known.
     let (state, at, so_far) = c.loop-task.invariant.taken start began octets known in
-    let read = c.in_ok-read_next.ensures in
-    let count = rw c.if-branch.true at read.count in
-    let line = rw (c.if-branch.true, c.loop-task.invariant.limit) at (read.next _ so_far.input) in
-    let (written, stops, out) = c.in-Err.ensures.taken state at in
-    stopped_taking g.T.LineTask.rules start octets _ _ _ state _ _ _ _ _ _ _ written (rw (read.before_end c.if-branch.true) at so_far) (c.count.ensures ∙ count) line
+    let read = c.in-Ok-true.ensures in
+    let count = rw c.in-Ok-true.field-0-test at read.count in
+    let line = rw (c.in-Ok-true.field-0-test, c.loop-task.invariant.limit) at (read.next _ so_far.input) in
+    let (written, stops, out) = c.in-Err-take.ensures.taken state at in
+    stopped_taking g.T.LineTask.rules start octets _ _ _ state _ _ _ _ _ _ _ written (rw (read.before_end c.in-Ok-true.field-0-test) at so_far) (c.count.ensures ∙ count) line
     (rw c.line.ensures.line at stops) out
 
 pub returns-in-Ok-clause-answered : goal.returns-in-Ok-clause-answered
 returns-in-Ok-clause-answered g c =
     λ start began octets known.
     let (state, at, so_far) = c.loop-task.invariant.taken start began octets known in
-    let read = c.in_ok-read_next.ensures in
-    let count = rw c.if-branch.false at read.count in
-    let end = rw c.if-branch.false at (read.next _ so_far.input) in
+    let read = c.in-Ok-false.ensures in
+    let count = rw c.in-Ok-false.field-0-test at read.count in
+    let end = rw c.in-Ok-false.field-0-test at (read.next _ so_far.input) in
     let (written, ends, appended) = c.in-Ok.ensures.ended state at in
     taken_all g.T.LineTask.rules start octets _ _ _ state _ _ _ _ _ written so_far end.0 end.1 (rw (c.count-2.ensures, count) at ends) appended
 
@@ -75,28 +72,28 @@ pub returns-in-Err-finish-clause-answered : goal.returns-in-Err-finish-clause-an
 returns-in-Err-finish-clause-answered g c =
     λ start began octets known.
     let (state, at, so_far) = c.loop-task.invariant.taken start began octets known in
-    let read = c.in_ok-read_next.ensures in
-    let count = rw c.if-branch.false at read.count in
-    let end = rw c.if-branch.false at (read.next _ so_far.input) in
+    let read = c.in-Ok-false.ensures in
+    let count = rw c.in-Ok-false.field-0-test at read.count in
+    let end = rw c.in-Ok-false.field-0-test at (read.next _ so_far.input) in
     let (written, stops, out) = c.in-Err-finish.ensures.ended state at in
     stopped_at_end g.T.LineTask.rules start octets _ _ _ state _ _ _ _ _ _ written so_far (ap (λ n. n + 1) (c.count-in-Err-finish.ensures ∙ count)) end.0 end.1 stops out
-
-pub returns-in_err-read_next-clause-bounded : goal.returns-in_err-read_next-clause-bounded
-returns-in_err-read_next-clause-bounded g c =
-    rw (← c.loop-task.invariant.limit)
-    (input_within _ _ c.loop-task.lines.count _ _ _ (search rules) c.loop-task.invariant.bounded c.in_err-read_next.ensures.given)
 
 pub returns-in-Err-clause-bounded : goal.returns-in-Err-clause-bounded
 returns-in-Err-clause-bounded g c =
     rw (← c.loop-task.invariant.limit)
-    (input_within _ _ c.loop-task.lines.count _ _ _ (search rules) c.loop-task.invariant.bounded c.in_ok-read_next.ensures.given)
+    (input_within _ _ c.loop-task.lines.count _ _ _ (search rules) c.loop-task.invariant.bounded c.in-Err.ensures.given)
+
+pub returns-in-Err-take-clause-bounded : goal.returns-in-Err-take-clause-bounded
+returns-in-Err-take-clause-bounded g c =
+    rw (← c.loop-task.invariant.limit)
+    (input_within _ _ c.loop-task.lines.count _ _ _ (search rules) c.loop-task.invariant.bounded c.in-Ok-true.ensures.given)
 
 pub returns-in-Ok-clause-bounded : goal.returns-in-Ok-clause-bounded
 returns-in-Ok-clause-bounded g c =
     rw (← c.loop-task.invariant.limit)
-    (input_within _ _ c.loop-task.lines.count _ _ _ (search rules) c.loop-task.invariant.bounded c.in_ok-read_next.ensures.given)
+    (input_within _ _ c.loop-task.lines.count _ _ _ (search rules) c.loop-task.invariant.bounded c.in-Ok-false.ensures.given)
 
 pub returns-in-Err-finish-clause-bounded : goal.returns-in-Err-finish-clause-bounded
 returns-in-Err-finish-clause-bounded g c =
     rw (← c.loop-task.invariant.limit)
-    (input_within _ _ c.loop-task.lines.count _ _ _ (search rules) c.loop-task.invariant.bounded c.in_ok-read_next.ensures.given)
+    (input_within _ _ c.loop-task.lines.count _ _ _ (search rules) c.loop-task.invariant.bounded c.in-Ok-false.ensures.given)

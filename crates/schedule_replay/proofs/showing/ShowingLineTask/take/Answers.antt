@@ -1,9 +1,9 @@
 use Rattle.std.proofs.Common.{◌≡◌, List, [], ℕ, Option, Result, Ok, Err, ap, refl}
 use Rattle.std.specs.Prelude.{MatchResult, is_ok}
 use Rattle.std.specs.Io.KnownBytes.{Appends}
-use Rattle.schedule_replay.specs.declared.fault.TaskFault.{TaskFault}
-use Rattle.schedule_replay.specs.declared.fault.TaskFault.TheVariants.{Write}
-use Rattle.schedule_replay.specs.Fault.{is_write}
+use Rattle.schedule_reading.specs.declared.fault.TaskFault.{TaskFault}
+use Rattle.schedule_reading.specs.declared.fault.TaskFault.TheVariants.{Write}
+use Rattle.schedule_reading.specs.Fault.{is_write}
 use Rattle.schedule_replay.specs.Show.{IsAnswer, show_rules}
 use Rattle.text_lines.specs.Task.{WentOut}
 use Rattle.schedule_replay.proofs.showing.ShowingLineTask.take.Goals as goal

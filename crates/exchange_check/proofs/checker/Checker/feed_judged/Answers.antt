@@ -1,0 +1,13 @@
+use Rattle.std.proofs.Common.{◌∙◌, ap}
+use Rattle.std.specs.Prelude.{reverse}
+use Rattle.trace_model.specs.Record.{line_place}
+use Rattle.trace_model.specs.Verdict.{line_judgement}
+use Rattle.exchange_check.specs.Transcript.{Transcript}
+use Rattle.exchange_check.proofs.Reversed.{judgement-told}
+use Rattle.exchange_check.proofs.checker.Checker.feed_judged.Goals as goal
+
+pub returns-clause-judged : goal.returns-clause-judged
+returns-clause-judged c =
+    let inside = c.self.inside in
+    judgement-told inside.nodes c.args.line inside.fed _ (c.in_ok-answer.ensures.kept _ _ c.self.invariant).1
+    ∙ ap (λ (t : Transcript). line_judgement t.network (line_place c.args.line (reverse t.lines))) c.self.view_is

@@ -1,0 +1,5 @@
+pub mod Codes
+pub mod Events
+pub mod Faults
+pub mod Untold
+pub mod Seen

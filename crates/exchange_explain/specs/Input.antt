@@ -1,0 +1,72 @@
+-- What the lines of an input are: a transcript or a schedule. Nodes alone are a transcript; from the first event on that
+-- has no record of what came of it the input is a schedule.
+use Rattle.std.specs.Prelude.{◌≡◌, ◌⊎◌, ℕ, ◌+◌, List, [], length, Option, None, Ok, IsOk, ⊤}
+use Rattle.network_model.specs.declared.event.Event.{Event}
+use Rattle.network_model.specs.Clash.{first_clash}
+use Rattle.network_model.specs.Outcome.{outcome_of}
+use Rattle.world_model.specs.State.{State, new_state, after}
+use Rattle.trace_model.specs.Verdict.{verdict}
+use Rattle.schedule_lines.specs.declared.reading.schedule.Line.TheVariants as entries
+use Rattle.schedule_reading.specs.declared.fault.TaskFault.{TaskFault}
+use Rattle.schedule_reading.specs.declared.fault.TaskFault.TheVariants.{Write, Memory}
+use Rattle.schedule_reading.specs.declared.transcript.Judged.{Judged}
+use Rattle.schedule_reading.specs.Entry.{entry_in}
+use Rattle.schedule_reading.specs.Schedule.{FaultsIn}
+use Rattle.schedule_reading.specs.Transcript as transcripts
+use Rattle.exchange_explain.specs.declared.input.Found.{Found}
+use Rattle.exchange_explain.specs.declared.input.Found.TheVariants as found
+use Rattle.exchange_explain.specs.declared.input.Input.{Input}
+use Rattle.exchange_explain.specs.declared.input.Input.TheVariants.{Transcript, Schedule}
+
+-- no line was read
+abbrev pub nothing : Input
+nothing = Transcript transcripts.nothing
+
+-- how many lines were read
+abbrev pub lines_in : Input → ℕ
+lines_in (Transcript state) = length state.nodes + length state.lines
+lines_in (Schedule state) = length state.network + length state.run
+
+-- an event happens
+abbrev pub Happens : Event → (state later : State) → Type 0
+Happens event state later = (first_clash state.network ≡ None)
+    × IsOk (outcome_of state.network state.run event) × (later ≡ after event state)
+
+-- a line is an event that happens
+abbrev pub TakesEvent : List ℕ → (state later : State) → Type 0
+TakesEvent line state later =
+    (event : Event) × (entry_in line ≡ Ok (entries.Event event)) × Happens event state later
+
+-- with this line a schedule begins: it is an event without what came of it, and no event stands before it
+abbrev pub BeginsSchedule : List ℕ → transcripts.Recorded → Event → Type 0
+BeginsSchedule line state event = (state.lines ≡ []) × (entry_in line ≡ Ok (entries.Event event))
+
+-- one more line, with what its report is judged to be, where it has one
+abbrev pub Takes : List ℕ → (input later : Input) → Option Judged → Type 0
+Takes line (Transcript state) (Transcript later) judged = transcripts.Takes line state later judged
+Takes line (Transcript state) (Schedule later) judged = (event : Event) × BeginsSchedule line state event
+    × Happens event (new_state state.nodes) later × (judged ≡ None)
+Takes line (Schedule state) (Schedule later) judged = TakesEvent line state later × (judged ≡ None)
+Takes line (Schedule state) (Transcript later) judged = ⊥
+
+-- The fault of a line of an input: of the first event of a schedule by what `replay` asks for, of other lines by what the
+-- input is so far. Where memory is refused, nothing is known of the line.
+abbrev pub Faults : TaskFault → Input → List ℕ → Type 0
+Faults Memory input line = ⊤
+Faults Write input line = ⊥
+Faults fault (Transcript state) line =
+    ((event : Event) × BeginsSchedule line state event × FaultsIn fault state.nodes [] line)
+    ⊎ (((event : Event) → BeginsSchedule line state event → ⊥)
+    × transcripts.FaultsInTranscript fault state.nodes state.lines line)
+Faults fault (Schedule state) line = FaultsIn fault state.network state.run line
+
+-- what a whole input is
+abbrev pub IsFound : Input → Found → Type 0
+IsFound (Transcript state) answer =
+    (first_clash state.nodes ≡ None) × (answer ≡ found.Transcript (verdict state.nodes state.lines))
+IsFound (Schedule state) answer = answer ≡ found.Schedule (length state.run)
+
+-- the fault at the end: there was no event and the nodes are no network, or memory is refused
+abbrev pub FaultsAtEnd : TaskFault → Input → Type 0
+FaultsAtEnd fault (Transcript state) = transcripts.HasNoChecker fault state
+FaultsAtEnd fault (Schedule state) = ⊥

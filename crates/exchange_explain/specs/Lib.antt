@@ -1,0 +1,5 @@
+pub mod Input
+pub mod Judged
+pub mod Judgements
+pub mod Explained
+pub mod Inner

@@ -1,0 +1,335 @@
+//! What is wrong with a transcript or a schedule, for a person.
+ghost use Rattle.std.specs.Prelude.{◌≡◌, ◌+◌, ℕ, List, MatchResult, OnOk, Some, None, option_map, string_bytes};
+ghost use Rattle.std.specs.Io.KnownBytes.{Appends};
+ghost use Rattle.schedule_reading.specs.declared.fault.TaskFault.TheVariants.{World};
+ghost use Rattle.schedule_reading.specs.Entry.{lines_limit};
+ghost use Rattle.schedule_reading.specs.Fault.{is_write};
+ghost use Rattle.exchange_explain.specs.declared.explaining.Explained.TheVariants.{Flawed};
+ghost use Rattle.text_lines.specs.Counted.{device_of, HasFailedIf, HasNotFailed};
+ghost use Rattle.text_lines.specs.Lines.{input_limit, GivesWithin};
+ghost use Rattle.exchange_explain.specs.Explained.{Seen, Sees, SeesFirst, EndsIn, TellsEnd, explain_rules};
+ghost use Rattle.exchange_explain.specs.Explained.{ExplainsAnswer, ExplainFailedWith};
+ghost use Rattle.exchange_explain.specs.Input.{lines_in};
+ghost use Rattle.exchange_explain.specs.Inner.Explaining.{IsExplaining, IsSeenAlike, fault_kept};
+
+use crate::case::Case;
+use crate::flaws::{Flaws, push_foreign};
+use crate::input::{Found, Input};
+use crate::record::Record;
+use crate::refusal::{Before, push_clash};
+use crate::report::{is_sound, push_sound};
+use crate::tally::{Tally, push_found};
+use line_flaws::Foreign;
+use network_model::WorldRefusal;
+use schedule_reading::{Judged, LINES_LIMIT, TaskFault, Transcript, write_text};
+use std::alloc::{AllocError, Global};
+use std::io::{Read, Write};
+use text_lines::{Cause, Counted, LineTask, ReadingFault, Stopped, answer_lines};
+
+/// What an input is found to be.
+#[derive(Clone, Copy, Debug, PartialEq, Eq)]
+pub enum Explained {
+    /// It is a whole transcript or a whole schedule.
+    Whole(Found),
+    /// It is neither.
+    Flawed {
+        /// The line of its first fault, counted from 1.
+        line: u64,
+        /// This fault.
+        what: TaskFault,
+    },
+}
+
+/// Tells of each line what is wrong with it, and what its report is judged to be.
+#[derive(Drop)]
+struct Explaining {
+    alloc: Global,
+    input: Input,
+    /// The first fault, and what was seen of lines from there on.
+    flaws: Option<Flaws>,
+    /// Whether only the first report that is refused is told.
+    first: bool,
+    tally: Tally,
+    /// The nodes, and what was recorded of events.
+    record: Record,
+    /// What is told of the last line, in the one text that all share.
+    text: String,
+    /// The kind of another input that the line begins with which can't be read.
+    begins: Option<Foreign>,
+}
+
+impl LineTask for Explaining {
+    type Answer = Explained;
+
+    type Fault = TaskFault;
+
+    ghost State = { Seen };
+
+    ghost rules = { explain_rules };
+
+    ghost is_at = { IsExplaining };
+
+    fn lines_limit() -> u64 {
+        LINES_LIMIT
+    }
+
+    /// Takes one more line, and writes what there is to tell of it, in one write.
+    fn take<W: Write>(&mut self, line: &[u8], output: &mut Counted<W>) -> Result<(), TaskFault> {
+        self.text.clear();
+        self.tell_line(line)?;
+        self.write(output)
+    }
+
+    /// Keeps which kind of another input a line begins with that can't be read.
+    fn leave(&mut self, start: &[u8]) {
+        self.begins = match Foreign::of(start) {
+            // Its first line was to be seen whole.
+            Some(Foreign::ObjectOverLines) => None,
+            kind => kind,
+        };
+    }
+
+    /// What the input is or its first fault, and what there is to tell at the end, in one write.
+    fn finish<W: Write>(
+        &mut self,
+        _lines: u64,
+        output: &mut Counted<W>,
+    ) -> Result<Explained, TaskFault> {
+        self.text.clear();
+        let found = self.tell_end()?;
+        self.write(output)?;
+        Ok(found)
+    }
+}
+
+impl Explaining {
+    /// Writes what is to be told, where there is something.
+    fn write<W: Write>(&self, output: &mut Counted<W>) -> Result<(), TaskFault>
+        ensures written { MatchResult result
+            (λ _. Appends (W.contents (device_of output.old)) (W.contents (device_of output.new)) (string_bytes self.now.text))
+            (λ fault. fault ≡ TaskFault.Write) }
+        ensures failures { MatchResult result
+            (λ _. HasNotFailed output.old output.new)
+            (λ fault. HasFailedIf (is_write fault) output.old output.new) }
+    {
+        match self.text.as_str() {
+            "" => Ok(()),
+            text => write_text(text, output),
+        }
+    }
+
+    /// Tells what there is to tell of one more line.
+    fn tell_line(&mut self, line: &[u8]) -> Result<(), TaskFault>
+        ensures { (seen : Seen) → IsExplaining self.old seen → MatchResult result
+            (λ _. (later : Seen) × IsExplaining self.new later × Sees line.now seen.fault seen later)
+            (λ fault. fault ≡ TaskFault.Memory) }
+    {
+        match &mut self.flaws {
+            Some(flaws) => Ok(flaws.look(self.alloc, line, &mut self.text)?),
+            None => self.take_line(line),
+        }
+    }
+
+    /// Takes a line where none before it has a fault, and tells its report, or its fault.
+    fn take_line(&mut self, line: &[u8]) -> Result<(), TaskFault>
+        ensures { self.old.flaws ≡ None → MatchResult result
+            (λ _. SeesFirst line.now self.old.input self.new.input (option_map fault_kept self.new.flaws))
+            (λ fault. fault ≡ TaskFault.Memory) }
+    {
+        match self.input.take(self.alloc, line) {
+            Ok(judged) => Ok(self.tell_taken(line, judged)?),
+            Err(TaskFault::Memory) => Err(TaskFault::Memory),
+            Err(fault) => self.tell_fault(fault, line),
+        }
+    }
+
+    /// Keeps what was recorded of a line that the input took, and tells its report.
+    fn tell_taken(&mut self, line: &[u8], judged: Option<Judged>) -> Result<(), AllocError>
+        ensures { IsSeenAlike self.old self.new }
+    {
+        self.record.take(self.alloc, line, &self.input)?;
+        match judged {
+            Some(judged) => self.tell_report(&judged),
+            None => Ok(()),
+        }
+    }
+
+    /// Tells what a report is judged to be, and where it is refused its exchange.
+    fn tell_report(&mut self, judged: &Judged) -> Result<(), AllocError>
+        ensures { IsSeenAlike self.old self.new }
+    {
+        self.tally.count(&judged.judgement.reasons);
+        if self.first && !self.input.is_first_refused(judged.event) {
+            return Ok(());
+        }
+        if is_sound(judged) {
+            return push_sound(&mut self.text, judged);
+        }
+        self.tell_refused(judged)
+    }
+
+    /// Tells what the reasons against a report met.
+    fn tell_refused(&mut self, judged: &Judged) -> Result<(), AllocError>
+        ensures { IsSeenAlike self.old self.new }
+    {
+        let Input::Transcript(transcript) = &self.input else {
+            return Ok(());
+        };
+        let exchange = transcript.exchange(&judged.report);
+        let case = Case {
+            alloc: self.alloc,
+            transcript,
+            record: &self.record,
+            judged,
+            exchange: &exchange,
+        };
+        case.push(&mut self.text)
+    }
+
+    /// Tells the first fault, which is at this line.
+    fn tell_fault(&mut self, fault: TaskFault, line: &[u8]) -> Result<(), TaskFault>
+        ensures { MatchResult result
+            (λ _. (self.new.input ≡ self.old.input)
+            × (option_map fault_kept self.new.flaws ≡ Some (lines_in self.old.input + 1, fault)))
+            (λ stop. stop ≡ TaskFault.Memory) }
+    {
+        let mut flaws = Flaws::new(self.input.next_line()?, fault, &self.input);
+        let before = Before {
+            nodes: self.record.nodes(),
+            events: self.input.events(),
+        };
+        flaws.begin(self.alloc, before, line, &mut self.text)?;
+        self.flaws = Some(flaws);
+        Ok(())
+    }
+
+    /// Tells what there is to tell at the end.
+    fn tell_end(&mut self) -> Result<Explained, TaskFault>
+        ensures { (seen : Seen) → IsExplaining self.old seen → MatchResult result
+            (λ answer. EndsIn seen.input seen.fault answer × TellsEnd answer (string_bytes self.new.text))
+            (λ fault. fault ≡ TaskFault.Memory) }
+    {
+        if let Some(flaws) = &self.flaws {
+            flaws.push_end(self.alloc, &mut self.text)?;
+            return Ok(Explained::Flawed {
+                line: flaws.line,
+                what: flaws.what,
+            });
+        }
+        match self.input.found() {
+            Ok(found) => {
+                if let Found::Transcript(_) = found {
+                    self.push_tally()?;
+                }
+                push_found(&mut self.text, found)?;
+                Ok(Explained::Whole(found))
+            }
+            Err(TaskFault::World(why)) => self.tell_no_network(why),
+            Err(_) => Err(TaskFault::Memory),
+        }
+    }
+
+    /// Appends how many reports there are, and where octets stand against one, how many messages have other ones.
+    fn push_tally(&mut self) -> Result<(), AllocError>
+        ensures { IsSeenAlike self.old self.new }
+    {
+        self.tally.push(&mut self.text)?;
+        if self.tally.has_octets() {
+            self.record.push_differing(&mut self.text)?;
+        }
+        Ok(())
+    }
+
+    /// Tells why the nodes, after which there is no event, are no network.
+    fn tell_no_network(&mut self, why: WorldRefusal) -> Result<Explained, TaskFault>
+        ensures { MatchResult result
+            (λ answer. answer ≡ Flawed (lines_in self.old.input + 1) (World why))
+            (λ fault. fault ≡ TaskFault.Memory) }
+    {
+        let line = self.input.next_line()?;
+        push_clash(self.alloc, &mut self.text, self.record.nodes(), why)?;
+        Ok(Explained::Flawed {
+            line,
+            what: TaskFault::World(why),
+        })
+    }
+
+    /// Writes why a line can't be read. What can't be written is lost.
+    fn tell_unread<W: Write>(&mut self, line: u64, what: ReadingFault, output: &mut Counted<W>) {
+        self.text.clear();
+        let _ = self.push_unread(line, what);
+        let _ = self.write(output);
+    }
+
+    /// Appends why a line can't be read; of an input of another kind, which it is.
+    fn push_unread(&mut self, line: u64, what: ReadingFault) -> Result<(), AllocError> {
+        if let Some(flaws) = &self.flaws {
+            if flaws.is_foreign() {
+                return Ok(());
+            }
+            flaws.push_untold(self.alloc, &mut self.text)?;
+        }
+        match (line, what, self.begins) {
+            (1, ReadingFault::LineTooLong, Some(kind)) => push_foreign(&mut self.text, kind),
+            _ => push_unread(&mut self.text, line, what),
+        }
+    }
+}
+
+/// Appends why a line can't be read.
+fn push_unread(text: &mut String, line: u64, what: ReadingFault) -> Result<(), AllocError> {
+    match what {
+        ReadingFault::Read => write!(text, "line {line}: the input can't be read\n"),
+        ReadingFault::LineTooLong => write!(
+            text,
+            "line {line}: more than 4096 octets; wanted is an LF after each node and each event\n"
+        ),
+        ReadingFault::TooManyLines => write!(
+            text,
+            "line {line}: an octet after the last of 1048576 lines; a longer input is to be cut\n"
+        ),
+    }
+}
+
+/// Says for a person what is wrong with a transcript or a schedule: of each line that isn't read, of the first 20 of
+/// them, what is wrong with it; of an input of another kind, which it is; of each report, or where
+/// `first` is asked for of the first alone that is refused, what it is judged to be; of an event of a schedule that the
+/// network refuses, why; and at the end how many reports there are, and the verdict. What is told of a line is written
+/// before the next one is read. After the first fault no report is judged. Answers what the input is, or its first
+/// fault with its line.
+///
+/// The faults at which it stops are those of reading, `Write` and `Memory`.
+pub fn explain<R: Read, W: Write>(
+    alloc: Global,
+    first: bool,
+    input: &mut Counted<R>,
+    output: &mut Counted<W>,
+) -> Result<Explained, Stopped<Cause<TaskFault>>>
+    ensures explained { ExplainsAnswer R.remaining W.contents result input.old input.new output.old output.new }
+    // Of any reader only so much is read, whatever the writer is.
+    ensures bounded { GivesWithin R.remaining (input_limit lines_limit) input.old input.new }
+    ensures failures { ExplainFailedWith result input.old input.new output.old output.new }
+{
+    let mut task = Explaining {
+        alloc,
+        input: Input::Transcript(Transcript::new(alloc)),
+        flaws: None,
+        first,
+        tally: Tally::new(),
+        record: Record::new(alloc),
+        text: String::new(alloc),
+        begins: None,
+    };
+    let answer = answer_lines(&mut task, input, output);
+    let Err(
+        Stopped {
+            line,
+            what: Cause::Reading(what),
+        },
+    ) = answer
+    else {
+        return answer;
+    };
+    task.tell_unread(line, what, output);
+    answer
+}

@@ -1,0 +1,255 @@
+//! The lines of an input that aren't what is asked for.
+ghost use Rattle.std.specs.Prelude.{◌≡◌};
+
+use crate::input::Input;
+use crate::refusal::{Before, push_clash, push_refused};
+use line_flaws::{Flaw, FlawAt, Foreign, Form, schedule_flaw, transcript_flaw};
+use network_model::WorldRefusal;
+use schedule_lines::Line;
+use schedule_reading::{TaskFault, read_entry};
+use std::alloc::{AllocError, Global};
+
+/// The most lines whose flaw is told.
+const TOLD_MOST: u64 = 20;
+
+/// The first fault of an input, and what was seen of lines from there on.
+#[derive(Clone, Copy, Debug)]
+pub(crate) struct Flaws {
+    /// The line of the first fault, counted from 1.
+    pub(crate) line: u64,
+    /// The first fault.
+    pub(crate) what: TaskFault,
+    /// Whether the input is of another kind, so that flaws of lines say nothing.
+    foreign: bool,
+    /// Whether the first line is empty, and nothing was told of it yet.
+    empty: bool,
+    /// What its lines are to be; none before its first event.
+    form: Option<Form>,
+    /// How many lines have a flaw.
+    count: u64,
+    /// The place that the next event is to have.
+    events: u64,
+    /// The last line that was looked at.
+    last: u64,
+}
+
+impl Flaws {
+    /// The first fault of an input is at this line, after what was read so far.
+    pub(crate) fn new(line: u64, what: TaskFault, input: &Input) -> Flaws
+        ensures { (result.line ≡ line) × (result.what ≡ what) }
+    {
+        let (form, events) = match input {
+            Input::Transcript(transcript) => match transcript.events() {
+                0 => (None, 0),
+                events => (Some(Form::Transcript), events),
+            },
+            Input::Schedule(schedule) => (Some(Form::Schedule), schedule.len()),
+        };
+        Flaws {
+            line,
+            what,
+            foreign: false,
+            empty: false,
+            form,
+            count: 0,
+            events,
+            last: line,
+        }
+    }
+
+    /// Appends what is wrong with the line of the first fault, or which kind of input begins with it.
+    pub(crate) fn begin(
+        &mut self,
+        alloc: Global,
+        before: Before<'_>,
+        line: &[u8],
+        text: &mut String,
+    ) -> Result<(), AllocError>
+        ensures { (self.new.line ≡ self.old.line) × (self.new.what ≡ self.old.what) }
+    {
+        if let TaskFault::World(why) = self.what {
+            return self.refuse(alloc, before, why, line, text);
+        }
+        if self.line != 1 {
+            return self.look_at(alloc, self.line, line, text);
+        }
+        self.empty = line.is_empty();
+        match Foreign::of(line) {
+            _ if self.empty => Ok(()),
+            Some(kind) => self.tell_foreign(kind, text),
+            None => self.look_at(alloc, 1, line, text),
+        }
+    }
+
+    /// Appends why the network refuses the event of the line of the first fault, or its nodes are no network.
+    fn refuse(
+        &mut self,
+        alloc: Global,
+        before: Before<'_>,
+        why: WorldRefusal,
+        line: &[u8],
+        text: &mut String,
+    ) -> Result<(), AllocError>
+        ensures { (self.new.line ≡ self.old.line) × (self.new.what ≡ self.old.what) }
+    {
+        self.see(line);
+        self.pass(line);
+        self.count = 1;
+        if let WorldRefusal::SameName | WorldRefusal::SameIdentity = why {
+            return push_clash(alloc, text, before.nodes, why);
+        }
+        // Events of a transcript are refused for nothing else.
+        self.form = Some(Form::Schedule);
+        match read_entry(alloc, line) {
+            Ok(Line::Event(event)) => push_refused(text, self.line, before, &event, why),
+            Err(TaskFault::Memory) => Err(AllocError),
+            _ => write!(text, "line {}: {}: {why}\n", self.line, why.code()),
+        }
+    }
+
+    /// Appends that the input is of another kind.
+    fn tell_foreign(&mut self, kind: Foreign, text: &mut String) -> Result<(), AllocError>
+        ensures { (self.new.line ≡ self.old.line) × (self.new.what ≡ self.old.what) }
+    {
+        self.foreign = true;
+        self.empty = false;
+        push_foreign(text, kind)
+    }
+
+    /// Whether the input is of another kind.
+    pub(crate) fn is_foreign(&self) -> bool {
+        self.foreign
+    }
+
+    /// Looks at a line after that of the first fault, and appends what is wrong with it.
+    pub(crate) fn look(
+        &mut self,
+        alloc: Global,
+        line: &[u8],
+        text: &mut String,
+    ) -> Result<(), AllocError>
+        ensures { (self.new.line ≡ self.old.line) × (self.new.what ≡ self.old.what) }
+    {
+        self.last = self.last.saturating_add(1);
+        if self.foreign {
+            return Ok(());
+        }
+        if self.empty {
+            if line.starts_with(b"\r".as_slice()) {
+                return self.tell_foreign(Foreign::PcapNg, text);
+            }
+            self.look_at_empty(alloc, text)?;
+        }
+        self.look_at(alloc, self.last, line, text)
+    }
+
+    /// Appends what is wrong with a first line that is empty.
+    fn look_at_empty(&mut self, alloc: Global, text: &mut String) -> Result<(), AllocError>
+        ensures { (self.new.line ≡ self.old.line) × (self.new.what ≡ self.old.what) }
+    {
+        self.empty = false;
+        self.look_at(alloc, 1, &[], text)
+    }
+
+    /// Appends what is wrong with a line.
+    fn look_at(
+        &mut self,
+        alloc: Global,
+        number: u64,
+        line: &[u8],
+        text: &mut String,
+    ) -> Result<(), AllocError>
+        ensures { (self.new.line ≡ self.old.line) × (self.new.what ≡ self.old.what) }
+    {
+        self.see(line);
+        let flaw = match self.form {
+            Some(Form::Schedule) => schedule_flaw(alloc, line, self.events)?,
+            _ => transcript_flaw(alloc, line, self.events)?,
+        };
+        match flaw {
+            Some(Flaw::NodeAfterEvent) => {}
+            Some(Flaw::OutOfPlace { number, .. }) => self.events = number.saturating_add(1),
+            _ => self.pass(line),
+        }
+        let Some(flaw) = flaw else {
+            return Ok(());
+        };
+        self.count = self.count.saturating_add(1);
+        if self.count > TOLD_MOST {
+            return Ok(());
+        }
+        write!(text, "{}\n", FlawAt { line: number, flaw })
+    }
+
+    /// Sees by the first event what the lines are to be: those of a transcript have what came of events.
+    fn see(&mut self, line: &[u8])
+        ensures { (self.new.line ≡ self.old.line) × (self.new.what ≡ self.old.what) }
+    {
+        if self.form.is_some() || !has_key(line, b"\"ev\"") {
+            return;
+        }
+        self.form = Some(if has_key(line, b"\"out\"") || has_key(line, b"\"n\"") {
+            Form::Transcript
+        } else {
+            Form::Schedule
+        });
+    }
+
+    /// Passes a line, which is an event's where there was one or it says so.
+    fn pass(&mut self, line: &[u8])
+        ensures { (self.new.line ≡ self.old.line) × (self.new.what ≡ self.old.what) }
+    {
+        if self.events > 0 || has_key(line, b"\"ev\"") {
+            self.events = self.events.saturating_add(1);
+        }
+    }
+
+    /// Appends a first line that is empty, where it wasn't told, and how many lines weren't.
+    pub(crate) fn push_untold(&self, alloc: Global, text: &mut String) -> Result<(), AllocError> {
+        if self.empty {
+            let mut flaws = *self;
+            flaws.look_at_empty(alloc, text)?;
+        }
+        match self.count.checked_sub(TOLD_MOST) {
+            None | Some(0) => Ok(()),
+            Some(1) => text.push_str("and 1 line more\n"),
+            Some(more) => write!(text, "and {more} lines more\n"),
+        }
+    }
+
+    /// Appends how many lines weren't told, and from where on nothing was judged or happened.
+    pub(crate) fn push_end(&self, alloc: Global, text: &mut String) -> Result<(), AllocError> {
+        self.push_untold(alloc, text)?;
+        match (self.foreign, self.form) {
+            (true, _) => Ok(()),
+            (_, Some(Form::Schedule)) => write!(
+                text,
+                "no event happens from line {} on\n",
+                self.line
+            ),
+            _ => write!(text, "no report was judged from line {} on\n", self.line),
+        }
+    }
+}
+
+/// Appends which other kind an input is of.
+pub(crate) fn push_foreign(text: &mut String, kind: Foreign) -> Result<(), AllocError> {
+    write!(text, "the input isn't lines of JSON, but {kind}\n")
+}
+
+/// Whether a line has this key somewhere, which is given in its quotes: it stands before a colon.
+fn has_key(line: &[u8], key: &[u8]) -> bool {
+    match key.len() {
+        0 => true,
+        length => line.windows(length).enumerate().any(|(at, octets)| octets == key
+            && is_before_colon(line, at.saturating_add(length))),
+    }
+}
+
+/// Whether what is left of a line from here on begins with a colon, after blanks.
+fn is_before_colon(line: &[u8], at: usize) -> bool {
+    match line.get(at..) {
+        Some(rest) => rest.trim_ascii_start().starts_with(b":".as_slice()),
+        None => false,
+    }
+}

@@ -1,0 +1,133 @@
+//! What the lines of an input are: a transcript or a schedule.
+ghost use Rattle.std.specs.Prelude.{◌≡◌, ◌≢◌, ◌⊎◌, ◌+◌, [], MatchOption, MatchResult};
+ghost use Rattle.network_model.specs.declared.event.Event.{Event};
+ghost use Rattle.world_model.specs.State.{new_state};
+ghost use Rattle.schedule_reading.specs.Schedule.{FaultsIn};
+ghost use Rattle.exchange_explain.specs.Judgements.{is_first_refused};
+ghost use Rattle.exchange_explain.specs.Input.{BeginsSchedule, Happens, Takes, Faults, IsFound, FaultsAtEnd, lines_in};
+
+use crate::schedule::Scheduled;
+use exchange_check::Verdict;
+use network_model::Event;
+use schedule_lines::Line;
+use schedule_reading::{Judged, TaskFault, Transcript, read_entry};
+use std::alloc::Global;
+
+/// What an input is, where it is whole.
+#[derive(Clone, Copy, Debug, PartialEq, Eq)]
+pub enum Found {
+    /// A transcript, with this verdict.
+    Transcript(Verdict),
+    /// A schedule of so many events, which all happen.
+    Schedule(u64),
+}
+
+/// What the lines of an input are so far. Nodes alone are a transcript.
+#[derive(Drop)]
+pub(crate) enum Input {
+    /// A transcript.
+    Transcript(Transcript),
+    /// A schedule.
+    Schedule(Scheduled),
+}
+
+impl Input {
+    /// One more line. Answers the report of the line with what it is judged to be; none where the line has no report.
+    pub(crate) fn take(&mut self, alloc: Global, line: &[u8]) -> Result<Option<Judged>, TaskFault>
+        ensures { MatchResult result
+            (λ judged. Takes line.now self.old self.new judged)
+            (λ fault. (self.new ≡ self.old) × Faults fault self.old line.now) }
+    {
+        match self {
+            Input::Transcript(transcript) => match transcript.take(line) {
+                Ok(judged) => Ok(judged),
+                Err(TaskFault::Memory) => Err(TaskFault::Memory),
+                Err(fault) => match begun(alloc, transcript, line) {
+                    Ok(Some(scheduled)) => {
+                        *self = Input::Schedule(scheduled);
+                        Ok(None)
+                    }
+                    Ok(None) => Err(fault),
+                    Err(fault) => Err(fault),
+                },
+            },
+            Input::Schedule(scheduled) => {
+                scheduled.take(alloc, line)?;
+                Ok(None)
+            }
+        }
+    }
+
+    /// Whether the event of this number, which is the last, gave the first report that is refused.
+    pub(crate) fn is_first_refused(&self, event: u64) -> bool
+        ensures { result ≡ is_first_refused event self.now }
+    {
+        match self {
+            Input::Transcript(transcript) => match transcript.verdict() {
+                Ok(Verdict::Refused { line, .. }) => line == event,
+                _ => false,
+            },
+            Input::Schedule(_) => false,
+        }
+    }
+
+    /// The number of the next line, counted from 1. More lines than can be counted are refused as want of memory.
+    pub(crate) fn next_line(&self) -> Result<u64, TaskFault>
+        ensures { MatchResult result
+            (λ line. line ≡ lines_in self.now + 1)
+            (λ fault. fault ≡ TaskFault.Memory) }
+    {
+        let (nodes, events) = match self {
+            Input::Transcript(transcript) => (transcript.nodes(), transcript.events()),
+            Input::Schedule(scheduled) => (scheduled.nodes(), scheduled.len()),
+        };
+        let lines = nodes.checked_add(events).ok_or(TaskFault::Memory)?;
+        lines.checked_add(1).ok_or(TaskFault::Memory)
+    }
+
+    /// The events of a schedule so far, the oldest first; none of a transcript.
+    pub(crate) fn events(&self) -> &[Event] {
+        match self {
+            Input::Transcript(_) => &[],
+            Input::Schedule(scheduled) => scheduled.events(),
+        }
+    }
+
+    /// What the whole input is.
+    pub(crate) fn found(&self) -> Result<Found, TaskFault>
+        ensures { MatchResult result
+            (λ found. IsFound self.now found)
+            (λ fault. FaultsAtEnd fault self.now) }
+    {
+        match self {
+            Input::Transcript(transcript) => Ok(Found::Transcript(transcript.verdict()?)),
+            Input::Schedule(scheduled) => Ok(Found::Schedule(scheduled.len())),
+        }
+    }
+}
+
+/// The schedule that begins with this line, where no event stands before it and it is an event without what came of it.
+fn begun(
+    alloc: Global,
+    transcript: &Transcript,
+    line: &[u8],
+) -> Result<Option<Scheduled>, TaskFault>
+    ensures { MatchResult result
+        (λ begun. MatchOption begun
+        ((event : Event) → BeginsSchedule line.now transcript.now event → ⊥)
+        (λ scheduled. (event : Event) × BeginsSchedule line.now transcript.now event
+        × Happens event (new_state transcript.now.nodes) scheduled))
+        (λ fault. (fault ≢ TaskFault.Write) × ((fault ≡ TaskFault.Memory)
+        ⊎ ((event : Event) × BeginsSchedule line.now transcript.now event
+        × FaultsIn fault transcript.now.nodes [] line.now))) }
+{
+    let Some(nodes) = transcript.nodes_alone() else {
+        return Ok(None);
+    };
+    let event = match read_entry(alloc, line) {
+        Ok(Line::Event(event)) => event,
+        Err(TaskFault::Memory) => return Err(TaskFault::Memory),
+        _ => return Ok(None),
+    };
+    Ok(Some(Scheduled::begin(alloc, nodes, event)?))
+}

@@ -1,0 +1,103 @@
+//! A transcript whose reports are judged, a line of JSON each.
+ghost use Rattle.std.specs.Prelude.{◌≡◌, MatchResult};
+ghost use Rattle.schedule_reading.specs.Entry.{lines_limit};
+ghost use Rattle.text_lines.specs.Counted.{HasNotFailed};
+ghost use Rattle.text_lines.specs.Lines.{input_limit, GivesWithin};
+ghost use Rattle.text_lines.specs.Task.{FailedAt};
+ghost use Rattle.exchange_explain.specs.Judgements.{Told, is_told, judgement_rules, JudgesAnswer};
+
+use crate::input::{Found, Input};
+use crate::json::push_judged;
+use schedule_reading::{Judged, LINES_LIMIT, TaskFault, Transcript, write_text};
+use std::alloc::Global;
+use std::io::{Read, Write};
+use text_lines::{Cause, Counted, LineTask, Stopped, answer_lines};
+
+/// Judges each report of a transcript.
+#[derive(Drop)]
+struct Judging {
+    alloc: Global,
+    input: Input,
+    /// Whether only the first report that is refused is told.
+    first: bool,
+    /// The line of the last report, in the one text that all share.
+    text: String,
+}
+
+impl LineTask for Judging {
+    type Answer = Found;
+
+    type Fault = TaskFault;
+
+    ghost State = { Told };
+
+    ghost rules = { judgement_rules };
+
+    ghost is_at = { λ task told. told ≡ record { first = task.first; input = task.input } };
+
+    fn lines_limit() -> u64 {
+        LINES_LIMIT
+    }
+
+    /// Takes one more line, and writes what its report is judged to be, in one write.
+    fn take<W: Write>(&mut self, line: &[u8], output: &mut Counted<W>) -> Result<(), TaskFault> {
+        match self.input.take(self.alloc, line)? {
+            Some(judged) if self.is_told(judged.event) => {
+                self.text.clear();
+                push_judged(&mut self.text, &judged)?;
+                write_text(self.text.as_str(), output)
+            }
+            _ => Ok(()),
+        }
+    }
+
+    /// What the input is; nothing is written.
+    fn finish<W: Write>(
+        &mut self,
+        _lines: u64,
+        _output: &mut Counted<W>,
+    ) -> Result<Found, TaskFault> {
+        self.input.found()
+    }
+}
+
+impl Judging {
+    /// Whether the report of the event of this number is told.
+    fn is_told(&self, event: u64) -> bool
+        ensures { result ≡ is_told self.now.first event self.now.input }
+    {
+        !self.first || self.input.is_first_refused(event)
+    }
+}
+
+/// Judges each report of a transcript, which is read as `ptpx check` reads it; where `first` is asked
+/// for, only the first that is refused is told. For each report one line is written, before the next
+/// line is read: a JSON object with all reasons against the report, in their order, and with what the
+/// results are by the readings. A schedule has no reports, and is read as `ptpx replay` reads it. Answers the
+/// verdict, or how many events the schedule has. The lines before a fault were answered then.
+///
+/// The faults are those of reading; `Json` for a line that is no JSON; `Field` for one that is neither
+/// a node nor an event, a node after an event, or a recorded event whose number isn't its place among the
+/// events, from 0; `World` where the nodes are no network, or an event of a schedule can't happen in it; `Write`, and
+/// `Memory`.
+pub fn write_judgements<R: Read, W: Write>(
+    alloc: Global,
+    first: bool,
+    input: &mut Counted<R>,
+    output: &mut Counted<W>,
+) -> Result<Found, Stopped<Cause<TaskFault>>>
+    ensures judged { JudgesAnswer first R.remaining W.contents result input.old input.new output.old output.new }
+    // Of any reader only so much is read, whatever the writer is.
+    ensures bounded { GivesWithin R.remaining (input_limit lines_limit) input.old input.new }
+    ensures failures { MatchResult result
+        (λ _. HasNotFailed input.old input.new × HasNotFailed output.old output.new)
+        (λ stop. FailedAt judgement_rules stop.what input.old input.new output.old output.new) }
+{
+    let mut task = Judging {
+        alloc,
+        input: Input::Transcript(Transcript::new(alloc)),
+        first,
+        text: String::new(alloc),
+    };
+    answer_lines(&mut task, input, output)
+}

@@ -1,0 +1,248 @@
+//! What the tags of a report name, where 701 stands against it, and where its messages came from, where 704 does.
+
+use crate::case::Case;
+use crate::record::Recorded;
+use crate::journey::{Message, push_event, push_stop, journey_to};
+use network_model::Event;
+use std::alloc::AllocError;
+use trace_model::TraceOut;
+
+/// A message that a report names by the tag of an event at the slave.
+#[derive(Clone, Copy)]
+enum Tagged {
+    Sync,
+    FollowUp,
+    Request,
+    Response,
+}
+
+impl Tagged {
+    fn name(self) -> &'static str {
+        match self {
+            Tagged::Sync => "Sync",
+            Tagged::FollowUp => "Follow_Up",
+            Tagged::Request => "Delay_Req",
+            Tagged::Response => "Delay_Resp",
+        }
+    }
+
+    /// What the event is to be.
+    fn wanted(self) -> &'static str {
+        match self {
+            Tagged::Sync => "an arrive",
+            Tagged::FollowUp | Tagged::Response => "a hear",
+            Tagged::Request => "a request",
+        }
+    }
+
+    /// What is to have sent it, where it is a general message.
+    fn sent_by(self) -> &'static str {
+        match self {
+            Tagged::FollowUp => "a follow",
+            _ => "an arrive at a master",
+        }
+    }
+
+    /// Whether this sent it, where it is a general message.
+    fn is_sender(self, sender: &Recorded) -> bool {
+        match self {
+            Tagged::FollowUp => sender.line.event.is_follow(),
+            _ => sender.line.event.is_arrival() && matches!(sender.line.out, TraceOut::Made(_)),
+        }
+    }
+
+    fn is(self, event: &Event) -> bool {
+        match self {
+            Tagged::Sync => event.is_arrival(),
+            Tagged::FollowUp | Tagged::Response => event.is_hearing(),
+            Tagged::Request => event.is_request(),
+        }
+    }
+}
+
+/// Whether a message completed a pair.
+fn completes(out: &TraceOut) -> bool {
+    matches!(out, TraceOut::Completed | TraceOut::Report(_))
+}
+
+impl Case<'_> {
+    /// What the tag of a message names, where it names what it is to name.
+    fn tagged(&self, message: Tagged, tag: u64) -> Option<&Recorded> {
+        let recorded = self.record.counting(tag)?;
+        if message.is(&recorded.line.event) && recorded.line.event.node() == self.judged.node {
+            Some(recorded)
+        } else {
+            None
+        }
+    }
+
+    /// What sent the message that is heard by the event of this tag, where it stands before that.
+    fn sender(&self, tag: u64) -> Option<(u64, &Recorded)> {
+        let copy = self.record.counting(tag)?.line.event.heard_copy()?;
+        if copy >= tag {
+            return None;
+        }
+        Some((copy, self.record.counting(copy)?))
+    }
+
+    /// The arrival of the Delay_Req, where the report's Delay_Resp is of one, and the copy that arrived.
+    fn request_arrival(&self) -> Option<(u64, u64)> {
+        let (number, arrival) = self.sender(self.judged.report.response_tag)?;
+        Some((number, arrival.line.event.heard_copy()?))
+    }
+
+    /// Appends which tag names what in place of what.
+    pub(crate) fn push_tags(&self, text: &mut String) -> Result<(), AllocError> {
+        let report = &self.judged.report;
+        self.push_reporting(text)?;
+        self.push_sync(text)?;
+        if let Some(hearing) = report.follow_tag {
+            self.push_sender(text, Tagged::FollowUp, hearing)?;
+        }
+        if self.tagged(Tagged::Request, report.request_tag).is_none() {
+            self.push_tag(text, Tagged::Request, report.request_tag)?;
+        }
+        self.push_response(text)?;
+        self.push_stamp(text)
+    }
+
+    /// Appends what a tag names in place of what.
+    fn push_tag(&self, text: &mut String, message: Tagged, tag: u64) -> Result<(), AllocError> {
+        write!(text, "    the tag of the {} names ", message.name())?;
+        push_event(text, self.record, tag)?;
+        if let Some(recorded) = self.record.at(tag)
+            && !recorded.counts
+        {
+            text.push_str(", which came to nothing")?;
+        }
+        write!(
+            text,
+            "; wanted is {} at {}\n",
+            message.wanted(),
+            self.judged.node.text()
+        )
+    }
+
+    /// Appends whether the event itself can report, and is of the report.
+    fn push_reporting(&self, text: &mut String) -> Result<(), AllocError> {
+        let number = self.judged.event;
+        let report = &self.judged.report;
+        if self.record.counting(number).is_none() {
+            text.push_str("    ")?;
+            push_event(text, self.record, number)?;
+            text.push_str(", can't report; wanted is an arrive or a hear at a slave\n")?;
+        }
+        if report.sync_tag == number
+            || report.follow_tag == Some(number)
+            || report.response_tag == number
+        {
+            return Ok(());
+        }
+        write!(
+            text,
+            "    no tag is {number}; wanted is that the Sync, the Follow_Up or the Delay_Resp came by the event that \
+             reports\n"
+        )
+    }
+
+    /// Appends what the tag of the Sync names, where that is something else.
+    fn push_sync(&self, text: &mut String) -> Result<(), AllocError> {
+        let report = &self.judged.report;
+        match self.tagged(Tagged::Sync, report.sync_tag) {
+            None => self.push_tag(text, Tagged::Sync, report.sync_tag),
+            Some(sync) if report.follow_tag.is_none() && !completes(&sync.line.out) => write!(
+                text,
+                "    the report names no Follow_Up, but the Sync of {} waits for one\n",
+                self.record.place(report.sync_tag)
+            ),
+            Some(_) => Ok(()),
+        }
+    }
+
+    /// Appends what is heard by the event of a tag, where that isn't sent by an event as is wanted.
+    fn push_sender(&self, text: &mut String, message: Tagged, tag: u64) -> Result<(), AllocError> {
+        let Some(hearing) = self.tagged(message, tag) else {
+            return self.push_tag(text, message, tag);
+        };
+        if let Some((_, sender)) = self.sender(tag)
+            && message.is_sender(sender)
+        {
+            return Ok(());
+        }
+        write!(
+            text,
+            "    the {} of {} is of ",
+            message.name(),
+            self.record.place(tag)
+        )?;
+        push_event(
+            text,
+            self.record,
+            hearing.line.event.heard_copy().unwrap_or(tag),
+        )?;
+        write!(text, "; wanted is {} before it\n", message.sent_by())
+    }
+
+    /// Appends what the tag of the Delay_Resp names, or what that is of, where it is something else.
+    fn push_response(&self, text: &mut String) -> Result<(), AllocError> {
+        let tag = self.judged.report.response_tag;
+        match self.tagged(Tagged::Response, tag) {
+            Some(hearing) if !completes(&hearing.line.out) => write!(
+                text,
+                "    the Delay_Resp of {} completed nothing\n",
+                self.record.place(tag)
+            ),
+            _ => self.push_sender(text, Tagged::Response, tag),
+        }
+    }
+
+    /// Appends when the slave learned the departure of the Delay_Req, where that isn't between it and the Delay_Resp.
+    fn push_stamp(&self, text: &mut String) -> Result<(), AllocError> {
+        let report = &self.judged.report;
+        let Some(request) = self.tagged(Tagged::Request, report.request_tag) else {
+            return Ok(());
+        };
+        match request.stamped {
+            Some(stamp) if stamp < report.response_tag => Ok(()),
+            Some(stamp) => write!(
+                text,
+                "    {} tells when the Delay_Req left; wanted is that before the Delay_Resp, event {}\n",
+                self.record.place(stamp),
+                report.response_tag
+            ),
+            None => write!(
+                text,
+                "    no event tells when the Delay_Req of {} left\n",
+                self.record.place(report.request_tag)
+            ),
+        }
+    }
+
+    /// Appends where the journeys of the Sync and of the Delay_Req stop.
+    pub(crate) fn push_broken(&self, text: &mut String) -> Result<(), AllocError> {
+        let sync = self.judged.report.sync_tag;
+        let copy = self
+            .record
+            .at(sync)
+            .and_then(|arrival| arrival.line.event.heard_copy());
+        if let Some(copy) = copy {
+            self.push_way(text, Message::Sync, sync, copy)?;
+        }
+        match self.request_arrival() {
+            Some((arrival, copy)) => self.push_way(text, Message::Request, arrival, copy),
+            None => Ok(()),
+        }
+    }
+
+    /// Appends where the journey of a message stops.
+    fn push_way(
+        &self,
+        text: &mut String,
+        message: Message,
+        arrival: u64,
+        copy: u64,
+    ) -> Result<(), AllocError> {
+        let journey = journey_to(self.alloc, self.record, message, arrival, copy)?;
+        push_stop(text, self.record, message, journey.end)
+    }
+}

@@ -1,0 +1,192 @@
+//! Which messages a report took for others, whose they are, and which were too long in clocks.
+
+use crate::case::Case;
+use crate::moments::{Length, signed};
+use crate::journey::push_event;
+use exchange_check::{Exchange, Leg};
+use network_model::{Name, NodeKind};
+use std::alloc::AllocError;
+use std::fmt;
+use std::fmt::{Display, Formatter};
+
+/// A correctionField from here on says that it is too big, in units of 2^-16 ns.
+const TOO_BIG: i128 = i64::MAX as i128;
+
+/// The domain of a port, where there is one.
+#[derive(Clone, Copy)]
+struct Domain(Option<u8>);
+
+impl Display for Domain {
+    fn fmt<W: fmt::Write>(&self, f: &mut Formatter<W>) -> fmt::Result {
+        match self.0 {
+            Some(number) => write!(f, "{number}"),
+            None => f.write_str("none"),
+        }
+    }
+}
+
+impl Case<'_> {
+    /// Appends the number that an event drew, and where it stands.
+    fn push_number(&self, text: &mut String, number: u64) -> Result<(), AllocError> {
+        if let Some(recorded) = self.record.at(number) {
+            write!(text, "number {}, ", recorded.number.0)?;
+        }
+        push_event(text, self.record, number)
+    }
+
+    /// Appends which message was taken for which.
+    pub(crate) fn push_numbers(
+        &self,
+        text: &mut String,
+        exchange: &Exchange,
+    ) -> Result<(), AllocError> {
+        self.push_followed(text, exchange)?;
+        let arrived = exchange.request.departed.number;
+        let named = self.judged.report.request_tag;
+        if arrived == named {
+            return Ok(());
+        }
+        text.push_str("    the Delay_Req that the master answered is ")?;
+        self.push_number(text, arrived)?;
+        text.push_str("; it was taken for ")?;
+        self.push_number(text, named)?;
+        text.push('\n')
+    }
+
+    /// Appends which Sync the Follow_Up follows, where it is another one.
+    fn push_followed(&self, text: &mut String, exchange: &Exchange) -> Result<(), AllocError> {
+        let origin = &exchange.sync.departed;
+        let Some(follow) = exchange.follow else {
+            if origin.event.is_one_step_sync() {
+                return Ok(());
+            }
+            text.push_str("    the Sync is ")?;
+            self.push_number(text, origin.number)?;
+            return text.push_str(", two-step; it was taken for one that needs no Follow_Up\n");
+        };
+        let followed = self.record.at(follow).and_then(|recorded| recorded.sync);
+        if followed == Some(origin.number) {
+            return Ok(());
+        }
+        text.push_str("    the Sync is ")?;
+        self.push_number(text, origin.number)?;
+        write!(
+            text,
+            "; it was taken for that of the Follow_Up of {}, ",
+            self.record.place(follow)
+        )?;
+        match followed {
+            Some(sync) => self.push_number(text, sync)?,
+            None => text.push_str("before which its master sent none")?,
+        }
+        text.push('\n')
+    }
+
+    /// Appends the master that the slave was told, who sent and who answered.
+    pub(crate) fn push_masters(
+        &self,
+        text: &mut String,
+        exchange: &Exchange,
+    ) -> Result<(), AllocError> {
+        let sender = exchange.sync.departed.event.node();
+        let answerer = exchange.request.arrived.event.node();
+        self.push_told(text)?;
+        write!(
+            text,
+            "    the Sync is of {}, domain {}; {} answered the Delay_Req\n",
+            sender.text(),
+            Domain(self.domain_of(&sender)),
+            answerer.text()
+        )?;
+        self.push_early(text)
+    }
+
+    /// Appends by which event the slave was told which master.
+    fn push_told(&self, text: &mut String) -> Result<(), AllocError> {
+        let slave = self.judged.node;
+        let domain = Domain(self.domain_of(&slave));
+        let name = slave.text();
+        let told = self.record.master_told(&slave);
+        match told.and_then(|number| Some((
+            number,
+            self.record.at(number)?.line.event.named_master()?,
+        ))) {
+            Some((number, master)) => write!(
+                text,
+                "    {} told {name}, domain {domain}, the master {}\n",
+                self.record.place(number),
+                master.text()
+            ),
+            None => write!(text, "    {name}, domain {domain}, was told no master\n"),
+        }
+    }
+
+    /// Appends which tags of the report aren't later than what told the slave its master.
+    fn push_early(&self, text: &mut String) -> Result<(), AllocError> {
+        let Some(told) = self.record.master_told(&self.judged.node) else {
+            return Ok(());
+        };
+        let report = &self.judged.report;
+        let tags = [
+            ("Sync", Some(report.sync_tag)),
+            ("Follow_Up", report.follow_tag),
+            ("Delay_Req", Some(report.request_tag)),
+            ("Delay_Resp", Some(report.response_tag)),
+        ];
+        for (message, tag) in tags {
+            if let Some(tag) = tag
+                && tag <= told
+            {
+                write!(
+                    text,
+                    "    the {message} of {} is earlier than that\n",
+                    self.record.place(tag)
+                )?;
+            }
+        }
+        Ok(())
+    }
+
+    /// The domain of a port.
+    fn domain_of(&self, name: &Name) -> Option<u8> {
+        match self.record.kind(name)? {
+            NodeKind::Master { config, .. } | NodeKind::Slave { config, .. } => Some(config.domain),
+            NodeKind::Clock => None,
+        }
+    }
+
+    /// Appends how long messages were in clocks that were there for too long.
+    pub(crate) fn push_too_long(
+        &self,
+        text: &mut String,
+        exchange: &Exchange,
+    ) -> Result<(), AllocError> {
+        push_too_big(text, "Sync", &exchange.sync)?;
+        push_too_big(text, "Delay_Req", &exchange.request)
+    }
+}
+
+/// The fraction that a message is sent with in its correctionField, in units of 2^-16 ns.
+fn fraction_sent(leg: &Leg) -> u16 {
+    if leg.departed.event.is_one_step_sync() {
+        leg.departed.reading.split().1
+    } else {
+        0
+    }
+}
+
+/// Appends how long a message was in clocks, where that is too long.
+fn push_too_big(text: &mut String, name: &'static str, leg: &Leg) -> Result<(), AllocError> {
+    let residence = signed(leg.residence);
+    let sum = residence.saturating_add(i128::from(fraction_sent(leg)));
+    if sum < TOO_BIG {
+        return Ok(());
+    }
+    write!(
+        text,
+        "    the {name} is to have {} in its correctionField, of clocks and of its departure; it can say less \
+         than {}\n",
+        Length(sum),
+        Length(TOO_BIG)
+    )
+}

@@ -1,0 +1,291 @@
+//! What was recorded of the events of a transcript, for what is asked of it when a report is refused.
+
+use crate::differing::Differing;
+use crate::input::Input;
+use crate::octets::difference_at;
+use network_model::{Event, Name, NodeKind, NodeSpec};
+use ptp_units::Seq;
+use schedule_lines::TranscriptLine;
+use schedule_reading::{TaskFault, read_recorded};
+use std::alloc::{AllocError, Global};
+use std::collections::{BTreeMap, HashMap};
+use std::fmt;
+use std::fmt::{Display, Formatter};
+use trace_model::{TraceLine, TraceOut};
+
+/// What was recorded of an event, and what stood at its node just before it.
+#[derive(Debug, Drop)]
+pub(crate) struct Recorded {
+    /// The event and what is said to have come of it.
+    pub(crate) line: TraceLine,
+    /// Whether its node is of the kind that it is for, and it was neither refused nor ignored.
+    pub(crate) counts: bool,
+    /// The last event that set the clock of its node.
+    pub(crate) clock_set: Option<u64>,
+    /// The last two-step Sync of its node.
+    pub(crate) sync: Option<u64>,
+    /// The number that its node draws next.
+    pub(crate) number: Seq,
+    /// Of a Delay_Req: the first event by which its slave learned when it departed.
+    pub(crate) stamped: Option<u64>,
+}
+
+/// What stands at a node, by the events that count.
+#[derive(Clone, Copy, Debug)]
+struct Site {
+    kind: NodeKind,
+    clock_set: Option<u64>,
+    sync: Option<u64>,
+    request: Option<u64>,
+    master: Option<u64>,
+    number: Seq,
+}
+
+/// The events by which a message left a clock.
+#[derive(Clone, Copy, Debug)]
+pub(crate) struct Leaves {
+    pub(crate) first: u64,
+    pub(crate) second: Option<u64>,
+}
+
+/// An event's number and the line of the input, counted from 1.
+#[derive(Clone, Copy)]
+pub(crate) struct Place {
+    number: u64,
+    line: u64,
+}
+
+impl Display for Place {
+    fn fmt<W: fmt::Write>(&self, f: &mut Formatter<W>) -> fmt::Result {
+        write!(f, "event {}, line {}", self.number, self.line)
+    }
+}
+
+/// The nodes and the events of a transcript so far; of a schedule its nodes alone.
+#[derive(Drop)]
+pub(crate) struct Record {
+    nodes: Vec<NodeSpec>,
+    events: Vec<Recorded>,
+    sites: HashMap<Name, Site>,
+    /// By the number that a Leave names as its Enter's. Whoever writes lines picks these, so they aren't hashed.
+    leaves: BTreeMap<u64, Leaves>,
+    /// How many messages have other octets than are written.
+    differing: Differing,
+}
+
+impl Site {
+    fn new(kind: NodeKind) -> Site {
+        let number = match kind {
+            NodeKind::Master { first, .. } | NodeKind::Slave { first, .. } => first,
+            NodeKind::Clock => Seq(0),
+        };
+        Site {
+            kind,
+            clock_set: None,
+            sync: None,
+            request: None,
+            master: None,
+            number,
+        }
+    }
+
+    /// What one more event changes.
+    fn note(&mut self, number: u64, event: &Event) {
+        match event {
+            Event::Sync { .. } => self.sync = Some(number),
+            Event::Request { .. } => self.request = Some(number),
+            Event::SetMaster { .. } => self.master = Some(number),
+            Event::StepClock { .. } => self.clock_set = Some(number),
+            _ => {}
+        }
+        if event.draws_sync() || event.is_request() {
+            self.number = self.number.next();
+        }
+    }
+}
+
+impl Record {
+    /// Nothing is recorded yet.
+    pub(crate) fn new(alloc: Global) -> Record {
+        Record {
+            nodes: Vec::new(alloc),
+            events: Vec::new(alloc),
+            sites: HashMap::new(alloc),
+            leaves: BTreeMap::new(alloc),
+            differing: Differing::new(),
+        }
+    }
+
+    /// Takes one more line, which the input has taken.
+    pub(crate) fn take(
+        &mut self,
+        alloc: Global,
+        line: &[u8],
+        input: &Input,
+    ) -> Result<(), AllocError> {
+        let Input::Transcript(transcript) = input else {
+            return Ok(());
+        };
+        match read_recorded(alloc, line) {
+            Ok(TranscriptLine::Node(node)) => self.push_node(node),
+            Ok(TranscriptLine::Event { number, line }) => {
+                self.push_event(line)?;
+                let found = difference_at(transcript, self, number);
+                self.differing.count(found);
+                Ok(())
+            }
+            Err(TaskFault::Memory) => Err(AllocError),
+            Err(_) => Ok(()),
+        }
+    }
+
+    fn push_node(&mut self, node: NodeSpec) -> Result<(), AllocError> {
+        let NodeSpec { name, kind } = node;
+        let site = Site::new(kind);
+        self.nodes.push(node)?;
+        self.sites.insert(name, site)?;
+        Ok(())
+    }
+
+    fn push_event(&mut self, line: TraceLine) -> Result<(), AllocError> {
+        let number = self.events.len() as u64;
+        let event = line.event;
+        let counts = self.counts(&line);
+        let site = self.sites.get(&event.node()).copied();
+        self.events.push(Recorded {
+            line,
+            counts,
+            clock_set: site.and_then(|site| site.clock_set),
+            sync: site.and_then(|site| site.sync),
+            number: site.map_or(Seq(0), |site| site.number),
+            stamped: None,
+        })?;
+        if counts {
+            self.note(number, &event)?;
+        }
+        Ok(())
+    }
+
+    /// What one more event that counts changes.
+    fn note(&mut self, number: u64, event: &Event) -> Result<(), AllocError> {
+        if let Event::Stamped { node } = event {
+            self.note_stamp(number, node);
+        }
+        if let Some(site) = self.sites.get_mut(&event.node()) {
+            site.note(number, event);
+        }
+        match event.named_transit() {
+            Some(transit) => self.note_leave(number, transit),
+            None => Ok(()),
+        }
+    }
+
+    /// A slave learned when its last Delay_Req departed.
+    fn note_stamp(&mut self, number: u64, slave: &Name) {
+        let request = self.sites.get(slave).and_then(|site| site.request);
+        let Some(request) = request else {
+            return;
+        };
+        if let Some(recorded) = self.events.get_mut(request as usize)
+            && recorded.stamped.is_none()
+        {
+            recorded.stamped = Some(number);
+        }
+    }
+
+    /// A message left the clock that it entered by the event of this number.
+    fn note_leave(&mut self, number: u64, transit: u64) -> Result<(), AllocError> {
+        let leaves = match self.leaves.get(&transit) {
+            None => Leaves {
+                first: number,
+                second: None,
+            },
+            Some(Leaves { first, second }) => Leaves {
+                first: *first,
+                second: Some(second.unwrap_or(number)),
+            },
+        };
+        self.leaves.insert(transit, leaves)?;
+        Ok(())
+    }
+
+    /// Appends how many messages have other octets than are written.
+    pub(crate) fn push_differing(&self, text: &mut String) -> Result<(), AllocError> {
+        self.differing.push(text)
+    }
+
+    /// What a node is.
+    pub(crate) fn kind(&self, name: &Name) -> Option<NodeKind> {
+        Some(self.sites.get(name)?.kind)
+    }
+
+    /// Whether the nodes of a line are of the kinds that its event is for, and it was done or made its message.
+    fn counts(&self, line: &TraceLine) -> bool {
+        let Some(kind) = self.kind(&line.event.node()) else {
+            return false;
+        };
+        match (&line.event, kind, &line.out) {
+            (
+                Event::Sync { .. }
+                | Event::SyncOne { .. }
+                | Event::Follow { .. }
+                | Event::Arrive { .. },
+                NodeKind::Master { .. },
+                TraceOut::Made(_),
+            )
+            | (Event::Enter { .. }, NodeKind::Clock, TraceOut::Entered)
+            | (Event::Leave { .. }, NodeKind::Clock, TraceOut::Made(_))
+            | (
+                Event::Arrive { .. } | Event::Hear { .. },
+                NodeKind::Slave { .. },
+                TraceOut::Held | TraceOut::Completed | TraceOut::Report(_),
+            )
+            | (Event::Request { .. }, NodeKind::Slave { .. }, TraceOut::Made(_))
+            | (Event::Stamped { .. } | Event::Tick { .. }, NodeKind::Slave { .. }, TraceOut::Done)
+            | (Event::StepClock { .. }, _, TraceOut::Done) => true,
+            (Event::SetMaster { master, .. }, NodeKind::Slave { .. }, TraceOut::Done) => {
+                matches!(self.kind(master), Some(NodeKind::Master { .. }))
+            }
+            _ => false,
+        }
+    }
+
+    /// The nodes, in their order.
+    pub(crate) fn nodes(&self) -> &[NodeSpec] {
+        self.nodes.as_slice()
+    }
+
+    /// What was recorded of the event of this number.
+    pub(crate) fn at(&self, number: u64) -> Option<&Recorded> {
+        self.events.get(usize::try_from(number).ok()?)
+    }
+
+    /// The same where it counts.
+    pub(crate) fn counting(&self, number: u64) -> Option<&Recorded> {
+        let recorded = self.at(number)?;
+        if recorded.counts {
+            Some(recorded)
+        } else {
+            None
+        }
+    }
+
+    /// Where an event stands.
+    pub(crate) fn place(&self, number: u64) -> Place {
+        let nodes = self.nodes.len() as u64;
+        Place {
+            number,
+            line: nodes.saturating_add(number).saturating_add(1),
+        }
+    }
+
+    /// The events by which what entered by the event of this number left.
+    pub(crate) fn leaves(&self, transit: u64) -> Option<Leaves> {
+        self.leaves.get(&transit).copied()
+    }
+
+    /// The last event by which a slave was told its master.
+    pub(crate) fn master_told(&self, slave: &Name) -> Option<u64> {
+        self.sites.get(slave)?.master
+    }
+}

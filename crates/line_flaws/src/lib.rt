@@ -1,0 +1,20 @@
+//! What is wrong with a line of a schedule or of a transcript, where, and what is wanted there; and
+//! which input of another kind one begins as.
+#![tactic(auto)]
+
+mod excerpt;
+mod flaw;
+mod foreign;
+mod json_fault;
+mod key;
+mod line;
+mod pieces;
+mod search;
+mod wanted;
+
+pub use flaw::{Flaw, FlawAt, Form, Part};
+pub use foreign::Foreign;
+pub use json_fault::JsonFault;
+pub use key::Key;
+pub use line::{schedule_flaw, transcript_flaw};
+pub use wanted::Wanted;

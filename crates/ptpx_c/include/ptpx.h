@@ -1,0 +1,619 @@
+/*
+ * ptpx for C: the delay request-response exchange of the Precision Time Protocol (IEEE 1588-2019), that is its
+ * messages as octets, a master port, a slave port, and the stay of a message in an end-to-end one-step transparent
+ * clock.
+ *
+ * Numbers. Each call answers 0, or the number of the first refusal that applies, in the order in which its comment
+ * names them (enum ptpx_refusal). On a refusal nothing is written, and ports and stays are as before, unless the
+ * comment says otherwise: so look at the number first. 901 is answered before all others, where a pointer is null or a
+ * slave is still {0} and was never made, and then 902, where a length is more than PTRDIFF_MAX; the comments don't
+ * repeat these two.
+ *
+ * Times. A moment is a whole number of 2^-16 ns since the beginning of the timescale, below 2^48 s, in two words
+ * (struct ptpx_time). ptpx_time_join makes one of seconds and nanoseconds. The comments say whose clock each time is
+ * of.
+ *
+ * Memory. The library allocates nothing, keeps nothing between calls but in the structs that it is handed, and needs
+ * of its surroundings memmove alone. A message that arrives is passed with the count of its octets; octets past
+ * messageLength are padding.
+ *
+ * What the caller owes, since no call can see it:
+ *   - Each pointer leads to an object of its type, which is that long where a length is passed, and aligned as its
+ *     type is.
+ *   - What lies behind each pointer is initialised, also where a call only writes it, and a bool there is 0 or 1:
+ *     struct ptpx_heard heard = {0} (`= {}` in C++); uint8_t octets[44] = {0}. A slave's memory alone needs no value. A
+ *     master, a slave or a stay was made by its init or enter before any other call.
+ *   - The objects of one call don't overlap, nor does one lie in a slave's memory. So no call works in place.
+ *   - A slave's memory is left alone, and stays where it is, as long as the slave is used. Two slaves don't share it,
+ *     and a slave isn't copied and used twice. A stay that was copied would leave twice.
+ *   - A call isn't cut off half way, by longjmp or by ending its task; what it was writing to is of no use then.
+ *   - One call at a time uses an object. Where another thread goes on with it, a lock or a join orders the two. Calls
+ *     with different objects may run at the same time.
+ *
+ * The calls named ptpx_raw_.. are proved to do what is said here, given what the caller owes. The inline functions in
+ * this file, which test for null and for lengths before, are C and are tested.
+ */
+#ifndef PTPX_H
+#define PTPX_H
+
+#include <stdbool.h>
+#include <stddef.h>
+#include <stdint.h>
+
+#ifdef __cplusplus
+extern "C" {
+#endif
+
+#if defined(__GNUC__)
+#define PTPX_LOOK_AT_IT __attribute__((warn_unused_result))
+#else
+#define PTPX_LOOK_AT_IT
+#endif
+
+#if defined(__cplusplus)
+#define PTPX_ALIGNED alignas(16)
+#elif defined(__STDC_VERSION__) && __STDC_VERSION__ >= 201112L
+#define PTPX_ALIGNED _Alignas(16)
+#elif defined(__GNUC__)
+#define PTPX_ALIGNED __attribute__((aligned(16)))
+#else
+#define PTPX_ALIGNED
+#endif
+
+/* Why a call is refused. */
+enum ptpx_refusal {
+    PTPX_DONE = 0,
+    PTPX_NO_MOMENT = 101,           /* no moment: it is below 0, or 2^48 s or more */
+    PTPX_SECONDS = 102,             /* no timestamp: the seconds are 2^48 or more */
+    PTPX_NANOSECONDS = 103,         /* no timestamp: the nanoseconds are 10^9 or more */
+    PTPX_SHORT = 201,               /* there are fewer than the 34 octets of a header */
+    PTPX_VERSION = 202,             /* versionPTP isn't 2 */
+    PTPX_OTHER_TYPE = 203,          /* messageType isn't Sync (0), Delay_Req (1), Follow_Up (8) or Delay_Resp (9) */
+    PTPX_LENGTH_FIELD = 204,        /* messageLength is below 44, or 54 for a Delay_Resp */
+    PTPX_TRUNCATED = 205,           /* there are fewer octets than messageLength */
+    PTPX_STAMP_NANOSECONDS = 206,   /* the nanoseconds of the timestamp are 10^9 or more */
+    PTPX_NO_ROOM = 211,             /* the buffer is shorter than the message */
+    PTPX_SUFFIX_TOO_LONG = 212,     /* the suffix is too long: messageLength would pass 65535 */
+    PTPX_NOT_WAITING = 301,         /* no Sync of this number waits for its departure time */
+    PTPX_MASTER_NO_MESSAGE = 302,   /* the octets are no message */
+    PTPX_NOT_REQUEST = 303,         /* the message is no Delay_Req */
+    PTPX_MASTER_OTHER_DOMAIN = 304, /* domainNumber isn't that of the master */
+    PTPX_CORRECTION_TOO_LOW = 305,  /* the correction of the Delay_Resp would be below -2^63 units of 2^-16 ns */
+    PTPX_CLOCK_NO_MESSAGE = 401,    /* the octets are no message */
+    PTPX_NOT_EVENT = 402,           /* the message is neither Sync nor Delay_Req */
+    PTPX_NEGATIVE_RESIDENCE = 403,  /* the clock reads less than when the message entered */
+    PTPX_NOT_HELD = 511,            /* no held Delay_Req has this number */
+    PTPX_NULL = 901,                /* a pointer is null */
+    PTPX_TOO_LONG = 902,            /* a length is more than PTRDIFF_MAX */
+    PTPX_NO_KIND = 903,             /* the type isn't Sync (0), Delay_Req (1), Follow_Up (8) or Delay_Resp (9) */
+    PTPX_NIBBLE = 904,              /* majorSdoId or minorVersionPTP is 16 or more */
+    PTPX_LEFT_ALREADY = 905,        /* no message stays: it left already, or never entered */
+    PTPX_SMALL_MEMORY = 906,        /* the memory is smaller than a slave port */
+    PTPX_UNALIGNED_MEMORY = 907,    /* the address of the memory isn't a multiple of 16 */
+    PTPX_NO_BRACKET = 908,          /* a bracket isn't strictly between -2^96 and 2^96 */
+    PTPX_WIDE = 909                 /* the number doesn't fit a signed number of 64 bits */
+};
+
+/* Why a slave ignores a message, in the order in which it is tested. */
+enum ptpx_reason {
+    PTPX_REASON_NONE = 0,
+    PTPX_REASON_NO_MESSAGE = 501,      /* the octets are no message */
+    PTPX_REASON_WRONG_TYPE = 502,      /* the message is of another type than the ones that are heard here */
+    PTPX_REASON_OTHER_DOMAIN = 503,    /* domainNumber isn't that of the slave */
+    PTPX_REASON_NO_MASTER = 504,       /* the slave has no master */
+    PTPX_REASON_OTHER_MASTER = 505,    /* sourcePortIdentity isn't that of the present master */
+    PTPX_REASON_TOO_BIG = 507,         /* the correction is too big to be represented */
+    PTPX_REASON_NOT_NEWER = 512,       /* sequenceId is neither that of the last Sync that was completed nor newer */
+    PTPX_REASON_OTHER_REQUESTER = 508, /* requestingPortIdentity isn't that of the slave */
+    PTPX_REASON_UNKNOWN_REQUEST = 509, /* no held Delay_Req has this sequenceId */
+    PTPX_REASON_EGRESS_UNKNOWN = 510   /* it isn't known when the Delay_Req of this sequenceId left */
+};
+
+/* messageType (13.3.2.3). */
+enum ptpx_kind { PTPX_SYNC = 0, PTPX_DELAY_REQ = 1, PTPX_FOLLOW_UP = 8, PTPX_DELAY_RESP = 9 };
+
+/* How many octets the messages of a port have, all of which are to be sent. */
+enum ptpx_length {
+    PTPX_SYNC_LENGTH = 44,
+    PTPX_DELAY_REQ_LENGTH = 44,
+    PTPX_FOLLOW_UP_LENGTH = 44,
+    PTPX_DELAY_RESP_LENGTH = 54
+};
+
+/* A moment: high * 2^64 + low units of 2^-16 ns, below 2^48 s. */
+struct ptpx_time {
+    uint64_t high;
+    uint64_t low;
+};
+
+/* A signed number: high * 2^64 + low. */
+struct ptpx_signed {
+    int64_t high;
+    uint64_t low;
+};
+
+/* A timestamp (5.3.3): seconds below 2^48, nanoseconds below 10^9. */
+struct ptpx_timestamp {
+    uint64_t seconds;
+    uint32_t nanos;
+};
+
+/* A portIdentity (5.3.5): clockIdentity and portNumber. */
+struct ptpx_identity {
+    uint8_t clock[8];
+    uint16_t port;
+};
+
+/* The fields of a message (13.3, 13.6 to 13.8). versionPTP is 2. */
+struct ptpx_message {
+    uint8_t kind;                    /* messageType, one of enum ptpx_kind */
+    uint8_t domain;                  /* domainNumber */
+    uint8_t major_sdo;               /* majorSdoId, 0 to 15 */
+    uint8_t minor_sdo;               /* minorSdoId */
+    uint8_t minor_version;           /* minorVersionPTP, 0 to 15 */
+    uint8_t flags[2];                /* flagField; the twoStepFlag is 0x02 of flags[0] */
+    int64_t correction;              /* correctionField, in 2^-16 ns; INT64_MAX says too big */
+    uint8_t specific[4];             /* messageTypeSpecific */
+    struct ptpx_identity source;     /* sourcePortIdentity */
+    uint16_t sequence;               /* sequenceId */
+    int8_t log;                      /* logMessageInterval */
+    uint8_t control;                 /* controlField */
+    struct ptpx_timestamp timestamp; /* originTimestamp, preciseOriginTimestamp or receiveTimestamp */
+    struct ptpx_identity requesting; /* requestingPortIdentity of a Delay_Resp, else 0 */
+    uint16_t suffix_length;          /* octets from the end of the fields to messageLength: the TLVs */
+};
+
+/* What a port is set up with. */
+struct ptpx_config {
+    struct ptpx_identity identity; /* its portIdentity, which no other port of the network has */
+    uint8_t domain;                /* its domainNumber */
+    int8_t log;                    /* logMessageInterval of what a master writes; a slave doesn't use it */
+};
+
+/* A message's stay in a transparent clock. The fields are the library's. */
+struct ptpx_stay {
+    struct ptpx_time entered;
+    bool inside;
+};
+
+/* A master port. The fields are the library's; the struct may be copied to go on with the copy. */
+struct ptpx_master {
+    struct ptpx_config config;
+    uint16_t next;
+    uint16_t waiting;
+    bool waits;
+};
+
+/* A slave port, which holds 16 Syncs, 16 Follow_Ups and 16 Delay_Reqs at most. The field is the library's. */
+struct ptpx_slave {
+    uint8_t *memory;
+};
+
+/* What the memory of a slave port takes, and what its address is a multiple of. */
+#define PTPX_SLAVE_SIZE 2944
+#define PTPX_SLAVE_ALIGNMENT 16
+
+/* Memory for a slave port, aligned by C11, C++11 and GNU C. With another compiler see to it, or 907 is answered. */
+struct ptpx_slave_memory {
+    PTPX_ALIGNED uint8_t octets[PTPX_SLAVE_SIZE];
+};
+
+/* What became of a message. */
+enum ptpx_answer {
+    PTPX_HELD = 0,      /* it is held, and waits for the message that it pairs with */
+    PTPX_COMPLETED = 1, /* it completed one half of a report, and the other half isn't there */
+    PTPX_REPORT = 2,    /* it completed one half of a report, and the other half is there */
+    PTPX_IGNORED = 3    /* it isn't used, and nothing changed */
+};
+
+/* The answer to a message. A report is of one Sync and one Delay_Req, which the tags name, as the calls gave them. */
+struct ptpx_heard {
+    uint16_t kind;              /* one of enum ptpx_answer */
+    uint16_t reason;            /* why it is ignored, one of enum ptpx_reason; else 0 */
+    bool one_step;              /* whether the Sync of a report is a one-step Sync, which has no Follow_Up */
+    /* The others are of a report, else 0. */
+    struct ptpx_signed offset2; /* twice offsetFromMaster in 2^-16 ns, positive where the slave is ahead */
+    struct ptpx_signed path2;   /* twice meanPathDelay in 2^-16 ns */
+    uint64_t sync_tag;          /* the tag of its Sync */
+    uint64_t follow_tag;        /* the tag of its Follow_Up, 0 where it has none */
+    uint64_t request_tag;       /* the tag of its Delay_Req */
+    uint64_t response_tag;      /* the tag of its Delay_Resp */
+};
+
+/* The library's own calls. Use the inline functions below. */
+uint16_t ptpx_raw_signed_to_int64(struct ptpx_signed value, int64_t *narrow);
+uint16_t ptpx_raw_nanoseconds_of_twice(struct ptpx_signed twice, int64_t *nanoseconds);
+uint16_t ptpx_raw_time_join(struct ptpx_timestamp timestamp, uint16_t fraction, struct ptpx_time *time);
+uint16_t ptpx_raw_time_split(struct ptpx_time time, struct ptpx_timestamp *timestamp, uint16_t *fraction);
+uint16_t ptpx_raw_sync_bracket(struct ptpx_time t2, struct ptpx_timestamp precise, int64_t c_follow, int64_t c_sync,
+                               struct ptpx_signed *bracket);
+uint16_t ptpx_raw_delay_bracket(struct ptpx_timestamp receive, int64_t c_resp, struct ptpx_time t3,
+                                struct ptpx_signed *bracket);
+uint16_t ptpx_raw_offset2(struct ptpx_signed a, struct ptpx_signed b, struct ptpx_signed *twice);
+uint16_t ptpx_raw_path2(struct ptpx_signed a, struct ptpx_signed b, struct ptpx_signed *twice);
+uint16_t ptpx_raw_decode(const uint8_t *octets, size_t length, struct ptpx_message *message);
+uint16_t ptpx_raw_encode(const struct ptpx_message *message, const uint8_t *suffix, size_t suffix_length,
+                         uint8_t *buffer, size_t room, size_t *length);
+uint16_t ptpx_raw_patch_correction(uint8_t *octets, size_t length, int64_t correction);
+uint16_t ptpx_raw_clock_enter(struct ptpx_stay *stay, struct ptpx_time reading);
+uint16_t ptpx_raw_clock_leave(struct ptpx_stay *stay, uint8_t *octets, size_t length, struct ptpx_time reading);
+void ptpx_raw_master_init(struct ptpx_master *master, const struct ptpx_config *config, uint16_t first);
+void ptpx_raw_master_next_sync(struct ptpx_master *master, uint8_t *octets, uint16_t *number);
+uint16_t ptpx_raw_master_one_step_sync(struct ptpx_master *master, struct ptpx_time t1, uint8_t *octets,
+                                       uint16_t *number);
+uint16_t ptpx_raw_master_sync_left(struct ptpx_master *master, uint16_t number, struct ptpx_time t1, uint8_t *octets);
+uint16_t ptpx_raw_master_delay_req(const struct ptpx_master *master, const uint8_t *octets, size_t length,
+                                   struct ptpx_time t4, uint8_t *response);
+size_t ptpx_raw_slave_size(void);
+size_t ptpx_raw_slave_alignment(void);
+void ptpx_raw_slave_init(struct ptpx_slave *slave, const struct ptpx_config *config, uint16_t first);
+void ptpx_raw_slave_restart(struct ptpx_slave *slave, uint16_t first);
+void ptpx_raw_slave_set_master(struct ptpx_slave *slave, const struct ptpx_identity *master);
+void ptpx_raw_slave_tick(struct ptpx_slave *slave);
+void ptpx_raw_slave_next_request(struct ptpx_slave *slave, uint64_t tag, uint8_t *octets, uint16_t *number);
+uint16_t ptpx_raw_slave_request_left(struct ptpx_slave *slave, uint16_t number, struct ptpx_time t3);
+uint16_t ptpx_raw_slave_sync(struct ptpx_slave *slave, const uint8_t *octets, size_t length, struct ptpx_time t2,
+                             uint64_t tag, struct ptpx_heard *heard);
+void ptpx_raw_slave_general(struct ptpx_slave *slave, const uint8_t *octets, size_t length, uint64_t tag,
+                            struct ptpx_heard *heard);
+
+/* ---- numbers ---- */
+
+/* The number in 64 bits. 909 where it doesn't fit. */
+PTPX_LOOK_AT_IT
+static inline uint16_t ptpx_signed_to_int64(struct ptpx_signed value, int64_t *narrow)
+{
+    if (narrow == NULL)
+        return PTPX_NULL;
+    return ptpx_raw_signed_to_int64(value, narrow);
+}
+
+/* Half of offset2 or path2 in whole nanoseconds, rounded down. 909 where that doesn't fit. */
+PTPX_LOOK_AT_IT
+static inline uint16_t ptpx_nanoseconds_of_twice(struct ptpx_signed twice, int64_t *nanoseconds)
+{
+    if (nanoseconds == NULL)
+        return PTPX_NULL;
+    return ptpx_raw_nanoseconds_of_twice(twice, nanoseconds);
+}
+
+/* ---- times ---- */
+
+/* The moment of a timestamp, and a fraction of a nanosecond in 2^-16 ns. 102, 103. */
+PTPX_LOOK_AT_IT
+static inline uint16_t ptpx_time_join(struct ptpx_timestamp timestamp, uint16_t fraction, struct ptpx_time *time)
+{
+    if (time == NULL)
+        return PTPX_NULL;
+    return ptpx_raw_time_join(timestamp, fraction, time);
+}
+
+/* The timestamp of a moment, and its fraction of a nanosecond in 2^-16 ns. 101. */
+PTPX_LOOK_AT_IT
+static inline uint16_t ptpx_time_split(struct ptpx_time time, struct ptpx_timestamp *timestamp, uint16_t *fraction)
+{
+    if (timestamp == NULL || fraction == NULL)
+        return PTPX_NULL;
+    return ptpx_raw_time_split(time, timestamp, fraction);
+}
+
+/*
+ * The Sync's arrival t2 by the slave's clock, less its departure by the master's clock, which its Follow_Up says
+ * (timestamp and correction), less the Sync's own correction: strictly between -2^96 and 2^96, in 2^-16 ns. 101, 102,
+ * 103.
+ */
+PTPX_LOOK_AT_IT
+static inline uint16_t ptpx_sync_bracket(struct ptpx_time t2, struct ptpx_timestamp precise, int64_t c_follow,
+                                         int64_t c_sync, struct ptpx_signed *bracket)
+{
+    if (bracket == NULL)
+        return PTPX_NULL;
+    return ptpx_raw_sync_bracket(t2, precise, c_follow, c_sync, bracket);
+}
+
+/*
+ * The Delay_Req's arrival by the master's clock, which its Delay_Resp says (timestamp less correction), less its
+ * departure t3 by the slave's clock: strictly between -2^96 and 2^96, in 2^-16 ns. 101, 102, 103.
+ */
+PTPX_LOOK_AT_IT
+static inline uint16_t ptpx_delay_bracket(struct ptpx_timestamp receive, int64_t c_resp, struct ptpx_time t3,
+                                          struct ptpx_signed *bracket)
+{
+    if (bracket == NULL)
+        return PTPX_NULL;
+    return ptpx_raw_delay_bracket(receive, c_resp, t3, bracket);
+}
+
+/*
+ * Twice offsetFromMaster (11.2), a - b, of a Sync's bracket a and a Delay_Req's b; positive where the slave is ahead.
+ * 908.
+ */
+PTPX_LOOK_AT_IT
+static inline uint16_t ptpx_offset2(struct ptpx_signed a, struct ptpx_signed b, struct ptpx_signed *twice)
+{
+    if (twice == NULL)
+        return PTPX_NULL;
+    return ptpx_raw_offset2(a, b, twice);
+}
+
+/* Twice meanPathDelay (11.3), a + b, of a Sync's bracket a and a Delay_Req's b. 908. */
+PTPX_LOOK_AT_IT
+static inline uint16_t ptpx_path2(struct ptpx_signed a, struct ptpx_signed b, struct ptpx_signed *twice)
+{
+    if (twice == NULL)
+        return PTPX_NULL;
+    return ptpx_raw_path2(a, b, twice);
+}
+
+/* ---- messages ---- */
+
+/*
+ * The fields of the message that the octets begin with. Its suffix, the TLVs, are the suffix_length octets from octet
+ * 54 of a Delay_Resp on, and from octet 44 of the others. 201 to 206.
+ */
+PTPX_LOOK_AT_IT
+static inline uint16_t ptpx_decode(const uint8_t *octets, size_t length, struct ptpx_message *message)
+{
+    if (octets == NULL || message == NULL)
+        return PTPX_NULL;
+    if (length > PTRDIFF_MAX)
+        return PTPX_TOO_LONG;
+    return ptpx_raw_decode(octets, length, message);
+}
+
+/*
+ * Writes a message with this suffix into the front of the buffer, and how many octets it has into *length. The rest
+ * of the buffer stays. The fields suffix_length, and requesting but in a Delay_Resp, aren't looked at: ptpx_decode
+ * gives all others as they were. A suffix of no octets may be null. 903, 904, 102, 103, 211, 212.
+ */
+PTPX_LOOK_AT_IT
+static inline uint16_t ptpx_encode(const struct ptpx_message *message, const uint8_t *suffix, size_t suffix_length,
+                                   uint8_t *buffer, size_t room, size_t *length)
+{
+    static const uint8_t none[1] = {0};
+    if (message == NULL || buffer == NULL || length == NULL || (suffix == NULL && suffix_length != 0))
+        return PTPX_NULL;
+    if (suffix_length > PTRDIFF_MAX || room > PTRDIFF_MAX)
+        return PTPX_TOO_LONG;
+    return ptpx_raw_encode(message, suffix == NULL ? none : suffix, suffix_length, buffer, room, length);
+}
+
+/*
+ * Puts the correctionField, in 2^-16 ns, into octets 8 to 15; all others stay. A checksum of UDP is the caller's. 201.
+ */
+PTPX_LOOK_AT_IT
+static inline uint16_t ptpx_patch_correction(uint8_t *octets, size_t length, int64_t correction)
+{
+    if (octets == NULL)
+        return PTPX_NULL;
+    if (length > PTRDIFF_MAX)
+        return PTPX_TOO_LONG;
+    return ptpx_raw_patch_correction(octets, length, correction);
+}
+
+/* ---- a transparent clock ---- */
+
+/*
+ * A message enters at this reading of the clock, of any clock: only the difference to the reading at which it leaves
+ * counts. A stay that was begun in this struct and isn't over is given up, so each message that is inside needs a
+ * struct of its own. 101.
+ */
+PTPX_LOOK_AT_IT
+static inline uint16_t ptpx_clock_enter(struct ptpx_stay *stay, struct ptpx_time reading)
+{
+    if (stay == NULL)
+        return PTPX_NULL;
+    return ptpx_raw_clock_enter(stay, reading);
+}
+
+/*
+ * The message leaves at this reading of the same clock: the residence is added to its correction, in octets 8 to 15,
+ * and all others stay; then it is to be sent. A sum of INT64_MAX or more becomes INT64_MAX, too big, which a slave
+ * ignores (507). A checksum of UDP is the caller's. 905, 101: the stay is as before. 401, 402, 403: the stay is over.
+ * On any refusal the octets are as before, and no Sync or Delay_Req is to be sent so. Follow_Up and Delay_Resp (402)
+ * pass a clock as they are, best without a call; messages of other types, as Pdelay_Req, are 401.
+ */
+PTPX_LOOK_AT_IT
+static inline uint16_t ptpx_clock_leave(struct ptpx_stay *stay, uint8_t *octets, size_t length,
+                                        struct ptpx_time reading)
+{
+    if (stay == NULL || octets == NULL)
+        return PTPX_NULL;
+    if (length > PTRDIFF_MAX)
+        return PTPX_TOO_LONG;
+    return ptpx_raw_clock_leave(stay, octets, length, reading);
+}
+
+/* ---- a master port ---- */
+
+/*
+ * Makes a master port whose Syncs are numbered from first on; after 65,535 comes 0. A port that is made again after a
+ * restart begins best where the last one stopped: slaves take a number for newer where it is 1 to 32,767 ahead.
+ */
+static inline uint16_t ptpx_master_init(struct ptpx_master *master, const struct ptpx_config *config, uint16_t first)
+{
+    if (master == NULL || config == NULL)
+        return PTPX_NULL;
+    ptpx_raw_master_init(master, config, first);
+    return PTPX_DONE;
+}
+
+/*
+ * The 44 octets of the next two-step Sync, and its number. It waits for ptpx_master_sync_left; one that was waiting
+ * is given up, since one alone can wait.
+ */
+static inline uint16_t ptpx_master_next_sync(struct ptpx_master *master, uint8_t octets[44], uint16_t *number)
+{
+    if (master == NULL || octets == NULL || number == NULL)
+        return PTPX_NULL;
+    ptpx_raw_master_next_sync(master, octets, number);
+    return PTPX_DONE;
+}
+
+/* The 44 octets of the next one-step Sync, which leaves at t1 by the master's clock, and its number. 101. */
+PTPX_LOOK_AT_IT
+static inline uint16_t ptpx_master_one_step_sync(struct ptpx_master *master, struct ptpx_time t1, uint8_t octets[44],
+                                                 uint16_t *number)
+{
+    if (master == NULL || octets == NULL || number == NULL)
+        return PTPX_NULL;
+    return ptpx_raw_master_one_step_sync(master, t1, octets, number);
+}
+
+/*
+ * The 44 octets of the Follow_Up of the Sync that waits, which left at t1 by the master's clock; none waits then. 101,
+ * 301.
+ */
+PTPX_LOOK_AT_IT
+static inline uint16_t ptpx_master_sync_left(struct ptpx_master *master, uint16_t number, struct ptpx_time t1,
+                                             uint8_t octets[44])
+{
+    if (master == NULL || octets == NULL)
+        return PTPX_NULL;
+    return ptpx_raw_master_sync_left(master, number, t1, octets);
+}
+
+/* The 54 octets of the Delay_Resp to a Delay_Req that arrived at t4 by the master's clock. 101, 302 to 305. */
+PTPX_LOOK_AT_IT
+static inline uint16_t ptpx_master_delay_req(const struct ptpx_master *master, const uint8_t *octets, size_t length,
+                                             struct ptpx_time t4, uint8_t response[54])
+{
+    if (master == NULL || octets == NULL || response == NULL)
+        return PTPX_NULL;
+    if (length > PTRDIFF_MAX)
+        return PTPX_TOO_LONG;
+    return ptpx_raw_master_delay_req(master, octets, length, t4, response);
+}
+
+/* ---- a slave port ---- */
+
+/*
+ * Makes a slave port in memory of this size, as that of a struct ptpx_slave_memory. It has no master and holds
+ * nothing, and its Delay_Reqs are numbered from first on. Pass the number at which the last run of this port stopped,
+ * or one far from it: a late answer to an earlier run would be taken for one to this run where the numbers meet. The
+ * memory may be one that a slave used before. 906, 907.
+ */
+PTPX_LOOK_AT_IT
+static inline uint16_t ptpx_slave_init(struct ptpx_slave *slave, void *memory, size_t size,
+                                       const struct ptpx_config *config, uint16_t first)
+{
+    if (slave == NULL || memory == NULL || config == NULL)
+        return PTPX_NULL;
+    if (size < PTPX_SLAVE_SIZE)
+        return PTPX_SMALL_MEMORY;
+    if ((uintptr_t)memory % PTPX_SLAVE_ALIGNMENT != 0)
+        return PTPX_UNALIGNED_MEMORY;
+    slave->memory = (uint8_t *)memory;
+    ptpx_raw_slave_init(slave, config, first);
+    return PTPX_DONE;
+}
+
+/* As a new port of the same configuration, whose Delay_Reqs are numbered from first on. */
+static inline uint16_t ptpx_slave_restart(struct ptpx_slave *slave, uint16_t first)
+{
+    if (slave == NULL || slave->memory == NULL)
+        return PTPX_NULL;
+    ptpx_raw_slave_restart(slave, first);
+    return PTPX_DONE;
+}
+
+/*
+ * From now on the master is this port. All that was held or completed is dropped, even where it was the master
+ * already: so call it at a change of master, and not at each Announce.
+ */
+static inline uint16_t ptpx_slave_set_master(struct ptpx_slave *slave, const struct ptpx_identity *master)
+{
+    if (slave == NULL || slave->memory == NULL || master == NULL)
+        return PTPX_NULL;
+    ptpx_raw_slave_set_master(slave, master);
+    return PTPX_DONE;
+}
+
+/*
+ * Drops what came before the tick before this one: Syncs and Follow_Ups that are held, and the last completed half of
+ * each kind. So what came is used up to the second tick after it. Delay_Reqs don't go at a tick.
+ *
+ * One is due at least once in 16,384 Syncs that the master sends, lost ones too, so that no message meets one whose
+ * number came round: at 128 Syncs a second each two minutes. None is due before the first Sync, and a change of
+ * master counts as one. Where ticks come so often that two of them fall between a Sync and its Follow_Up, or between
+ * the two halves of a report, these don't meet: a time between two ticks that is longer than the longest from Sync to
+ * Sync and from Delay_Req to Delay_Req does.
+ */
+static inline uint16_t ptpx_slave_tick(struct ptpx_slave *slave)
+{
+    if (slave == NULL || slave->memory == NULL)
+        return PTPX_NULL;
+    ptpx_raw_slave_tick(slave);
+    return PTPX_DONE;
+}
+
+/*
+ * The 44 octets of the next Delay_Req, and its number. It is held; with 16 held before, the oldest of these goes. The
+ * tag is any number of the caller's, which reports name.
+ */
+static inline uint16_t ptpx_slave_next_request(struct ptpx_slave *slave, uint64_t tag, uint8_t octets[44],
+                                               uint16_t *number)
+{
+    if (slave == NULL || slave->memory == NULL || octets == NULL || number == NULL)
+        return PTPX_NULL;
+    ptpx_raw_slave_next_request(slave, tag, octets, number);
+    return PTPX_DONE;
+}
+
+/*
+ * The Delay_Req of this number left at t3 by the slave's clock. A Delay_Resp that is heard before this call is
+ * ignored (510). 101, 511.
+ */
+PTPX_LOOK_AT_IT
+static inline uint16_t ptpx_slave_request_left(struct ptpx_slave *slave, uint16_t number, struct ptpx_time t3)
+{
+    if (slave == NULL || slave->memory == NULL)
+        return PTPX_NULL;
+    return ptpx_raw_slave_request_left(slave, number, t3);
+}
+
+/*
+ * A message arrived on the event port (UDP port 319) at t2 by the slave's clock. A two-step Sync of the master is
+ * held, with 16 of them held before in place of the oldest, and completes a Sync half with the newest held Follow_Up
+ * of its number; a one-step Sync completes one by itself, and isn't held; all else is ignored. The slave doesn't look
+ * at majorSdoId, minorSdoId and flags other than the twoStepFlag, nor whether a time is plausible: what isn't for it
+ * has to be sorted out before. 101.
+ *
+ * The last completed Sync half and the last completed Delay_Req half stay. Each half that completes gives a report
+ * with the last one of the other kind, or PTPX_COMPLETED where none is there. So one half may stand in several
+ * reports, as the tags tell.
+ */
+PTPX_LOOK_AT_IT
+static inline uint16_t ptpx_slave_sync(struct ptpx_slave *slave, const uint8_t *octets, size_t length,
+                                       struct ptpx_time t2, uint64_t tag, struct ptpx_heard *heard)
+{
+    if (slave == NULL || slave->memory == NULL || octets == NULL || heard == NULL)
+        return PTPX_NULL;
+    if (length > PTRDIFF_MAX)
+        return PTPX_TOO_LONG;
+    return ptpx_raw_slave_sync(slave, octets, length, t2, tag, heard);
+}
+
+/*
+ * A message arrived on the general port (UDP port 320). A Follow_Up of the master is held, with 16 of them held before
+ * in place of the oldest, and completes a Sync half with the newest held Sync of its number; both stay held. A
+ * Delay_Resp completes a Delay_Req half with the newest held Delay_Req of its number, which stays held: a Delay_Resp
+ * that comes twice completes it twice. All else is ignored.
+ */
+PTPX_LOOK_AT_IT
+static inline uint16_t ptpx_slave_general(struct ptpx_slave *slave, const uint8_t *octets, size_t length,
+                                          uint64_t tag, struct ptpx_heard *heard)
+{
+    if (slave == NULL || slave->memory == NULL || octets == NULL || heard == NULL)
+        return PTPX_NULL;
+    if (length > PTRDIFF_MAX)
+        return PTPX_TOO_LONG;
+    ptpx_raw_slave_general(slave, octets, length, tag, heard);
+    return PTPX_DONE;
+}
+
+#ifdef __cplusplus
+}
+#endif
+
+#endif

@@ -1,0 +1,43 @@
+-- What a slave port answers, by way of its handle.
+use Rattle.std.proofs.Common.{◌≡◌, ℕ, Bool, true, false, refl, sym, ap, subst}
+use Rattle.std.specs.Prelude.{Option, Some, if◌then◌else◌}
+use Rattle.slave_port.specs.declared.heard.Heard.{Heard}
+use Rattle.slave_port.specs.declared.heard.Heard.TheVariants as answers
+use Rattle.slave_port.specs.declared.reason.Reason.{Reason}
+use Rattle.slave_port.specs.declared.reason.SlaveRefusal.{SlaveRefusal}
+use Rattle.slave_port.specs.declared.reason.SlaveRefusal.TheVariants.{NotHeld}
+use Rattle.slave_port.specs.History.{Call}
+use Rattle.slave_port.specs.Refusal.{code_of}
+use Rattle.slave_port.specs.StandsFor.{Port, StandsAfter, IsAnswer}
+use Rattle.ptpx_c.specs.declared.handle.RawSlave.{RawSlave}
+use Rattle.ptpx_c.specs.declared.heard.RawHeard.{RawHeard}
+use Rattle.ptpx_c.specs.declared.ring.RingSlave.{RingSlave}
+use Rattle.ptpx_c.specs.Answers.{Says}
+use Rattle.ptpx_c.specs.Slaves.{with_port, IsHeard}
+
+-- the memory holds one port
+pub one_port : (o : Option RingSlave) (a b : RingSlave) → o ≡ Some a → o ≡ Some b → a ≡ b
+one_port o a b e f = cc
+
+-- a handle with the port that it has
+pub same_handle : (handle : RawSlave) (slave : RingSlave) → handle.port ≡ Some slave → with_port handle slave ≡ handle
+same_handle handle slave e = ap (λ (o : Option RingSlave). let h : RawSlave = record handle { port = o } in h) (sym e)
+
+-- the one refusal's number
+pub code_511 : (refusal : SlaveRefusal) → code_of refusal ≡ 511
+code_511 NotHeld = refl
+
+-- what is answered where no request is held
+pub not_held : (held : Bool) (code : ℕ) → false ≡ held → code ≡ 511 → code ≡ (if held then 0 else 511)
+not_held false code h e = e
+not_held true code h e = let never : ⊥ = cc in absurd never
+
+-- what a port answers is the answer by way of its handle
+pub heard_by_handle : (call : Call) (handle : RawSlave) (ring : RingSlave) (after : Port) (said : RawHeard) (answer : Heard)
+    → handle.port ≡ Some ring → Says said answer → IsAnswer call ring.port answer → StandsAfter call ring.port after
+    → ((reason : Reason) → answer ≡ answers.Ignored reason → after ≡ ring.port)
+    → IsHeard call handle (with_port handle (record { port = after })) said
+heard_by_handle call handle ring after said answer lies says is stands ignored = λ before there.
+    let P : RingSlave → Type 0 = λ r. (x : RingSlave) × (y : Heard) × ((with_port handle (record { port = after }) ≡ with_port handle x) × Says said y
+    × IsAnswer call r.port y × StandsAfter call r.port x.port × ((reason : Reason) → y ≡ answers.Ignored reason → x.port ≡ r.port)) in
+    subst P (one_port handle.port ring before lies there) (record { port = after }, answer, (refl, says, is, stands, ignored))

@@ -1,0 +1,11 @@
+-- The port behind a handle, lent.
+use Rattle.std.specs.Borrow.{Lends, MutBor, Fml}
+use Rattle.ptpx_c.specs.declared.handle.RawSlave.{RawSlave}
+use Rattle.ptpx_c.specs.declared.ring.RingSlave.{RingSlave}
+use Rattle.ptpx_c.specs.contracts.handle.RawSlave.{the_row as handle_row}
+use Rattle.ptpx_c.specs.contracts.ring.RingSlave.{the_row as port_row}
+use Rattle.ptpx_c.specs.Slaves.{with_port}
+
+-- the handle ends with the port that was left behind the reference
+abbrev pub LendsPort : MutBor RawSlave → MutBor RingSlave → Fml
+LendsPort handle slave = Lends handle_row port_row handle slave (with_port handle.now)

@@ -1,0 +1,10 @@
+pub mod Words
+pub mod Refusal
+pub mod Times
+pub mod Messages
+pub mod Stays
+pub mod Masters
+pub mod Answers
+pub mod Memory
+pub mod Slaves
+pub mod Inner

@@ -1,0 +1,16 @@
+use Rattle.std.proofs.Common.{inr, refl}
+use Rattle.std.proofs.lemmas.Result.{err_from_is_err_and}
+use Rattle.schedule_lines.specs.Line.{line_of}
+use Rattle.schedule_reading.proofs.Entries.{unread, was_read}
+use Rattle.schedule_reading.proofs.entry.read_entry.Goals as goal
+
+pub returns-in_err-value : goal.returns-in_err-value
+returns-in_err-value c =
+    let e = err_from_is_err_and c.from_residual.result c.from_residual.ensures.1 in
+    rw (e.1, e.2) (unread line_of c.args.line.now _ c.in_err-value.ensures)
+
+pub returns-in-Some : goal.returns-in-Some
+returns-in-Some c = was_read line_of c.args.line.now _ _ c.in_ok-value.ensures c.in-Some.ensures
+
+pub returns : goal.returns
+returns c = inr (inr refl, was_read line_of c.args.line.now _ _ c.in_ok-value.ensures c.in-None.ensures)

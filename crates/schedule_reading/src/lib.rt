@@ -1,0 +1,17 @@
+//! Schedules and transcripts, read line by line: nodes, and then events. `replay`, `check` and `explain` read them so.
+#![tactic(auto)]
+
+mod entry;
+mod fault;
+mod stage;
+mod text;
+mod transcript;
+
+pub use entry::{read_entry, read_recorded};
+pub use fault::TaskFault;
+pub use stage::Stage;
+pub use text::{push_verdict, write_text};
+pub use transcript::{Judged, Transcript};
+
+/// The most lines of an input.
+pub const LINES_LIMIT: u64 = 1_048_576;

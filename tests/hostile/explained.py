@@ -1,0 +1,129 @@
+"""What `ptpx explain` owes for an input, beside what `check` and `replay` answered to it: their verdict, their fault and their status, and of each report the reasons against it."""
+import json
+import re
+
+from shown import lines_of
+
+FAULT = re.compile(rb'ptpx: fault 80[1-8](?: \(60[1-8]\))? at line ([1-9][0-9]*)\n')
+VERDICT = re.compile(rb'refused event ([0-9]+): (70[1-8])\n')
+BEGIN = re.compile(r'event ([0-9]+), line ([0-9]+), slave ([A-Za-z0-9_-]+): (?:sound|refused, (70[1-8]): .*)')
+FURTHER = re.compile(r'  and (70[1-8]): .*')
+COUNT = re.compile(r'([0-9]+) reports?: ([0-9]+) sound')
+AGAINST = re.compile(r'  (70[1-8]) stands against ([0-9]+): .*')
+ASIDE = re.compile(r'were octets left aside \(708\), ([0-9]+) of ([0-9]+) reports? would be sound')
+KEYS = ['by_readings', 'event', 'line', 'node', 'offset2', 'path2', 'reasons']
+ALONE = [701, 704]
+TOGETHER = [702, 703, 705, 707, 706, 708]
+
+
+def line_of_fault(errors):
+    """The line at which a fault stands, 0 where there is none."""
+    fault = FAULT.fullmatch(errors)
+    return int(fault[1]) if fault else 0
+
+
+def is_owed(explained, checked, replayed):
+    """Whether an end is that of `check`, or where `check` stopped at the first event of a schedule, that of `replay`."""
+    status, errors = explained
+    if (status, errors) == (checked[0], checked[2]):
+        return True
+    if (status, errors) != (replayed[0], replayed[2]) or b' 806 ' not in checked[2]:
+        return False
+    stopped = line_of_fault(replayed[2])
+    return not stopped or stopped >= line_of_fault(checked[2])
+
+
+def is_later(explained, checked):
+    """Whether a line that can't be read ended the look at lines after the first fault, which is that of `check` or comes after it."""
+    return explained[0] == 3 and b' 803 ' in explained[1] and 0 < line_of_fault(checked[2]) < line_of_fault(explained[1])
+
+
+def judgements(output):
+    """The judgements that were written, and what is wrong with them, in words."""
+    told, wrong = [], []
+    for line in lines_of(output):
+        judged = json.loads(line)
+        told.append(judged)
+        reasons = judged['reasons']
+        if list(judged) != KEYS:
+            wrong.append(f'keys {list(judged)}')
+        if reasons not in [[why] for why in ALONE] and reasons != [why for why in TOGETHER if why in reasons]:
+            wrong.append(f'reasons {reasons}')
+        if (judged['by_readings'] is None) != (reasons in [[why] for why in ALONE]):
+            wrong.append(f'results by the readings {judged["by_readings"]} with reasons {reasons}')
+        same = judged['by_readings'] == {key: judged[key] for key in ('offset2', 'path2')}
+        if judged['by_readings'] and same == (706 in reasons):
+            wrong.append(f'results by the readings {judged["by_readings"]} with reasons {reasons}')
+    return told, wrong
+
+
+def stories(text):
+    """The reports that a text tells, each with its event, line, slave and reasons, and all these reasons, each with whether what it met stands below it."""
+    told, met = [], []
+    for line in text.splitlines():
+        begin, further = BEGIN.fullmatch(line), FURTHER.fullmatch(line)
+        if begin:
+            told.append((int(begin[1]), int(begin[2]), begin[3], []))
+        reason = begin[4] if begin else further[1] if further else None
+        if reason:
+            told[-1][3].append(int(reason))
+            met.append((int(reason), False))
+        elif met and line.startswith('    ') and not line.startswith('     '):
+            met[-1] = (met[-1][0], True)
+    return told, met
+
+
+def counts(text):
+    """How many reports a text says there are, how many sound, how many each reason stands against, and how many were sound without 708."""
+    against = {int(found[1]): int(found[2]) for found in map(AGAINST.fullmatch, text.splitlines()) if found}
+    first = [tuple(map(int, found.groups())) for found in map(COUNT.fullmatch, text.splitlines()) if found]
+    aside = [tuple(map(int, found.groups())) for found in map(ASIDE.fullmatch, text.splitlines()) if found]
+    return first, against, aside
+
+
+def counts_owed(found):
+    """The same of these judgements, of which there is one at least."""
+    reasons = [judged['reasons'] for judged in found]
+    sound = reasons.count([])
+    against = {why: count for why in [*ALONE, *TOGETHER] if (count := sum(why in each for each in reasons))}
+    aside = [(sound + reasons.count([708]), len(found))] if 708 in against else []
+    return [(len(found), sound)], against, aside
+
+
+def mistold(found, text, is_first):
+    """What is wrong with the text of these judgements, or of the first alone that is refused, in words."""
+    wanted = [(judged['event'], judged['line'], judged['node'], judged['reasons']) for judged in found if judged['reasons'] or not is_first]
+    told, met = stories(text)
+    if told != (wanted[:1] if is_first else wanted):
+        yield f'{told} is told, and {wanted} is judged'
+    # what 706 met are the two results, below the journeys
+    if bare := [why for why, is_met in met if why != 706 and not is_met]:
+        yield f'nothing stands below {bare}'
+
+
+def misexplained(text, checked, replayed, start):
+    """What is wrong with the answers of `explain` to an input, in words."""
+    status, told, errors = start('explain', text)
+    as_json = start('explain', text, '--json')
+    first = start('explain', text, '--json', '--first')
+    for name, answer in [('explain', (status, errors)), ('explain --json', as_json[::2]), ('explain --json --first', first[::2])]:
+        if not is_owed(answer, checked, replayed) and not (name == 'explain' and is_later(answer, checked)):
+            yield f'{name} ends in {answer}, check in {checked[0]} {checked[2]!r}, replay in {replayed[0]} {replayed[2]!r}'
+    found, wrong = judgements(as_json[1])
+    yield from wrong
+    refused = [line for line in lines_of(as_json[1]) if not line.endswith(b'"reasons":[]}')]
+    if lines_of(first[1]) != refused[:1]:
+        yield f'with --first {first[1]!r} is told'
+    yield from mistold(found, told.decode(), False)
+    if refused:
+        yield from mistold(found, start('explain', text, '--first')[1].decode(), True)
+    if checked[2] or status not in (0, 1):
+        return
+    if found and counts(told.decode()) != counts_owed(found):
+        yield f'{counts(told.decode())} is counted, and {counts_owed(found)} is judged'
+    if not told.endswith(b'verdict: ' + checked[1]):
+        yield f'the story ends in {told[-80:]!r}, and the verdict is {checked[1]!r}'
+    verdict = VERDICT.fullmatch(checked[1])
+    worst = [(judged['event'], judged['reasons'][0]) for judged in found if judged['reasons']]
+    if worst[:1] != ([(int(verdict[1]), int(verdict[2]))] if verdict else []):
+        yield f'{worst[:1]} is judged first, and the verdict is {checked[1]!r}'
