@@ -9,6 +9,7 @@ mod field;
 mod flaws;
 mod happening;
 mod input;
+mod journey;
 mod json;
 mod judgements;
 mod moments;
@@ -22,7 +23,6 @@ mod report;
 mod schedule;
 mod story;
 mod tally;
-mod journey;
 
 pub use explaining::{Explained, explain};
 pub use input::Found;

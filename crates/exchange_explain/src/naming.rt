@@ -1,8 +1,8 @@
 //! What the tags of a report name, where 701 stands against it, and where its messages came from, where 704 does.
 
 use crate::case::Case;
+use crate::journey::{Message, journey_to, push_event, push_stop};
 use crate::record::Recorded;
-use crate::journey::{Message, push_event, push_stop, journey_to};
 use network_model::Event;
 use std::alloc::AllocError;
 use trace_model::TraceOut;

@@ -1,8 +1,8 @@
 //! Which messages a report took for others, whose they are, and which were too long in clocks.
 
 use crate::case::Case;
-use crate::moments::{Length, signed};
 use crate::journey::push_event;
+use crate::moments::{Length, signed};
 use exchange_check::{Exchange, Leg};
 use network_model::{Name, NodeKind};
 use std::alloc::AllocError;

@@ -2,9 +2,9 @@
 
 use crate::case::Case;
 use crate::field::{VERSION, field_name};
+use crate::journey::{Message, push_event};
 use crate::readings::Told;
 use crate::record::{Record, Recorded};
-use crate::journey::{Message, push_event};
 use event_codec::{Body, PortMessage, encode};
 use exchange_check::Exchange;
 use schedule_reading::Transcript;

@@ -1,9 +1,9 @@
 //! The readings of a report that aren't those of the clocks.
 
 use crate::case::Case;
+use crate::journey::{Journey, Message, journey_to, push_event};
 use crate::moments::{Length, Moment, signed_units};
 use crate::record::Recorded;
-use crate::journey::{Message, Journey, push_event, journey_to};
 use exchange_check::{Exchange, Leg};
 use ptp_units::ScaledTime;
 use std::alloc::AllocError;

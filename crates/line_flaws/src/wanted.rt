@@ -112,7 +112,9 @@ impl Display for Wanted {
             Wanted::Difference => f.write_str(
                 "wanted is a whole number of at most 32 characters, without +, point or zeros in front",
             ),
-            Wanted::Octets => f.write_str("wanted are at most 54 octets, of two hexadecimal digits each"),
+            Wanted::Octets => f.write_str(
+                "wanted are at most 54 octets, of two hexadecimal digits each",
+            ),
             Wanted::Tags => f.write_str(
                 "wanted are the tags of [Sync, Follow_Up, Delay_Req, Delay_Resp]",
             ),
