@@ -139,7 +139,7 @@ fn says_more_on_a_terminal(rt: HostRuntime) -> Result<(), Fail> {
             "ptpx show",
             b"xy\n",
             b"ptpx: fault 806 at line 1\n\
-ptpx: 806 is a line that isn't pairs of hexadecimal digits, or has too many\n",
+ptpx: 806 is a line that isn't pairs of hexadecimal digits\n",
         ),
         (
             "ptpx replay",

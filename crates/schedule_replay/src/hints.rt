@@ -32,7 +32,7 @@ impl Hints {
         match (self, what) {
             (Hints::None, _) => None,
             (Hints::Show, FaultKind::Field) => {
-                Some("a line that isn't pairs of hexadecimal digits, or has too many")
+                Some("a line that isn't pairs of hexadecimal digits")
             }
             (Hints::Replay, FaultKind::Field) => {
                 Some(
