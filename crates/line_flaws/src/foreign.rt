@@ -15,6 +15,8 @@ pub enum Foreign {
     Gzip,
     /// Text that begins with a byte order mark of UTF-8.
     ByteOrderMark,
+    /// Lines of JSON that end in CR alone.
+    CarriageReturns,
     /// UTF-16 that begins with a byte order mark, which tells the order of octets.
     Utf16,
     /// UTF-16 without one, the low octets first.
@@ -79,6 +81,7 @@ impl Foreign {
     fn of_object(rest: &[u8]) -> Option<Foreign> {
         match rest {
             [b'\'', ..] => Some(Foreign::SingleQuotes),
+            _ if has_objects_by_cr(rest) => Some(Foreign::CarriageReturns),
             [.., b'}', b','] => None,
             [] | [.., b',' | b'{' | b'[' | b':'] => Some(Foreign::ObjectOverLines),
             _ => None,
@@ -94,6 +97,7 @@ impl Foreign {
             }
             Foreign::Gzip => "gzip -dc",
             Foreign::ByteOrderMark => "tail -c +4",
+            Foreign::CarriageReturns => "tr '\\r' '\\n'",
             Foreign::Utf16 => "iconv -f UTF-16 -t UTF-8",
             Foreign::Utf16LowFirst => "iconv -f UTF-16LE -t UTF-8",
             Foreign::Utf16HighFirst => "iconv -f UTF-16BE -t UTF-8",
@@ -118,6 +122,7 @@ impl Display for Foreign {
             Foreign::PcapNg => "a capture (pcapng); show its messages by: ",
             Foreign::Gzip => "compressed by gzip; unpack it by: ",
             Foreign::ByteOrderMark => "text behind a byte order mark; take the mark away by: ",
+            Foreign::CarriageReturns => "objects with CR between them; make LF of each CR by: ",
             Foreign::Utf16 | Foreign::Utf16LowFirst | Foreign::Utf16HighFirst => {
                 "UTF-16; make UTF-8 of it by: "
             }
@@ -142,6 +147,11 @@ impl Display for Foreign {
 fn first_line(start: &[u8]) -> &[u8] {
     let count = start.iter().take_while(|octet| **octet != b'\n').count();
     start.get(..count).unwrap_or(start)
+}
+
+/// Whether an object ends just before a CR, after which one begins.
+fn has_objects_by_cr(text: &[u8]) -> bool {
+    text.windows(3).any(|octets| octets == b"}\r{".as_slice())
 }
 
 /// Whether these are pairs of hexadecimal digits, one at least.

@@ -107,9 +107,10 @@ impl Display for JsonFault {
             JsonFault::BarePoint => "a point without a digit in front of it",
             JsonFault::NoDigit => "no digit; wanted is one in the number",
             JsonFault::Hexadecimal => "a number in hexadecimal; wanted are decimal digits",
-            JsonFault::OddNumber => "a character that belongs to no number; wanted is a comma or a bracket after it",
+            JsonFault::OddNumber =>
+                "a character that belongs to no number; wanted is a comma or a bracket after it",
             JsonFault::LargeNumber => "a number too large for a float; wanted is a smaller one",
-            JsonFault::ControlOctet => "a control character in a text; wanted is an escape, as \\t",
+            JsonFault::ControlOctet => "a control character in a text; wanted is none",
             JsonFault::OddEscape =>
                 "a \\ without an escape; wanted is \\\\, or another escape of JSON",
             JsonFault::HalfPair => "an escape that is half of a character; wanted are both halves",
