@@ -29,6 +29,8 @@ pub(crate) struct Flaws {
     count: u64,
     /// The place that the next event is to have.
     events: u64,
+    /// Another one that it may have, where the event before it gave another number than its place.
+    or_at: Option<u64>,
     /// The last line that was looked at.
     last: u64,
 }
@@ -53,6 +55,7 @@ impl Flaws {
             form,
             count: 0,
             events,
+            or_at: None,
             last: line,
         }
     }
@@ -168,7 +171,11 @@ impl Flaws {
         };
         match flaw {
             Some(Flaw::NodeAfterEvent) => {}
-            Some(Flaw::OutOfPlace { number, .. }) => self.events = number.saturating_add(1),
+            Some(Flaw::OutOfPlace { number, .. }) => {
+                if self.pass_out_of_place(number) {
+                    return Ok(());
+                }
+            }
             _ => self.pass(line),
         }
         let Some(flaw) = flaw else {
@@ -195,13 +202,30 @@ impl Flaws {
         });
     }
 
-    /// Passes a line, which is an event's where there was one or it says so.
+    /// Passes a line, which is an event's where it says so, or where an object begins in it and there was one.
     fn pass(&mut self, line: &[u8])
         ensures { (self.new.line ≡ self.old.line) × (self.new.what ≡ self.old.what) }
     {
-        if self.events > 0 || has_key(line, b"\"ev\"") {
+        let begins = line.contains(&b'{');
+        if has_key(line, b"\"ev\"") || begins && (self.events > 0 || has_key(line, b"\"out\"")) {
             self.events = self.events.saturating_add(1);
+            self.or_at = None;
         }
+    }
+
+    /// Passes an event of this number, which isn't its place. Answers whether it goes on where one before it gave a
+    /// wrong number.
+    fn pass_out_of_place(&mut self, number: u64) -> bool
+        ensures { (self.new.line ≡ self.old.line) × (self.new.what ≡ self.old.what) }
+    {
+        let goes_on = self.or_at == Some(number);
+        self.or_at = if goes_on {
+            None
+        } else {
+            Some(self.events.saturating_add(1))
+        };
+        self.events = number.saturating_add(1);
+        goes_on
     }
 
     /// Appends a first line that is empty, where it wasn't told, and how many lines weren't.
