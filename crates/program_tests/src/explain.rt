@@ -154,7 +154,7 @@ fn tells_of_input_that_has_no_report(rt: HostRuntime) -> Result<(), Fail> {
 }
 
 /// Inputs of other kinds, and what is said of them.
-const FOREIGN: [(&[u8], &str); 13] = [
+const FOREIGN: [(&[u8], &str); 14] = [
     (
         b"\xd4\xc3\xb2\xa1\x02\n",
         "the input isn't lines of JSON, but a capture (pcap); show its messages by: \
@@ -172,6 +172,10 @@ tshark -n -r - -Y ptp -T jsonraw | jq -r '.[]._source.layers.ptp_raw[0]' | ptpx 
     (
         b"\xef\xbb\xbf{\"kind\":\"clock\",\"node\":\"T\"}\n",
         "the input isn't lines of JSON, but text behind a byte order mark; take the mark away by: tail -c +4\n",
+    ),
+    (
+        b"{\"kind\":\"clock\",\"node\":\"T\"}\r{\"kind\":\"clock\",\"node\":\"U\"}\r",
+        "the input isn't lines of JSON, but objects with CR between them; make LF of each CR by: tr '\\r' '\\n'\n",
     ),
     (
         b"\xff\xfe{\x00\n\x00",
@@ -262,11 +266,7 @@ fn tells_of_twenty_lines(rt: HostRuntime) -> Result<(), Fail> {
     for _ in 0..20 {
         input.push_str("x\n")?;
     }
-    for more in [
-        "",
-        "and 1 line more\n",
-        "and 2 lines more\n",
-    ] {
+    for more in ["", "and 1 line more\n", "and 2 lines more\n"] {
         let mut end = String::new(alloc);
         write!(&mut end, "{more}no report was judged from line 1 on\n")?;
         let ended = run(alloc, "ptpx explain", input.as_bytes())?;
@@ -472,7 +472,7 @@ fn tells_which_nodes_clash(rt: HostRuntime) -> Result<(), Fail> {
 }
 
 /// The place of a line of the transcript, what is replaced in it by what, and what is said first then.
-const REASONS: [(usize, &str, &str, &str); 16] = [
+const REASONS: [(usize, &str, &str, &str); 21] = [
     (
         16,
         "[5,7,8,13]",
@@ -512,6 +512,43 @@ or no event tells when the Delay_Req left
 1 report: 0 sound\n",
     ),
     (
+        8,
+        "\"out\":\"held\"",
+        "\"out\":\"done\"",
+        "event 13, line 17, slave S: refused, 701: a tag of the report isn't that of an event as the report needs it, \
+or no event tells when the Delay_Req left
+    the tag of the Sync names event 5, line 9, an arrive at S, which came to nothing; wanted is an arrive at S
+1 report: 0 sound\n",
+    ),
+    (
+        16,
+        "\"copy\":11,\"ev\":\"hear\"",
+        "\"ev\":\"tick\"",
+        "event 13, line 17, slave S: refused, 701: a tag of the report isn't that of an event as the report needs it, \
+or no event tells when the Delay_Req left
+    event 13, line 17, a tick at S, can't report; wanted is an arrive or a hear at a slave
+    the tag of the Delay_Resp names event 13, line 17, a tick at S, which came to nothing; wanted is a hear at S
+1 report: 0 sound\n",
+    ),
+    (
+        8,
+        "\"copy\":4",
+        "\"copy\":1",
+        "event 13, line 17, slave S: refused, 704: the journey of the Sync or of the Delay_Req can't be followed back \
+to where it was sent, or a stay on it was left twice
+    the journey of the Sync stops at event 5, line 9: it names event 1, line 5, a setmaster at S, which sent no such message
+1 report: 0 sound\n",
+    ),
+    (
+        6,
+        "\"out\":\"entered\"",
+        "\"out\":\"done\"",
+        "event 13, line 17, slave S: refused, 704: the journey of the Sync or of the Delay_Req can't be followed back \
+to where it was sent, or a stay on it was left twice
+    the journey of the Sync stops at event 4, line 8: it names event 3, line 7, an enter at T, which came to nothing
+1 report: 0 sound\n",
+    ),
+    (
         6,
         "\"copy\":2",
         "\"copy\":4",
@@ -548,6 +585,19 @@ one of the report
     the Sync is number 0, event 2, line 6, a syncone at M; it was taken for that of the Follow_Up of event 6, line 10, \
 before which its master sent none
   and 708: ",
+    ),
+    (
+        16,
+        r#""offset2":"131072000","out":"report","path2":"131072000","tags":[5,7,8,13]}"#,
+        r#""out":"completed"}
+{"at":[3,0,0],"ev":"sync","hex":"0012002c00000200000000000000000000000000001122fffe33445500010001000000000000000000000000","n":14,"node":"M","out":"made","reading":[3,0,0]}
+{"at":[3,1000,0],"copy":14,"ev":"arrive","n":15,"node":"S","out":"held","reading":[3,2000,0]}
+{"copy":6,"ev":"hear","n":16,"node":"S","offset2":"131072000","out":"report","path2":"131072000","tags":[15,16,8,13]}"#,
+        "event 16, line 20, slave S: refused, 702: the Sync isn't the one of the Follow_Up, or the Delay_Req isn't the \
+one of the report
+    the Sync is number 1, event 14, line 18, a sync at M; it was taken for that of the Follow_Up of event 6, line 10, \
+number 0, event 2, line 6, a sync at M
+  t1  event 14  ",
     ),
     (
         4,
@@ -649,6 +699,144 @@ fn tells_of_a_follow_up_of_no_sync(rt: HostRuntime) -> Result<(), Fail> {
     let said =
         "    event 6, line 10, a follow at M: no two-step Sync was sent before it, so no octets are right\n";
     assert!(rt; output.contains(said), "{output}");
+    Ok(())
+}
+
+/// Whether it is the transcript, what is replaced in it by what, and what is said first then.
+const CHANGED: [(bool, &[(&str, &str)], &str); 11] = [
+    // A leave at another clock than the enter.
+    (
+        false,
+        &[
+            (
+                "{\"kind\":\"clock\",\"node\":\"T\"}",
+                "{\"kind\":\"clock\",\"node\":\"T\"}\n{\"kind\":\"clock\",\"node\":\"U\"}",
+            ),
+            (
+                "\"node\":\"T\",\"transit\":3",
+                "\"node\":\"U\",\"transit\":3",
+            ),
+        ],
+        "event 4, line 9: refused, 606: event 3 is an enter at T, and this is a leave at U\n\
+no event happens from line 9 on\n",
+    ),
+    // A Delay_Req that another master answers.
+    (
+        true,
+        &[
+            (
+                "{\"kind\":\"clock\",\"node\":\"T\"}",
+                r#"{"kind":"clock","node":"T"}
+{"domain":0,"first":0,"id":"001122fffe334466","kind":"master","log":0,"node":"N","port":1}"#,
+            ),
+            ("\"n\":11,\"node\":\"M\"", "\"n\":11,\"node\":\"N\""),
+        ],
+        "event 13, line 18, slave S: refused, 703: a message isn't of the present master of the slave, or came before \
+the slave was told this master
+    event 1, line 6 told S, domain 0, the master M
+    the Sync is of M, domain 0; N answered the Delay_Req
+  and 708: ",
+    ),
+    // A Delay_Resp that completed nothing, and one that is taken for a Follow_Up.
+    (
+        true,
+        &[
+            (
+                "\"n\":7,\"node\":\"S\",\"out\":\"completed\"",
+                "\"n\":7,\"node\":\"S\",\"out\":\"held\"",
+            ),
+            ("[5,7,8,13]", "[5,13,8,7]"),
+        ],
+        "event 13, line 17, slave S: refused, 701: a tag of the report isn't that of an event as the report needs it, \
+or no event tells when the Delay_Req left
+    the Follow_Up of event 13, line 17 is of event 11, line 15, an arrive at M; wanted is a follow before it
+    the Delay_Resp of event 7, line 11 completed nothing
+    event 12, line 16 tells when the Delay_Req left; wanted is that before the Delay_Resp, event 7
+1 report: 0 sound\n",
+    ),
+    // A two-step Sync without a Follow_Up.
+    (
+        true,
+        &[
+            (
+                "\"n\":5,\"node\":\"S\",\"out\":\"held\"",
+                "\"n\":5,\"node\":\"S\",\"out\":\"completed\"",
+            ),
+            ("[5,7,8,13]", "[5,null,8,13]"),
+        ],
+        "event 13, line 17, slave S: refused, 702: the Sync isn't the one of the Follow_Up, or the Delay_Req isn't the \
+one of the report
+    the Sync is number 0, event 2, line 6, a sync at M, two-step; it was taken for one that needs no Follow_Up
+  t1  event  2  ",
+    ),
+    // The first event has a flaw, of a transcript and of a schedule.
+    (
+        true,
+        &[("\"65536000\"", "65536000")],
+        "line 4: \"diff\" is 65536000; wanted is a whole number of at most 32 characters, without +, point or zeros in \
+front, in quotes\nno report was judged from line 4 on\n",
+    ),
+    (
+        false,
+        &[("\"65536000\"", "65536000")],
+        "line 4: \"diff\" is 65536000; wanted is a whole number of at most 32 characters, without +, point or zeros in \
+front, in quotes\nno event happens from line 4 on\n",
+    ),
+    (
+        true,
+        &[("\"ev\":\"stepclock\"", "\"Ev\":\"stepclock\"")],
+        "line 4: \"ev\" of an event or \"kind\" of a node is missing; there is \"Ev\"\n\
+no report was judged from line 4 on\n",
+    ),
+    // One event's number is wrong.
+    (
+        true,
+        &[("\"n\":5,", "\"n\":6,")],
+        "line 9: \"n\" is 6; wanted is 5, the place among the events from 0: an event before it is missing, or \"n\" is \
+wrong\nno report was judged from line 9 on\n",
+    ),
+    // An event that is missing.
+    (
+        true,
+        &[(
+            "{\"copy\":6,\"ev\":\"hear\",\"n\":7,\"node\":\"S\",\"out\":\"completed\"}\n",
+            "",
+        )],
+        "line 11: \"n\" is 8; wanted is 7, the place among the events from 0: an event before it is missing, or \"n\" is \
+wrong\nno report was judged from line 11 on\n",
+    ),
+    // An empty line, and a line that is cut in two.
+    (
+        true,
+        &[("{\"ev\":\"stamped\"", "\n{\"ev\":\"stamped\"")],
+        "line 16, octet 1: no JSON: nothing; wanted is an object\nno report was judged from line 16 on\n",
+    ),
+    (
+        true,
+        &[("{\"ev\":\"stamped\",", "{\"ev\":\"stamped\",\n")],
+        "line 16, octet 17: no JSON: the line ends before the } of an object\n\
+line 17, octet 4: no JSON: something after the value; wanted is the end of the line\n\
+no report was judged from line 16 on\n",
+    ),
+];
+
+#[test]
+fn tells_of_lines_that_were_changed(rt: HostRuntime) -> Result<(), Fail> {
+    let alloc = rt.alloc();
+    for (is_transcript, changes, said) in &CHANGED {
+        let mut input = if *is_transcript {
+            joined(alloc, &TRANSCRIPT)?
+        } else {
+            joined(alloc, &SCHEDULE)?
+        };
+        for (old, new) in *changes {
+            input = input.replace(alloc, old, new)?;
+        }
+        let ended = run(alloc, "ptpx explain", input.as_bytes())?;
+        let output = str::from_utf8(ended.output.as_slice())?;
+        assert!(rt; output.starts_with(said), "{said} {output}");
+        assert_ne!(rt; ended.status, 0, "{said}");
+    }
     Ok(())
 }
 

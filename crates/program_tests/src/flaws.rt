@@ -416,7 +416,7 @@ const NO_JSON: [(&str, &str); 40] = [
     ),
     (
         "{\"node\":\"a\tb\"}",
-        "line 4, octet 11: no JSON: a control character in a text; wanted is an escape, as \\t",
+        "line 4, octet 11: no JSON: a control character in a text; wanted is none",
     ),
     (
         r#"{"node":"C:\port"}"#,
@@ -444,7 +444,10 @@ fn of_schedules(rt: HostRuntime) -> Result<(), Fail> {
         b"{\"node\":\"M\xfcnchen\",\"kind\":\"clock\"}",
         0,
     )?;
-    assert_eq!(rt; text.as_str(), "line 4, octet 11: no UTF-8; wanted is the line in UTF-8");
+    assert_eq!(rt;
+        text.as_str(),
+        "line 4, octet 11: no UTF-8; wanted is the line in UTF-8"
+    );
     Ok(())
 }
 
@@ -462,7 +465,7 @@ fn of_transcripts(rt: HostRuntime) -> Result<(), Fail> {
 }
 
 /// The kinds of input by their beginnings, with what is said of them.
-const FOREIGN: [(&[u8], &str); 17] = [
+const FOREIGN: [(&[u8], &str); 18] = [
     (
         b"\xd4\xc3\xb2\xa1\x02\x00\x04\x00",
         "a capture (pcap); show its messages by: tshark -n -r - -Y ptp -T jsonraw | jq -r '.[]._source.layers.ptp_raw[0]' | ptpx show",
@@ -482,6 +485,10 @@ const FOREIGN: [(&[u8], &str); 17] = [
     (
         b"\xef\xbb\xbf{\"node\":\"T\",\"kind\":\"clock\"}\n",
         "text behind a byte order mark; take the mark away by: tail -c +4",
+    ),
+    (
+        b"{\"node\":\"T\",\"kind\":\"clock\"}\r{\"node\":\"U\",\"kind\":\"clock\"}\r",
+        "objects with CR between them; make LF of each CR by: tr '\\r' '\\n'",
     ),
     (
         b"\xff\xfe{\x00\"\x00",
