@@ -194,7 +194,10 @@ struct ptpx_wide_slave {
     uint8_t *memory;
 };
 
-/* What the memory of a slave port takes, what that of a wide one takes, and what their addresses are a multiple of. */
+/*
+ * What the memory of a slave port takes, what that of a wide one takes, and what their addresses are a multiple of.
+ * ptpx_raw_slave_size, ptpx_raw_slave_alignment and those of a wide slave tell the archive's.
+ */
 #define PTPX_SLAVE_SIZE 2944
 #define PTPX_WIDE_SLAVE_SIZE 42304
 #define PTPX_SLAVE_ALIGNMENT 16
