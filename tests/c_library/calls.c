@@ -14,10 +14,12 @@ static const uint8_t distinct[57] = {
     0x50, 0x51, 0x52,
 };
 
-/* A slave's memory, which is to stand where its alignment allows. */
+/* Memory of slaves, which is to stand where its alignment allows. */
 struct behind_an_octet {
     uint8_t octet;
     struct ptpx_slave_memory memory;
+    uint8_t other_octet;
+    struct ptpx_wide_slave_memory wide;
 };
 
 /* Where a field lies, and where the next octet after it does. */
@@ -32,8 +34,12 @@ static void sizes(void)
     CHECK(sizeof(struct ptpx_message) == 72 && sizeof(struct ptpx_master) == 18 && sizeof(struct ptpx_heard) == 72);
     CHECK(sizeof(struct ptpx_slave) == 8 && PTPX_SLAVE_SIZE == 2944 && PTPX_SLAVE_ALIGNMENT == 16);
     CHECK(ptpx_raw_slave_size() == PTPX_SLAVE_SIZE && ptpx_raw_slave_alignment() == PTPX_SLAVE_ALIGNMENT);
+    CHECK(sizeof(struct ptpx_wide_slave) == 8 && PTPX_WIDE_SLAVE_SIZE == 42304);
+    CHECK(ptpx_raw_wide_slave_size() == PTPX_WIDE_SLAVE_SIZE && ptpx_raw_wide_slave_alignment() == PTPX_SLAVE_ALIGNMENT);
     CHECK(sizeof(struct ptpx_slave_memory) == PTPX_SLAVE_SIZE);
+    CHECK(sizeof(struct ptpx_wide_slave_memory) == PTPX_WIDE_SLAVE_SIZE);
     CHECK(offsetof(struct behind_an_octet, memory) == PTPX_SLAVE_ALIGNMENT);
+    CHECK(offsetof(struct behind_an_octet, wide) % PTPX_SLAVE_ALIGNMENT == 0);
 }
 
 /* The table of docs/EMBEDDING.md. */
@@ -58,6 +64,8 @@ static void places(void)
     LIES(ptpx_master, waits, 16, 17);
     LIES(ptpx_slave, memory, 0, 8);
     LIES(ptpx_slave_memory, octets, 0, PTPX_SLAVE_SIZE);
+    LIES(ptpx_wide_slave, memory, 0, 8);
+    LIES(ptpx_wide_slave_memory, octets, 0, PTPX_WIDE_SLAVE_SIZE);
 }
 
 static void places_in_messages(void)

@@ -1,11 +1,12 @@
 /*
  * Datagrams of a seed: ones that are bent, cut, and made of chance, each in a block of its own length. The decoder, a
- * slave and a clock take them all, what is decoded is encoded again octet for octet, and what a clock refuses isn't
- * changed.
+ * slave, with WIDE a wide one, and a clock take them all, what is decoded is encoded again octet for octet, and what a
+ * clock refuses isn't changed.
  *
  * ./hostile COUNT SEED
  */
 #include "check.h"
+#include "kind.h"
 
 static uint64_t chance;
 
@@ -127,7 +128,7 @@ int main(int argc, char **argv)
     }
     for (int kind = 0; kind < 4; kind++)
         CHECK(answers[kind] > 0);
-    printf("hostile: held %lu, completed %lu, reports %lu, ignored %lu\n", answers[0], answers[1], answers[2],
-           answers[3]);
+    printf("hostile to a " KIND ": held %lu, completed %lu, reports %lu, ignored %lu\n", answers[0], answers[1],
+           answers[2], answers[3]);
     return 0;
 }

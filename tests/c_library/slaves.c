@@ -1,8 +1,9 @@
 /*
- * Slave ports of ptpx.h: each answer and each reason, what ticks drop, the refusals, and that no call writes past its
- * memory.
+ * Slave ports of ptpx.h, or with WIDE the wide ones: each answer and each reason, what ticks drop, how much is held,
+ * the refusals, and that no call writes past its memory.
  */
 #include "check.h"
+#include "kind.h"
 
 #define GUARD 0xA7
 
@@ -150,17 +151,61 @@ static void ticks(void)
     CHECK(delay_half(&pair, 108, 109) == PTPX_COMPLETED);
 }
 
-/* Of 17 Delay_Reqs the oldest goes. */
-static void fullness(void)
+/* Of one Delay_Req more than a slave holds the oldest goes. */
+static void fullness_of_requests(void)
 {
     struct pair pair = new_pair();
     uint8_t request[44] = {0};
     uint16_t number = 0;
-    for (uint16_t i = 0; i < 17; i++)
+    for (uint16_t i = 0; i < HOLDS; i++)
         CHECK(ptpx_slave_next_request(&pair.slave, i, request, &number) == PTPX_DONE && number == 20 + i);
+    CHECK(ptpx_slave_request_left(&pair.slave, 20, at(4, 0, 0)) == PTPX_DONE);
+    CHECK(ptpx_slave_next_request(&pair.slave, HOLDS, request, &number) == PTPX_DONE && number == 20 + HOLDS);
     CHECK(ptpx_slave_request_left(&pair.slave, 20, at(4, 0, 0)) == PTPX_NOT_HELD);
     CHECK(ptpx_slave_request_left(&pair.slave, 21, at(4, 0, 0)) == PTPX_DONE);
     check_guards();
+}
+
+/* A Sync of the master and its Follow_Up, of which the slave hears one. */
+struct drawn {
+    uint8_t sync[44];
+    uint8_t follow[44];
+};
+
+static unsigned hear_one(struct pair *pair, const struct drawn *drawn, bool follow)
+{
+    return follow ? on_general(pair, drawn->follow, 44, 0) : on_event(pair, drawn->sync, 44, at(2, 0, 0), 0);
+}
+
+static struct drawn draw(struct pair *pair)
+{
+    struct drawn drawn;
+    uint16_t number = 0;
+    memset(&drawn, 0, sizeof drawn);
+    CHECK(ptpx_master_next_sync(&pair->master, drawn.sync, &number) == PTPX_DONE);
+    CHECK(ptpx_master_sync_left(&pair->master, number, at(1, 0, 0), drawn.follow) == PTPX_DONE);
+    return drawn;
+}
+
+/* The answer to the other message of a Sync half, after later messages like its first. */
+static unsigned answer_after(unsigned later, bool follow)
+{
+    struct pair pair = new_pair();
+    const struct drawn first = draw(&pair);
+    CHECK(hear_one(&pair, &first, follow) == PTPX_HELD);
+    for (unsigned i = 0; i < later; i++) {
+        const struct drawn next = draw(&pair);
+        CHECK(hear_one(&pair, &next, follow) == PTPX_HELD);
+    }
+    check_guards();
+    return hear_one(&pair, &first, !follow);
+}
+
+static void fullness(void)
+{
+    fullness_of_requests();
+    CHECK(answer_after(HOLDS - 1, false) == PTPX_COMPLETED && answer_after(HOLDS, false) == PTPX_HELD);
+    CHECK(answer_after(HOLDS - 1, true) == PTPX_COMPLETED && answer_after(HOLDS, true) == PTPX_HELD);
 }
 
 static void refused_memory(void)
@@ -227,6 +272,6 @@ int main(void)
     refused_memory();
     refused_pointers();
     refused_slaves();
-    printf("slaves: %lu checks\n", checks_made);
+    printf("each call of a %s: %lu checks\n", KIND, checks_made);
     return 0;
 }

@@ -14,8 +14,8 @@
  * of.
  *
  * Memory. The library allocates nothing, keeps nothing between calls but in the structs that it is handed, and needs
- * of its surroundings memmove alone. A message that arrives is passed with the count of its octets; octets past
- * messageLength are padding.
+ * of its surroundings memcpy, memmove and memset alone. A message that arrives is passed with the count of its octets;
+ * octets past messageLength are padding.
  *
  * What the caller owes, since no call can see it:
  *   - Each pointer leads to an object of its type, which is that long where a length is passed, and aligned as its
@@ -189,13 +189,27 @@ struct ptpx_slave {
     uint8_t *memory;
 };
 
-/* What the memory of a slave port takes, and what its address is a multiple of. */
+/* A wide slave port, which holds 256 of each at most. The field is the library's. */
+struct ptpx_wide_slave {
+    uint8_t *memory;
+};
+
+/*
+ * What the memory of a slave port takes, what that of a wide one takes, and what their addresses are a multiple of.
+ * ptpx_raw_slave_size, ptpx_raw_slave_alignment and those of a wide slave tell the archive's.
+ */
 #define PTPX_SLAVE_SIZE 2944
+#define PTPX_WIDE_SLAVE_SIZE 42304
 #define PTPX_SLAVE_ALIGNMENT 16
 
 /* Memory for a slave port, aligned by C11, C++11 and GNU C. With another compiler see to it, or 907 is answered. */
 struct ptpx_slave_memory {
     PTPX_ALIGNED uint8_t octets[PTPX_SLAVE_SIZE];
+};
+
+/* The same for a wide slave port. */
+struct ptpx_wide_slave_memory {
+    PTPX_ALIGNED uint8_t octets[PTPX_WIDE_SLAVE_SIZE];
 };
 
 /* What became of a message. */
@@ -256,6 +270,18 @@ uint16_t ptpx_raw_slave_sync(struct ptpx_slave *slave, const uint8_t *octets, si
                              uint64_t tag, struct ptpx_heard *heard);
 void ptpx_raw_slave_general(struct ptpx_slave *slave, const uint8_t *octets, size_t length, uint64_t tag,
                             struct ptpx_heard *heard);
+size_t ptpx_raw_wide_slave_size(void);
+size_t ptpx_raw_wide_slave_alignment(void);
+void ptpx_raw_wide_slave_init(struct ptpx_wide_slave *slave, const struct ptpx_config *config, uint16_t first);
+void ptpx_raw_wide_slave_restart(struct ptpx_wide_slave *slave, uint16_t first);
+void ptpx_raw_wide_slave_set_master(struct ptpx_wide_slave *slave, const struct ptpx_identity *master);
+void ptpx_raw_wide_slave_tick(struct ptpx_wide_slave *slave);
+void ptpx_raw_wide_slave_next_request(struct ptpx_wide_slave *slave, uint64_t tag, uint8_t *octets, uint16_t *number);
+uint16_t ptpx_raw_wide_slave_request_left(struct ptpx_wide_slave *slave, uint16_t number, struct ptpx_time t3);
+uint16_t ptpx_raw_wide_slave_sync(struct ptpx_wide_slave *slave, const uint8_t *octets, size_t length,
+                                  struct ptpx_time t2, uint64_t tag, struct ptpx_heard *heard);
+void ptpx_raw_wide_slave_general(struct ptpx_wide_slave *slave, const uint8_t *octets, size_t length, uint64_t tag,
+                                 struct ptpx_heard *heard);
 
 /* ---- numbers ---- */
 
@@ -609,6 +635,94 @@ static inline uint16_t ptpx_slave_general(struct ptpx_slave *slave, const uint8_
     if (length > PTRDIFF_MAX)
         return PTPX_TOO_LONG;
     ptpx_raw_slave_general(slave, octets, length, tag, heard);
+    return PTPX_DONE;
+}
+
+/* ---- a wide slave port ---- */
+
+/*
+ * As a slave port, but that it holds 256 Syncs, 256 Follow_Ups and 256 Delay_Reqs at most, in place of 16. Each call
+ * ptpx_wide_slave_.. does what ptpx_slave_.. does, and is refused as that is. ptpx_wide_slave_init wants the memory of
+ * a struct ptpx_wide_slave_memory, and some 200 kB of stack, on x86-64; the others take no more than those of a slave.
+ */
+
+PTPX_LOOK_AT_IT
+static inline uint16_t ptpx_wide_slave_init(struct ptpx_wide_slave *slave, void *memory, size_t size,
+                                            const struct ptpx_config *config, uint16_t first)
+{
+    if (slave == NULL || memory == NULL || config == NULL)
+        return PTPX_NULL;
+    if (size < PTPX_WIDE_SLAVE_SIZE)
+        return PTPX_SMALL_MEMORY;
+    if ((uintptr_t)memory % PTPX_SLAVE_ALIGNMENT != 0)
+        return PTPX_UNALIGNED_MEMORY;
+    slave->memory = (uint8_t *)memory;
+    ptpx_raw_wide_slave_init(slave, config, first);
+    return PTPX_DONE;
+}
+
+static inline uint16_t ptpx_wide_slave_restart(struct ptpx_wide_slave *slave, uint16_t first)
+{
+    if (slave == NULL || slave->memory == NULL)
+        return PTPX_NULL;
+    ptpx_raw_wide_slave_restart(slave, first);
+    return PTPX_DONE;
+}
+
+static inline uint16_t ptpx_wide_slave_set_master(struct ptpx_wide_slave *slave, const struct ptpx_identity *master)
+{
+    if (slave == NULL || slave->memory == NULL || master == NULL)
+        return PTPX_NULL;
+    ptpx_raw_wide_slave_set_master(slave, master);
+    return PTPX_DONE;
+}
+
+static inline uint16_t ptpx_wide_slave_tick(struct ptpx_wide_slave *slave)
+{
+    if (slave == NULL || slave->memory == NULL)
+        return PTPX_NULL;
+    ptpx_raw_wide_slave_tick(slave);
+    return PTPX_DONE;
+}
+
+static inline uint16_t ptpx_wide_slave_next_request(struct ptpx_wide_slave *slave, uint64_t tag, uint8_t octets[44],
+                                                    uint16_t *number)
+{
+    if (slave == NULL || slave->memory == NULL || octets == NULL || number == NULL)
+        return PTPX_NULL;
+    ptpx_raw_wide_slave_next_request(slave, tag, octets, number);
+    return PTPX_DONE;
+}
+
+PTPX_LOOK_AT_IT
+static inline uint16_t ptpx_wide_slave_request_left(struct ptpx_wide_slave *slave, uint16_t number,
+                                                    struct ptpx_time t3)
+{
+    if (slave == NULL || slave->memory == NULL)
+        return PTPX_NULL;
+    return ptpx_raw_wide_slave_request_left(slave, number, t3);
+}
+
+PTPX_LOOK_AT_IT
+static inline uint16_t ptpx_wide_slave_sync(struct ptpx_wide_slave *slave, const uint8_t *octets, size_t length,
+                                            struct ptpx_time t2, uint64_t tag, struct ptpx_heard *heard)
+{
+    if (slave == NULL || slave->memory == NULL || octets == NULL || heard == NULL)
+        return PTPX_NULL;
+    if (length > PTRDIFF_MAX)
+        return PTPX_TOO_LONG;
+    return ptpx_raw_wide_slave_sync(slave, octets, length, t2, tag, heard);
+}
+
+PTPX_LOOK_AT_IT
+static inline uint16_t ptpx_wide_slave_general(struct ptpx_wide_slave *slave, const uint8_t *octets, size_t length,
+                                               uint64_t tag, struct ptpx_heard *heard)
+{
+    if (slave == NULL || slave->memory == NULL || octets == NULL || heard == NULL)
+        return PTPX_NULL;
+    if (length > PTRDIFF_MAX)
+        return PTPX_TOO_LONG;
+    ptpx_raw_wide_slave_general(slave, octets, length, tag, heard);
     return PTPX_DONE;
 }
 

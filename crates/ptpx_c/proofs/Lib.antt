@@ -1,3 +1,4 @@
 pub mod Decoded
 pub mod Ports
+pub mod Sent
 pub mod Slaves

@@ -12,16 +12,21 @@ use Rattle.slave_port.specs.StandsFor.{Port, StandsAfter, IsAnswer}
 use Rattle.ptpx_c.specs.declared.handle.RawSlave.{RawSlave}
 use Rattle.ptpx_c.specs.declared.heard.RawHeard.{RawHeard}
 use Rattle.ptpx_c.specs.declared.ring.RingSlave.{RingSlave}
+use Rattle.ptpx_c.specs.declared.ring.WideRingSlave.{WideRingSlave}
+use Rattle.ptpx_c.specs.declared.wide_handle.RawWideSlave.{RawWideSlave}
 use Rattle.ptpx_c.specs.Answers.{Says}
-use Rattle.ptpx_c.specs.Slaves.{with_port, IsHeard}
+use Rattle.ptpx_c.specs.Slaves.{Kind, with_port, with_wide_port, IsHeard}
 
 -- the memory holds one port
-pub one_port : (o : Option RingSlave) (a b : RingSlave) → o ≡ Some a → o ≡ Some b → a ≡ b
+pub one_port : {Slave : Type 0} (o : Option Slave) (a b : Slave) → o ≡ Some a → o ≡ Some b → a ≡ b
 one_port o a b e f = cc
 
 -- a handle with the port that it has
 pub same_handle : (handle : RawSlave) (slave : RingSlave) → handle.port ≡ Some slave → with_port handle slave ≡ handle
 same_handle handle slave e = ap (λ (o : Option RingSlave). let h : RawSlave = record handle { port = o } in h) (sym e)
+
+pub same_wide_handle : (handle : RawWideSlave) (slave : WideRingSlave) → handle.port ≡ Some slave → with_wide_port handle slave ≡ handle
+same_wide_handle handle slave e = ap (λ (o : Option WideRingSlave). let h : RawWideSlave = record handle { port = o } in h) (sym e)
 
 -- the one refusal's number
 pub code_511 : (refusal : SlaveRefusal) → code_of refusal ≡ 511
@@ -33,11 +38,11 @@ not_held false code h e = e
 not_held true code h e = let never : ⊥ = cc in absurd never
 
 -- what a port answers is the answer by way of its handle
-pub heard_by_handle : (call : Call) (handle : RawSlave) (ring : RingSlave) (after : Port) (said : RawHeard) (answer : Heard)
-    → handle.port ≡ Some ring → Says said answer → IsAnswer call ring.port answer → StandsAfter call ring.port after
-    → ((reason : Reason) → answer ≡ answers.Ignored reason → after ≡ ring.port)
-    → IsHeard call handle (with_port handle (record { port = after })) said
-heard_by_handle call handle ring after said answer lies says is stands ignored = λ before there.
-    let P : RingSlave → Type 0 = λ r. (x : RingSlave) × (y : Heard) × ((with_port handle (record { port = after }) ≡ with_port handle x) × Says said y
-    × IsAnswer call r.port y × StandsAfter call r.port x.port × ((reason : Reason) → y ≡ answers.Ignored reason → x.port ≡ r.port)) in
-    subst P (one_port handle.port ring before lies there) (record { port = after }, answer, (refl, says, is, stands, ignored))
+pub heard_by_handle : (kind : Kind) (call : Call) (handle : kind.Handle) (ring after : kind.Slave) (said : RawHeard) (answer : Heard)
+    → kind.held handle ≡ Some ring → Says said answer → IsAnswer call (kind.kept ring) answer → StandsAfter call (kind.kept ring) (kind.kept after)
+    → ((reason : Reason) → answer ≡ answers.Ignored reason → kind.kept after ≡ kind.kept ring)
+    → IsHeard kind call handle (kind.with_port handle after) said
+heard_by_handle kind call handle ring after said answer lies says is stands ignored = λ before there.
+    let P : kind.Slave → Type 0 = λ r. (x : kind.Slave) × (y : Heard) × ((kind.with_port handle after ≡ kind.with_port handle x) × Says said y
+    × IsAnswer call (kind.kept r) y × StandsAfter call (kind.kept r) (kind.kept x) × ((reason : Reason) → y ≡ answers.Ignored reason → kind.kept x ≡ kind.kept r)) in
+    subst P (one_port (kind.held handle) ring before lies there) (after, answer, (refl, says, is, stands, ignored))

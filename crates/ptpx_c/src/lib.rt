@@ -13,6 +13,8 @@ mod ring;
 mod slave;
 mod stay;
 mod time;
+mod wide_handle;
+mod wide_slave;
 mod words;
 
 pub use handle::RawSlave;
@@ -20,9 +22,10 @@ pub use heard::RawHeard;
 pub use master::{RawMaster, RawPortConfig};
 pub use message::{RawMessage, RawPortIdentity};
 pub use refusal::InputRefusal;
-pub use ring::RingSlave;
+pub use ring::{RingSlave, WideRingSlave};
 pub use stay::RawStay;
 pub use time::RawTimestamp;
+pub use wide_handle::RawWideSlave;
 pub use words::{RawSigned, RawTime};
 
 // The sizes that the header's structs have.
@@ -43,5 +46,7 @@ const _: () = prove!(size_of::<RawStay>() == 24);
 const _: () = prove!(size_of::<RawMaster>() == 18);
 
 const _: () = prove!(size_of::<RawSlave>() == 8);
+
+const _: () = prove!(size_of::<RawWideSlave>() == 8);
 
 const _: () = prove!(size_of::<RawHeard>() == 72);

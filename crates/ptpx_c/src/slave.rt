@@ -6,7 +6,7 @@ ghost use Rattle.slave_port.specs.StandsFor.{StandsAfter};
 ghost use Rattle.ptpx_c.specs.Words.{units_of};
 ghost use Rattle.ptpx_c.specs.Messages.{identity_of};
 ghost use Rattle.ptpx_c.specs.Masters.{config_of};
-ghost use Rattle.ptpx_c.specs.Slaves.{IsMade, Becomes, IsRestarted, IsRequested, IsNoted, IsHeard};
+ghost use Rattle.ptpx_c.specs.Slaves.{slaves, IsMade, Becomes, IsRestarted, IsRequested, IsNoted, IsHeard};
 
 use crate::handle::RawSlave;
 use crate::heard::RawHeard;
@@ -21,7 +21,7 @@ use ptp_units::Seq;
 #[unsafe(no_mangle)]
 pub extern "C" fn ptpx_raw_slave_init(slave: &mut RawSlave, config: &RawPortConfig, first: u16)
     requires { slave.old.port ≡ None }
-    ensures { IsMade (config_of config.now) first slave.old slave.new }
+    ensures { IsMade slaves (config_of config.now) first slave.old slave.new }
 {
     slave.put(RingSlave::new(config.config(), Seq(first)));
 }
@@ -31,7 +31,7 @@ pub extern "C" fn ptpx_raw_slave_init(slave: &mut RawSlave, config: &RawPortConf
 #[unsafe(no_mangle)]
 pub extern "C" fn ptpx_raw_slave_restart(slave: &mut RawSlave, first: u16)
     requires { IsSome slave.old.port }
-    ensures { Becomes slave.old slave.new (IsRestarted first) }
+    ensures { Becomes slaves slave.old slave.new (IsRestarted first) }
 {
     let ring = slave.port();
     ring.port.restart(Seq(first));
@@ -41,7 +41,7 @@ pub extern "C" fn ptpx_raw_slave_restart(slave: &mut RawSlave, first: u16)
 #[unsafe(no_mangle)]
 pub extern "C" fn ptpx_raw_slave_set_master(slave: &mut RawSlave, master: &RawPortIdentity)
     requires { IsSome slave.old.port }
-    ensures { Becomes slave.old slave.new (StandsAfter (SetMaster (identity_of master.now))) }
+    ensures { Becomes slaves slave.old slave.new (StandsAfter (SetMaster (identity_of master.now))) }
 {
     let ring = slave.port();
     ring.port.set_master(master.identity());
@@ -51,7 +51,7 @@ pub extern "C" fn ptpx_raw_slave_set_master(slave: &mut RawSlave, master: &RawPo
 #[unsafe(no_mangle)]
 pub extern "C" fn ptpx_raw_slave_tick(slave: &mut RawSlave)
     requires { IsSome slave.old.port }
-    ensures { Becomes slave.old slave.new (StandsAfter Tick) }
+    ensures { Becomes slaves slave.old slave.new (StandsAfter Tick) }
 {
     let ring = slave.port();
     ring.port.tick();
@@ -67,8 +67,8 @@ pub extern "C" fn ptpx_raw_slave_next_request(
     number: &mut u16,
 )
     requires { IsSome slave.old.port }
-    ensures stands { Becomes slave.old slave.new (StandsAfter (NextRequest tag)) }
-    ensures request { IsRequested slave.old octets.new number.new }
+    ensures stands { Becomes slaves slave.old slave.new (StandsAfter (NextRequest tag)) }
+    ensures request { IsRequested slaves slave.old octets.new number.new }
 {
     let ring = slave.port();
     let (written, drawn) = ring.port.next_request(tag);
@@ -81,9 +81,9 @@ pub extern "C" fn ptpx_raw_slave_next_request(
 #[unsafe(no_mangle)]
 pub extern "C" fn ptpx_raw_slave_request_left(slave: &mut RawSlave, number: u16, t3: RawTime) -> u16
     requires { IsSome slave.old.port }
-    ensures noted { units_of t3 < bound → IsNoted number result slave.old slave.new }
+    ensures noted { units_of t3 < bound → IsNoted slaves number result slave.old slave.new }
     ensures stands { units_of t3 < bound
-        → Becomes slave.old slave.new (StandsAfter (RequestLeft number (units_of t3))) }
+        → Becomes slaves slave.old slave.new (StandsAfter (RequestLeft number (units_of t3))) }
     ensures refused { bound ≤ units_of t3 → (result ≡ 101) × (slave.new ≡ slave.old) }
 {
     let moment = match t3.moment() {
@@ -109,7 +109,7 @@ pub extern "C" fn ptpx_raw_slave_sync(
 ) -> u16
     requires { IsSome slave.old.port }
     ensures heard { units_of t2 < bound → (said : Reading) → IsReading octets.now said
-        → IsHeard (Event said (units_of t2) tag) slave.old slave.new heard.new }
+        → IsHeard slaves (Event said (units_of t2) tag) slave.old slave.new heard.new }
     ensures done { units_of t2 < bound → result ≡ 0 }
     ensures refused { bound ≤ units_of t2 → (result ≡ 101) × (slave.new ≡ slave.old) × (heard.new ≡ heard.old) }
 {
@@ -131,7 +131,8 @@ pub extern "C" fn ptpx_raw_slave_general(
     heard: &mut RawHeard,
 )
     requires { IsSome slave.old.port }
-    ensures { (said : Reading) → IsReading octets.now said → IsHeard (General said tag) slave.old slave.new heard.new }
+    ensures { (said : Reading) → IsReading octets.now said
+        → IsHeard slaves (General said tag) slave.old slave.new heard.new }
 {
     let ring = slave.port();
     *heard = RawHeard::of(ring.port.general(octets, tag));
