@@ -143,7 +143,7 @@ fn tells_of_input_that_has_no_report(rt: HostRuntime) -> Result<(), Fail> {
         ),
         (
             schedule.as_str(),
-            "a schedule of 14 events, which all happen; 'ptpx replay' tells what comes of them\n",
+            "a schedule of 14 events, which all happen; 'ptpx replay' makes a transcript of it\n",
         ),
     ] {
         let ended = run(alloc, "ptpx explain", input.as_bytes())?;
