@@ -8,7 +8,7 @@ use Rattle.slave_port.specs.declared.reason.SlaveRefusal.{SlaveRefusal}
 use Rattle.slave_port.specs.declared.reason.SlaveRefusal.TheVariants.{NotHeld}
 use Rattle.slave_port.specs.History.{Call}
 use Rattle.slave_port.specs.Refusal.{code_of}
-use Rattle.slave_port.specs.StandsFor.{StandsAfter, IsAnswer}
+use Rattle.slave_port.specs.StandsFor.{Port, StandsAfter, IsAnswer}
 use Rattle.ptpx_c.specs.declared.handle.RawSlave.{RawSlave}
 use Rattle.ptpx_c.specs.declared.heard.RawHeard.{RawHeard}
 use Rattle.ptpx_c.specs.declared.ring.RingSlave.{RingSlave}
