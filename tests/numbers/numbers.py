@@ -3,7 +3,7 @@
 
 The code's texts are those of the types whose `code` answers numbers: the attribute `error` of each variant, and of FaultKind, which
 shows its number alone, the words beside it. In docs/NUMBERS.md each number has one row, in the order in which the types try
-them. In the help a number stands in front of its text, which may go on in the lines below; what is said of 806 there is each
+them, and the row says what to do. In the help a number stands in front of its text, which may go on in the lines below; what is said of 806 there is each
 subcommand's own, and 807 is followed by the refusals of a network. It has to say each number but those that calls alone answer.
 """
 
@@ -16,7 +16,7 @@ SOURCES = sorted(it for it in TOP.glob("crates/*/src/**/*.rt") if "tests" not in
 VARIANT = re.compile(r'#\[error\("((?:[^"\\]|\\.)*)"\)\]\s*(\w+)')
 ARM = re.compile(r"(\w+)::(\w+)(?:\([^)]*\))? => (\d{3}),")
 WORDS = re.compile(r'FaultKind::(\w+)(?:\(\w+\))? => (?:\{\s*)?(?:f\.write_str\("([^"]*)"\)|write!)')
-ROW = re.compile(r"^\| (\d{3}) \| (.*) \|$", re.M)
+ROW = re.compile(r"^\| (\d{3}) \| ([^|]*) \| ([^|]*) \|$", re.M)
 SAID = re.compile(r"^ +(?:refused )?\(?(\d{3})\)?(?: type \d+)? +(\S.*(?:\n {7,}(?!refused|\(?\d{3}\)? |sync |ignored)\S.*)*)", re.M)
 DECLARED = re.compile(r"^ +PTPX_\w+ = (\d{3}),? +/\* (.*) \*/$", re.M)
 OWN = {806, 807}
@@ -68,8 +68,9 @@ def main():
     header = texts_of_header()
     code = texts_of_code() | {number: header[number] for number in OF_HEADER if number in header}
     rows = ROW.findall((TOP / "docs/NUMBERS.md").read_text())
-    page = {int(number): text for number, text in rows}
-    wrong = [f"docs/NUMBERS.md has {number} twice" for number in page if [n for n, _ in rows].count(str(number)) > 1]
+    page = {int(number): text for number, text, _ in rows}
+    wrong = [f"docs/NUMBERS.md has {number} twice" for number in page if [n for n, _, _ in rows].count(str(number)) > 1]
+    wrong += [f"docs/NUMBERS.md doesn't say what to do about {number}" for number, _, advice in rows if not advice.strip()]
     wrong += [f"docs/NUMBERS.md doesn't have {number}" for number in sorted(code.keys() - page.keys())]
     wrong += [f"docs/NUMBERS.md has {number}, which no code answers" for number in sorted(page.keys() - code.keys())]
     wrong += [f"docs/NUMBERS.md says of {n}: {page[n]}\n  and the code: {code[n]}"
