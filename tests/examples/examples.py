@@ -139,4 +139,5 @@ def main():
         print(f'examples: what asks for {", ".join(sorted(passed_over))} was passed over')
 
 
-main()
+if __name__ == '__main__':
+    main()
