@@ -1,65 +1,143 @@
-"""Runs each command of README that reads a file of examples/, and compares what it prints: with the comment behind it, or else with the
-block of code that comes next in README, which is the end of what it prints. Replays each schedule, which gives the transcript beside
-it octet for octet, and checks each transcript, which is accepted. Measures each recording, which gives the measurement beside it."""
+"""Runs what the pages tell a reader to type, and compares what it prints with what they show.
+
+On each page a block of code marked `sh` is run, in a folder of its own that has ./ptpx, examples/ and a capture.pcap, one block after
+the other. The next block marked `text` is all that it prints, on standard output and standard error; a line `...` in it stands for any
+lines. Without such a block it has to succeed, and prints nothing. Blocks that prove or that the gate runs elsewhere are passed over,
+and so are, by name, those that ask for a tool that isn't there; a file that such a block would have written is taken from examples/.
+
+Then the files of examples/: replays each schedule, which gives the transcript beside it octet for octet, and checks each transcript,
+which is accepted. Measures each recording, which gives the measurement beside it; a capture beside it gives the recording."""
 import os
 import pathlib
 import re
+import shutil
 import subprocess
 import sys
+import tempfile
 
 TOP = pathlib.Path(__file__).resolve().parents[2]
-PROGRAM = os.environ.get('PTPX', str(TOP / 'crates/ptpx/out/ptpx'))
+EXAMPLES = TOP / 'examples'
+PROGRAM = pathlib.Path(os.environ.get('PTPX', TOP / 'crates/ptpx/out/ptpx')).resolve()
 
-# A block of code, or code within a line.
-CODE = re.compile(r'^```(\w*)\n(.*?)^```$|`([^`\n]+)`', re.M | re.S)
-COMMAND = re.compile(r'(?:\./ptpx|sed) [^#]*\bexamples/[^#]*')
+# The pages, and how many blocks are run of each at the least.
+PAGES = {'README.md': 7, 'docs/TUTORIAL.md': 9, 'docs/MANY.md': 4}
 
-# README has so many at the least.
-COMMANDS = 5
+BLOCK = re.compile(r'^```(\w*)\n(.*?)^```$', re.M | re.S)
+
+# What stands in a block that isn't run here: proofs, and the gate itself; tests/c_library builds the examples in C.
+ELSEWHERE = re.compile(r'^\./prove\b|\.ci/run|\brt \w|^cc ', re.M)
+
+# Tools that a block may ask for: the words by which it does, and what is taken in the place of what it writes.
+TOOLS = {
+    'tshark': re.compile(r'\btshark\b|\bfrom_capture\b'),
+    'jq': re.compile(r'\bjq\b|\bfrom_capture\b'),
+    'gnuplot': re.compile(r'\bgnuplot -'),
+    'parallel': re.compile(r'\bparallel -'),
+}
+INSTEAD = {'slave.lines': 'slave.lines'}
+
+# What tshark says of its user.
+OF_TSHARK = re.compile(r'^Running as user .*\n', re.M)
 
 
-def run(command):
-    """What a command of a shell prints, of the program that is tried."""
-    ended = subprocess.run(['sh', '-c', command.replace('./ptpx', f'"{PROGRAM}"')], cwd=TOP, capture_output=True, timeout=60)
-    # `measure` tells at the end what came of the recording.
-    if ended.stderr and ' measure' not in command or b'fault' in ended.stderr:
-        sys.exit(f'examples: {command}: {ended.stderr.decode()}')
-    return ended.stdout.decode()
+def fail(text):
+    sys.exit(f'examples: {text}')
 
 
-def commands(text):
-    """The commands, each with all of what it prints or with None, and the end of what it prints."""
-    codes = [block or within for _, block, within in CODE.findall(text)]
-    for place, code in enumerate(codes):
-        for line in code.splitlines():
-            command, _, comment = line.partition('#')
-            if COMMAND.fullmatch(command):
-                following = next((code for code in codes[place + 1:] if code.endswith('\n') and './ptpx' not in code), None)
-                said = re.fullmatch(r' ((?:accepted|refused event) .*)', comment)
-                yield command.strip(), f'{said[1]}\n' if said else None, following
+def run(command, folder):
+    """What a script of the shell prints, and its status."""
+    ended = subprocess.run(['bash', '-c', f'set -o pipefail\n{command}'], cwd=folder, stdout=subprocess.PIPE, stderr=subprocess.STDOUT, timeout=120)
+    return OF_TSHARK.sub('', ended.stdout.decode()), ended.returncode
+
+
+def is_shown(printed, shown):
+    """Whether this is what the page shows."""
+    pattern = ''.join('(?:.*\n)*' if line == '...\n' else re.escape(line) for line in shown.splitlines(True))
+    return re.fullmatch(pattern, printed) is not None
+
+
+def blocks(text):
+    """The blocks that are run, each with what it prints, or with None."""
+    found = BLOCK.findall(text)
+    for place, (kind, code) in enumerate(found):
+        if kind == 'sh' and not ELSEWHERE.search(code):
+            following = found[place + 1] if place + 1 < len(found) else ('', '')
+            yield code, following[1] if following[0] == 'text' else None
+
+
+def missing(code):
+    return [tool for tool, words in TOOLS.items() if words.search(code) and not shutil.which(tool)]
+
+
+def try_page(name, least, folder):
+    """Runs the blocks of a page in this folder. Answers how many it ran, and which tools were missing."""
+    (folder / 'ptpx').symlink_to(PROGRAM)
+    (folder / 'examples').symlink_to(EXAMPLES)
+    shutil.copy(EXAMPLES / 'slave.pcap', folder / 'capture.pcap')
+    found, passed_over = list(blocks((TOP / name).read_text())), set()
+    if len(found) < least:
+        fail(f'{name} has {len(found)} blocks alone')
+    for code, shown in found:
+        if missing(code):
+            passed_over.update(missing(code))
+            for it in re.findall(r'> (\S+)', code):
+                if it in INSTEAD:
+                    shutil.copy(EXAMPLES / INSTEAD[it], folder / it)
+            continue
+        printed, status = run(code, folder)
+        if shown is None and (printed or status):
+            fail(f'{name}: {code}ends with status {status} and prints\n{printed}')
+        if shown is not None and not is_shown(printed, shown):
+            fail(f'{name}: {code}prints\n{printed}and the page has\n{shown}')
+    return len(found), passed_over
+
+
+def ptpx(arguments, text):
+    """What the program makes of a text."""
+    ended = subprocess.run([PROGRAM, *arguments.split()], input=text, capture_output=True, timeout=60)
+    if ended.returncode:
+        fail(f'ptpx {arguments}: {ended.stderr.decode()}')
+    return ended.stdout
+
+
+def try_files():
+    schedules = sorted(EXAMPLES.glob('*.schedule.jsonl'))
+    for schedule in schedules:
+        transcript = schedule.with_name(schedule.name.replace('schedule', 'transcript')).read_bytes()
+        if ptpx('replay', schedule.read_bytes()) != transcript:
+            fail(f'{schedule.name}: replay gives another transcript')
+        reports = transcript.count(b'"out":"report"')
+        if not reports or ptpx('check', transcript) != f'accepted {reports}\n'.encode():
+            fail(f'{schedule.name}: another verdict')
+    recordings = sorted(EXAMPLES.glob('*.lines'))
+    for recording in recordings:
+        if ptpx('measure', recording.read_bytes()) != recording.with_suffix('.measurement.jsonl').read_bytes():
+            fail(f'{recording.name}: measure gives another measurement')
+    return f'{len(schedules)} schedules, {len(recordings)} recordings'
+
+
+def try_captures():
+    captures = sorted(EXAMPLES.glob('*.pcap'))
+    if missing('from_capture'):
+        return 'no captures'
+    for capture in captures:
+        printed, status = run(f'examples/from_capture examples/{capture.name}', TOP)
+        if status or printed != capture.with_suffix('.lines').read_text():
+            fail(f'{capture.name}: from_capture gives another recording')
+    return f'{len(captures)} captures'
 
 
 def main():
-    found = list(commands((TOP / 'README.md').read_text()))
-    for command, whole, end in found:
-        printed = run(command)
-        if printed != whole if whole else not end or not f'\n{printed}'.endswith(f'\n{end}'):
-            sys.exit(f'examples: {command}: prints {printed[-1000:]!r}, and README has {whole or end!r}')
-    if len(found) < COMMANDS:
-        sys.exit(f"examples: README has {len(found)} commands alone")
-    schedules = sorted((TOP / 'examples').glob('*.schedule.jsonl'))
-    for schedule in schedules:
-        transcript = schedule.with_name(schedule.name.replace('schedule', 'transcript')).read_text()
-        if run(f'./ptpx replay < examples/{schedule.name}') != transcript:
-            sys.exit(f'examples: {schedule.name}: replay gives another transcript')
-        reports = transcript.count('"out":"report"')
-        if not reports or run(f'./ptpx replay < examples/{schedule.name} | ./ptpx check') != f'accepted {reports}\n':
-            sys.exit(f'examples: {schedule.name}: another verdict')
-    recordings = sorted((TOP / 'examples').glob('*.lines'))
-    for recording in recordings:
-        if run(f'./ptpx measure < examples/{recording.name}') != recording.with_suffix('.measurement.jsonl').read_text():
-            sys.exit(f'examples: {recording.name}: measure gives another measurement')
-    print(f'examples: {len(found)} commands of README, {len(schedules)} schedules, {len(recordings)} recordings')
+    told, passed_over = [], set()
+    for name, least in PAGES.items():
+        with tempfile.TemporaryDirectory() as folder:
+            count, missed = try_page(name, least, pathlib.Path(folder))
+        told.append(f'{count} blocks of {name}')
+        passed_over |= missed
+    print('examples:', ', '.join([*told, try_files(), try_captures()]))
+    if passed_over:
+        print(f'examples: what asks for {", ".join(sorted(passed_over))} was passed over')
 
 
-main()
+if __name__ == '__main__':
+    main()
