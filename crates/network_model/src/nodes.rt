@@ -5,6 +5,7 @@ ghost use Rattle.network_model.specs.Network.{Network, IsNetwork, AllDiffer, nod
 ghost use Rattle.network_model.specs.Clash.{clash, first_clash, identity_clash};
 ghost use Rattle.network_model.specs.declared.refusal.WorldRefusal.TheVariants.{Memory};
 
+use crate::keyed::KeyedHasher;
 use crate::name::Name;
 use crate::node::{NodeKind, NodeSpec};
 use crate::refusal::WorldRefusal;
@@ -17,7 +18,7 @@ use std::marker::Model;
 /// ports one identity.
 #[derive(Drop)]
 pub struct Nodes {
-    by_name: IndexMap<Name, NodeSpec>,
+    by_name: IndexMap<Name, NodeSpec, KeyedHasher>,
 }
 
 impl Model for Nodes {
@@ -42,10 +43,11 @@ impl Nodes {
             (λ why. (why ≡ Memory) ⊎ (first_clash nodes.now ≡ Some why)) }
         ensures network { OnOk result (IsNetwork nodes.now) }
     {
+        let hasher = KeyedHasher::new(nodes);
         let mut network = Nodes {
-            by_name: IndexMap::new(alloc),
+            by_name: IndexMap::with_hasher(alloc, hasher),
         };
-        let mut taken = IndexSet::new(alloc);
+        let mut taken = IndexSet::with_hasher(alloc, hasher);
         for node in nodes {
             network.admit(&mut taken, *node)?;
         }
@@ -55,7 +57,7 @@ impl Nodes {
     // Adds a node after the others, whose ports have taken these identities.
     fn admit(
         &mut self,
-        taken: &mut IndexSet<PortIdentity>,
+        taken: &mut IndexSet<PortIdentity, KeyedHasher>,
         node: NodeSpec,
     ) -> Result<(), WorldRefusal>
         requires { taken.old.keys ≡ identities self.old }
@@ -114,7 +116,10 @@ impl Nodes {
 }
 
 // Takes the identity of a node's port, where it has one and the identity is free.
-fn claim(taken: &mut IndexSet<PortIdentity>, kind: &NodeKind) -> Result<(), WorldRefusal>
+fn claim(
+    taken: &mut IndexSet<PortIdentity, KeyedHasher>,
+    kind: &NodeKind,
+) -> Result<(), WorldRefusal>
     ensures decided { MatchResult result
         (λ _. (taken.new.keys ≡ taken.old.keys ++ option_to_list (identity_of kind.now))
         × (identity_clash taken.old.keys (identity_of kind.now) ≡ None))
