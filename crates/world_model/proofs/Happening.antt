@@ -15,7 +15,8 @@ use Rattle.world_model.specs.declared.station.Station.{Station}
 use Rattle.world_model.specs.State.{IsRefused}
 use Rattle.world_model.specs.Inner.Stands.{run_of, Keeps, Stands, AllStand, IsWorld}
 use Rattle.world_model.specs.Inner.Acts.{Room, Brings, Answers, ActsIn, Refuses, entries_after}
-use Rattle.world_model.proofs.Stations.{named_so, AllStand-after}
+use Rattle.network_model.proofs.Networks.{named_so}
+use Rattle.world_model.proofs.Stations.{AllStand-after}
 use Rattle.world_model.proofs.Entries.{run_of-after, Keeps-after}
 
 -- the node of a name, and its place
