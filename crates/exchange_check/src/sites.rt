@@ -1,4 +1,4 @@
-//! What is kept of nodes, by their places in the network, so that no name is hashed twice.
+//! What is kept of nodes, by their places in the network, so that its table of names is the only one.
 
 ghost use Rattle.std.specs.Prelude.{◌≡◌, true, OnOk, OnErr};
 ghost use Rattle.exchange_check.specs.Inner.Kept.{has_site, moved, moved_at, site_in};

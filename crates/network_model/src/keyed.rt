@@ -1,44 +1,48 @@
 //! How the tables of names and identities hash.
+ghost use Rattle.std.specs.Prelude.{ℕ, ◌≡◌, ◌++◌, List};
+ghost use Rattle.sha2.specs.Hashers.{Holds256};
+ghost use Rattle.network_model.specs.Inner.Keyed.{keyed_by, octets_of_node};
 
 use crate::node::NodeSpec;
 use sha2::{Digest, Sha256};
 use std::hash::{BuildHasher, DefaultHasher, Hasher};
 
-/// SipHash with a key: a digest of all names and identities of a network, taken before the first of them is put into a
-/// table. Whoever picks them doesn't know the key before the last one is picked, and another pick has another key. So
-/// none can be picked that meet in a table, as they can be under a hasher with a fixed seed. No randomness is needed: what
-/// is done with a network stays a function of the network.
+/// SipHash that has taken a digest of all names and identities of a network as its key. Whoever picks them doesn't know the
+/// key before the last is picked, so none can be picked that meet in a table.
 #[derive(Clone, Copy)]
-pub(crate) struct KeyedHasher {
-    // It has taken the key.
+pub(crate) struct KeyedState {
     keyed: DefaultHasher,
 }
 
-impl KeyedHasher {
-    /// The hasher for these nodes.
-    pub(crate) fn new(nodes: &[NodeSpec]) -> KeyedHasher {
+impl KeyedState {
+    /// The state for these nodes.
+    pub(crate) fn new(nodes: &[NodeSpec]) -> KeyedState
+        ensures { result.keyed ≡ keyed_by nodes.now }
+    {
         let mut digest = Sha256::new();
         for node in nodes {
             take_node(&mut digest, node);
         }
         let mut keyed = DefaultHasher::new();
         keyed.write(&digest.finalize());
-        KeyedHasher { keyed }
+        KeyedState { keyed }
     }
 }
 
-impl BuildHasher for KeyedHasher {
+impl BuildHasher for KeyedState {
     type Hasher = DefaultHasher;
 
-    ghost build_hasher = { λ hasher. hasher.keyed };
+    ghost build_hasher = { λ state. state.keyed };
 
     fn build_hasher(&self) -> DefaultHasher {
         self.keyed
     }
 }
 
-// A name and an identity, each behind the number of its octets, so that other nodes give other octets.
-fn take_node(digest: &mut Sha256, node: &NodeSpec) {
+// A name and an identity, each behind the number of its octets, so that other names and identities give other octets.
+fn take_node(digest: &mut Sha256, node: &NodeSpec)
+    ensures { (octets : List ℕ) → Holds256 digest.old octets → Holds256 digest.new (octets ++ octets_of_node node.now) }
+{
     let name = node.name.text().as_bytes();
     let length = [name.len() as u8];
     digest.update(length);

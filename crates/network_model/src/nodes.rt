@@ -3,9 +3,12 @@ ghost use Rattle.std.specs.Prelude.{◌↔◌, MatchResult, OnOk};
 ghost use Rattle.std.specs.Option.{option_copied, option_to_list};
 ghost use Rattle.network_model.specs.Network.{Network, IsNetwork, AllDiffer, node_of, identities, identity_of};
 ghost use Rattle.network_model.specs.Clash.{clash, first_clash, identity_clash};
+ghost use Rattle.network_model.specs.Inner.Keyed.{keyed_by};
+ghost use Rattle.indexmap.specs.IndexMap.{hasher_of};
+ghost use Rattle.indexmap.specs.IndexSet.{hasher_of as set_hasher_of};
 ghost use Rattle.network_model.specs.declared.refusal.WorldRefusal.TheVariants.{Memory};
 
-use crate::keyed::KeyedHasher;
+use crate::keyed::KeyedState;
 use crate::name::Name;
 use crate::node::{NodeKind, NodeSpec};
 use crate::refusal::WorldRefusal;
@@ -18,7 +21,7 @@ use std::marker::Model;
 /// ports one identity.
 #[derive(Drop)]
 pub struct Nodes {
-    by_name: IndexMap<Name, NodeSpec, KeyedHasher>,
+    by_name: IndexMap<Name, NodeSpec, KeyedState>,
 }
 
 impl Model for Nodes {
@@ -43,11 +46,8 @@ impl Nodes {
             (λ why. (why ≡ Memory) ⊎ (first_clash nodes.now ≡ Some why)) }
         ensures network { OnOk result (IsNetwork nodes.now) }
     {
-        let hasher = KeyedHasher::new(nodes);
-        let mut network = Nodes {
-            by_name: IndexMap::with_hasher(alloc, hasher),
-        };
-        let mut taken = IndexSet::with_hasher(alloc, hasher);
+        let (by_name, mut taken) = tables(alloc, nodes);
+        let mut network = Nodes { by_name };
         for node in nodes {
             network.admit(&mut taken, *node)?;
         }
@@ -57,7 +57,7 @@ impl Nodes {
     // Adds a node after the others, whose ports have taken these identities.
     fn admit(
         &mut self,
-        taken: &mut IndexSet<PortIdentity, KeyedHasher>,
+        taken: &mut IndexSet<PortIdentity, KeyedState>,
         node: NodeSpec,
     ) -> Result<(), WorldRefusal>
         requires { taken.old.keys ≡ identities self.old }
@@ -115,9 +115,29 @@ impl Nodes {
     }
 }
 
+// Empty tables of nodes and of identities, which hash with a key for these nodes.
+fn tables(
+    alloc: Global,
+    nodes: &[NodeSpec],
+) -> (
+    IndexMap<Name, NodeSpec, KeyedState>,
+    IndexSet<PortIdentity, KeyedState>,
+)
+    ensures nodes { result.0.entries ≡ [] }
+    ensures names { (hasher_of result.0).keyed ≡ keyed_by nodes.now }
+    ensures taken { result.1.keys ≡ [] }
+    ensures identities { (set_hasher_of result.1).keyed ≡ keyed_by nodes.now }
+{
+    let state = KeyedState::new(nodes);
+    (
+        IndexMap::with_hasher(alloc, state),
+        IndexSet::with_hasher(alloc, state),
+    )
+}
+
 // Takes the identity of a node's port, where it has one and the identity is free.
 fn claim(
-    taken: &mut IndexSet<PortIdentity, KeyedHasher>,
+    taken: &mut IndexSet<PortIdentity, KeyedState>,
     kind: &NodeKind,
 ) -> Result<(), WorldRefusal>
     ensures decided { MatchResult result

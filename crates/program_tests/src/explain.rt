@@ -663,7 +663,7 @@ it can say less than 140737488355327.9999847412109375 ns
         "000000000000\"",
         "0000000000001122\"",
         "event 13, line 17, slave S: refused, 708: the octets of a message aren't those that a port or a clock writes
-    event 2, line 6, a sync at M: all its octets are right; it has 46 octets where 44 are written
+    event 2, line 6, a sync at M: all its octets are right; it has 46 octets; wanted are 44
   t1  event  2  ",
     ),
     (
