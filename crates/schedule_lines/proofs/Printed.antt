@@ -26,7 +26,7 @@ use Rattle.schedule_lines.specs.Ranges.{EventTextsReadBack}
 use Rattle.schedule_lines.proofs.ReadBack.{always, code_out}
 use Rattle.network_model.specs.declared.node.NodeKind.TheVariants as kinds
 
-moment_readable : (time : ℕ) → time < bound → IsReadable (moment_data time)
+pub moment_readable : (time : ℕ) → time < bound → IsReadable (moment_data time)
 moment_readable time h =
     let seconds : time / 65536 / 1000000000 < 2 ^ 64 = omega arith in
     let nanos : time / 65536 % 1000000000 < 2 ^ 64 = omega arith in
