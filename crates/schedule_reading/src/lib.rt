@@ -10,7 +10,7 @@ mod transcript;
 pub use entry::{read_entry, read_recorded};
 pub use fault::TaskFault;
 pub use stage::Stage;
-pub use text::{push_verdict, write_text};
+pub use text::{push_verdict, write_octets, write_text};
 pub use transcript::{Judged, Transcript};
 
 /// The most lines of an input.
