@@ -3,11 +3,13 @@
 
 mod entry;
 mod fault;
+mod guess;
 mod stage;
 mod text;
 mod transcript;
+mod within;
 
-pub use entry::{read_entry, read_recorded};
+pub use entry::{LineReader, read_entry, read_recorded};
 pub use fault::TaskFault;
 pub use stage::Stage;
 pub use text::{push_verdict, write_octets, write_text};

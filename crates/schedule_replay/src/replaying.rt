@@ -23,7 +23,7 @@ use crate::fault::Fault;
 use line_writing::{push_event, push_node};
 use network_model::{Event, NodeSpec, Nodes};
 use schedule_lines::Line;
-use schedule_reading::{LINES_LIMIT, Stage, TaskFault, read_entry, write_octets};
+use schedule_reading::{LINES_LIMIT, LineReader, Stage, TaskFault, write_octets};
 use std::alloc::Global;
 use std::io::{Read, Write};
 use text_lines::{Counted, LineTask, answer_lines};
@@ -34,6 +34,7 @@ use world_model::World;
 #[derive(Drop)]
 struct Replaying {
     alloc: Global,
+    reader: LineReader,
     stage: Stage<World>,
     /// The line that is written, in a buffer that serves for each.
     text: Vec<u8>,
@@ -55,7 +56,7 @@ impl LineTask for Replaying {
     }
 
     fn take<W: Write>(&mut self, line: &[u8], output: &mut Counted<W>) -> Result<(), TaskFault> {
-        match read_entry(self.alloc, line)? {
+        match self.reader.read_entry(line)? {
             Line::Node(node) => self.stage.push(node),
             Line::Event(event) => self.happen(&event, output),
         }
@@ -226,6 +227,7 @@ pub fn replay<R: Read, W: Write>(
 {
     let mut task = Replaying {
         alloc,
+        reader: LineReader::new(alloc),
         stage: Stage::new(alloc),
         text: Vec::new(alloc),
     };

@@ -1,0 +1,113 @@
+"""Lines that are almost spelled as `ptpx` writes them, or in other ways, given to `replay` and `check`: each is read as spelled.py says."""
+import itertools
+import json
+import re
+
+import inputs
+import spelled
+import told
+from shown import lines_of
+
+FAULT = re.compile(rb'ptpx: fault (80[1-8])(?: \((60[1-8])\))? at line ([1-9][0-9]*)\n')
+VERDICT = re.compile(rb'accepted ([0-9]+)\n|refused event ([0-9]+): (70[1-8])\n')
+
+# Of a hundred lines so many are another line or none, the others the same line in another spelling.
+BENT = 8
+
+
+def own(lines):
+    """The lines in `ptpx`'s own spelling."""
+    return [told.compact(json.loads(line)).encode() for line in lines]
+
+
+def altered(rng, lines):
+    """The lines in other spellings, and some that are almost the same."""
+    return [spelled.bent(rng, line) if rng.randrange(100) < BENT else spelled.respelled(rng, line) for line in lines]
+
+
+def first_fault(lines, recorded):
+    """The place and the number of the first line that isn't read, or None."""
+    events = 0
+    for place, line in enumerate(lines):
+        fault = spelled.fault_of(line, recorded)
+        if not fault:
+            value = spelled.value_of(line)
+            if 'ev' not in value and events or recorded and 'ev' in value and value['n'] != events:
+                fault = '806'
+            events += 'ev' in value
+        if fault:
+            return place, fault
+    return None
+
+
+def start(given, subcommand, lines):
+    """The status, the lines that were written, the fault with its reason, and its place."""
+    status, output, errors = given(subcommand, b''.join(line + b'\n' for line in lines))
+    fault = FAULT.fullmatch(errors)
+    if fault:
+        return status, lines_of(output), fault[1].decode(), int(fault[3]) - 1
+    if errors or status == 3:
+        raise ValueError(errors)
+    return status, lines_of(output), None, None
+
+
+def misreplayed(given, lines, originals):
+    """What is wrong with the answers to lines of a schedule, in words. A line that isn't read is mended, until all are."""
+    for _ in range(len(lines) + 1):
+        status, answers, number, place = start(given, 'replay', lines)
+        fault = first_fault(lines, False)
+        told_of = answers if number is None else answers[:place]
+        yield from told.mistold(lines, told_of)
+        if number == '807':
+            # Another line than the one that was bent makes an event that can't happen, or a network that isn't one.
+            if fault and fault[0] < place:
+                yield f'807 at line {place + 1}, behind {fault}'
+            return
+        if (fault or (None, None)) != (place, number):
+            yield f'fault {number} at line {place and place + 1} in place of {fault}'
+            return
+        if not fault:
+            if len(answers) != len(lines):
+                yield f'{len(answers)} answers to {len(lines)} lines'
+            return
+        lines = [*lines[:place], originals[place], *lines[place + 1:]]
+
+
+def mischecked(given, lines, originals, bends):
+    """What is wrong with the verdicts on lines of a transcript, in words."""
+    for _ in range(len(lines) + 1):
+        status, answers, number, place = start(given, 'check', lines)
+        fault = first_fault(lines, True)
+        if number == '807':
+            if fault and fault[0] < place:
+                yield f'807 at line {place + 1}, behind {fault}'
+            return
+        if (fault or (None, None)) != (place, number):
+            yield f'fault {number} at line {place and place + 1} in place of {fault}'
+            return
+        if not fault:
+            reports = [line['n'] for _, line in told.reports(lines)]
+            verdict = VERDICT.fullmatch(b''.join(answer + b'\n' for answer in answers))
+            if not verdict or verdict[1] and int(verdict[1]) != len(reports) or verdict[2] and int(verdict[2]) not in reports:
+                yield f'verdict {answers}'
+            elif not bends and not verdict[1]:
+                yield f'verdict {answers} on the same lines in other spellings'
+            return
+        lines = [*lines[:place], originals[place], *lines[place + 1:]]
+
+
+def misread(given, rng):
+    """How many lines were given in one schedule and its transcript, and what is wrong with the answers."""
+    schedule = own(inputs.walk(rng))
+    status, answers, number, _ = start(given, 'replay', schedule)
+    if number:
+        schedule = schedule[:len(answers)]
+    lines = altered(rng, schedule)
+    wrong = list(itertools.islice(misreplayed(given, lines, schedule), 3))
+    count = len(lines)
+    if not number and not wrong:
+        bends = rng.random() < 0.7
+        lines = altered(rng, answers) if bends else [spelled.respelled(rng, line) for line in answers]
+        count += len(lines)
+        wrong = list(itertools.islice(mischecked(given, lines, answers, bends), 3))
+    return count, wrong, lines
