@@ -1,0 +1,3 @@
+pub mod Flat
+pub mod Spelling
+pub mod Inner

@@ -1,0 +1,13 @@
+//! A line of JSON in another spelling: without blanks, its keys in ascending order of their octets, its texts without
+//! needless escapes. What is read of it stays the same.
+#![tactic(auto)]
+
+mod flat;
+mod order;
+mod reading;
+mod respell;
+#[cfg(test)]
+mod tests;
+mod writing;
+
+pub use respell::Respeller;
