@@ -1,0 +1,3 @@
+pub mod Puts
+pub mod Swaps
+pub mod Objects

@@ -26,7 +26,7 @@ pub(crate) fn read_object<'a>(
         return Ok(None);
     };
     let mut members = Vec::with_capacity(alloc, MOST)?;
-    for _ in 0..MOST {
+    'parts: for _ in 0..MOST {
         match read_part(reader) {
             Some(Some(member)) => members.push(member)?,
             Some(None) => return Ok(Some(members)),
