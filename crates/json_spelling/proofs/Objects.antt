@@ -1,6 +1,7 @@
 -- The tokens of members are those of a JSON object, whose text is read as its members.
 use Rattle.std.proofs.Common.{◌≡◌, ◌∙◌, ◌≤◌, ℕ, suc, List, [], ◌∷◌, ◌++◌, Some, option_map, option_and_then, refl, sym, ap, arith, append_assoc, append-nil}
 use Rattle.std.specs.List.{flat_map}
+use Rattle.std.proofs.lemmas.List.{flat_map_more}
 use Rattle.json.specs.Token.{Token, begin_object, end_object, key}
 use Rattle.json.specs.Json as json
 use Rattle.json.specs.Lex.{tokens}
@@ -14,7 +15,7 @@ use Rattle.json_spelling.specs.declared.flat.Flat.{Flat}
 use Rattle.json_spelling.specs.declared.flat.Flat.TheVariants.{One, Three, Four}
 use Rattle.json_spelling.specs.declared.flat.Member.{Member}
 use Rattle.json_spelling.specs.Flat.{scalar_token, flat_tokens, member_tokens, object_tokens}
-use Rattle.json_spelling.specs.Inner.Parts.{scalar_json, flat_json, members_json}
+use Rattle.json_spelling.specs.Inner.Parts.{scalar_json, flat_json, members_json, ReadsAs}
 
 -- ---- the tokens
 
@@ -64,3 +65,19 @@ read_members text ms is =
     let all = is ∙ sym (of_object ms) ∙ sym (append-nil (json_tokens (json.object (members_json ms)))) in
     ap (λ (o : _). option_and_then of_json (option_and_then (λ p. json.if_last p.0 p.1) o))
     (ap (json.value max_depth) all ∙ value-json_tokens (json.object (members_json ms)) max_depth [] (omega (arith, shallow ms)))
+
+-- ---- one more member
+
+pub one_more : (ms ns : List Member) (m : Member) (ts rest : List Token) → ts ≡ member_tokens m ++ rest → ns ≡ ms ++ m ∷ []
+    → begin_object ∷ (flat_map member_tokens ms ++ ts) ≡ begin_object ∷ (flat_map member_tokens ns ++ rest)
+one_more ms ns m ts rest taken more =
+    let front = flat_map member_tokens ms in
+    ap (λ (us : List Token). begin_object ∷ (front ++ us)) taken
+    ∙ ap (λ (us : List Token). begin_object ∷ us) (sym (append_assoc front (member_tokens m) rest) ∙ ap (λ (us : List Token). us ++ rest) (flat_map_more member_tokens [] ms m)
+    ∙ ap (λ ls. flat_map member_tokens ls ++ rest) (sym more))
+
+-- ---- texts of the same members, in whichever order
+
+pub same_read : (line text : List ℕ) (ms ns : List Member) → tokens line ≡ object_tokens ms → tokens text ≡ object_tokens ns → ReadsAs ns ms → read text ≡ read line
+same_read line text ms ns of_line of_text same =
+    read_members text ns of_text ∙ ap (option_map object) (same no_members) ∙ sym (read_members line ms of_line)

@@ -6,8 +6,6 @@ mod flat;
 mod order;
 mod reading;
 mod respell;
-#[cfg(test)]
-mod tests;
 mod writing;
 
 pub use respell::Respeller;

@@ -1,20 +1,39 @@
 //! An object's members, read from its tokens.
 ghost use Rattle.std.specs.Prelude.{◌≡◌, ◌∷◌, ◌++◌, All, IfOk, IfSome};
 ghost use Rattle.json.specs.Token.{begin_array};
+ghost use Rattle.json.specs.Lex.{tokens};
 ghost use Rattle.json.specs.Print.{IsPrintable};
 ghost use Rattle.json_spelling.specs.Flat.{scalar_token, flat_tokens, object_tokens, IsWritable, IsWritableValue};
 ghost use Rattle.json_spelling.specs.Inner.Parts.{part_tokens};
 
 use crate::flat::{Flat, Member, Scalar};
-use json::{Reader, Token};
+use json::{Reader, Scratch, Token};
 use std::alloc::{AllocError, Global};
 
 /// An object of more members isn't read.
 const MOST: usize = 16;
 
+/// The members of the object that a line is, in the line's order. None where it isn't an object whose values are scalars,
+/// or arrays of three or four of them.
+pub(crate) fn read_line<'a>(
+    alloc: Global,
+    line: &'a str,
+    scratch: &'a mut Scratch,
+) -> Result<Option<Vec<Member<'a>>>, AllocError>
+    ensures taken { IfOk result (λ found. IfSome found
+        (λ members. tokens line.now ≡ object_tokens members.items)) }
+    ensures writable { IfOk result (λ found. IfSome found (λ members. All IsWritable members.items)) }
+{
+    let mut reader = Reader::new(line, scratch)?;
+    match read_object(alloc, &mut reader)? {
+        Some(members) if reader.next().is_none() => Ok(Some(members)),
+        _ => Ok(None),
+    }
+}
+
 /// The members of an object, in the order of the text. None where it isn't one whose values are scalars, or arrays of
 /// three or four of them.
-pub(crate) fn read_object<'a>(
+fn read_object<'a>(
     alloc: Global,
     reader: &mut Reader<'a>,
 ) -> Result<Option<Vec<Member<'a>>>, AllocError>

@@ -3,12 +3,11 @@ ghost use Rattle.std.specs.Prelude.{◌≡◌, IfOk, IfSome};
 ghost use Rattle.json_spelling.specs.Spelling.{IsSpellingOf};
 
 use crate::order::sort;
-use crate::reading::read_object;
-use crate::writing::write_object;
-use json::{Reader, Scratch, Writer};
+use crate::reading::read_line;
+use crate::writing::write_text;
+use json::Scratch;
 use std::alloc::{AllocError, Global};
-use std::mem;
-use std::str;
+use std::{mem, str};
 
 /// What spells lines again. It keeps its buffers from line to line.
 #[derive(Drop)]
@@ -57,17 +56,9 @@ fn respelled(
 ) -> Result<Option<Vec<u8>>, AllocError>
     ensures { IfOk result (λ found. IfSome found (λ text. IsSpellingOf line.now text.items)) }
 {
-    let mut reader = Reader::new(line, scratch)?;
-    let Some(mut members) = read_object(alloc, &mut reader)? else {
+    let Some(mut members) = read_line(alloc, line, scratch)? else {
         return Ok(None);
     };
-    if reader.next().is_some() {
-        return Ok(None);
-    }
-    sort(&mut members);
-    let mut text = buffer;
-    text.clear();
-    let mut writer = Writer::new(text);
-    write_object(&mut writer, &members)?;
-    Ok(Some(writer.into_inner()))
+    sort(members.as_mut_slice());
+    Ok(Some(write_text(members.as_slice(), buffer)?))
 }

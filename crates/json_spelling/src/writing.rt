@@ -1,5 +1,6 @@
 //! An object's members, written as JSON.
-ghost use Rattle.std.specs.Prelude.{◌≡◌, ◌++◌, All, OnOk};
+ghost use Rattle.std.specs.Prelude.{◌≡◌, All, IfOk, OnOk, IsUtf8};
+ghost use Rattle.json.specs.Lex.{tokens};
 ghost use Rattle.json_spelling.specs.Flat.{flat_tokens, member_tokens, object_tokens, IsWritable, IsWritableValue};
 ghost use Rattle.json_spelling.specs.Inner.Parts.{Appends};
 
@@ -7,8 +8,21 @@ use crate::flat::{Flat, Member};
 use json::{Token, Writer};
 use std::alloc::AllocError;
 
+/// The text of an object of these members, in a buffer that is emptied first.
+pub(crate) fn write_text(members: &[Member<'_>], buffer: Vec<u8>) -> Result<Vec<u8>, AllocError>
+    requires { All IsWritable members.now }
+    ensures tokens { IfOk result (λ text. tokens text.items ≡ object_tokens members.now) }
+    ensures utf8 { IfOk result (λ text. IsUtf8 text.items) }
+{
+    let mut text = buffer;
+    text.clear();
+    let mut writer = Writer::new(text);
+    write_object(&mut writer, members)?;
+    Ok(writer.into_inner())
+}
+
 /// Writes an object of these members.
-pub(crate) fn write_object(writer: &mut Writer, members: &[Member<'_>]) -> Result<(), AllocError>
+fn write_object(writer: &mut Writer, members: &[Member<'_>]) -> Result<(), AllocError>
     requires { All IsWritable members.now }
     ensures { OnOk result (Appends writer.old writer.new (object_tokens members.now)) }
 {
