@@ -1,8 +1,9 @@
 -- What a line is, from what reading its JSON value answered.
 use Rattle.std.proofs.Common.{◌≡◌, ◌∙◌, ◌⊎◌, sym, ap, inl, inr, List, ℕ, Option, Some, None, Ok, Err}
-use Rattle.std.specs.Prelude.{ok_or}
+use Rattle.std.specs.Prelude.{ok_or, Result}
 use Rattle.serde_json.specs.Data.{Data}
 use Rattle.serde_json.specs.Written.{compact_text}
+use Rattle.json_spelling.specs.Spelling.{IsSpellingOf}
 use Rattle.schedule_lines.specs.Json.{value_in}
 use Rattle.schedule_lines.specs.Keys.{line_data, transcript_line_data}
 use Rattle.schedule_lines.specs.Line.{line_of}
@@ -41,3 +42,12 @@ pub spelled_recorded : (line : List ℕ) (entry : TranscriptLine) → line ≡ c
 spelled_recorded line entry is within =
     let back = transcript_lines_back entry within in
     ap recorded_in is ∙ ap (read_by transcript_line_of) back.0 ∙ ap (λ (o : Option TranscriptLine). ok_or {E = TaskFault} o Field) back.1
+
+-- ---- a line that is another spelling of a text
+
+pub same_value : (line text : List ℕ) → IsSpellingOf line text → value_in text ≡ value_in line
+same_value line text other = ?
+
+pub respelled : {E : Type 0} (reading : Data → Option E) (line text : List ℕ) (result : Result E TaskFault) → IsSpellingOf line text
+    → read_by reading (value_in text) ≡ result → read_by reading (value_in line) ≡ result
+respelled reading line text result other is = ap (read_by reading) (sym (same_value line text other)) ∙ is

@@ -9,8 +9,8 @@ ghost use Rattle.schedule_lines.specs.declared.reading.transcript.TranscriptLine
 ghost use Rattle.schedule_reading.specs.Transcript.{FaultsInTranscript, HasNoChecker, Takes};
 ghost use Rattle.schedule_reading.specs.Inner.Transcript.{Judges, StopsAt, TakesAt, judged_by};
 
-use crate::entry::LineReader;
 use crate::fault::TaskFault;
+use crate::reader::LineReader;
 use crate::stage::Stage;
 use event_codec::PortMessage;
 use exchange_check::{Checker, Exchange, Judgement, Verdict};

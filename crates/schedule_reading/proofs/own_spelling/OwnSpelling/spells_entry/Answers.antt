@@ -1,6 +1,6 @@
 use Rattle.std.proofs.Common.{◌∙◌, sym}
 use Rattle.schedule_reading.proofs.Entries.{spelled_entry}
-use Rattle.schedule_reading.proofs.entry.LineReader.spells_entry.Goals as goal
+use Rattle.schedule_reading.proofs.own_spelling.OwnSpelling.spells_entry.Goals as goal
 
 pub returns-then-is_writable : goal.returns-then-is_writable
 returns-then-is_writable c = λ is.

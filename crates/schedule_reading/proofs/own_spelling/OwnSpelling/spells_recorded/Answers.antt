@@ -1,6 +1,6 @@
 use Rattle.std.proofs.Common.{◌∙◌, sym}
 use Rattle.schedule_reading.proofs.Entries.{spelled_recorded}
-use Rattle.schedule_reading.proofs.entry.LineReader.spells_recorded.Goals as goal
+use Rattle.schedule_reading.proofs.own_spelling.OwnSpelling.spells_recorded.Goals as goal
 
 pub returns-then-is_transcribable : goal.returns-then-is_transcribable
 returns-then-is_transcribable c = λ is.
