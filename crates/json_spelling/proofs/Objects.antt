@@ -14,7 +14,7 @@ use Rattle.json_spelling.specs.declared.flat.Scalar.TheVariants as scalars
 use Rattle.json_spelling.specs.declared.flat.Flat.{Flat}
 use Rattle.json_spelling.specs.declared.flat.Flat.TheVariants.{One, Three, Four}
 use Rattle.json_spelling.specs.declared.flat.Member.{Member}
-use Rattle.json_spelling.specs.Flat.{scalar_token, flat_tokens, member_tokens, object_tokens}
+use Rattle.json_spelling.specs.Inner.Flat.{scalar_token, flat_tokens, member_tokens, object_tokens}
 use Rattle.json_spelling.specs.Inner.Parts.{scalar_json, flat_json, members_json, ReadsAs}
 
 -- ---- the tokens

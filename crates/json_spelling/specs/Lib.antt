@@ -1,3 +1,2 @@
-pub mod Flat
 pub mod Spelling
 pub mod Inner

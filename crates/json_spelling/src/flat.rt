@@ -2,7 +2,7 @@
 ghost use Rattle.std.specs.Prelude.{◌≡◌, IfSome};
 ghost use Rattle.json.specs.Reads.{token_of};
 ghost use Rattle.json.specs.Print.{IsPrintable};
-ghost use Rattle.json_spelling.specs.Flat.{scalar_token};
+ghost use Rattle.json_spelling.specs.Inner.Flat.{scalar_token};
 
 use json::Token;
 

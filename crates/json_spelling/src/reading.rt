@@ -3,7 +3,7 @@ ghost use Rattle.std.specs.Prelude.{◌≡◌, ◌∷◌, ◌++◌, All, IfOk, I
 ghost use Rattle.json.specs.Token.{begin_array};
 ghost use Rattle.json.specs.Lex.{tokens};
 ghost use Rattle.json.specs.Print.{IsPrintable};
-ghost use Rattle.json_spelling.specs.Flat.{scalar_token, flat_tokens, object_tokens, IsWritable, IsWritableValue};
+ghost use Rattle.json_spelling.specs.Inner.Flat.{scalar_token, flat_tokens, object_tokens, IsWritable, IsWritableValue};
 ghost use Rattle.json_spelling.specs.Inner.Parts.{part_tokens};
 
 use crate::flat::{Flat, Member, Scalar};

@@ -1,7 +1,7 @@
 //! An object's members, written as JSON.
 ghost use Rattle.std.specs.Prelude.{◌≡◌, All, IfOk, OnOk, IsUtf8};
 ghost use Rattle.json.specs.Lex.{tokens};
-ghost use Rattle.json_spelling.specs.Flat.{flat_tokens, member_tokens, object_tokens, IsWritable, IsWritableValue};
+ghost use Rattle.json_spelling.specs.Inner.Flat.{flat_tokens, member_tokens, object_tokens, IsWritable, IsWritableValue};
 ghost use Rattle.json_spelling.specs.Inner.Parts.{Appends};
 
 use crate::flat::{Flat, Member};

@@ -1,7 +1,10 @@
 -- What a line is, from what reading its JSON value answered.
-use Rattle.std.proofs.Common.{◌≡◌, ◌∙◌, ◌⊎◌, sym, ap, inl, inr, List, ℕ, Option, Some, None, Ok, Err}
+use Rattle.std.proofs.Common.{◌≡◌, ◌∙◌, ◌⊎◌, sym, ap, inl, inr, List, ℕ, Option, Some, None, Ok, Err, if◌then◌else◌}
 use Rattle.std.specs.Prelude.{ok_or, Result}
+use Rattle.std.specs.Str.{IsUtf8}
+use Rattle.std.proofs.lemmas.Str.{is_utf8-from_IsUtf8}
 use Rattle.serde_json.specs.Data.{Data}
+use Rattle.serde_json.specs.Read.{read}
 use Rattle.serde_json.specs.Written.{compact_text}
 use Rattle.json_spelling.specs.Spelling.{IsSpellingOf}
 use Rattle.schedule_lines.specs.Json.{value_in}
@@ -45,8 +48,11 @@ spelled_recorded line entry is within =
 
 -- ---- a line that is another spelling of a text
 
-pub same_value : (line text : List ℕ) → IsSpellingOf line text → value_in text ≡ value_in line
-same_value line text other = ?
+value_of_utf8 : (line : List ℕ) → IsUtf8 line → value_in line ≡ read line
+value_of_utf8 line utf8 = ap (λ is. if is then read line else None) (is_utf8-from_IsUtf8 line utf8)
+
+same_value : (line text : List ℕ) → IsSpellingOf line text → value_in text ≡ value_in line
+same_value line text other = value_of_utf8 text other.text_utf8 ∙ other.same ∙ sym (value_of_utf8 line other.line_utf8)
 
 pub respelled : {E : Type 0} (reading : Data → Option E) (line text : List ℕ) (result : Result E TaskFault) → IsSpellingOf line text
     → read_by reading (value_in text) ≡ result → read_by reading (value_in line) ≡ result

@@ -10,7 +10,7 @@ use Rattle.json_spelling.specs.declared.flat.Scalar.TheVariants as scalars
 use Rattle.json_spelling.specs.declared.flat.Flat.{Flat}
 use Rattle.json_spelling.specs.declared.flat.Flat.TheVariants.{One, Three, Four}
 use Rattle.json_spelling.specs.declared.flat.Member.{Member}
-use Rattle.json_spelling.specs.Flat.{member_tokens}
+use Rattle.json_spelling.specs.Inner.Flat.{member_tokens}
 
 -- a member's tokens, or the brace that ends an object
 abbrev pub part_tokens : Option Member → List Token

@@ -1,7 +1,7 @@
 use Rattle.std.proofs.Common.{◌≡◌, ◌∷◌, ◌++◌}
 use Rattle.std.specs.List.{All, flat_map}
 use Rattle.json.specs.Token.{begin_object}
-use Rattle.json_spelling.specs.Flat.{member_tokens, IsWritable}
+use Rattle.json_spelling.specs.Inner.Flat.{member_tokens, IsWritable}
 use Rattle.json_spelling.proofs.reading.read_object.Given as goal
 
 abbrev pub invariant-parts : goal.invariant-parts

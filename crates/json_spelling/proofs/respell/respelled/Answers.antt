@@ -3,7 +3,7 @@ use Rattle.std.proofs.lemmas.List.{drop_all, take_all}
 use Rattle.json.specs.Lex.{tokens}
 use Rattle.serde_json.specs.Read.{of_members}
 use Rattle.json_spelling.specs.declared.flat.Member.{Member}
-use Rattle.json_spelling.specs.Flat.{object_tokens}
+use Rattle.json_spelling.specs.Inner.Flat.{object_tokens}
 use Rattle.json_spelling.specs.Inner.Parts.{members_json, ReadsAs}
 use Rattle.json_spelling.proofs.Objects.{same_read}
 use Rattle.json_spelling.proofs.respell.respelled.Goals as goal

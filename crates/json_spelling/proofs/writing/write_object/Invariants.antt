@@ -1,7 +1,7 @@
 use Rattle.std.proofs.Common.{◌≡◌, ◌∷◌, ◌++◌, take}
 use Rattle.std.specs.List.{flat_map}
 use Rattle.json.specs.Token.{begin_object}
-use Rattle.json_spelling.specs.Flat.{member_tokens}
+use Rattle.json_spelling.specs.Inner.Flat.{member_tokens}
 use Rattle.json_spelling.proofs.writing.write_object.Given as goal
 
 abbrev pub invariant-loop-member : goal.invariant-loop-member
