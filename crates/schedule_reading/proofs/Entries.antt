@@ -1,6 +1,6 @@
 -- What a line is, from what reading its JSON value answered.
 use Rattle.std.proofs.Common.{◌≡◌, ◌∙◌, ◌⊎◌, sym, ap, inl, inr, List, ℕ, Option, Some, None, Ok, Err, if◌then◌else◌}
-use Rattle.std.specs.Prelude.{ok_or, Result}
+use Rattle.std.specs.Prelude.{ok_or}
 use Rattle.std.specs.Str.{IsUtf8}
 use Rattle.std.proofs.lemmas.Str.{is_utf8-from_IsUtf8}
 use Rattle.serde_json.specs.Data.{Data}
@@ -51,9 +51,5 @@ spelled_recorded line entry is within =
 value_of_utf8 : (line : List ℕ) → IsUtf8 line → value_in line ≡ read line
 value_of_utf8 line utf8 = ap (λ is. if is then read line else None) (is_utf8-from_IsUtf8 line utf8)
 
-same_value : (line text : List ℕ) → IsSpellingOf line text → value_in text ≡ value_in line
+pub same_value : (line text : List ℕ) → IsSpellingOf line text → value_in text ≡ value_in line
 same_value line text other = value_of_utf8 text other.text_utf8 ∙ other.same ∙ sym (value_of_utf8 line other.line_utf8)
-
-pub respelled : {E : Type 0} (reading : Data → Option E) (line text : List ℕ) (result : Result E TaskFault) → IsSpellingOf line text
-    → read_by reading (value_in text) ≡ result → read_by reading (value_in line) ≡ result
-respelled reading line text result other is = ap (read_by reading) (sym (same_value line text other)) ∙ is
