@@ -1,4 +1,5 @@
-"""Lines that are almost spelled as `ptpx` writes them, or in other ways, given to `replay` and `check`: each is read as spelled.py says."""
+"""Lines that are almost spelled as `ptpx` writes them, or in other ways, given to `replay` and `check`: each is read as spelled.py says,
+and as the same line is behind a blank, of which `ptpx` takes no guess."""
 import itertools
 import json
 import re
@@ -11,7 +12,7 @@ from shown import lines_of
 FAULT = re.compile(rb'ptpx: fault (80[1-8])(?: \((60[1-8])\))? at line ([1-9][0-9]*)\n')
 VERDICT = re.compile(rb'accepted ([0-9]+)\n|refused event ([0-9]+): (70[1-8])\n')
 
-# Of a hundred lines so many are another line or none, the others the same line in another spelling.
+# Of a hundred lines so many are another line or none, the others the same line, in another spelling or as it was.
 BENT = 8
 
 
@@ -20,9 +21,26 @@ def own(lines):
     return [told.compact(json.loads(line)).encode() for line in lines]
 
 
-def altered(rng, lines):
-    """The lines in other spellings, and some that are almost the same."""
-    return [spelled.bent(rng, line) if rng.randrange(100) < BENT else spelled.respelled(rng, line) for line in lines]
+def altered(rng, lines, bends=True):
+    """The lines in other spellings, some as they were, and some that are almost the same."""
+    kept = rng.choice([0, 0.5, 0.9])
+
+    def other(line):
+        if bends and rng.randrange(100) < BENT:
+            return spelled.bent(rng, line)
+        return line if rng.random() < kept else spelled.respelled(rng, line)
+    return [other(line) for line in lines]
+
+
+def text_of(lines):
+    return b''.join(line + b'\n' for line in lines)
+
+
+def misguessed(given, subcommand, lines):
+    """What is wrong where a guess may be taken of the lines, beside the answer where none is."""
+    answer, behind = (given(subcommand, text_of(front + line for line in lines)) for front in (b'', b' '))
+    if answer != behind:
+        yield f'{subcommand} answers {answer}, and behind blanks {behind}'
 
 
 def first_fault(lines, recorded):
@@ -42,7 +60,7 @@ def first_fault(lines, recorded):
 
 def start(given, subcommand, lines):
     """The status, the lines that were written, the fault with its reason, and its place."""
-    status, output, errors = given(subcommand, b''.join(line + b'\n' for line in lines))
+    status, output, errors = given(subcommand, text_of(lines))
     fault = FAULT.fullmatch(errors)
     if fault:
         return status, lines_of(output), fault[1].decode(), int(fault[3]) - 1
@@ -87,7 +105,7 @@ def mischecked(given, lines, originals, bends):
             return
         if not fault:
             reports = [line['n'] for _, line in told.reports(lines)]
-            verdict = VERDICT.fullmatch(b''.join(answer + b'\n' for answer in answers))
+            verdict = VERDICT.fullmatch(text_of(answers))
             if not verdict or verdict[1] and int(verdict[1]) != len(reports) or verdict[2] and int(verdict[2]) not in reports:
                 yield f'verdict {answers}'
             elif not bends and not verdict[1]:
@@ -96,18 +114,22 @@ def mischecked(given, lines, originals, bends):
         lines = [*lines[:place], originals[place], *lines[place + 1:]]
 
 
+def changed(lines, originals):
+    return sum(line != original for line, original in zip(lines, originals))
+
+
 def misread(given, rng):
-    """How many lines were given in one schedule and its transcript, and what is wrong with the answers."""
+    """How many lines of one schedule and its transcript were changed, and what is wrong with the answers."""
     schedule = own(inputs.walk(rng))
     status, answers, number, _ = start(given, 'replay', schedule)
     if number:
         schedule = schedule[:len(answers)]
     lines = altered(rng, schedule)
-    wrong = list(itertools.islice(misreplayed(given, lines, schedule), 3))
-    count = len(lines)
+    wrong = list(itertools.islice(itertools.chain(misguessed(given, 'replay', lines), misreplayed(given, lines, schedule)), 3))
+    count = changed(lines, schedule)
     if not number and not wrong:
         bends = rng.random() < 0.7
-        lines = altered(rng, answers) if bends else [spelled.respelled(rng, line) for line in answers]
-        count += len(lines)
-        wrong = list(itertools.islice(mischecked(given, lines, answers, bends), 3))
+        lines = altered(rng, answers, bends)
+        wrong = list(itertools.islice(itertools.chain(misguessed(given, 'check', lines), mischecked(given, lines, answers, bends)), 3))
+        count += changed(lines, answers)
     return count, wrong, lines
