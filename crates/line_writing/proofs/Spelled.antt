@@ -1,24 +1,22 @@
 -- The texts of lines, read again.
-use Rattle.std.proofs.Common.{◌≡◌, ◌^◌, ◌<◌, ◌≤◌, ℕ, length, zero, suc, true, ◌&&◌, nat_lt, List, [], ◌∷◌, Option, Some, None, IfSome, arith, refl}
+use Rattle.std.proofs.Common.{◌≡◌, ◌<◌, ◌≤◌, ℕ, length, zero, suc, true, nat_lt, List, [], ◌∷◌, Option, Some, None, arith, refl}
 use Rattle.std.specs.List.{list_all}
-use Rattle.std.specs.Str.{IsAscii, is_utf8}
+use Rattle.std.specs.Str.{IsAscii}
 use Rattle.std.proofs.lemmas.Bool.{and_parts}
 use Rattle.std.proofs.lemmas.Bool.Decides.{nat_tests}
 use Rattle.std.proofs.lemmas.Str.{IsUtf8-from_ascii}
-use Rattle.serde_json.specs.Data.{Data, object}
+use Rattle.serde_json.specs.Data.{Data}
 use Rattle.serde_json.specs.Read.{read}
 use Rattle.serde_json.specs.Written.{compact_text}
 use Rattle.ptp_units.specs.Moment.{bound}
 use Rattle.network_model.specs.Name.{IsName}
-use Rattle.network_model.specs.Run.{site_of, true_moment}
+use Rattle.network_model.specs.Run.{true_moment}
 use Rattle.network_model.specs.Kinds.{named_master, named_difference, named_transit, named_copy}
 use Rattle.network_model.specs.declared.event.Event.{Event}
-use Rattle.schedule_lines.specs.declared.reading.schedule.Line.{Line}
 use Rattle.schedule_lines.specs.declared.reading.schedule.Line.TheVariants as schedules
-use Rattle.schedule_lines.specs.declared.reading.transcript.TranscriptLine.{TranscriptLine}
 use Rattle.schedule_lines.specs.declared.reading.transcript.TranscriptLine.TheVariants as lines
 use Rattle.schedule_lines.specs.Json.{value_in}
-use Rattle.schedule_lines.specs.Written.{whole, moment_data, difference_data, scheduled_data, event_text}
+use Rattle.schedule_lines.specs.Written.{whole, moment_data, difference_data, scheduled_data}
 use Rattle.serde_json.specs.Data.{string}
 use Rattle.schedule_lines.specs.Line.{one_if}
 use Rattle.schedule_lines.specs.Ranges.{IsShort, IsTag}
@@ -33,7 +31,7 @@ use Rattle.schedule_lines.proofs.Printed.{event_texts_back, node_texts_back, mom
 use Rattle.schedule_lines.proofs.ReadBack.{always, reads_back, scheduled_reads_back}
 use Rattle.schedule_lines.proofs.ShownTexts.{is_shown, Fits, AreShownFields, field_shown, fits_object, members_shown}
 use Rattle.schedule_lines.proofs.Values.{value_read}
-use Rattle.line_writing.specs.Spelled.{IsScheduled, IsWritable, IsTranscribable, LinesSpellThemselves}
+use Rattle.line_writing.specs.Spelled.{IsScheduled, LinesSpellThemselves}
 use Rattle.line_writing.specs.Spelled.{TranscriptLinesSpellThemselves}
 
 -- ---- octets that are shown are UTF-8

@@ -1,10 +1,10 @@
 -- The texts of lines, piece by piece.
 use Rattle.std.proofs.Common.{◌≡◌, ◌∙◌, ℕ, ℤ, pos, negsuc, List, [], ◌∷◌, ◌++◌, codes, true, false, Option, Some, None}
-use Rattle.std.proofs.Common.{option_map, refl, ap, sym, append_assoc, append-nil}
+use Rattle.std.proofs.Common.{option_map, refl, ap, append_assoc, append-nil}
 use Rattle.std.specs.Fmt.{decimal, signed_decimal}
 use Rattle.hex.specs.Hex.{encode_lower}
 use Rattle.json.specs.Print.{escape_byte, escape, quoted}
-use Rattle.serde_json.specs.Data.{Data, Members, no_members, member, object, string, number}
+use Rattle.serde_json.specs.Data.{Data, Members, no_members, member, object, string}
 use Rattle.serde_json.specs.Find.{of_integer}
 use Rattle.serde_json.specs.Written.{compact_text, members_text, number_text}
 use Rattle.event_codec.specs.declared.port.PortConfig.{PortConfig}
@@ -12,18 +12,17 @@ use Rattle.ptp_units.specs.declared.sequence.Seq.{Seq}
 use Rattle.network_model.specs.Run.{site_of, true_moment}
 use Rattle.network_model.specs.Kinds.{named_master, named_difference, named_transit, named_copy}
 use Rattle.network_model.specs.declared.event.Event.{Event}
-use Rattle.network_model.specs.declared.event.Event.TheVariants.{Sync, SyncOne, Follow, Enter, Leave, Arrive, Hear}
-use Rattle.network_model.specs.declared.event.Event.TheVariants.{Request, Stamped, Tick, SetMaster, StepClock}
+use Rattle.network_model.specs.declared.event.Event.TheVariants.{StepClock}
 use Rattle.trace_model.specs.declared.line.TraceLine.{TraceLine}
 use Rattle.trace_model.specs.declared.line.TraceOut.{TraceOut}
 use Rattle.trace_model.specs.declared.line.TraceOut.TheVariants as outs
-use Rattle.schedule_lines.specs.Written.{whole, moment_data, difference_data, octets_data, tags_data, with_some}
+use Rattle.schedule_lines.specs.Written.{whole, moment_data, difference_data, octets_data, tags_data}
 use Rattle.schedule_lines.specs.Written.{event_text, made_octets, out_text, out_code, out_report}
 use Rattle.schedule_lines.specs.Written.{port_data}
-use Rattle.schedule_lines.proofs.Keys.{Field, members_of, event_fields, line_fields}
+use Rattle.schedule_lines.proofs.Keys.{members_of, event_fields, line_fields}
 use Rattle.line_writing.specs.Inner.Pieces.{piece, front_text, made_text, answer_text, report_text, end_text}
 use Rattle.line_writing.specs.Inner.Pieces.{drawn_text, clock_text}
-use Rattle.line_writing.proofs.Listed.{in_front, listed, sorted, members_sorted}
+use Rattle.line_writing.proofs.Listed.{in_front, members_sorted}
 
 -- the text of an integer
 pub integer_text : (z : ℤ) → number_text (of_integer z) ≡ signed_decimal z

@@ -19,7 +19,7 @@ use Rattle.trace_model.specs.declared.line.TraceLine.{TraceLine}
 use Rattle.schedule_lines.proofs.Keys.{Field, members_of, line_fields}
 use Rattle.schedule_lines.proofs.Compact.{IsReadable, AreReadableFields, read_object, text_readable, whole_readable}
 use Rattle.schedule_lines.proofs.Compact.{field_readable, members_readable, members_ascending}
-use Rattle.schedule_lines.specs.Written.{whole, moment_data, difference_data, octets_data, follow_data, tags_data}
+use Rattle.schedule_lines.specs.Written.{whole, moment_data, difference_data, octets_data, tags_data}
 use Rattle.schedule_lines.specs.Written.{port_data, kind_data, made_octets, out_code, out_report}
 use Rattle.schedule_lines.specs.Ranges.{IsConfig, IsKind, IsTag, HasTags, IsTagged, IsRecorded, NodeTextsReadBack}
 use Rattle.schedule_lines.specs.Ranges.{EventTextsReadBack}

@@ -1,6 +1,6 @@
 -- The pieces of which a line's text is made.
-use Rattle.std.specs.Prelude.{ℕ, List, [], ◌∷◌, ◌++◌, codes, Option, Some, None, option_map}
-use Rattle.serde_json.specs.Data.{Data, string}
+use Rattle.std.specs.Prelude.{ℕ, List, [], ◌++◌, codes, Option, Some, None, option_map}
+use Rattle.serde_json.specs.Data.{Data}
 use Rattle.serde_json.specs.Written.{compact_text}
 use Rattle.network_model.specs.Run.{true_moment}
 use Rattle.network_model.specs.Kinds.{named_copy, named_difference, named_transit}
