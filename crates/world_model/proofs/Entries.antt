@@ -13,7 +13,7 @@ use Rattle.network_model.specs.Clock.{reading}
 use Rattle.network_model.specs.Truth.{TellsTruth, copy_of, copy_made}
 use Rattle.network_model.specs.Outcome.{outcome_of, IsRun}
 use Rattle.network_model.proofs.LeftOnce.{leave_before, not_left}
-use Rattle.world_model.specs.declared.entry.Entry.{Entry}
+use Rattle.world_model.specs.Inner.Stands.{Entry}
 use Rattle.world_model.specs.declared.entry.Left.{Left}
 use Rattle.world_model.specs.declared.entry.Left.TheVariants.{Copy, Stay, Nothing}
 use Rattle.world_model.specs.declared.entry.Happened.{Happened}

@@ -11,4 +11,5 @@ mod LeftStays
 mod Leaves
 mod Happening
 mod InTurn
+mod KeptEvents
 mod RunLaws

@@ -3,6 +3,7 @@
 
 mod clock;
 mod entry;
+mod events;
 mod master;
 mod slave;
 mod station;

@@ -17,7 +17,7 @@ use Rattle.network_model.specs.Clock.{reading, reading_of}
 use Rattle.network_model.specs.Truth.{master_at, slave_at}
 use Rattle.network_model.specs.Truth.{TellsTruth, copy_of, copy_made}
 use Rattle.network_model.specs.Outcome.{outcome_of, reads, left_outcome}
-use Rattle.world_model.specs.declared.entry.Entry.{Entry}
+use Rattle.world_model.specs.Inner.Stands.{Entry}
 use Rattle.world_model.specs.declared.entry.Happened.{Happened}
 use Rattle.world_model.specs.declared.station.Master.{Master}
 use Rattle.world_model.specs.declared.station.Slave.{Slave}

@@ -18,7 +18,6 @@ use Rattle.network_model.specs.Kinds.{entered_copy, is_leave_of}
 use Rattle.network_model.specs.Truth.{TellsTruth, copy_of}
 use Rattle.network_model.specs.SlaveHistory.{slave_setup, history_of}
 use Rattle.network_model.specs.Outcome.{IsRun}
-use Rattle.world_model.specs.declared.entry.Entry.{Entry}
 use Rattle.world_model.specs.declared.entry.Octets.{Octets}
 use Rattle.world_model.specs.declared.entry.Octets.TheVariants.{Short, Long}
 use Rattle.world_model.specs.declared.entry.Left.{Left}
@@ -29,6 +28,11 @@ use Rattle.world_model.specs.declared.station.Slave.{Slave}
 use Rattle.world_model.specs.declared.station.Port.{Port}
 use Rattle.world_model.specs.declared.station.Port.TheVariants as ports
 use Rattle.world_model.specs.declared.station.Station.{Station}
+
+-- an event that happened, and what it left
+pub record Entry : Type 0 where
+  pub event : Event
+  pub left : Left
 
 -- the events of entries, newest first
 abbrev pub run_of : List Entry → Run

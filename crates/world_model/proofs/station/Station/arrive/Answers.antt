@@ -10,7 +10,7 @@ pub returns-in-Master : goal.returns-in-Master
 returns-in-Master c = λ node network run kind is_kind stands keeps.
     lift-master network run kind (Arrive node c.args.copy c.args.at) c.args.self.now refl is_kind stands c.args.room c.arrive.result c.in-Master.master c.in-Master.master
     _ c.in-Master.is (c.arrive.ensures node c.args.copy c.args.at) (
-      subst (TellsTruth (copy_of network run c.args.copy)) (sym c.octets_of.ensures.value) (keeps.copies c.args.copy),
+      subst (TellsTruth (copy_of network run c.args.copy)) (sym c.octets.ensures.value) (keeps.copies c.args.copy),
       c.shown-shown.ensures ∙ ap (λ d. ok_or (moment_of (pos c.args.at +ℤ d)) ReadingOutOfRange) stands.difference,
     )
 
@@ -18,7 +18,7 @@ pub returns-in-Slave : goal.returns-in-Slave
 returns-in-Slave c = λ node network run kind is_kind stands keeps.
     lift-slave network run kind (Arrive node c.args.copy c.args.at) c.args.self.now refl is_kind stands c.args.room c.arrive-in-Slave.result c.in-Slave.slave c.arrive-in-Slave.new.self
     _ c.in-Slave.is (c.arrive-in-Slave.ensures node c.args.copy c.args.at) (
-      subst (TellsTruth (copy_of network run c.args.copy)) (sym c.octets_of-in-Slave.ensures.value) (keeps.copies c.args.copy),
+      subst (TellsTruth (copy_of network run c.args.copy)) (sym c.octets-in-Slave.ensures.value) (keeps.copies c.args.copy),
       c.shown-shown.ensures ∙ ap (λ d. ok_or (moment_of (pos c.args.at +ℤ d)) ReadingOutOfRange) stands.difference,
       omega (arith, keeps.count),
     )

@@ -8,4 +8,4 @@ pub returns : goal.returns
 returns c = λ node network run kind is_kind stands keeps.
     lift-slave network run kind (Hear node c.args.copy) c.args.self.now refl is_kind stands c.args.room c.hear.result c.in-Slave.slave c.hear.new.self
     _ c.in-Slave.is (c.hear.ensures node c.args.copy)
-    (subst (TellsTruth (copy_of network run c.args.copy)) (sym c.octets_of.ensures.value) (keeps.copies c.args.copy), omega (arith, keeps.count))
+    (subst (TellsTruth (copy_of network run c.args.copy)) (sym c.octets.ensures.value) (keeps.copies c.args.copy), omega (arith, keeps.count))
