@@ -1,5 +1,5 @@
 """Lines that are almost spelled as `ptpx` writes them, or in other ways, given to `replay` and `check`: each is read as spelled.py says,
-and as the same line is behind a blank, of which `ptpx` takes no guess."""
+and as it is behind a blank, where `ptpx` spells it again, and with a key twice, where `ptpx` reads its value."""
 import itertools
 import json
 import re
@@ -36,11 +36,24 @@ def text_of(lines):
     return b''.join(line + b'\n' for line in lines)
 
 
+def with_key_twice(line):
+    """The same line, where it is an object, with a key twice; what its value is at the second place counts."""
+    try:
+        value = spelled.value_of(line)
+    except ValueError:
+        return line
+    if not isinstance(value, dict) or not value:
+        return line
+    return line.replace(b'{', b'{%s:0,' % json.dumps(next(iter(value))).encode(), 1)
+
+
 def misguessed(given, subcommand, lines):
-    """What is wrong where a guess may be taken of the lines, beside the answer where none is."""
-    answer, behind = (given(subcommand, text_of(front + line for line in lines)) for front in (b'', b' '))
-    if answer != behind:
-        yield f'{subcommand} answers {answer}, and behind blanks {behind}'
+    """What is wrong where a guess may be taken of the lines, beside the answers where they are spelled again, or their values read."""
+    answer = given(subcommand, text_of(lines))
+    for words, others in ('behind blanks', [b' ' + line for line in lines]), ('with a key twice', map(with_key_twice, lines)):
+        other = given(subcommand, text_of(others))
+        if answer != other:
+            yield f'{subcommand} answers {answer}, and {words} {other}'
 
 
 def first_fault(lines, recorded):
@@ -72,7 +85,7 @@ def start(given, subcommand, lines):
 def misreplayed(given, lines, originals):
     """What is wrong with the answers to lines of a schedule, in words. A line that isn't read is mended, until all are."""
     for _ in range(len(lines) + 1):
-        status, answers, number, place = start(given, 'replay', lines)
+        _, answers, number, place = start(given, 'replay', lines)
         fault = first_fault(lines, False)
         told_of = answers if number is None else answers[:place]
         yield from told.mistold(lines, told_of)
@@ -94,7 +107,7 @@ def misreplayed(given, lines, originals):
 def mischecked(given, lines, originals, bends):
     """What is wrong with the verdicts on lines of a transcript, in words."""
     for _ in range(len(lines) + 1):
-        status, answers, number, place = start(given, 'check', lines)
+        _, answers, number, place = start(given, 'check', lines)
         fault = first_fault(lines, True)
         if number == '807':
             if fault and fault[0] < place:
@@ -121,7 +134,7 @@ def changed(lines, originals):
 def misread(given, rng):
     """How many lines of one schedule and its transcript were changed, and what is wrong with the answers."""
     schedule = own(inputs.walk(rng))
-    status, answers, number, _ = start(given, 'replay', schedule)
+    _, answers, number, _ = start(given, 'replay', schedule)
     if number:
         schedule = schedule[:len(answers)]
     lines = altered(rng, schedule)

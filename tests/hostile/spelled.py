@@ -2,7 +2,6 @@
 it. And lines that are spelled in other ways than `ptpx` writes them, or almost so."""
 import json
 import math
-import random
 import re
 
 import inputs
