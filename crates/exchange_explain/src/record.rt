@@ -145,8 +145,9 @@ impl Record {
     }
 
     fn push_node(&mut self, node: NodeSpec) -> Result<(), AllocError> {
+        let kind = node.kind;
         self.nodes.push(node)?;
-        self.sites.push(Site::new(node.kind))?;
+        self.sites.push(Site::new(kind))?;
         Ok(())
     }
 

@@ -344,7 +344,8 @@ fn first_clash(alloc: Global, nodes: &[NodeSpec]) -> Result<Option<Clash<'_>>, A
         let Some(identity) = identity_of(&node.kind) else {
             continue;
         };
-        if let Some(one) = identities.insert((identity.clock, identity.port), other)? {
+        let clock = identity.clock;
+        if let Some(one) = identities.insert((clock, identity.port), other)? {
             return Ok(Some(Clash { one, other, node }));
         }
     }
