@@ -3,9 +3,12 @@
 #![tactic(auto)]
 
 mod flat;
+mod joining;
 mod order;
+mod piece_order;
 mod reading;
 mod respell;
+mod walk;
 mod writing;
 
 pub use respell::Respeller;

@@ -45,7 +45,7 @@ fn read_object<'a>(
         return Ok(None);
     };
     let mut members = Vec::with_capacity(alloc, MOST)?;
-    'parts: for _ in 0..MOST {
+    'parts: for _ in 0..MOST + 1 {
         match read_part(reader) {
             Some(Some(member)) => members.push(member)?,
             Some(None) => return Ok(Some(members)),

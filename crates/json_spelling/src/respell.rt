@@ -1,10 +1,12 @@
 //! A line, spelled again.
-ghost use Rattle.std.specs.Prelude.{◌≡◌, IfOk, IfSome};
+ghost use Rattle.std.specs.Prelude.{◌≡◌, IfOk, IfSome, IsTrue, IsUtf8};
 ghost use Rattle.json_spelling.specs.Spelling.{IsSpellingOf};
 
-use crate::order::sort;
+use crate::joining::join;
 use crate::reading::read_line;
+use crate::walk::walk;
 use crate::writing::write_text;
+use crate::{order, piece_order};
 use json::Scratch;
 use std::alloc::{AllocError, Global};
 use std::{mem, str};
@@ -36,29 +38,52 @@ impl Respeller {
         let Ok(line) = str::from_utf8(line) else {
             return Ok(None);
         };
-        let text = mem::replace(&mut self.text, Vec::new(self.alloc));
-        match respelled(self.alloc, line, &mut self.scratch, text)? {
-            Some(text) => {
-                self.text = text;
-                Ok(Some(self.text.as_slice()))
-            }
-            None => Ok(None),
+        if joined(self.alloc, line, &mut self.text)? {
+            return Ok(Some(self.text.as_slice()));
         }
+        if reread(self.alloc, line, &mut self.scratch, &mut self.text)? {
+            return Ok(Some(self.text.as_slice()));
+        }
+        Ok(None)
     }
 }
 
-/// A line's other spelling, in a buffer that is emptied first.
-fn respelled(
+/// Spells a line without escapes, whose only blanks are spaces behind commas and colons, in place of what `text` holds.
+/// Whether it was such a line.
+fn joined(alloc: Global, line: &str, text: &mut Vec<u8>) -> Result<bool, AllocError>
+    ensures { IfOk result (λ done. IsTrue done → IsSpellingOf line.now text.new.items) }
+{
+    let Some(mut pieces) = walk(alloc, line.as_bytes(), text)? else {
+        return Ok(false);
+    };
+    piece_order::sort(pieces.as_mut_slice());
+    if !join(pieces.as_slice(), text)? {
+        return Ok(false);
+    }
+    Ok(is_utf8(text.as_slice()))
+}
+
+/// Whether octets are UTF-8.
+fn is_utf8(octets: &[u8]) -> bool
+    ensures { IsTrue result → IsUtf8 octets.now }
+{
+    str::from_utf8(octets).is_ok()
+}
+
+/// Spells a line that its tokens are read of, in place of what `text` holds. Whether it is one that is spelled again.
+fn reread(
     alloc: Global,
     line: &str,
     scratch: &mut Scratch,
-    buffer: Vec<u8>,
-) -> Result<Option<Vec<u8>>, AllocError>
-    ensures { IfOk result (λ found. IfSome found (λ text. IsSpellingOf line.now text.items)) }
+    text: &mut Vec<u8>,
+) -> Result<bool, AllocError>
+    ensures { IfOk result (λ done. IsTrue done → IsSpellingOf line.now text.new.items) }
 {
     let Some(mut members) = read_line(alloc, line, scratch)? else {
-        return Ok(None);
+        return Ok(false);
     };
-    sort(members.as_mut_slice());
-    Ok(Some(write_text(members.as_slice(), buffer)?))
+    order::sort(members.as_mut_slice());
+    let buffer = mem::replace(text, Vec::new(alloc));
+    *text = write_text(members.as_slice(), buffer)?;
+    Ok(true)
 }

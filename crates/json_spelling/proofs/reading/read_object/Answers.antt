@@ -1,8 +1,5 @@
-use Rattle.std.proofs.Common.{◌≡◌, ◌∙◌, ◌∷◌, ◌++◌, [], List, ap, sym, arith, append_assoc}
-use Rattle.std.specs.List.{flat_map}
+use Rattle.std.proofs.Common.{◌≡◌, ◌∙◌, ◌++◌}
 use Rattle.std.proofs.lemmas.List.Elements.{All-same, All-push}
-use Rattle.json.specs.Token.{Token, begin_object}
-use Rattle.json_spelling.specs.declared.flat.Member.{Member}
 use Rattle.json_spelling.specs.Inner.Flat.{member_tokens, IsWritable}
 use Rattle.json_spelling.proofs.Objects.{one_more}
 use Rattle.json_spelling.proofs.reading.read_object.Goals as goal
