@@ -12,4 +12,5 @@ mod Leaves
 mod Happening
 mod InTurn
 mod KeptEvents
+mod NodePlaces
 mod RunLaws

@@ -5,6 +5,7 @@ mod clock;
 mod entry;
 mod events;
 mod master;
+mod places;
 mod slave;
 mod station;
 mod stepping;

@@ -3,12 +3,14 @@ ghost use Rattle.world_model.specs.Inner.Kept.{lists, entries_of, AllStored};
 ghost use Rattle.world_model.specs.Inner.Steps.{Steps};
 
 use crate::events::Events;
+use crate::places::{Recent, place_of, site};
 use crate::station::Station;
 use network_model::{Event, Nodes, Stepped, WorldRefusal};
 
 /// One event. All room for it is taken first.
 pub(crate) fn step(
     nodes: &Nodes,
+    recent: &mut Recent,
     stations: &mut Vec<Station>,
     events: &mut Events,
     event: &Event,
@@ -20,7 +22,7 @@ pub(crate) fn step(
     ensures steps { Steps nodes.now (run_of (entries_of events.old)) event.now result (run_of (entries_of events.new)) }
 {
     let room = events.reserve();
-    let Some(index) = nodes.index_of(&event.node()) else {
+    let Some(index) = place_of(nodes, recent, site(event)) else {
         return Err(WorldRefusal::NoNode);
     };
     match stations[index].act(nodes, events, event, room) {

@@ -8,6 +8,7 @@ ghost use Rattle.world_model.specs.State.{new_state, after, IsRefused};
 ghost use Rattle.world_model.specs.Exact.{IsTimely, IsExactAnswer, RunsKeepLaws};
 
 use crate::events::Events;
+use crate::places::Recent;
 use crate::station::{Station, stations_of};
 use crate::stepping::step;
 use network_model::{CopyOctets, Event, Nodes, Stepped, WorldRefusal};
@@ -20,6 +21,7 @@ use std::marker::Model;
 #[derive(Drop)]
 pub struct World {
     nodes: Nodes,
+    recent: Recent,
     stations: Vec<Station>,
     events: Events,
 }
@@ -48,6 +50,7 @@ impl World {
         let stations = stations_of(alloc, &nodes)?;
         Ok(World {
             nodes,
+            recent: Recent::new(),
             stations,
             events: Events::new(alloc),
         })
@@ -71,7 +74,13 @@ impl World {
             (IsExactAnswer (λ network slave run. IsWithinOneTurn run) self.old event.now) }
         ensures laws { RunsKeepLaws }
     {
-        step(&self.nodes, &mut self.stations, &mut self.events, event)
+        step(
+            &self.nodes,
+            &mut self.recent,
+            &mut self.stations,
+            &mut self.events,
+            event,
+        )
     }
 
     /// The octets of the copy that the event of this tag made, or None where it made none.
