@@ -1,6 +1,5 @@
 -- A world after one more event.
-use Rattle.std.proofs.Common.{◌≡◌, ◌∙◌, ℕ, zero, suc, ◌<◌, true, List, [], ◌∷◌, ◌++◌, length, take, drop, slice_get, slice_set, slice_index_or, Option, Some, None, Ok, Err, Result, IsOk, is_some, option_map, inl, inr, IfErr, OnOk, sym, ap, refl, subst, arith}
-use Rattle.std.proofs.lemmas.List.{take_at}
+use Rattle.std.proofs.Common.{◌≡◌, ◌∙◌, ℕ, zero, suc, ◌<◌, true, List, [], ◌∷◌, ◌++◌, length, slice_get, slice_set, slice_index_or, Option, Some, None, Ok, Err, Result, IsOk, is_some, option_map, inl, inr, IfErr, OnOk, sym, ap, refl, subst, arith}
 use Rattle.network_model.specs.declared.event.Event.{Event}
 use Rattle.network_model.specs.declared.node.NodeKind.{NodeKind}
 use Rattle.network_model.specs.declared.node.NodeSpec.{NodeSpec}

@@ -1,8 +1,7 @@
 -- What is kept of events, as entries.
-use Rattle.std.proofs.Common.{◌≡◌, ◌∙◌, ℕ, zero, suc, ◌<◌, ◌==◌, Bool, true, false, List, [], ◌∷◌, ◌++◌, length, map, slice_get, slice_set, if◌then◌else◌, Option, Some, None, option_map, option_and_then, unwrap_or, IsSome, is_some, refl, sym, ap, subst, arith}
-use Rattle.std.proofs.lemmas.Bool.Decides.{nat_tests}
+use Rattle.std.proofs.Common.{◌≡◌, ◌∙◌, ℕ, zero, suc, ◌<◌, ◌==◌, Bool, true, false, List, [], ◌∷◌, ◌++◌, length, slice_get, slice_set, if◌then◌else◌, Option, Some, None, option_map, option_and_then, unwrap_or, IsSome, is_some, refl, sym, ap, subst, arith}
 use Rattle.std.proofs.lemmas.List.{map-append}
-use Rattle.std.proofs.lemmas.Option.{slice_get-map, slice_get_within}
+use Rattle.std.proofs.lemmas.Option.{slice_get-map}
 use Rattle.network_model.specs.declared.event.Event.{Event}
 use Rattle.network_model.specs.Run.{Run, place}
 use Rattle.network_model.specs.Kinds.{entered_copy}

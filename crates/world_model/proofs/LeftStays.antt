@@ -1,6 +1,5 @@
 -- Entries once a stay was left.
-use Rattle.std.proofs.Common.{◌≡◌, ℕ, zero, suc, ◌<◌, ◌≤◌, List, [], ◌∷◌, length, slice_set, slice_index_or, None, option_and_then, refl, ap, arith}
-use Rattle.std.proofs.lemmas.Option.{slice_get_past}
+use Rattle.std.proofs.Common.{◌≡◌, ℕ, zero, suc, List, [], ◌∷◌, None, refl, ap}
 use Rattle.world_model.specs.Inner.Stands.{Entry}
 use Rattle.world_model.specs.declared.entry.Left.{Left}
 use Rattle.world_model.specs.declared.entry.Left.TheVariants.{Copy, Stay, Nothing}

@@ -1,4 +1,4 @@
-use Rattle.std.proofs.Common.{◌≡◌, ◌<◌, length, refl, sym, arith}
+use Rattle.std.proofs.Common.{◌<◌, length, refl, sym, arith}
 use Rattle.world_model.specs.Inner.Kept.{lists, entries_of}
 use Rattle.world_model.proofs.Happening.{reads_at}
 use Rattle.world_model.proofs.LeftStays.{left_stay-none}
