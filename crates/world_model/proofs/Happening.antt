@@ -9,7 +9,7 @@ use Rattle.network_model.specs.Network.{Network, NodeName, node_of}
 use Rattle.network_model.specs.Run.{Run, site_of}
 use Rattle.network_model.specs.Outcome.{IsStepped}
 use Rattle.world_model.specs.Inner.Stands.{Entry}
-use Rattle.world_model.specs.declared.entry.Happened.{Happened}
+use Rattle.world_model.specs.Inner.Stands.{Happened}
 use Rattle.world_model.specs.declared.station.Station.{Station}
 use Rattle.world_model.specs.State.{IsRefused}
 use Rattle.world_model.specs.Inner.Stands.{run_of, Keeps, Stands, AllStand, IsWorld}

@@ -1,4 +1,3 @@
-use network_model::Outcome;
 use ptp_units::ScaledTime;
 
 /// The octets of a copy.
@@ -19,12 +18,4 @@ pub(crate) enum Left {
     Stay(ScaledTime),
     /// Nothing.
     Nothing,
-}
-
-/// What an event brings about at its node.
-#[derive(Clone, Copy)]
-pub(crate) struct Happened {
-    pub(crate) reading: Option<ScaledTime>,
-    pub(crate) outcome: Outcome,
-    pub(crate) left: Left,
 }

@@ -1,15 +1,15 @@
-ghost use Rattle.std.specs.Prelude.{◌≡◌, List, [], pos, ◌+ℤ◌, ok_or, IfOk, IfErr, OnOk, OnErr};
+ghost use Rattle.std.specs.Prelude.{◌≡◌, List, [], pos, ◌+ℤ◌, length, ok_or, IfOk, IfErr, OnOk, OnErr};
 ghost use Rattle.ptp_units.specs.Moment.{moment_of};
 ghost use Rattle.network_model.specs.Network.{Network, NodeName, IsNetwork};
 ghost use Rattle.world_model.specs.Inner.Stands.{Entry, Stands, AllStand, left_stay};
-ghost use Rattle.world_model.specs.Inner.Acts.{Acts, ActsIn, entries_after};
+ghost use Rattle.world_model.specs.Inner.Acts.{Acts, ActsIn, entries_after, happened};
 ghost use Rattle.world_model.specs.Inner.Kept.{lists, entries_of, AllStored, HasRoom};
 
 use crate::clock::depart;
-use crate::entry::{Happened, Left};
+use crate::entry::Left;
 use crate::events::Events;
 use master_port::MasterPort;
-use network_model::{Event, Name, NodeKind, Nodes, Outcome, WorldRefusal};
+use network_model::{Event, Name, NodeKind, Nodes, Outcome, Stepped, WorldRefusal};
 use pairing::RingTable;
 use ptp_units::{BOUND, ScaledTime, Seq};
 use slave_port::{HeldFollow, HeldRequest, HeldSync, SlavePort};
@@ -101,63 +101,84 @@ impl Station {
         events: &mut Events,
         event: &Event,
         room: Room,
-    ) -> Result<Happened, WorldRefusal>
-        requires { AllStored (lists events.old.stores) events.old.kept.items }
-        ensures acts { ActsIn nodes.now event.now (entries_of events.old) self.old self.new room result }
+        tag: u64,
+        left: &mut Left,
+    ) -> Result<Stepped, WorldRefusal>
+        requires stored { AllStored (lists events.old.stores) events.old.kept.items }
+        requires tag { tag ≡ length (entries_of events.old) }
+        ensures acts { ActsIn nodes.now event.now (entries_of events.old) self.old self.new room (happened result left.new) }
+        ensures tag { IfOk result (λ stepped. stepped.tag ≡ tag) }
         ensures entries { OnOk result (entries_of events.new ≡ entries_after event.now (entries_of events.old)) }
         ensures stored { AllStored (lists events.new.stores) events.new.kept.items }
         ensures room { HasRoom events.old → HasRoom events.new }
         ensures kept { OnErr result (entries_of events.new ≡ entries_of events.old) }
     {
         match event {
-            Event::Sync { at, .. } => self.sync(*at, room),
-            Event::SyncOne { at, .. } => self.one_step_sync(*at, room),
-            Event::Follow { .. } => self.follow(room),
-            Event::Enter { copy, at, .. } => self.enter(events, *copy, *at, room),
-            Event::Leave { node, transit, at } => self.leave(events, node, *transit, *at, room),
-            Event::Arrive { copy, at, .. } => self.arrive(events, *copy, *at, room),
-            Event::Hear { copy, .. } => self.hear(events, *copy, room),
-            Event::Request { at, .. } => self.request(*at, events, room),
-            Event::Stamped { .. } => self.stamped(room),
-            Event::Tick { .. } => self.tick(room),
-            Event::SetMaster { master, .. } => self.set_master(nodes, master, room),
-            Event::StepClock { diff, .. } => self.step_clock(diff, room),
+            Event::Sync { at, .. } => self.sync(*at, room, tag, left),
+            Event::SyncOne { at, .. } => self.one_step_sync(*at, room, tag, left),
+            Event::Follow { .. } => self.follow(room, tag, left),
+            Event::Enter { copy, at, .. } => self.enter(events, *copy, *at, room, tag, left),
+            Event::Leave { node, transit, at } => self.leave(
+                events, node, *transit, *at, room, tag, left,
+            ),
+            Event::Arrive { copy, at, .. } => self.arrive(events, *copy, *at, room, tag, left),
+            Event::Hear { copy, .. } => self.hear(events, *copy, room, tag, left),
+            Event::Request { at, .. } => self.request(*at, events, room, tag, left),
+            Event::Stamped { .. } => self.stamped(room, tag, left),
+            Event::Tick { .. } => self.tick(room, tag, left),
+            Event::SetMaster { master, .. } => self.set_master(nodes, master, room, tag, left),
+            Event::StepClock { diff, .. } => self.step_clock(diff, room, tag, left),
         }
     }
 
     /// A master sends a Sync.
-    fn sync(&mut self, at: ScaledTime, room: Room) -> Result<Happened, WorldRefusal>
-        ensures { (node : NodeName) (entries : List Entry)
-            → Acts (Event.Sync node at) entries self.old self.new room result }
+    fn sync(
+        &mut self,
+        at: ScaledTime,
+        room: Room,
+        tag: u64,
+        left: &mut Left,
+    ) -> Result<Stepped, WorldRefusal>
+        ensures acts { (node : NodeName) (entries : List Entry)
+            → Acts (Event.Sync node at) entries self.old self.new room (happened result left.new) }
+        ensures tag { IfOk result (λ stepped. stepped.tag ≡ tag) }
     {
         let shown = self.shown(at);
         let Port::Master(master) = &mut self.port else {
             return Err(WorldRefusal::WrongKind);
         };
-        master.sync(shown, room)
+        master.sync(shown, room, tag, left)
     }
 
     /// A master sends a one-step Sync.
-    fn one_step_sync(&mut self, at: ScaledTime, room: Room) -> Result<Happened, WorldRefusal>
-        ensures { (node : NodeName) (entries : List Entry)
-            → Acts (Event.SyncOne node at) entries self.old self.new room result }
+    fn one_step_sync(
+        &mut self,
+        at: ScaledTime,
+        room: Room,
+        tag: u64,
+        left: &mut Left,
+    ) -> Result<Stepped, WorldRefusal>
+        ensures acts { (node : NodeName) (entries : List Entry)
+            → Acts (Event.SyncOne node at) entries self.old self.new room (happened result left.new) }
+        ensures tag { IfOk result (λ stepped. stepped.tag ≡ tag) }
     {
         let shown = self.shown(at);
         let Port::Master(master) = &mut self.port else {
             return Err(WorldRefusal::WrongKind);
         };
-        master.one_step_sync(shown, room)
+        master.one_step_sync(shown, room, tag, left)
     }
 
     /// A master sends the Follow_Up of the Sync that waits for it.
-    fn follow(&mut self, room: Room) -> Result<Happened, WorldRefusal>
-        ensures { (node : NodeName) (entries : List Entry)
-            → Acts (Event.Follow node) entries self.old self.new room result }
+    fn follow(&mut self, room: Room, tag: u64, left: &mut Left) -> Result<Stepped, WorldRefusal>
+        ensures acts { (node : NodeName) (entries : List Entry)
+            → Acts (Event.Follow node) entries self.old self.new room (happened result left.new) }
+        ensures tag { IfOk result (λ stepped. stepped.tag ≡ tag) }
     {
         let Port::Master(master) = &mut self.port else {
             return Err(WorldRefusal::WrongKind);
         };
-        master.follow(room)
+        master.follow(room, tag, left)
     }
 
     /// A copy of a message enters a transparent clock.
@@ -167,8 +188,11 @@ impl Station {
         copy: u64,
         at: ScaledTime,
         room: Room,
-    ) -> Result<Happened, WorldRefusal>
-        ensures { (node : NodeName) → Acts (Event.Enter node copy at) (entries_of events.now) self.now self.now room result }
+        tag: u64,
+        left: &mut Left,
+    ) -> Result<Stepped, WorldRefusal>
+        ensures acts { (node : NodeName) → Acts (Event.Enter node copy at) (entries_of events.now) self.now self.now room (happened result left.new) }
+        ensures tag { IfOk result (λ stepped. stepped.tag ≡ tag) }
     {
         let Port::Clock = &self.port else {
             return Err(WorldRefusal::WrongKind);
@@ -178,10 +202,11 @@ impl Station {
         }
         let now = self.shown(at)?;
         room?;
-        Ok(Happened {
+        *left = Left::Stay(now);
+        Ok(Stepped {
+            tag,
             reading: Some(now),
             outcome: Outcome::Entered,
-            left: Left::Stay(now),
         })
     }
 
@@ -193,9 +218,12 @@ impl Station {
         transit: u64,
         at: ScaledTime,
         room: Room,
-    ) -> Result<Happened, WorldRefusal>
+        tag: u64,
+        left: &mut Left,
+    ) -> Result<Stepped, WorldRefusal>
         requires { AllStored (lists events.old.stores) events.old.kept.items }
-        ensures acts { Acts (Event.Leave clock.now transit at) (entries_of events.old) self.now self.now room result }
+        ensures acts { Acts (Event.Leave clock.now transit at) (entries_of events.old) self.now self.now room (happened result left.new) }
+        ensures tag { IfOk result (λ stepped. stepped.tag ≡ tag) }
         ensures stay { OnOk result (entries_of events.new ≡ left_stay transit (entries_of events.old)) }
         ensures stored { AllStored (lists events.new.stores) events.new.kept.items }
         ensures room { HasRoom events.old → HasRoom events.new }
@@ -211,7 +239,7 @@ impl Station {
             Some(octets) => octets,
             None => return Err(WorldRefusal::NoTransit),
         };
-        depart(events, transit, octets, self.shown(at), room)
+        depart(events, transit, octets, self.shown(at), room, tag, left)
     }
 
     /// A copy of a message arrives at a master or a slave.
@@ -221,25 +249,38 @@ impl Station {
         copy: u64,
         at: ScaledTime,
         room: Room,
-    ) -> Result<Happened, WorldRefusal>
-        ensures { (node : NodeName) → Acts (Event.Arrive node copy at) (entries_of events.now) self.old self.new room result }
+        tag: u64,
+        left: &mut Left,
+    ) -> Result<Stepped, WorldRefusal>
+        requires tag { tag ≡ length (entries_of events.now) }
+        ensures acts { (node : NodeName) → Acts (Event.Arrive node copy at) (entries_of events.now) self.old self.new room (happened result left.new) }
+        ensures tag { IfOk result (λ stepped. stepped.tag ≡ tag) }
     {
         let shown = self.shown(at);
         match &mut self.port {
-            Port::Master(master) => master.arrive(events.octets(copy), shown, room),
-            Port::Slave(slave) => { slave.arrive(events.octets(copy), shown, events.len(), room) }
+            Port::Master(master) => master.arrive(events.octets(copy), shown, room, tag, left),
+            Port::Slave(slave) => { slave.arrive(events.octets(copy), shown, tag, room, left) }
             Port::Clock => Err(WorldRefusal::WrongKind),
         }
     }
 
     /// A slave hears a copy of a general message.
-    fn hear(&mut self, events: &Events, copy: u64, room: Room) -> Result<Happened, WorldRefusal>
-        ensures { (node : NodeName) → Acts (Event.Hear node copy) (entries_of events.now) self.old self.new room result }
+    fn hear(
+        &mut self,
+        events: &Events,
+        copy: u64,
+        room: Room,
+        tag: u64,
+        left: &mut Left,
+    ) -> Result<Stepped, WorldRefusal>
+        requires tag { tag ≡ length (entries_of events.now) }
+        ensures acts { (node : NodeName) → Acts (Event.Hear node copy) (entries_of events.now) self.old self.new room (happened result left.new) }
+        ensures tag { IfOk result (λ stepped. stepped.tag ≡ tag) }
     {
         let Port::Slave(slave) = &mut self.port else {
             return Err(WorldRefusal::WrongKind);
         };
-        slave.hear(events.octets(copy), events.len(), room)
+        slave.hear(events.octets(copy), tag, room, left)
     }
 
     /// A slave sends a Delay_Req.
@@ -248,36 +289,42 @@ impl Station {
         at: ScaledTime,
         events: &Events,
         room: Room,
-    ) -> Result<Happened, WorldRefusal>
-        ensures { (node : NodeName) → Acts (Event.Request node at) (entries_of events.now) self.old self.new room result }
+        tag: u64,
+        left: &mut Left,
+    ) -> Result<Stepped, WorldRefusal>
+        requires tag { tag ≡ length (entries_of events.now) }
+        ensures acts { (node : NodeName) → Acts (Event.Request node at) (entries_of events.now) self.old self.new room (happened result left.new) }
+        ensures tag { IfOk result (λ stepped. stepped.tag ≡ tag) }
     {
         let shown = self.shown(at);
         let Port::Slave(slave) = &mut self.port else {
             return Err(WorldRefusal::WrongKind);
         };
-        slave.request(shown, events.len(), room)
+        slave.request(shown, tag, room, left)
     }
 
     /// A slave learns when its waiting Delay_Req departed.
-    fn stamped(&mut self, room: Room) -> Result<Happened, WorldRefusal>
-        ensures { (node : NodeName) (entries : List Entry)
-            → Acts (Event.Stamped node) entries self.old self.new room result }
+    fn stamped(&mut self, room: Room, tag: u64, left: &mut Left) -> Result<Stepped, WorldRefusal>
+        ensures acts { (node : NodeName) (entries : List Entry)
+            → Acts (Event.Stamped node) entries self.old self.new room (happened result left.new) }
+        ensures tag { IfOk result (λ stepped. stepped.tag ≡ tag) }
     {
         let Port::Slave(slave) = &mut self.port else {
             return Err(WorldRefusal::WrongKind);
         };
-        slave.stamped(room)
+        slave.stamped(room, tag, left)
     }
 
     /// A slave's hold timer runs out.
-    fn tick(&mut self, room: Room) -> Result<Happened, WorldRefusal>
-        ensures { (node : NodeName) (entries : List Entry)
-            → Acts (Event.Tick node) entries self.old self.new room result }
+    fn tick(&mut self, room: Room, tag: u64, left: &mut Left) -> Result<Stepped, WorldRefusal>
+        ensures acts { (node : NodeName) (entries : List Entry)
+            → Acts (Event.Tick node) entries self.old self.new room (happened result left.new) }
+        ensures tag { IfOk result (λ stepped. stepped.tag ≡ tag) }
     {
         let Port::Slave(slave) = &mut self.port else {
             return Err(WorldRefusal::WrongKind);
         };
-        slave.tick(room)
+        slave.tick(room, tag, left)
     }
 
     /// A slave is told its present master.
@@ -286,9 +333,12 @@ impl Station {
         nodes: &Nodes,
         master: &Name,
         room: Room,
-    ) -> Result<Happened, WorldRefusal>
-        ensures { (node : NodeName) (entries : List Entry)
-            → ActsIn nodes.now (Event.SetMaster node master.now) entries self.old self.new room result }
+        tag: u64,
+        left: &mut Left,
+    ) -> Result<Stepped, WorldRefusal>
+        ensures acts { (node : NodeName) (entries : List Entry)
+            → ActsIn nodes.now (Event.SetMaster node master.now) entries self.old self.new room (happened result left.new) }
+        ensures tag { IfOk result (λ stepped. stepped.tag ≡ tag) }
     {
         let Some(other) = nodes.get(master) else {
             return Err(WorldRefusal::NoNode);
@@ -296,23 +346,31 @@ impl Station {
         let Port::Slave(slave) = &mut self.port else {
             return Err(WorldRefusal::WrongKind);
         };
-        slave.set_master(other.kind, room)
+        slave.set_master(other.kind, room, tag, left)
     }
 
     /// The clock is set.
-    fn step_clock(&mut self, diff: &i128, room: Room) -> Result<Happened, WorldRefusal>
-        ensures { (node : NodeName) (entries : List Entry)
-            → Acts (Event.StepClock node diff.now) entries self.old self.new room result }
+    fn step_clock(
+        &mut self,
+        diff: &i128,
+        room: Room,
+        tag: u64,
+        left: &mut Left,
+    ) -> Result<Stepped, WorldRefusal>
+        ensures acts { (node : NodeName) (entries : List Entry)
+            → Acts (Event.StepClock node diff.now) entries self.old self.new room (happened result left.new) }
+        ensures tag { IfOk result (λ stepped. stepped.tag ≡ tag) }
     {
         if diff.unsigned_abs() >= BOUND {
             return Err(WorldRefusal::ReadingOutOfRange);
         }
         room?;
         self.difference = *diff;
-        Ok(Happened {
+        *left = Left::Nothing;
+        Ok(Stepped {
+            tag,
             reading: None,
             outcome: Outcome::Done,
-            left: Left::Nothing,
         })
     }
 }

@@ -2,6 +2,7 @@ ghost use Rattle.world_model.specs.Inner.Stands.{IsWorld, run_of};
 ghost use Rattle.world_model.specs.Inner.Kept.{lists, entries_of, AllStored};
 ghost use Rattle.world_model.specs.Inner.Steps.{Steps};
 
+use crate::entry::Left;
 use crate::events::Events;
 use crate::places::{Recent, place_of, site};
 use crate::station::Station;
@@ -25,12 +26,13 @@ pub(crate) fn step(
     let Some(index) = place_of(nodes, recent, site(event)) else {
         return Err(WorldRefusal::NoNode);
     };
-    match stations[index].act(nodes, events, event, room) {
-        Ok(happened) => Ok(Stepped {
-            tag: events.push(event, &happened.left),
-            reading: happened.reading,
-            outcome: happened.outcome,
-        }),
+    let tag = events.len();
+    let mut left = Left::Nothing;
+    match stations[index].act(nodes, events, event, room, tag, &mut left) {
+        Ok(stepped) => {
+            events.push(event, &left);
+            Ok(stepped)
+        }
         Err(why) => Err(why),
     }
 }

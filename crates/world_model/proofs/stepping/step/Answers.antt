@@ -2,10 +2,10 @@ use Rattle.std.proofs.Common.{◌≡◌, ◌∙◌, ◌<◌, List, [], ◌∷◌
 use Rattle.std.proofs.lemmas.Option.{slice_get_within}
 use Rattle.network_model.specs.declared.stepped.Stepped.{Stepped}
 use Rattle.network_model.specs.Outcome.{IsStepped}
-use Rattle.world_model.specs.Inner.Stands.{Entry, run_of, IsWorld}
+use Rattle.world_model.specs.Inner.Stands.{Entry, happening, run_of, IsWorld}
 use Rattle.world_model.specs.Inner.Acts.{ActsIn, entries_after}
 use Rattle.world_model.specs.Inner.Kept.{Lists, lists, entries_in, entries_of}
-use Rattle.world_model.proofs.Entries.{after-length, run_of-after}
+use Rattle.world_model.proofs.Entries.{run_of-after}
 use Rattle.world_model.proofs.Happening.{found, answered, done-world, done-stepped, refused-world, refused-why, on_ok}
 use Rattle.world_model.proofs.KeptEvents.{entered-some}
 use Rattle.world_model.proofs.stepping.step.Goals as goal
@@ -17,9 +17,9 @@ push-requires-clause-room c =
     let less : c.in-Some.index < length c.args.stations.now.items = omega (arith, slice_get_within c.args.nodes.now c.in-Some.index here.node here.at, c.requires.world.nodes.count) in
     let roomy : entries_of c.reserve-room.new.self ≡ entries_of c.args.events.now =
     ap (λ (ls : Lists). entries_in ls c.reserve-room.new.self.kept.items) c.reserve-room.ensures.lists ∙ ap (entries_in (lists c.args.events.now.stores)) c.reserve-room.ensures.kept in
-    let acts = subst (λ (es : List Entry). ActsIn c.args.nodes.now c.args.event.now es old c.act.new.self c.reserve-room.result (Ok c.in-Ok.happened)) roomy c.in-Ok.ensures.acts in
+    let acts = subst (λ (es : List Entry). ActsIn c.args.nodes.now c.args.event.now es old c.act.new.self c.reserve-room.result (Ok (happening c.in-Ok.stepped c.act.new.left))) roomy c.in-Ok.ensures.acts in
     let ans = answered c.args.nodes.now c.args.event.now c.args.stations.now.items (entries_of c.args.events.now) c.requires.world c.site.result.now c.site.ensures
-    c.in-Some.index here less old c.act.new.self c.index_mut.ensures.value c.reserve-room.result (Ok c.in-Ok.happened) acts in
+    c.in-Some.index here less old c.act.new.self c.index_mut.ensures.value c.reserve-room.result (Ok (happening c.in-Ok.stepped c.act.new.left)) acts in
     c.in-Ok.ensures.room (on_ok c.reserve-room.result c.reserve-room.ensures.room ans.0)
 
 pub push-requires-clause-entered : goal.push-requires-clause-entered
@@ -29,10 +29,10 @@ push-requires-clause-entered c =
     let less : c.in-Some.index < length c.args.stations.now.items = omega (arith, slice_get_within c.args.nodes.now c.in-Some.index here.node here.at, c.requires.world.nodes.count) in
     let roomy : entries_of c.reserve-room.new.self ≡ entries_of c.args.events.now =
     ap (λ (ls : Lists). entries_in ls c.reserve-room.new.self.kept.items) c.reserve-room.ensures.lists ∙ ap (entries_in (lists c.args.events.now.stores)) c.reserve-room.ensures.kept in
-    let acts = subst (λ (es : List Entry). ActsIn c.args.nodes.now c.args.event.now es old c.act.new.self c.reserve-room.result (Ok c.in-Ok.happened)) roomy c.in-Ok.ensures.acts in
+    let acts = subst (λ (es : List Entry). ActsIn c.args.nodes.now c.args.event.now es old c.act.new.self c.reserve-room.result (Ok (happening c.in-Ok.stepped c.act.new.left))) roomy c.in-Ok.ensures.acts in
     let ans = answered c.args.nodes.now c.args.event.now c.args.stations.now.items (entries_of c.args.events.now) c.requires.world c.site.result.now c.site.ensures
-    c.in-Some.index here less old c.act.new.self c.index_mut.ensures.value c.reserve-room.result (Ok c.in-Ok.happened) acts in
-    entered-some c.args.event.now (run_of (entries_of c.args.events.now)) c.in-Ok.happened.left ans.1.stay
+    c.in-Some.index here less old c.act.new.self c.index_mut.ensures.value c.reserve-room.result (Ok (happening c.in-Ok.stepped c.act.new.left)) acts in
+    entered-some c.args.event.now (run_of (entries_of c.args.events.now)) c.act.new.left ans.1.stay
 
 pub returns-in-Ok-clause-world : goal.returns-in-Ok-clause-world
 returns-in-Ok-clause-world c =
@@ -41,15 +41,15 @@ returns-in-Ok-clause-world c =
     let less : c.in-Some.index < length c.args.stations.now.items = omega (arith, slice_get_within c.args.nodes.now c.in-Some.index here.node here.at, c.requires.world.nodes.count) in
     let roomy : entries_of c.reserve-room.new.self ≡ entries_of c.args.events.now =
     ap (λ (ls : Lists). entries_in ls c.reserve-room.new.self.kept.items) c.reserve-room.ensures.lists ∙ ap (entries_in (lists c.args.events.now.stores)) c.reserve-room.ensures.kept in
-    let acts = subst (λ (es : List Entry). ActsIn c.args.nodes.now c.args.event.now es old c.act.new.self c.reserve-room.result (Ok c.in-Ok.happened)) roomy c.in-Ok.ensures.acts in
+    let acts = subst (λ (es : List Entry). ActsIn c.args.nodes.now c.args.event.now es old c.act.new.self c.reserve-room.result (Ok (happening c.in-Ok.stepped c.act.new.left))) roomy c.in-Ok.ensures.acts in
     let ans = answered c.args.nodes.now c.args.event.now c.args.stations.now.items (entries_of c.args.events.now) c.requires.world c.site.result.now c.site.ensures
-    c.in-Some.index here less old c.act.new.self c.index_mut.ensures.value c.reserve-room.result (Ok c.in-Ok.happened) acts in
+    c.in-Some.index here less old c.act.new.self c.index_mut.ensures.value c.reserve-room.result (Ok (happening c.in-Ok.stepped c.act.new.left)) acts in
     let kept : entries_of c.act.new.events ≡ entries_after c.args.event.now (entries_of c.args.events.now) = c.in-Ok.ensures.entries ∙ ap (entries_after c.args.event.now) roomy in
-    let entry : Entry = record { event = c.args.event.now; left = c.in-Ok.happened.left } in
+    let entry : Entry = record { event = c.args.event.now; left = c.act.new.left } in
     let put : entries_of c.push.new.self ≡ entries_after c.args.event.now (entries_of c.args.events.now) ++ entry ∷ [] = c.push.ensures.entries ∙ ap (λ (es : List Entry). es ++ entry ∷ []) kept in
     subst (λ (es : List Entry). IsWorld c.args.nodes.now (slice_set c.args.stations.now.items c.in-Some.index c.act.new.self) es) (sym put)
     (done-world c.args.nodes.now c.args.event.now c.args.stations.now.items (entries_of c.args.events.now) c.requires.world c.site.result.now c.site.ensures
-    c.in-Some.index here less old c.act.new.self c.index_mut.ensures.value c.reserve-room.result c.in-Ok.happened ans.1)
+    c.in-Some.index here less old c.act.new.self c.index_mut.ensures.value c.reserve-room.result (happening c.in-Ok.stepped c.act.new.left) ans.1)
 
 pub returns-in-Ok-clause-steps : goal.returns-in-Ok-clause-steps
 returns-in-Ok-clause-steps c =
@@ -58,21 +58,21 @@ returns-in-Ok-clause-steps c =
     let less : c.in-Some.index < length c.args.stations.now.items = omega (arith, slice_get_within c.args.nodes.now c.in-Some.index here.node here.at, c.requires.world.nodes.count) in
     let roomy : entries_of c.reserve-room.new.self ≡ entries_of c.args.events.now =
     ap (λ (ls : Lists). entries_in ls c.reserve-room.new.self.kept.items) c.reserve-room.ensures.lists ∙ ap (entries_in (lists c.args.events.now.stores)) c.reserve-room.ensures.kept in
-    let acts = subst (λ (es : List Entry). ActsIn c.args.nodes.now c.args.event.now es old c.act.new.self c.reserve-room.result (Ok c.in-Ok.happened)) roomy c.in-Ok.ensures.acts in
+    let acts = subst (λ (es : List Entry). ActsIn c.args.nodes.now c.args.event.now es old c.act.new.self c.reserve-room.result (Ok (happening c.in-Ok.stepped c.act.new.left))) roomy c.in-Ok.ensures.acts in
     let ans = answered c.args.nodes.now c.args.event.now c.args.stations.now.items (entries_of c.args.events.now) c.requires.world c.site.result.now c.site.ensures
-    c.in-Some.index here less old c.act.new.self c.index_mut.ensures.value c.reserve-room.result (Ok c.in-Ok.happened) acts in
+    c.in-Some.index here less old c.act.new.self c.index_mut.ensures.value c.reserve-room.result (Ok (happening c.in-Ok.stepped c.act.new.left)) acts in
     let kept : entries_of c.act.new.events ≡ entries_after c.args.event.now (entries_of c.args.events.now) = c.in-Ok.ensures.entries ∙ ap (entries_after c.args.event.now) roomy in
-    let entry : Entry = record { event = c.args.event.now; left = c.in-Ok.happened.left } in
+    let entry : Entry = record { event = c.args.event.now; left = c.act.new.left } in
     let put : entries_of c.push.new.self ≡ entries_after c.args.event.now (entries_of c.args.events.now) ++ entry ∷ [] = c.push.ensures.entries ∙ ap (λ (es : List Entry). es ++ entry ∷ []) kept in
-    let stepped : Stepped = record { tag = length (entries_of c.args.events.now); reading = c.in-Ok.happened.reading; outcome = c.in-Ok.happened.outcome } in
-    let counted : c.push.result ≡ length (entries_of c.args.events.now) =
-    c.push.ensures.tag ∙ ap (length {A = Entry}) kept ∙ after-length c.args.event.now (entries_of c.args.events.now) in
-    let answer : Stepped = record { tag = c.push.result; reading = c.in-Ok.happened.reading; outcome = c.in-Ok.happened.outcome } in
-    let is : answer ≡ stepped = (λ i. record { tag = counted i; reading = c.in-Ok.happened.reading; outcome = c.in-Ok.happened.outcome }) in (
+    let stepped : Stepped = record { tag = length (entries_of c.args.events.now); reading = c.in-Ok.stepped.reading; outcome = c.in-Ok.stepped.outcome } in
+    let counted : c.in-Ok.stepped.tag ≡ length (entries_of c.args.events.now) =
+    c.in-Ok.ensures.tag ∙ c.len-tag.ensures ∙ ap (length {A = Entry}) roomy in
+    let answer : Stepped = record { tag = c.in-Ok.stepped.tag; reading = c.in-Ok.stepped.reading; outcome = c.in-Ok.stepped.outcome } in
+    let is : answer ≡ stepped = (λ i. record { tag = counted i; reading = c.in-Ok.stepped.reading; outcome = c.in-Ok.stepped.outcome }) in (
       subst (IsStepped c.args.nodes.now (run_of (entries_of c.args.events.now)) c.args.event.now) (sym is)
           (done-stepped c.args.nodes.now c.args.event.now c.args.stations.now.items (entries_of c.args.events.now) c.requires.world c.site.result.now c.site.ensures
-          c.in-Some.index here less old c.act.new.self c.index_mut.ensures.value c.reserve-room.result c.in-Ok.happened ans.1),
-      ap run_of put ∙ run_of-after c.args.event.now (entries_of c.args.events.now) c.in-Ok.happened.left,
+          c.in-Some.index here less old c.act.new.self c.index_mut.ensures.value c.reserve-room.result (happening c.in-Ok.stepped c.act.new.left) ans.1),
+      ap run_of put ∙ run_of-after c.args.event.now (entries_of c.args.events.now) c.act.new.left,
     )
 
 pub returns-in-Err-clause-world : goal.returns-in-Err-clause-world
