@@ -8,6 +8,8 @@
 - what `replay` writes is what told.py says, but for what came of each event. `check` accepts it with all its reports, and refuses it
   with 706 where one result is another;
 - what `check` accepts has as many reports as it says, and what it refuses is a report;
+- 100,000 lines more, in spellings other than that of `ptpx` or almost in that one, are read up to their first fault as spelled.py says,
+  another such reader, and as `ptpx` reads them behind a blank and with a key twice, where it takes no guess of the line itself;
 - what `explain` says of one in five of these inputs ends as `check` or `replay` did, and judges the reports as the verdict does;
 - no run takes more than 64 MiB of memory.
 
@@ -25,6 +27,7 @@ import subprocess
 import sys
 import zlib
 
+import almost
 import explained
 import inputs
 import measured
@@ -68,6 +71,9 @@ ENDINGS = {'show': '.hex', 'replay': '.schedule.jsonl', 'check': '.transcript.js
 
 # Of so many inputs of `replay` and `check` one is given to `explain`, too.
 EXPLAINED = 5
+
+# How many lines `replay` and `check` get that are almost spelled as `ptpx` writes them.
+ALMOST = 100_000
 
 # How many transcripts with reports `check` gets changed.
 TRANSCRIPTS = 40
@@ -233,11 +239,28 @@ def try_all(subcommand, count, files):
     return seen, reported
 
 
+def try_almost():
+    """Runs so many lines that are almost spelled as `ptpx` writes them, and answers how many there were."""
+    count = 0
+    with concurrent.futures.ThreadPoolExecutor(AT_ONCE) as pool:
+        seeds = itertools.count(SEED)
+        while count < ALMOST:
+            batch = list(itertools.islice(seeds, 100))
+            for seed, (lines, wrong, text) in zip(batch, pool.map(lambda seed: almost.misread(start, random.Random(seed)), batch)):
+                if wrong:
+                    kept = TOP / 'crates/ptpx/out/hostile'
+                    kept.write_bytes(b'\n'.join(text))
+                    sys.exit(f'hostile: seed {seed}: {"; ".join(wrong)}; the lines are {kept}')
+                count += lines
+    return count
+
+
 def main():
     reported = []
     for subcommand in SUBCOMMANDS:
         seen, reported = try_all(subcommand, INPUTS // len(SUBCOMMANDS), files_for(subcommand) + reported)
         print(f'hostile: {subcommand}:', ', '.join(f'{count} {name}' for name, count in sorted(seen.items()) if name not in MEASURED))
+    print(f'hostile: {try_almost()} lines in other spellings')
     memory = resource.getrusage(resource.RUSAGE_CHILDREN).ru_maxrss
     if memory > MEMORY:
         sys.exit(f'hostile: a run took {memory} KiB')

@@ -5,9 +5,12 @@
 //! so many events, in a `world`, which then tells its memory, or by calls of the `ports`; or so many
 //! lines that a checker is fed, of whole exchanges, `checked`, which then tells the memory, of one
 //! `journey` that is reported again and again, or of a `tree` of copies whose stays are left twice.
+//! It also writes so many names or identities that meet in a table, `fixed_names`, `guessed_names` or
+//! `fixed_identities`.
 #![tactic(auto)]
 
 mod checked;
+mod meeting;
 mod networks;
 mod tables;
 
@@ -175,6 +178,9 @@ fn main(rt: HostRuntime) -> io::Result<()> {
             return println!(rt; "{reports} reports");
         }
         _ => {}
+    }
+    if let Some(lines) = meeting::lines_of(rt.alloc(), measured, rounds) {
+        return print!(rt; "{}", lines?);
     }
     match tables::found_in(measured, rounds) {
         Some(found) => println!(rt; "{found} found"),

@@ -59,9 +59,10 @@ with_judgement-within answer n limit (Accepted count) h =
 with_judgement-within answer n limit (Refused line why) h = omega arith
 
 -- the verdict that is kept is of no more lines than were kept
-pub accepted-bound : (kept : Kept) (count : ℕ) (m : Machine) (total : ℕ) → IsKept kept count m → count < total
+pub accepted-bound : (network : Network) (kept : Kept) (count : ℕ) (m : Machine) (total : ℕ)
+    → IsKept network kept count m → count < total
     → total < 18446744073709551616 → accepted_count kept.verdict < 18446744073709551615
-accepted-bound kept count m total h below bound = omega (arith, h.within, ap accepted_count h.verdict)
+accepted-bound network kept count m total h below bound = omega (arith, h.within, ap accepted_count h.verdict)
 
 -- nothing is kept of lines to come
 none_after : (items : List (Option Fact)) (facts : Facts) (count : ℕ) → length items ≡ count → fact_in items ≡ facts
@@ -145,9 +146,9 @@ once_kept kept stays leaves number h = λ i copy. at copy i
     at copy = by (suc copy) copy (omega arith)
 
 module _ (network : Network) (line : TraceLine) (count : ℕ) (m : Machine) (kept : Kept) (number : ℕ)
-    (fact : Option Fact) (items : List (Option Fact)) (h : IsKept kept count m)
+    (fact : Option Fact) (items : List (Option Fact)) (h : IsKept network kept count m)
     (number_is : number ≡ length kept.facts.items)
-    (fact_is : fact ≡ fact_by network (facts_of kept) (sites_of kept) line number)
+    (fact_is : fact ≡ fact_by network (facts_of kept) (sites_of network kept) line number)
     (items_is : items ≡ kept.facts.items ++ fact ∷ []) where
   counted : number ≡ count
   counted = number_is ∙ h.count_is
@@ -161,7 +162,7 @@ module _ (network : Network) (line : TraceLine) (count : ℕ) (m : Machine) (kep
 
   -- what the report of one more line is judged to be
   pub judgement-line : (answer : Option Judgement)
-      → answer ≡ line_judgement_by network (fact_in items) (once_in kept.stays) (stamps_of kept) (sites_of kept) fact
+      → answer ≡ line_judgement_by network (fact_in items) (once_in kept.stays) (stamps_of kept) (sites_of network kept) fact
       line.out
       → answer ≡ judgement_after network line count m
   judgement-line answer answer_is = answer_is
@@ -171,15 +172,15 @@ module _ (network : Network) (line : TraceLine) (count : ℕ) (m : Machine) (kep
   pub IsKept-line : (after : Kept) (last : ℕ) (answer : Option Judgement)
       → last ≡ length kept.facts.items
       → after.facts.items ≡ items
-      → sites_of after ≡ sites_told fact number (sites_of kept)
+      → sites_of network after ≡ sites_told fact number (sites_of network kept)
       → ((stays : LastStays) (leaves : Leaves) → AreStays kept.stays stays leaves number
       → AreStays after.stays (with_stay number (option_and_then (stay_of (fact_in items) number) fact) stays)
       (leaves_told fact leaves) (number + 1))
-      → stamps_of after ≡ stamps_told fact number (sites_of kept) (stamps_of kept)
-      → answer ≡ line_judgement_by network (fact_in items) (once_in kept.stays) (stamps_of kept) (sites_of kept) fact
+      → stamps_of after ≡ stamps_told fact number (sites_of network kept) (stamps_of kept)
+      → answer ≡ line_judgement_by network (fact_in items) (once_in kept.stays) (stamps_of kept) (sites_of network kept) fact
       line.out
       → after.verdict ≡ with_judgement answer last kept.verdict
-      → IsKept after (count + 1) (after_line network line count m)
+      → IsKept network after (count + 1) (after_line network line count m)
   IsKept-line after last answer last_is items_after sites_is stays_is stamps_is answer_is verdict_is =
       let placed : last ≡ count = last_is ∙ h.count_is in
       let stays = last_stays m.facts in

@@ -4,6 +4,7 @@ pub mod Cutting
 pub mod Links
 pub mod Passing
 pub mod Keeping
+pub mod KeptSites
 pub mod Reversed
 pub mod Noted
 pub mod Told

@@ -32,8 +32,8 @@ reverse_more lines line i within read =
 -- after one more of the lines
 pub IsKept-more : (network : Network) (lines : List TraceLine) (line : TraceLine) (kept : Kept) (i : ℕ)
     → i < length lines → line ≡ get_or lines i line
-    → IsKept kept (i + 1) (after_line network line i (machine network (reverse (take i lines))))
-    → IsKept kept (i + 1) (machine network (reverse (take (i + 1) lines)))
+    → IsKept network kept (i + 1) (after_line network line i (machine network (reverse (take i lines))))
+    → IsKept network kept (i + 1) (machine network (reverse (take (i + 1) lines)))
 IsKept-more network lines line kept i within read h =
     let count : length (reverse (take i lines)) ≡ i =
     length-reverse (take i lines) ∙ length-take-le i lines (omega arith) in
@@ -41,11 +41,11 @@ IsKept-more network lines line kept i within read h =
     ≡ machine network (reverse (take (i + 1) lines)) =
     (λ k. after_line network line (sym count k) (machine network (reverse (take i lines))))
     ∙ sym (ap (machine network) (reverse_more lines line i within read)) in
-    subst (λ (s : Machine). IsKept kept (i + 1) s) m h
+    subst (λ (s : Machine). IsKept network kept (i + 1) s) m h
 
 -- the verdict that is kept of all lines
 pub verdict-kept : (network : Network) (lines : Lines) (kept : Kept) (count : ℕ)
-    → IsKept kept count (machine network lines) → kept.verdict ≡ verdict network lines
+    → IsKept network kept count (machine network lines) → kept.verdict ≡ verdict network lines
 verdict-kept network lines kept count h = h.verdict ∙ machine-verdict network lines
 
 -- what the report of the next line is judged to be, where these lines were fed before it, newest first
@@ -60,7 +60,7 @@ take_whole : (lines : List TraceLine) (i : ℕ) → length lines ≤ i → take 
 take_whole lines i h = grind (arith, common_steps)
 
 pub verdict-kept-all : (network : Network) (lines : List TraceLine) (kept : Kept) (count i : ℕ) → length lines ≤ i
-    → IsKept kept count (machine network (reverse (take i lines))) → kept.verdict ≡ verdict network (reverse lines)
+    → IsKept network kept count (machine network (reverse (take i lines))) → kept.verdict ≡ verdict network (reverse lines)
 verdict-kept-all network lines kept count i past h =
     verdict-kept network (reverse (take i lines)) kept count h
     ∙ ap (λ (xs : List TraceLine). verdict network (reverse xs)) (take_whole lines i past)

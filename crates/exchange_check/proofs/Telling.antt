@@ -335,7 +335,7 @@ module _ (network : Network) (report : Report) where
           (stamps_at network (line ∷ earlier)) h
 
 -- what is told right after these lines, newest first, by what is kept of them
-module _ (network : Network) (fed : Lines) (kept : Kept) (h : IsKept kept (length fed) (machine network fed)) where
+module _ (network : Network) (fed : Lines) (kept : Kept) (h : IsKept network kept (length fed) (machine network fed)) where
   facts_are : facts_of kept ≡ facts_at network fed
   facts_are = h.facts ∙ (stands network fed).facts
 

@@ -60,7 +60,7 @@ impl Model for Checker {
 
     ghost view = { λ c. record { network = c.nodes; lines = reverse c.fed } };
 
-    ghost invariant = { λ c. IsKept c.kept (length c.fed) (machine c.nodes c.fed) };
+    ghost invariant = { λ c. IsKept c.nodes c.kept (length c.fed) (machine c.nodes c.fed) };
 }
 
 impl Checker {

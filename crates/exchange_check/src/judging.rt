@@ -414,7 +414,7 @@ impl Kept {
         found: Option<Found>,
     ) -> Judgement
         ensures { result ≡ found_judgement nodes.now (facts_of self.now) (once_in self.now.stays)
-            (sites_of self.now slave.now) slave.now report.now found }
+            (sites_of nodes.now self.now slave.now) slave.now report.now found }
     {
         let Some(found) = found else {
             return alone(Why::NoSuchLine);
@@ -425,14 +425,14 @@ impl Kept {
         let Some(request) = self.journey_to(LineKind::Request, &found.request_arrival) else {
             return alone(Why::BrokenJourney);
         };
-        let at = self.site(slave);
+        let at = self.site(nodes, slave);
         journeys_judgement(nodes, &at, slave, report, &found, &sync, &request)
     }
 
     /// What a report at a line is judged to be.
     pub(crate) fn judgement(&self, nodes: &Nodes, fact: &Option<Fact>, report: &Report) -> Judgement
         ensures { result ≡ judgement_by nodes.now (facts_of self.now) (once_in self.now.stays) (stamps_of self.now)
-            (sites_of self.now) fact.now report.now }
+            (sites_of nodes.now self.now) fact.now report.now }
     {
         let Some(fact) = fact else {
             return alone(Why::NoSuchLine);

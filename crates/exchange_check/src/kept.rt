@@ -1,6 +1,6 @@
 //! What is kept of the lines so far, and what one more line adds to it.
 
-ghost use Rattle.std.specs.Prelude.{◌≡◌, ◌≤ℤ◌, ◌+ℤ◌, ◌+◌, pos, option_map, option_and_then, unwrap_or, IfSome, ℕ};
+ghost use Rattle.std.specs.Prelude.{◌≡◌, ◌≤ℤ◌, ◌+ℤ◌, ◌+◌, pos, option_map, option_and_then, unwrap_or, IfSome, ℕ, true};
 ghost use Rattle.std.specs.Prelude.{◌==◌, Some, None, OnOk, OnErr, ◌<◌, MatchResult, IfOk};
 ghost use Rattle.std.specs.BTreeMap.{get};
 ghost use Rattle.std.specs.Ordering.{nat_cmp};
@@ -10,9 +10,10 @@ ghost use Rattle.exchange_check.specs.Inner.Machine.{after_line, judgement_after
 ghost use Rattle.exchange_check.specs.Inner.Machine.{leaves_told, stamps_told, facts_of, sites_of, stamps_of};
 ghost use Rattle.exchange_check.specs.Inner.Stays.{stay_of, once_in, StaysAfter};
 ghost use Rattle.network_model.specs.Kinds.{named_transit};
+ghost use Rattle.network_model.specs.Network.{Network};
 ghost use Rattle.std.specs.Option.{option_map_or};
-ghost use Rattle.exchange_check.specs.Inner.Kept.{moved, moved_at, stamped, sites_after, leaves_after, stamps_after};
-ghost use Rattle.exchange_check.specs.Inner.Kept.{site_in, kept_journey_at, copy_entered_by, stayed, begun_by};
+ghost use Rattle.exchange_check.specs.Inner.Kept.{stamped, sites_after, leaves_after, stamps_after};
+ghost use Rattle.exchange_check.specs.Inner.Kept.{has_site, kept_journey_at, copy_entered_by, stayed, begun_by};
 ghost use Rattle.exchange_check.specs.Inner.Kept.{kept_journey_by, message_after_by, followed_by, answered_by};
 ghost use Rattle.exchange_check.specs.Inner.Kept.{message_by, known_by, number_by, fact_known, fact_from};
 ghost use Rattle.exchange_check.specs.Inner.Kept.{kept_journey_left, written_journey, port_setup};
@@ -26,13 +27,14 @@ use crate::good::{completes, counts, is_made};
 use crate::octets::{Port, delay_resp, is_written, master_at, resided, sent, slave_at};
 use crate::refusal::CheckFault;
 use crate::residence::Residence;
+use crate::sites::{move_site, site_in};
 use crate::stays::Stays;
 use event_codec::PortMessage;
 use master_port::follow_up;
 use network_model::{Event, Name, Nodes};
 use ptp_units::{ScaledTime, Seq};
 use std::alloc::Global;
-use std::collections::{BTreeMap, HashMap};
+use std::collections::BTreeMap;
 use trace_model::{Judgement, TraceLine, TraceOut, Verdict};
 
 /// What is kept of the lines so far.
@@ -40,8 +42,8 @@ use trace_model::{Judgement, TraceLine, TraceOut, Verdict};
 pub(crate) struct Kept {
     /// Of each line that counts.
     pub(crate) facts: Vec<Option<Fact>>,
-    /// Of each node.
-    pub(crate) sites: HashMap<Name, Site>,
+    /// Of nodes, by their places in the network.
+    pub(crate) sites: Vec<Site>,
     /// Of stays, and of the copies that left after them.
     pub(crate) stays: Stays,
     /// Of each request: the number of the line at which its departure was learned.
@@ -125,11 +127,11 @@ fn begun(known: &Known) -> KeptJourney
 impl Kept {
     /// What is kept before the first line.
     pub(crate) fn new(alloc: Global) -> Kept
-        ensures { IsKept result 0 start }
+        ensures { (network : Network) → IsKept network result 0 start }
     {
         Kept {
             facts: Vec::new(alloc),
-            sites: HashMap::new(alloc),
+            sites: Vec::new(alloc),
             stays: Stays::new(alloc),
             stamps: BTreeMap::new(alloc),
             verdict: Verdict::Accepted(0),
@@ -147,10 +149,10 @@ impl Kept {
     }
 
     /// What is kept of a node.
-    pub(crate) fn site(&self, name: &Name) -> Site
-        ensures { result ≡ sites_of self.now name.now }
+    pub(crate) fn site(&self, nodes: &Nodes, name: &Name) -> Site
+        ensures { result ≡ sites_of nodes.now self.now name.now }
     {
-        site_in(&self.sites, name)
+        site_in(self.sites.as_slice(), nodes, name)
     }
 
     /// The journey of the copy that the line of this number made.
@@ -162,22 +164,25 @@ impl Kept {
 
     /// The sequenceId that an event draws.
     fn number(&self, nodes: &Nodes, event: &Event) -> Seq
-        ensures { result.0 ≡ number_by nodes.now (sites_of self.now) event.now }
+        ensures { result.0 ≡ number_by nodes.now (sites_of nodes.now self.now) event.now }
     {
         match event {
             Event::Sync { node, .. } | Event::SyncOne { node, .. } => {
-                drawn(master_at(nodes, node), self.site(node).syncs)
+                drawn(master_at(nodes, node), self.site(nodes, node).syncs)
             }
-            Event::Request { node, .. } => drawn(slave_at(nodes, node), self.site(node).requests),
+            Event::Request { node, .. } => drawn(
+                slave_at(nodes, node),
+                self.site(nodes, node).requests,
+            ),
             _ => Seq(0),
         }
     }
 
     /// What is known of a line from the line itself and from its node.
     fn known(&self, nodes: &Nodes, line: &TraceLine, number: u64) -> Known
-        ensures { result ≡ known_by nodes.now (sites_of self.now) line.now number }
+        ensures { result ≡ known_by nodes.now (sites_of nodes.now self.now) line.now number }
     {
-        let site = self.site(&line.event.node());
+        let site = self.site(nodes, &line.event.node());
         Known {
             line: number,
             reading: moment_or_zero(line.reading),
@@ -347,15 +352,16 @@ impl Kept {
     }
 
     /// Takes the line of this number, which counts, into what is kept beside facts.
-    fn note(&mut self, fact: &Fact, number: u64) -> Result<(), CheckFault>
-        ensures sites { OnOk result (sites_of self.new ≡ sites_after fact.now.event number (sites_of self.old)) }
+    fn note(&mut self, nodes: &Nodes, fact: &Fact, number: u64) -> Result<(), CheckFault>
+        ensures sites { has_site nodes.now fact.now.event ≡ true → OnOk result
+            (sites_of nodes.now self.new ≡ sites_after fact.now.event number (sites_of nodes.now self.old)) }
         ensures stays { StaysAfter self.old.stays self.new.stays number (stay_of (facts_of self.old) number fact.now)
             (leaves_after fact.now.event) result }
-        ensures stamps { OnOk result
-            (stamps_of self.new ≡ stamps_after fact.now.event number (sites_of self.old) (stamps_of self.old)) }
+        ensures stamps { OnOk result (stamps_of self.new
+            ≡ stamps_after fact.now.event number (sites_of nodes.now self.old) (stamps_of self.old)) }
         ensures facts { self.new.facts ≡ self.old.facts }
         ensures verdict { self.new.verdict ≡ self.old.verdict }
-        ensures same_sites { OnErr result (sites_of self.new ≡ sites_of self.old) }
+        ensures same_sites { OnErr result (sites_of nodes.now self.new ≡ sites_of nodes.now self.old) }
         ensures same_stamps { OnErr result (stamps_of self.new ≡ stamps_of self.old) }
     {
         match &fact.event {
@@ -363,13 +369,13 @@ impl Kept {
             | Event::SyncOne { .. }
             | Event::Request { .. }
             | Event::SetMaster { .. }
-            | Event::StepClock { .. } => move_site(&mut self.sites, &fact.event, number),
+            | Event::StepClock { .. } => move_site(&mut self.sites, nodes, &fact.event, number),
             Event::Leave { transit, .. } => {
                 let from = self.entered(fact, *transit, number);
                 self.stays.leave(number, *transit, from)
             }
             Event::Stamped { node } => {
-                let last = self.site(node).last_request;
+                let last = self.site(nodes, node).last_request;
                 stamp(&mut self.stamps, last, number)
             }
             _ => Ok(()),
@@ -377,19 +383,25 @@ impl Kept {
     }
 
     /// The same, where the line counts.
-    fn note_fact(&mut self, fact: &Option<Fact>, number: u64) -> Result<(), CheckFault>
-        ensures sites { OnOk result (sites_of self.new ≡ sites_told fact.now number (sites_of self.old)) }
+    fn note_fact(
+        &mut self,
+        nodes: &Nodes,
+        fact: &Option<Fact>,
+        number: u64,
+    ) -> Result<(), CheckFault>
+        ensures sites { IfSome fact.now (λ told. has_site nodes.now told.event ≡ true) → OnOk result
+            (sites_of nodes.now self.new ≡ sites_told fact.now number (sites_of nodes.now self.old)) }
         ensures stays { StaysAfter self.old.stays self.new.stays number
             (option_and_then (stay_of (facts_of self.old) number) fact.now) (leaves_told fact.now) result }
         ensures stamps { OnOk result
-            (stamps_of self.new ≡ stamps_told fact.now number (sites_of self.old) (stamps_of self.old)) }
+            (stamps_of self.new ≡ stamps_told fact.now number (sites_of nodes.now self.old) (stamps_of self.old)) }
         ensures facts { self.new.facts ≡ self.old.facts }
         ensures verdict { self.new.verdict ≡ self.old.verdict }
-        ensures same_sites { OnErr result (sites_of self.new ≡ sites_of self.old) }
+        ensures same_sites { OnErr result (sites_of nodes.now self.new ≡ sites_of nodes.now self.old) }
         ensures same_stamps { OnErr result (stamps_of self.new ≡ stamps_of self.old) }
     {
         match fact {
-            Some(told) => self.note(told, number),
+            Some(told) => self.note(nodes, told, number),
             None => Ok(()),
         }
     }
@@ -403,7 +415,7 @@ impl Kept {
         out: &TraceOut,
     ) -> Option<Judgement>
         ensures { result ≡ line_judgement_by nodes.now (facts_of self.now) (once_in self.now.stays) (stamps_of self.now)
-            (sites_of self.now) fact.now out.now }
+            (sites_of nodes.now self.now) fact.now out.now }
     {
         match out {
             TraceOut::Report(report) => Some(self.judgement(nodes, fact, report)),
@@ -418,10 +430,10 @@ impl Kept {
         nodes: &Nodes,
         line: &TraceLine,
     ) -> Result<Option<Judgement>, CheckFault>
-        ensures kept { (count : ℕ) (m : Machine) → IsKept self.old count m → MatchResult result
-            (λ answer. IsKept self.new (count + 1) (after_line nodes.now line.now count m)
+        ensures kept { (count : ℕ) (m : Machine) → IsKept nodes.now self.old count m → MatchResult result
+            (λ answer. IsKept nodes.now self.new (count + 1) (after_line nodes.now line.now count m)
             × (answer ≡ judgement_after nodes.now line.now count m))
-            (λ _. IsKept self.new count m) }
+            (λ _. IsKept nodes.now self.new count m) }
     {
         let number = self.facts.len() as u64;
         let known = self.known(nodes, line, number);
@@ -433,7 +445,7 @@ impl Kept {
         let total = self.facts.len() as u64;
         let answer = self.line_judgement(nodes, &fact, &line.out);
         let verdict = with_judgement(self.verdict, &answer, total - 1);
-        if self.note_fact(&fact, number).is_err() {
+        if self.note_fact(nodes, &fact, number).is_err() {
             self.facts.pop();
             return Err(CheckFault::Memory);
         }
@@ -452,60 +464,6 @@ fn with_judgement(verdict: Verdict, answer: &Option<Judgement>, number: u64) -> 
     match judgement.reasons.as_slice().first().copied() {
         Some(why) => Verdict::Refused { line: number, why },
         None => Verdict::Accepted(count.saturating_add(1)),
-    }
-}
-
-/// What is kept of a node after an event of it at the line of this number.
-fn moved(event: &Event, number: u64, site: Site) -> Site
-    ensures { result ≡ moved event.now number site }
-{
-    match event {
-        Event::Sync { .. } => Site {
-            syncs: site.syncs.next(),
-            last_sync: Some(number),
-            ..site
-        },
-        Event::SyncOne { .. } => Site {
-            syncs: site.syncs.next(),
-            ..site
-        },
-        Event::Request { .. } => Site {
-            requests: site.requests.next(),
-            last_request: Some(number),
-            ..site
-        },
-        Event::SetMaster { master, .. } => Site {
-            set_master: Some((*master, number)),
-            ..site
-        },
-        Event::StepClock { diff, .. } => Site {
-            difference: *diff,
-            ..site
-        },
-        _ => site,
-    }
-}
-
-/// What a map has of a node.
-fn site_in(sites: &HashMap<Name, Site>, name: &Name) -> Site
-    ensures { result ≡ site_in sites.now name.now }
-{
-    match sites.get(name) {
-        Some(site) => *site,
-        None => Site::default(),
-    }
-}
-
-/// An event at a node, at the line of this number.
-fn move_site(sites: &mut HashMap<Name, Site>, event: &Event, number: u64) -> Result<(), CheckFault>
-    ensures moved { OnOk result (site_in sites.new ≡ moved_at event.now number (site_in sites.old)) }
-    ensures unchanged { OnErr result (site_in sites.new ≡ site_in sites.old) }
-{
-    let name = event.node();
-    let after = moved(event, number, site_in(sites, &name));
-    match sites.insert(name, after) {
-        Ok(_) => Ok(()),
-        Err(_) => Err(CheckFault::Memory),
     }
 }
 

@@ -12,6 +12,7 @@ mod kept;
 mod octets;
 mod refusal;
 mod residence;
+mod sites;
 mod stays;
 
 pub use checker::{Checker, check};

@@ -26,6 +26,16 @@ impl Tagged {
         }
     }
 
+    /// The place of its tag among the four.
+    fn place(self) -> &'static str {
+        match self {
+            Tagged::Sync => "1st",
+            Tagged::FollowUp => "2nd",
+            Tagged::Request => "3rd",
+            Tagged::Response => "4th",
+        }
+    }
+
     /// What the event is to be.
     fn wanted(self) -> &'static str {
         match self {
@@ -108,7 +118,12 @@ impl Case<'_> {
 
     /// Appends what a tag names in place of what.
     fn push_tag(&self, text: &mut String, message: Tagged, tag: u64) -> Result<(), AllocError> {
-        write!(text, "    the tag of the {} names ", message.name())?;
+        write!(
+            text,
+            "    the {} of \"tags\", of the {}, names ",
+            message.place(),
+            message.name()
+        )?;
         push_event(text, self.record, tag)?;
         if let Some(recorded) = self.record.at(tag)
             && !recorded.counts
@@ -140,8 +155,8 @@ impl Case<'_> {
         }
         write!(
             text,
-            "    no tag is {number}; wanted is that the Sync, the Follow_Up or the Delay_Resp came by the event that \
-             reports\n"
+            "    none of \"tags\" is {number}; wanted is that the Sync (1st), the Follow_Up (2nd) or the Delay_Resp (4th) \
+             came by the event that reports\n"
         )
     }
 
@@ -152,7 +167,7 @@ impl Case<'_> {
             None => self.push_tag(text, Tagged::Sync, report.sync_tag),
             Some(sync) if report.follow_tag.is_none() && !completes(&sync.line.out) => write!(
                 text,
-                "    the report names no Follow_Up, but the Sync of {} waits for one\n",
+                "    the 2nd of \"tags\" is null, but the Sync of {} waits for a Follow_Up\n",
                 self.record.place(report.sync_tag)
             ),
             Some(_) => Ok(()),

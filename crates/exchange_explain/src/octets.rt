@@ -95,14 +95,14 @@ impl Display for Differs<'_> {
         let difference = self.difference;
         if difference.is_minor_version() {
             return f.write_str(
-                "minorVersionPTP, the high half of octet 1 from 0, is 0 (IEEE 1588-2008), where 1 is written (IEEE \
+                "minorVersionPTP, the high half of octet 1 from 0, is 0 (IEEE 1588-2008); wanted is 1 (IEEE \
                  1588-2019); all other octets are right",
             );
         }
         if let Some(octet) = difference.first {
             write!(
                 f,
-                "octet {} from 0, in {}, is {:02x} where {:02x} is written",
+                "octet {} from 0, in {}, is {:02x}; wanted is {:02x}",
                 octet.place,
                 field_name(octet.place, self.body),
                 octet.found,
@@ -119,7 +119,7 @@ impl Display for Differs<'_> {
         }
         write!(
             f,
-            "; it has {} octets where {} are written",
+            "; it has {} octets; wanted are {}",
             difference.found, difference.wanted
         )
     }

@@ -3,12 +3,12 @@
 use crate::differing::Differing;
 use crate::input::Input;
 use crate::octets::difference_at;
-use network_model::{Event, Name, NodeKind, NodeSpec};
+use network_model::{Event, Name, NodeKind, NodeSpec, Nodes, WorldRefusal};
 use ptp_units::Seq;
 use schedule_lines::TranscriptLine;
 use schedule_reading::{TaskFault, read_recorded};
 use std::alloc::{AllocError, Global};
-use std::collections::{BTreeMap, HashMap};
+use std::collections::BTreeMap;
 use std::fmt;
 use std::fmt::{Display, Formatter};
 use trace_model::{TraceLine, TraceOut};
@@ -65,8 +65,11 @@ impl Display for Place {
 #[derive(Drop)]
 pub(crate) struct Record {
     nodes: Vec<NodeSpec>,
+    /// The same by their names, from the first event on.
+    network: Option<Nodes>,
+    /// Of each node, in their order.
+    sites: Vec<Site>,
     events: Vec<Recorded>,
-    sites: HashMap<Name, Site>,
     /// By the number that a Leave names as its Enter's. Whoever writes lines picks these, so they aren't hashed.
     leaves: BTreeMap<u64, Leaves>,
     /// How many messages have other octets than are written.
@@ -109,8 +112,9 @@ impl Record {
     pub(crate) fn new(alloc: Global) -> Record {
         Record {
             nodes: Vec::new(alloc),
+            network: None,
+            sites: Vec::new(alloc),
             events: Vec::new(alloc),
-            sites: HashMap::new(alloc),
             leaves: BTreeMap::new(alloc),
             differing: Differing::new(),
         }
@@ -129,6 +133,7 @@ impl Record {
         match read_recorded(alloc, line) {
             Ok(TranscriptLine::Node(node)) => self.push_node(node),
             Ok(TranscriptLine::Event { number, line }) => {
+                self.find_nodes(alloc)?;
                 self.push_event(line)?;
                 let found = difference_at(transcript, self, number);
                 self.differing.count(found);
@@ -140,18 +145,38 @@ impl Record {
     }
 
     fn push_node(&mut self, node: NodeSpec) -> Result<(), AllocError> {
-        let NodeSpec { name, kind } = node;
-        let site = Site::new(kind);
+        let kind = node.kind;
         self.nodes.push(node)?;
-        self.sites.insert(name, site)?;
+        self.sites.push(Site::new(kind))?;
         Ok(())
+    }
+
+    /// At the first event, finds the nodes by their names. They are a network, since the input has taken the event.
+    fn find_nodes(&mut self, alloc: Global) -> Result<(), AllocError> {
+        if self.network.is_some() {
+            return Ok(());
+        }
+        match Nodes::new(alloc, self.nodes.as_slice()) {
+            Ok(network) => {
+                self.network = Some(network);
+                Ok(())
+            }
+            Err(WorldRefusal::Memory) => Err(AllocError),
+            Err(_) => Ok(()),
+        }
+    }
+
+    /// What stands at a node.
+    fn site(&self, name: &Name) -> Option<&Site> {
+        let place = self.network.as_ref()?.index_of(name)?;
+        self.sites.get(place)
     }
 
     fn push_event(&mut self, line: TraceLine) -> Result<(), AllocError> {
         let number = self.events.len() as u64;
         let event = line.event;
         let counts = self.counts(&line);
-        let site = self.sites.get(&event.node()).copied();
+        let site = self.site(&event.node()).copied();
         self.events.push(Recorded {
             line,
             counts,
@@ -171,7 +196,10 @@ impl Record {
         if let Event::Stamped { node } = event {
             self.note_stamp(number, node);
         }
-        if let Some(site) = self.sites.get_mut(&event.node()) {
+        if let Some(network) = &self.network
+            && let Some(place) = network.index_of(&event.node())
+            && let Some(site) = self.sites.get_mut(place)
+        {
             site.note(number, event);
         }
         match event.named_transit() {
@@ -182,7 +210,7 @@ impl Record {
 
     /// A slave learned when its last Delay_Req departed.
     fn note_stamp(&mut self, number: u64, slave: &Name) {
-        let request = self.sites.get(slave).and_then(|site| site.request);
+        let request = self.site(slave).and_then(|site| site.request);
         let Some(request) = request else {
             return;
         };
@@ -216,7 +244,7 @@ impl Record {
 
     /// What a node is.
     pub(crate) fn kind(&self, name: &Name) -> Option<NodeKind> {
-        Some(self.sites.get(name)?.kind)
+        Some(self.site(name)?.kind)
     }
 
     /// Whether the nodes of a line are of the kinds that its event is for, and it was done or made its message.
@@ -286,6 +314,6 @@ impl Record {
 
     /// The last event by which a slave was told its master.
     pub(crate) fn master_told(&self, slave: &Name) -> Option<u64> {
-        self.sites.get(slave)?.master
+        self.site(slave)?.master
     }
 }

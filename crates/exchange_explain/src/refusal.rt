@@ -7,7 +7,7 @@ use event_codec::PortIdentity;
 use network_model::{Event, Name, NodeKind, NodeSpec, WorldRefusal};
 use ptp_units::ScaledTime;
 use std::alloc::{AllocError, Global};
-use std::collections::HashMap;
+use std::collections::BTreeMap;
 
 /// The most nodes whose names are told.
 const NAMES_MOST: usize = 16;
@@ -332,19 +332,20 @@ fn identity_of(kind: &NodeKind) -> Option<PortIdentity> {
     }
 }
 
-/// The first node that clashes with an earlier one.
+/// The first node that clashes with an earlier one. Whoever writes lines picks names and identities, so they aren't hashed.
 fn first_clash(alloc: Global, nodes: &[NodeSpec]) -> Result<Option<Clash<'_>>, AllocError> {
-    let mut names: HashMap<Name, usize> = HashMap::new(alloc);
-    let mut identities: HashMap<PortIdentity, usize> = HashMap::new(alloc);
+    let mut names: BTreeMap<&str, usize> = BTreeMap::new(alloc);
+    let mut identities: BTreeMap<([u8; 8], u16), usize> = BTreeMap::new(alloc);
     for (index, node) in nodes.iter().enumerate() {
         let other = index.saturating_add(1);
-        if let Some(one) = names.insert(node.name, other)? {
+        if let Some(one) = names.insert(node.name.text(), other)? {
             return Ok(Some(Clash { one, other, node }));
         }
         let Some(identity) = identity_of(&node.kind) else {
             continue;
         };
-        if let Some(one) = identities.insert(identity, other)? {
+        let clock = identity.clock;
+        if let Some(one) = identities.insert((clock, identity.port), other)? {
             return Ok(Some(Clash { one, other, node }));
         }
     }

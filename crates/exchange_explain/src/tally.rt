@@ -111,11 +111,12 @@ pub(crate) fn push_found(text: &mut String, found: Found) -> Result<(), AllocErr
 fn push_happening(text: &mut String, count: u64) -> Result<(), AllocError> {
     match count {
         1 => text.push_str(
-            "a schedule of 1 event, which happens; 'ptpx replay' makes a transcript of it\n",
+            "a schedule of 1 event, which happens; 'ptpx replay' makes a transcript of it, which 'ptpx check' judges\n",
         ),
         _ => write!(
             text,
-            "a schedule of {count} events, which all happen; 'ptpx replay' makes a transcript of it\n"
+            "a schedule of {count} events, which all happen; 'ptpx replay' makes a transcript of it, which 'ptpx check' \
+             judges\n"
         ),
     }
 }

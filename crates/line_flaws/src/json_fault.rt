@@ -110,7 +110,8 @@ impl Display for JsonFault {
             JsonFault::OddNumber =>
                 "a character that belongs to no number; wanted is a comma or a bracket after it",
             JsonFault::LargeNumber => "a number too large for a float; wanted is a smaller one",
-            JsonFault::ControlOctet => "a control character in a text; wanted is none",
+            JsonFault::ControlOctet =>
+                "a control character in a text; wanted is its escape, as \\t",
             JsonFault::OddEscape =>
                 "a \\ without an escape; wanted is \\\\, or another escape of JSON",
             JsonFault::HalfPair => "an escape that is half of a character; wanted are both halves",

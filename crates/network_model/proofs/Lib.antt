@@ -1,5 +1,6 @@
 pub mod Names
 pub mod Networks
+pub mod Digested
 pub mod Places
 pub mod Sequences
 pub mod Options

@@ -1,5 +1,5 @@
 -- Nodes in an index, and the clashes of a network.
-use Rattle.std.proofs.Common.{◌≡◌, ◌∙◌, false, cond, List, [], ◌∷◌, ◌++◌, Option, Some, None, is_some, refl, sym, ap, subst}
+use Rattle.std.proofs.Common.{◌≡◌, ◌≢◌, ◌∙◌, ℕ, zero, suc, ◌<◌, Bool, true, false, cond, if◌then◌else◌, List, [], ◌∷◌, ◌++◌, length, Option, Some, None, is_some, slice_get, slice_index_or, refl, sym, ap, subst, arith}
 use Rattle.std.specs.List.{IsDistinct, filter_map}
 use Rattle.std.specs.Map.{keys_of, values_of, lookup}
 use Rattle.std.specs.Option.{option_to_list}
@@ -13,7 +13,7 @@ use Rattle.event_codec.proofs.SamePort.{is_same_port-Decides}
 use Rattle.indexmap.specs.IndexMap.{IndexMap, get, insert_entry}
 use Rattle.indexmap.proofs.CallerLemmas.{insert_entry-new}
 use Rattle.network_model.specs.declared.node.NodeSpec.{NodeSpec}
-use Rattle.network_model.specs.Network.{Network, NodeName, AllDiffer, node_of, names, identities, identity_of}
+use Rattle.network_model.specs.Network.{Network, NodeName, AllDiffer, node_of, names, identities, identity_of, is_named}
 use Rattle.network_model.specs.Clash.{has_name}
 use Rattle.network_model.specs.Inner.Index.{Entries, IsIndex, entries_of}
 
@@ -26,6 +26,30 @@ pub lookup-node_of : (entries : Entries) (nodes : Network) (name : NodeName) →
     → lookup (bytes_eq name) entries ≡ node_of nodes name
 lookup-node_of entries nodes name index same =
     ap (lookup (bytes_eq name)) index.at_names ∙ lookup-entries_of (values_of entries) name ∙ ap (λ found. node_of found name) same
+
+-- the node of a name has this name
+pub named_so : (network : Network) (name : NodeName) (node : NodeSpec) → node_of network name ≡ Some node → node.name ≡ name
+named_so [] name node there = cc
+named_so (first ∷ others) name node there = by_test (is_named name first.name) refl there (named_so others name node)
+  where
+    by_test : (b : Bool) → is_named name first.name ≡ b → (if b then Some first else node_of others name) ≡ Some node
+        → (node_of others name ≡ Some node → node.name ≡ name) → node.name ≡ name
+    by_test true test found later = (let same : first ≡ node = cc in ap (λ (n : NodeSpec). n.name) (sym same)) ∙ sym ((bytes_eq-Decides name first.name).0 test)
+    by_test false test found later = later found
+
+name_at : (network : Network) (i : ℕ) (node : NodeSpec) → slice_get network i ≡ Some node
+    → (i < length (names network)) × ((d : NodeName) → slice_index_or (names network) i d ≡ node.name)
+name_at [] i node there = absurd (cc)
+name_at (first ∷ others) zero node there = (omega arith, λ d. let same : first ≡ node = cc in ap (λ (n : NodeSpec). n.name) same)
+name_at (first ∷ others) (suc i) node there = let rest = name_at others i node there in (omega (arith, rest.0), rest.1)
+
+-- two nodes have two names
+pub names_differ : (network : Network) → AllDiffer (names network) → (i j : ℕ) (a b : NodeSpec) → slice_get network i ≡ Some a → slice_get network j ≡ Some b
+    → i < j → a.name ≢ b.name
+names_differ network apart i j a b at_i at_j less same =
+    let first = name_at network i a at_i in
+    let second = name_at network j b at_j in
+    apart i j a.name less second.0 (first.1 a.name ∙ same ∙ sym (second.1 a.name))
 
 keys_of-entries_of : (nodes : Network) → keys_of (entries_of nodes) ≡ names nodes
 keys_of-entries_of [] = refl

@@ -4,6 +4,7 @@
 
 mod copy_octets;
 mod event;
+mod keyed;
 pub mod laws;
 mod name;
 mod node;

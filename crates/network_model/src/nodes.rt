@@ -3,8 +3,12 @@ ghost use Rattle.std.specs.Prelude.{◌↔◌, MatchResult, OnOk};
 ghost use Rattle.std.specs.Option.{option_copied, option_to_list};
 ghost use Rattle.network_model.specs.Network.{Network, IsNetwork, AllDiffer, node_of, identities, identity_of};
 ghost use Rattle.network_model.specs.Clash.{clash, first_clash, identity_clash};
+ghost use Rattle.network_model.specs.Inner.Keyed.{keyed_by};
+ghost use Rattle.indexmap.specs.IndexMap.{hasher_of};
+ghost use Rattle.indexmap.specs.IndexSet.{hasher_of as set_hasher_of};
 ghost use Rattle.network_model.specs.declared.refusal.WorldRefusal.TheVariants.{Memory};
 
+use crate::keyed::KeyedState;
 use crate::name::Name;
 use crate::node::{NodeKind, NodeSpec};
 use crate::refusal::WorldRefusal;
@@ -17,7 +21,7 @@ use std::marker::Model;
 /// ports one identity.
 #[derive(Drop)]
 pub struct Nodes {
-    by_name: IndexMap<Name, NodeSpec>,
+    by_name: IndexMap<Name, NodeSpec, KeyedState>,
 }
 
 impl Model for Nodes {
@@ -42,10 +46,8 @@ impl Nodes {
             (λ why. (why ≡ Memory) ⊎ (first_clash nodes.now ≡ Some why)) }
         ensures network { OnOk result (IsNetwork nodes.now) }
     {
-        let mut network = Nodes {
-            by_name: IndexMap::new(alloc),
-        };
-        let mut taken = IndexSet::new(alloc);
+        let (by_name, mut taken) = tables(alloc, nodes);
+        let mut network = Nodes { by_name };
         for node in nodes {
             network.admit(&mut taken, *node)?;
         }
@@ -55,7 +57,7 @@ impl Nodes {
     // Adds a node after the others, whose ports have taken these identities.
     fn admit(
         &mut self,
-        taken: &mut IndexSet<PortIdentity>,
+        taken: &mut IndexSet<PortIdentity, KeyedState>,
         node: NodeSpec,
     ) -> Result<(), WorldRefusal>
         requires { taken.old.keys ≡ identities self.old }
@@ -113,8 +115,31 @@ impl Nodes {
     }
 }
 
+// Empty tables of nodes and of identities, which hash with a key for these nodes.
+fn tables(
+    alloc: Global,
+    nodes: &[NodeSpec],
+) -> (
+    IndexMap<Name, NodeSpec, KeyedState>,
+    IndexSet<PortIdentity, KeyedState>,
+)
+    ensures nodes { result.0.entries ≡ [] }
+    ensures names { (hasher_of result.0).keyed ≡ keyed_by nodes.now }
+    ensures taken { result.1.keys ≡ [] }
+    ensures identities { (set_hasher_of result.1).keyed ≡ keyed_by nodes.now }
+{
+    let state = KeyedState::new(nodes);
+    (
+        IndexMap::with_hasher(alloc, state),
+        IndexSet::with_hasher(alloc, state),
+    )
+}
+
 // Takes the identity of a node's port, where it has one and the identity is free.
-fn claim(taken: &mut IndexSet<PortIdentity>, kind: &NodeKind) -> Result<(), WorldRefusal>
+fn claim(
+    taken: &mut IndexSet<PortIdentity, KeyedState>,
+    kind: &NodeKind,
+) -> Result<(), WorldRefusal>
     ensures decided { MatchResult result
         (λ _. (taken.new.keys ≡ taken.old.keys ++ option_to_list (identity_of kind.now))
         × (identity_clash taken.old.keys (identity_of kind.now) ≡ None))

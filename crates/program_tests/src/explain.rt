@@ -143,7 +143,7 @@ fn tells_of_input_that_has_no_report(rt: HostRuntime) -> Result<(), Fail> {
         ),
         (
             schedule.as_str(),
-            "a schedule of 14 events, which all happen; 'ptpx replay' makes a transcript of it\n",
+            "a schedule of 14 events, which all happen; 'ptpx replay' makes a transcript of it, which 'ptpx check' judges\n",
         ),
     ] {
         let ended = run(alloc, "ptpx explain", input.as_bytes())?;
@@ -479,7 +479,7 @@ const REASONS: [(usize, &str, &str, &str); 21] = [
         "[2,7,8,13]",
         "event 13, line 17, slave S: refused, 701: a tag of the report isn't that of an event as the report needs it, \
 or no event tells when the Delay_Req left
-    the tag of the Sync names event 2, line 6, a sync at M; wanted is an arrive at S
+    the 1st of \"tags\", of the Sync, names event 2, line 6, a sync at M; wanted is an arrive at S
 1 report: 0 sound\n",
     ),
     (
@@ -488,7 +488,7 @@ or no event tells when the Delay_Req left
         "[5,null,8,13]",
         "event 13, line 17, slave S: refused, 701: a tag of the report isn't that of an event as the report needs it, \
 or no event tells when the Delay_Req left
-    the report names no Follow_Up, but the Sync of event 5, line 9 waits for one
+    the 2nd of \"tags\" is null, but the Sync of event 5, line 9 waits for a Follow_Up
 1 report: 0 sound\n",
     ),
     (
@@ -497,7 +497,7 @@ or no event tells when the Delay_Req left
         "[5,7,8,7]",
         "event 13, line 17, slave S: refused, 701: a tag of the report isn't that of an event as the report needs it, \
 or no event tells when the Delay_Req left
-    no tag is 13; wanted is that the Sync, the Follow_Up or the Delay_Resp came by the event that reports
+    none of \"tags\" is 13; wanted is that the Sync (1st), the Follow_Up (2nd) or the Delay_Resp (4th) came by the event that reports
     the Delay_Resp of event 7, line 11 is of event 6, line 10, a follow at M; wanted is an arrive at a master before it
     event 12, line 16 tells when the Delay_Req left; wanted is that before the Delay_Resp, event 7
 1 report: 0 sound\n",
@@ -517,7 +517,7 @@ or no event tells when the Delay_Req left
         "\"out\":\"done\"",
         "event 13, line 17, slave S: refused, 701: a tag of the report isn't that of an event as the report needs it, \
 or no event tells when the Delay_Req left
-    the tag of the Sync names event 5, line 9, an arrive at S, which came to nothing; wanted is an arrive at S
+    the 1st of \"tags\", of the Sync, names event 5, line 9, an arrive at S, which came to nothing; wanted is an arrive at S
 1 report: 0 sound\n",
     ),
     (
@@ -527,7 +527,7 @@ or no event tells when the Delay_Req left
         "event 13, line 17, slave S: refused, 701: a tag of the report isn't that of an event as the report needs it, \
 or no event tells when the Delay_Req left
     event 13, line 17, a tick at S, can't report; wanted is an arrive or a hear at a slave
-    the tag of the Delay_Resp names event 13, line 17, a tick at S, which came to nothing; wanted is a hear at S
+    the 4th of \"tags\", of the Delay_Resp, names event 13, line 17, a tick at S, which came to nothing; wanted is a hear at S
 1 report: 0 sound\n",
     ),
     (
@@ -655,7 +655,7 @@ it can say less than 140737488355327.9999847412109375 ns
         "07d00000",
         "07d10000",
         "event 13, line 17, slave S: refused, 708: the octets of a message aren't those that a port or a clock writes
-    event 4, line 8, a leave at T: octet 13 from 0, in correctionField, is d1 where d0 is written
+    event 4, line 8, a leave at T: octet 13 from 0, in correctionField, is d1; wanted is d0
   t1  event  2  ",
     ),
     (
@@ -663,7 +663,7 @@ it can say less than 140737488355327.9999847412109375 ns
         "000000000000\"",
         "0000000000001122\"",
         "event 13, line 17, slave S: refused, 708: the octets of a message aren't those that a port or a clock writes
-    event 2, line 6, a sync at M: all its octets are right; it has 46 octets where 44 are written
+    event 2, line 6, a sync at M: all its octets are right; it has 46 octets; wanted are 44
   t1  event  2  ",
     ),
     (
@@ -671,7 +671,7 @@ it can say less than 140737488355327.9999847412109375 ns
         "0100000000",
         "0200000001",
         "event 13, line 17, slave S: refused, 708: the octets of a message aren't those that a port or a clock writes
-    event 6, line 10, a follow at M: octet 39 from 0, in preciseOriginTimestamp, is 02 where 01 is written, \
+    event 6, line 10, a follow at M: octet 39 from 0, in preciseOriginTimestamp, is 02; wanted is 01, \
 and 1 more differ
   t1  event  2  ",
     ),
@@ -882,7 +882,7 @@ fn tells_of_devices_of_the_older_standard(rt: HostRuntime) -> Result<(), Fail> {
     let ended = run(alloc, "ptpx explain", input.as_bytes())?;
     let output = str::from_utf8(ended.output.as_slice())?;
     let met =
-        "    event 2, line 6, a sync at M: minorVersionPTP, the high half of octet 1 from 0, is 0 (IEEE 1588-2008), where 1 is written (IEEE \
+        "    event 2, line 6, a sync at M: minorVersionPTP, the high half of octet 1 from 0, is 0 (IEEE 1588-2008); wanted is 1 (IEEE \
 1588-2019); all other octets are right\n";
     let end = "were octets left aside (708), 1 of 1 report would be sound
 other octets than a port or a clock writes: 6 of 6 messages

@@ -416,7 +416,7 @@ const NO_JSON: [(&str, &str); 40] = [
     ),
     (
         "{\"node\":\"a\tb\"}",
-        "line 4, octet 11: no JSON: a control character in a text; wanted is none",
+        "line 4, octet 11: no JSON: a control character in a text; wanted is its escape, as \\t",
     ),
     (
         r#"{"node":"C:\port"}"#,

@@ -2,9 +2,10 @@
 //! and a whole transcript octet for octet.
 
 use arrayvec::ArrayVec;
+use line_writing::{push_event, push_node};
 use network_model::{Heard, Outcome, Reason, Report};
 use ptp_units::{ScaledTime, Timestamp};
-use schedule_lines::{Line, TranscriptLine, event_value, line_text, node_value};
+use schedule_lines::{Line, TranscriptLine};
 use serde_json::Value;
 use std::alloc::Global;
 use std::test::Fail;
@@ -185,12 +186,9 @@ const WRITTEN_NODES: [(&str, &str); 3] = [
 fn nodes_are_written(rt: HostRuntime) -> Result<(), Fail> {
     for (read, written) in WRITTEN_NODES {
         if let Some(Line::Node(node)) = line(rt.alloc(), read)? {
-            let value = node_value(rt.alloc(), &node)?;
-            let text = line_text(rt.alloc(), &value)?;
-            assert_eq!(rt;
-                text.as_str(),
-                format!(in rt.alloc(); "{written}\n")?.as_str()
-            );
+            let mut text = Vec::new(rt.alloc());
+            push_node(&mut text, &node)?;
+            assert_eq!(rt; text.as_slice(), written.as_bytes());
         } else {
             assert!(rt; false, "{read}");
         }
@@ -414,9 +412,9 @@ fn recorded(alloc: Global, row: &Row) -> Result<TraceLine, Fail> {
 fn are_written(alloc: Global, rows: &[Row]) -> Result<bool, Fail> {
     let mut same = true;
     for (number, row) in rows.iter().enumerate() {
-        let value = event_value(alloc, number as u64, &recorded(alloc, row)?)?;
-        let text = line_text(alloc, &value)?;
-        same &= text.as_str() == format!(in alloc; "{}\n", row.4)?.as_str();
+        let mut text = Vec::new(alloc);
+        push_event(&mut text, number as u64, &recorded(alloc, row)?)?;
+        same &= text.as_slice() == row.4.as_bytes();
     }
     Ok(same)
 }
@@ -485,17 +483,11 @@ const REWRITTEN: [(&str, &str); 6] = [
 #[test]
 fn transcript_lines_are_rewritten(rt: HostRuntime) -> Result<(), Fail> {
     for (read, written) in REWRITTEN {
-        let text = match transcript_line(rt.alloc(), read)? {
-            Some(TranscriptLine::Event { number, line }) => {
-                let value = event_value(rt.alloc(), number, &line)?;
-                line_text(rt.alloc(), &value)?
-            }
-            _ => String::new(rt.alloc()),
-        };
-        assert_eq!(rt;
-            text.as_str(),
-            format!(in rt.alloc(); "{written}\n")?.as_str()
-        );
+        let mut text = Vec::new(rt.alloc());
+        if let Some(TranscriptLine::Event { number, line }) = transcript_line(rt.alloc(), read)? {
+            push_event(&mut text, number, &line)?;
+        }
+        assert_eq!(rt; text.as_slice(), written.as_bytes());
     }
     Ok(())
 }

@@ -7,7 +7,6 @@ use Rattle.network_model.specs.declared.event.Event.{Event}
 use Rattle.trace_model.specs.declared.line.TraceLine.{TraceLine}
 use Rattle.schedule_lines.specs.Written.{whole, moment_data, difference_data, octets_data, tags_data, with_some}
 use Rattle.schedule_lines.specs.Written.{event_text, made_octets, out_text, out_code, out_report}
-use Rattle.schedule_lines.specs.Written.{event_data}
 
 -- a key, and its value where there is one
 abbrev pub Field : Type 0

@@ -4,7 +4,6 @@ pub mod Keys
 pub mod Lookup
 pub mod ReadBack
 pub mod Texts
-pub mod Floats
 pub mod Names
 pub mod Nodes
 pub mod Printed

@@ -40,21 +40,21 @@ use Rattle.trace_model.specs.declared.line.TraceOut.TheVariants as outs
 
 -- ---- values
 
-shown_string : {n : ℕ} (text : List ℕ) → Fits n text → n ≤ 108 → IsShownValue (string text)
+pub shown_string : {n : ℕ} (text : List ℕ) → Fits n text → n ≤ 108 → IsShownValue (string text)
 shown_string text h few = fits_more 220 (omega (arith, few)) (fits_quoted text h)
 
-shown_whole : (n : ℕ) → IsTag n → IsShownValue (whole n)
+pub shown_whole : (n : ℕ) → IsTag n → IsShownValue (whole n)
 shown_whole n small = fits_more 220 (omega arith) (fits_whole n small)
 
 shown_code : (n : ℕ) → n < 65536 → IsShownValue (whole n)
 shown_code n small = shown_whole n (omega (arith, small))
 
-shown_moment : (time : ℕ) → time < bound → IsShownValue (moment_data time)
+pub shown_moment : (time : ℕ) → time < bound → IsShownValue (moment_data time)
 shown_moment time h =
     fits_more 220 (omega arith) (fits_three (whole (stamp_of time).seconds) (whole (stamp_of time).nanos) (whole (fraction_of time))
     (fits_whole _ (omega (arith, h))) (fits_whole _ (omega (arith, h))) (fits_whole _ (omega (arith, h))))
 
-shown_difference : (z : ℤ) → IsShort z → IsShownValue (difference_data z)
+pub shown_difference : (z : ℤ) → IsShort z → IsShownValue (difference_data z)
 shown_difference z h = shown_string _ (fits_signed z h) (omega arith)
 
 shown_octets : (octets : List ℕ) → length octets ≤ 54 → IsBytes octets → IsShownValue (octets_data octets)
@@ -77,7 +77,7 @@ shown_octets_of_name (x ∷ xs) h =
 fits_name : (text : List ℕ) → IsName text → Fits 16 text
 fits_name text h = record { short = h.fits; shown = shown_octets_of_name text (list_all-from_AllPass is_name_octet text h.octets) }
 
-shown_name : (text : List ℕ) → IsName text → IsShownValue (string text)
+pub shown_name : (text : List ℕ) → IsName text → IsShownValue (string text)
 shown_name text h = shown_string text (fits_name text h) (omega arith)
 
 fits_follow : (tag : Option ℕ) → IfSome tag IsTag → Fits 20 (compact_text (follow_data tag))
@@ -93,7 +93,7 @@ shown_tags report h =
 fits_word : (text : List ℕ) → nat_lt (length text) 13 ≡ true → list_all is_shown text ≡ true → Fits 12 text
 fits_word text few shown = record { short = grind (arith, nat_tests, few); shown = shown }
 
-fits_event : (event : Event) → Fits 12 (event_text event)
+pub fits_event : (event : Event) → Fits 12 (event_text event)
 fits_event (StepClock node diff) = fits_word _ refl refl
 fits_event _ = fits_word _ refl refl
 

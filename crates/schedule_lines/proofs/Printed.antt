@@ -19,14 +19,14 @@ use Rattle.trace_model.specs.declared.line.TraceLine.{TraceLine}
 use Rattle.schedule_lines.proofs.Keys.{Field, members_of, line_fields}
 use Rattle.schedule_lines.proofs.Compact.{IsReadable, AreReadableFields, read_object, text_readable, whole_readable}
 use Rattle.schedule_lines.proofs.Compact.{field_readable, members_readable, members_ascending}
-use Rattle.schedule_lines.specs.Written.{whole, moment_data, difference_data, octets_data, follow_data, tags_data}
+use Rattle.schedule_lines.specs.Written.{whole, moment_data, difference_data, octets_data, tags_data}
 use Rattle.schedule_lines.specs.Written.{port_data, kind_data, made_octets, out_code, out_report}
 use Rattle.schedule_lines.specs.Ranges.{IsConfig, IsKind, IsTag, HasTags, IsTagged, IsRecorded, NodeTextsReadBack}
 use Rattle.schedule_lines.specs.Ranges.{EventTextsReadBack}
 use Rattle.schedule_lines.proofs.ReadBack.{always, code_out}
 use Rattle.network_model.specs.declared.node.NodeKind.TheVariants as kinds
 
-moment_readable : (time : ℕ) → time < bound → IsReadable (moment_data time)
+pub moment_readable : (time : ℕ) → time < bound → IsReadable (moment_data time)
 moment_readable time h =
     let seconds : time / 65536 / 1000000000 < 2 ^ 64 = omega arith in
     let nanos : time / 65536 % 1000000000 < 2 ^ 64 = omega arith in

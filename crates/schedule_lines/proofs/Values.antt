@@ -1,5 +1,5 @@
 -- The value that a line is, from what reading it answered.
-use Rattle.std.proofs.Common.{◌≡◌, Bool, true, false, refl, List, ℕ, Option, Some, None}
+use Rattle.std.proofs.Common.{◌≡◌, Bool, true, false, refl, List, ℕ, Some, None}
 use Rattle.std.specs.Prelude.{if◌then◌else◌}
 use Rattle.std.specs.Str.{IsUtf8, is_utf8}
 use Rattle.std.proofs.lemmas.Str.{is_utf8-from_IsUtf8, IsUtf8-from_is_utf8}

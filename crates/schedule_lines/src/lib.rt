@@ -4,7 +4,5 @@
 
 pub mod laws;
 mod reading;
-mod writing;
 
 pub use reading::{Line, TranscriptLine, line_value};
-pub use writing::{event_value, line_text, node_value};

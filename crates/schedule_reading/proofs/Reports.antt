@@ -1,7 +1,6 @@
 -- What the report of a line is judged to be, where the line is judged.
-use Rattle.std.proofs.Common.{◌≡◌, refl, ℕ, ◌+◌, length, Option, Some, None}
+use Rattle.std.proofs.Common.{◌≡◌, refl, ◌+◌, length, Option, Some, None}
 use Rattle.slave_port.specs.declared.heard.Report.{Report}
-use Rattle.trace_model.specs.declared.judgement.Judgement.{Judgement}
 use Rattle.trace_model.specs.declared.line.TraceLine.{TraceLine}
 use Rattle.trace_model.specs.Record.{line_place, site}
 use Rattle.trace_model.specs.Sound.{judgement}

@@ -1,5 +1,5 @@
 -- A transcript that is read line by line: its nodes, what was recorded of events, and what its reports are judged to be.
-use Rattle.std.specs.Prelude.{◌≡◌, ◌≢◌, ◌⊎◌, ℕ, ◌+◌, List, [], ◌∷◌, ◌++◌, length, map, Option, Some, None, option_map}
+use Rattle.std.specs.Prelude.{◌≡◌, ◌≢◌, ◌⊎◌, ℕ, ◌+◌, List, [], ◌∷◌, ◌++◌, length, Option, Some, None, option_map}
 use Rattle.std.specs.Prelude.{Ok, Err, ⊤}
 use Rattle.slave_port.specs.declared.heard.Report.{Report}
 use Rattle.network_model.specs.Network.{Network}
@@ -9,11 +9,10 @@ use Rattle.trace_model.specs.Line.{Lines}
 use Rattle.trace_model.specs.Record.{line_place, site}
 use Rattle.trace_model.specs.Sound.{judgement}
 use Rattle.trace_model.specs.Verdict.{report_in}
-use Rattle.text_lines.specs.Lines.{AreRead}
 use Rattle.schedule_lines.specs.declared.reading.transcript.TranscriptLine.{TranscriptLine}
 use Rattle.schedule_lines.specs.declared.reading.transcript.TranscriptLine.TheVariants as recorded
 use Rattle.schedule_reading.specs.declared.fault.TaskFault.{TaskFault}
-use Rattle.schedule_reading.specs.declared.fault.TaskFault.TheVariants.{Write, Json, Field, World, Memory}
+use Rattle.schedule_reading.specs.declared.fault.TaskFault.TheVariants.{Json, Field, World, Memory}
 use Rattle.schedule_reading.specs.declared.transcript.Judged.{Judged}
 use Rattle.schedule_reading.specs.Entry.{recorded_in}
 

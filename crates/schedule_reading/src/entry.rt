@@ -1,4 +1,4 @@
-//! What a line is: a node, or an event with or without what was recorded of it.
+//! What a line is: a node, or an event with or without what was recorded of it. `serde_json` says what a line means.
 ghost use Rattle.std.specs.Prelude.{◌≡◌, ◌⊎◌, MatchResult, Ok, Some, None};
 ghost use Rattle.serde_json.specs.View.{view};
 ghost use Rattle.schedule_lines.specs.Json.{value_in};

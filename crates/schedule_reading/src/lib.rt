@@ -3,14 +3,19 @@
 
 mod entry;
 mod fault;
+mod guess;
+mod own_spelling;
+mod reader;
 mod stage;
 mod text;
 mod transcript;
+mod within;
 
 pub use entry::{read_entry, read_recorded};
 pub use fault::TaskFault;
+pub use reader::LineReader;
 pub use stage::Stage;
-pub use text::{push_verdict, write_text};
+pub use text::{push_verdict, write_octets, write_text};
 pub use transcript::{Judged, Transcript};
 
 /// The most lines of an input.

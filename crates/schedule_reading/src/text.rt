@@ -11,6 +11,18 @@ use std::alloc::AllocError;
 use std::io::Write;
 use text_lines::Counted;
 
+/// Writes octets, in one write. `Write` where the writer fails.
+pub fn write_octets<W: Write>(octets: &[u8], output: &mut Counted<W>) -> Result<(), TaskFault>
+    ensures written { MatchResult result
+        (λ _. Appends (W.contents (device_of output.old)) (W.contents (device_of output.new)) octets.now)
+        (λ fault. fault ≡ TaskFault.Write) }
+    ensures failures { MatchResult result
+        (λ _. HasNotFailed output.old output.new)
+        (λ fault. HasFailedIf (is_write fault) output.old output.new) }
+{
+    output.write_all(octets).map_err(|_| TaskFault::Write)
+}
+
 /// Writes a text, in one write. `Write` where the writer fails.
 pub fn write_text<W: Write>(text: &str, output: &mut Counted<W>) -> Result<(), TaskFault>
     ensures written { MatchResult result
@@ -20,9 +32,7 @@ pub fn write_text<W: Write>(text: &str, output: &mut Counted<W>) -> Result<(), T
         (λ _. HasNotFailed output.old output.new)
         (λ fault. HasFailedIf (is_write fault) output.old output.new) }
 {
-    output
-        .write_all(text.as_bytes())
-        .map_err(|_| TaskFault::Write)
+    write_octets(text.as_bytes(), output)
 }
 
 /// Appends the line that tells a verdict: `accepted` and the number of reports, or `refused event`, the number of the

@@ -9,8 +9,8 @@ ghost use Rattle.schedule_lines.specs.declared.reading.transcript.TranscriptLine
 ghost use Rattle.schedule_reading.specs.Transcript.{FaultsInTranscript, HasNoChecker, Takes};
 ghost use Rattle.schedule_reading.specs.Inner.Transcript.{Judges, StopsAt, TakesAt, judged_by};
 
-use crate::entry::read_recorded;
 use crate::fault::TaskFault;
+use crate::reader::LineReader;
 use crate::stage::Stage;
 use event_codec::PortMessage;
 use exchange_check::{Checker, Exchange, Judgement, Verdict};
@@ -39,6 +39,7 @@ pub struct Judged {
 #[derive(Drop)]
 pub struct Transcript {
     alloc: Global,
+    reader: LineReader,
     stage: Stage<Checker>,
     /// How many nodes there are.
     nodes: u64,
@@ -62,6 +63,7 @@ impl Transcript {
     {
         Transcript {
             alloc,
+            reader: LineReader::new(alloc),
             stage: Stage::new(alloc),
             nodes: 0,
         }
@@ -77,7 +79,7 @@ impl Transcript {
             (λ judged. Takes line.now self.old self.new judged)
             (λ fault. (self.new ≡ self.old) × FaultsInTranscript fault self.old.nodes self.old.lines line.now) }
     {
-        match read_recorded(self.alloc, line)? {
+        match self.reader.read_recorded(line)? {
             TranscriptLine::Node(node) => {
                 self.push(node)?;
                 Ok(None)

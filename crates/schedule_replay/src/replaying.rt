@@ -1,11 +1,9 @@
 //! A schedule that is replayed line by line.
-ghost use Rattle.std.specs.Prelude.{◌≡◌, ◌⊎◌, ℕ, List, false, MatchResult, Ok, None};
+ghost use Rattle.std.specs.Prelude.{◌≡◌, ◌⊎◌, ℕ, List, [], ◌∷◌, ◌++◌, MatchResult, Ok, None};
 ghost use Rattle.std.specs.Io.KnownBytes.{Appends};
-ghost use Rattle.serde_json.specs.View.{view};
-ghost use Rattle.serde_json.specs.Written.{has_float};
 ghost use Rattle.network_model.specs.Clash.{first_clash};
 ghost use Rattle.world_model.specs.State.{new_state, after, State};
-ghost use Rattle.schedule_lines.specs.Written.{line_text};
+ghost use Rattle.schedule_lines.specs.Written.{node_data, event_data, line_text};
 ghost use Rattle.schedule_lines.specs.declared.reading.schedule.Line.TheVariants as entries;
 ghost use Rattle.schedule_replay.specs.Fault.{FailedWith};
 ghost use Rattle.schedule_reading.specs.Fault.{is_write};
@@ -22,10 +20,10 @@ ghost use Rattle.text_lines.specs.Lines.{input_limit, GivesWithin};
 ghost use Rattle.text_lines.specs.Task.{WentOut};
 
 use crate::fault::Fault;
+use line_writing::{push_event, push_node};
 use network_model::{Event, NodeSpec, Nodes};
-use schedule_lines::{Line, event_value, line_text, node_value};
-use schedule_reading::{LINES_LIMIT, Stage, TaskFault, read_entry, write_text};
-use serde_json::Value;
+use schedule_lines::Line;
+use schedule_reading::{LINES_LIMIT, LineReader, Stage, TaskFault, write_octets};
 use std::alloc::Global;
 use std::io::{Read, Write};
 use text_lines::{Counted, LineTask, answer_lines};
@@ -36,7 +34,10 @@ use world_model::World;
 #[derive(Drop)]
 struct Replaying {
     alloc: Global,
+    reader: LineReader,
     stage: Stage<World>,
+    /// The line that is written, in a buffer that serves for each.
+    text: Vec<u8>,
 }
 
 impl LineTask for Replaying {
@@ -55,7 +56,7 @@ impl LineTask for Replaying {
     }
 
     fn take<W: Write>(&mut self, line: &[u8], output: &mut Counted<W>) -> Result<(), TaskFault> {
-        match read_entry(self.alloc, line)? {
+        match self.reader.read_entry(line)? {
             Line::Node(node) => self.stage.push(node),
             Line::Event(event) => self.happen(&event, output),
         }
@@ -64,7 +65,10 @@ impl LineTask for Replaying {
     /// How many events there were.
     fn finish<W: Write>(&mut self, _lines: u64, output: &mut Counted<W>) -> Result<u64, TaskFault> {
         match &self.stage {
-            Stage::Nodes(nodes) => Ok(begin(self.alloc, nodes.as_slice(), output)?.len()),
+            Stage::Nodes(nodes) => {
+                let world = begin(self.alloc, nodes.as_slice(), &mut self.text, output)?;
+                Ok(world.len())
+            }
             Stage::Events(world) => Ok(world.len()),
         }
     }
@@ -87,40 +91,77 @@ impl Replaying {
     {
         match &mut self.stage {
             Stage::Nodes(nodes) => {
-                let mut world = begin(self.alloc, nodes.as_slice(), output)?;
-                happen(self.alloc, &mut world, event, output)?;
+                let mut world = begin(self.alloc, nodes.as_slice(), &mut self.text, output)?;
+                happen(&mut world, event, &mut self.text, output)?;
                 self.stage = Stage::Events(world);
                 Ok(())
             }
-            Stage::Events(world) => happen(self.alloc, world, event, output),
+            Stage::Events(world) => happen(world, event, &mut self.text, output),
         }
     }
 }
 
-/// Writes a line, in one write.
-fn write_line<W: Write>(
-    alloc: Global,
-    value: &Value,
-    output: &mut Counted<W>,
-) -> Result<(), TaskFault>
-    requires { has_float (view value.now) ≡ false }
+/// Ends a line by LF, and writes it, in one write.
+fn write_line<W: Write>(text: &mut Vec<u8>, output: &mut Counted<W>) -> Result<(), TaskFault>
     ensures written { let before = W.contents (device_of output.old) in
         let after = W.contents (device_of output.new) in
         MatchResult result
-        (λ _. Appends before after (line_text (view value.now)))
+        (λ _. Appends before after (text.old.items ++ 10 ∷ []))
         (λ fault. LeavesUnwritten fault before after) }
     ensures failures { MatchResult result
         (λ _. HasNotFailed output.old output.new)
         (λ fault. HasFailedIf (is_write fault) output.old output.new) }
 {
-    let text = line_text(alloc, value)?;
-    write_text(text.as_str(), output)
+    text.push(b'\n')?;
+    write_octets(text.as_slice(), output)
+}
+
+/// Writes the line of a node.
+fn write_node<W: Write>(
+    node: &NodeSpec,
+    text: &mut Vec<u8>,
+    output: &mut Counted<W>,
+) -> Result<(), TaskFault>
+    ensures written { let before = W.contents (device_of output.old) in
+        let after = W.contents (device_of output.new) in
+        MatchResult result
+        (λ _. Appends before after (line_text (node_data node.now)))
+        (λ fault. LeavesUnwritten fault before after) }
+    ensures failures { MatchResult result
+        (λ _. HasNotFailed output.old output.new)
+        (λ fault. HasFailedIf (is_write fault) output.old output.new) }
+{
+    text.clear();
+    push_node(text, node)?;
+    write_line(text, output)
+}
+
+/// Writes the line of the event of this number.
+fn write_event<W: Write>(
+    number: u64,
+    line: &TraceLine,
+    text: &mut Vec<u8>,
+    output: &mut Counted<W>,
+) -> Result<(), TaskFault>
+    ensures written { let before = W.contents (device_of output.old) in
+        let after = W.contents (device_of output.new) in
+        MatchResult result
+        (λ _. Appends before after (line_text (event_data number line.now)))
+        (λ fault. LeavesUnwritten fault before after) }
+    ensures failures { MatchResult result
+        (λ _. HasNotFailed output.old output.new)
+        (λ fault. HasFailedIf (is_write fault) output.old output.new) }
+{
+    text.clear();
+    push_event(text, number, line)?;
+    write_line(text, output)
 }
 
 /// Begins a world of these nodes, and writes their lines.
 fn begin<W: Write>(
     alloc: Global,
     nodes: &[NodeSpec],
+    text: &mut Vec<u8>,
     output: &mut Counted<W>,
 ) -> Result<World, TaskFault>
     ensures begun { let before = W.contents (device_of output.old) in
@@ -138,17 +179,16 @@ fn begin<W: Write>(
     let network = Nodes::new(alloc, nodes)?;
     let world = World::new(alloc, network)?;
     for node in nodes {
-        let value = node_value(alloc, node)?;
-        write_line(alloc, &value, output)?;
+        write_node(node, text, output)?;
     }
     Ok(world)
 }
 
 /// Lets an event happen in a world, and writes its line.
 fn happen<W: Write>(
-    alloc: Global,
     world: &mut World,
     event: &Event,
+    text: &mut Vec<u8>,
     output: &mut Counted<W>,
 ) -> Result<(), TaskFault>
     ensures happens { let before = W.contents (device_of output.old) in
@@ -163,8 +203,7 @@ fn happen<W: Write>(
 {
     let stepped = world.step(event)?;
     let line = TraceLine::of(event, &stepped, world);
-    let value = event_value(alloc, stepped.tag, &line)?;
-    write_line(alloc, &value, output)
+    write_event(stepped.tag, &line, text, output)
 }
 
 /// Replays a schedule: lines of nodes and then of events, each a JSON object. The nodes' lines are
@@ -188,7 +227,9 @@ pub fn replay<R: Read, W: Write>(
 {
     let mut task = Replaying {
         alloc,
+        reader: LineReader::new(alloc),
         stage: Stage::new(alloc),
+        text: Vec::new(alloc),
     };
     Ok(answer_lines(&mut task, input, output)?)
 }

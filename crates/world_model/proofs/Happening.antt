@@ -1,6 +1,5 @@
 -- A world after one more event.
-use Rattle.std.proofs.Common.{◌≡◌, ◌∙◌, ℕ, zero, suc, ◌<◌, true, List, [], ◌∷◌, ◌++◌, length, take, drop, slice_get, slice_set, slice_index_or, Option, Some, None, Ok, Err, Result, IsOk, is_some, option_map, inl, inr, IfErr, OnOk, sym, ap, refl, subst, arith}
-use Rattle.std.proofs.lemmas.List.{take_at}
+use Rattle.std.proofs.Common.{◌≡◌, ◌∙◌, ℕ, zero, suc, ◌<◌, true, List, [], ◌∷◌, ◌++◌, length, slice_get, slice_set, slice_index_or, Option, Some, None, Ok, Err, Result, IsOk, is_some, option_map, inl, inr, IfErr, OnOk, sym, ap, refl, subst, arith}
 use Rattle.network_model.specs.declared.event.Event.{Event}
 use Rattle.network_model.specs.declared.node.NodeKind.{NodeKind}
 use Rattle.network_model.specs.declared.node.NodeSpec.{NodeSpec}
@@ -9,13 +8,14 @@ use Rattle.network_model.specs.declared.refusal.WorldRefusal.TheVariants.{Memory
 use Rattle.network_model.specs.Network.{Network, NodeName, node_of}
 use Rattle.network_model.specs.Run.{Run, site_of}
 use Rattle.network_model.specs.Outcome.{IsStepped}
-use Rattle.world_model.specs.declared.entry.Entry.{Entry}
-use Rattle.world_model.specs.declared.entry.Happened.{Happened}
+use Rattle.world_model.specs.Inner.Stands.{Entry}
+use Rattle.world_model.specs.Inner.Stands.{Happened}
 use Rattle.world_model.specs.declared.station.Station.{Station}
 use Rattle.world_model.specs.State.{IsRefused}
 use Rattle.world_model.specs.Inner.Stands.{run_of, Keeps, Stands, AllStand, IsWorld}
 use Rattle.world_model.specs.Inner.Acts.{Room, Brings, Answers, ActsIn, Refuses, entries_after}
-use Rattle.world_model.proofs.Stations.{named_so, AllStand-after}
+use Rattle.network_model.proofs.Networks.{named_so}
+use Rattle.world_model.proofs.Stations.{AllStand-after}
 use Rattle.world_model.proofs.Entries.{run_of-after, Keeps-after}
 
 -- the node of a name, and its place
@@ -42,10 +42,6 @@ set_same : {X : Type 0} (xs : List X) (i : ℕ) (x : X) → x ≡ slice_index_or
 set_same [] i x same = refl
 set_same (y ∷ ys) zero x same = ap (λ z. z ∷ ys) same
 set_same (y ∷ ys) (suc i) x same = ap (λ rest. y ∷ rest) (set_same ys i x same)
-
--- a list that was lent whole, and kept its length
-pub refilled : {X : Type 0} (ws xs : List X) (n : ℕ) → n ≡ length xs → length ws ≡ length xs → take n (ws ++ drop (length ws) xs) ≡ ws
-refilled ws xs n whole same = take_at ws (drop (length ws) xs) n (same ∙ sym whole)
 
 module _ (network : Network) (event : Event) (stations : List Station) (entries : List Entry) (world : IsWorld network stations entries)
     (name : NodeName) (is_site : name ≡ site_of event) (index : ℕ) (here : Found network name index)

@@ -26,8 +26,8 @@ use Rattle.network_model.specs.Truth.{TellsTruth, copy_of}
 use Rattle.network_model.specs.Outcome.{◌>>=◌, node_as, clock_of, reads, open_transit, copy_in, left_outcome, outcome_of}
 use Rattle.network_model.proofs.Places.{accepted-place_at}
 use Rattle.network_model.proofs.Leaving.{copy_made-forwarded, copy_of-since}
-use Rattle.world_model.specs.declared.entry.Entry.{Entry}
-use Rattle.world_model.specs.declared.entry.Happened.{Happened}
+use Rattle.world_model.specs.Inner.Stands.{Entry}
+use Rattle.world_model.specs.Inner.Stands.{Happened}
 use Rattle.world_model.specs.declared.entry.Octets.{Octets}
 use Rattle.world_model.specs.declared.entry.Left.TheVariants.{Copy, Nothing}
 use Rattle.world_model.specs.declared.station.Port.TheVariants as ports

@@ -11,4 +11,6 @@ mod LeftStays
 mod Leaves
 mod Happening
 mod InTurn
+mod KeptEvents
+mod NodePlaces
 mod RunLaws

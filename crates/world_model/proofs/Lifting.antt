@@ -7,7 +7,7 @@ use Rattle.network_model.specs.declared.refusal.WorldRefusal.{WorldRefusal}
 use Rattle.network_model.specs.Network.{Network, NodeName, PortSetup, kind_of, master_port, slave_port}
 use Rattle.network_model.specs.Run.{Run, site_of}
 use Rattle.network_model.specs.Kinds.{named_difference}
-use Rattle.world_model.specs.declared.entry.Happened.{Happened}
+use Rattle.world_model.specs.Inner.Stands.{Happened}
 use Rattle.world_model.specs.declared.station.Master.{Master}
 use Rattle.world_model.specs.declared.station.Slave.{Slave}
 use Rattle.world_model.specs.declared.station.Port.{Port}

@@ -1,12 +1,13 @@
 -- All nodes after an event of one of them.
-use Rattle.std.proofs.Common.{◌≡◌, ◌≢◌, ◌∙◌, ℕ, zero, suc, ◌<◌, ◌⊎◌, inl, inr, ⊎_elim, Bool, true, false, List, [], ◌∷◌, ◌++◌, ◌==◌, if◌then◌else◌, length, slice_get, slice_set, slice_index_or, Option, Some, None, IsSome, is_some, option_copied, Bor, refl, sym, ap, subst, arith}
+use Rattle.std.proofs.Common.{◌≡◌, ◌≢◌, ◌∙◌, ℕ, zero, suc, ◌<◌, ◌⊎◌, inl, inr, ⊎_elim, Bool, true, false, List, [], ◌∷◌, ◌++◌, ◌==◌, if◌then◌else◌, length, slice_get, slice_set, Option, Some, None, IsSome, is_some, option_copied, Bor, refl, sym, ap, subst, arith}
 use Rattle.std.proofs.lemmas.Bool.{cases_lt}
 use Rattle.std.proofs.lemmas.Bool.Decides.{nat_tests}
 use Rattle.std.proofs.lemmas.Slice.Eq.{bytes_eq-Decides}
 use Rattle.network_model.specs.declared.event.Event.{Event}
 use Rattle.network_model.specs.declared.node.NodeSpec.{NodeSpec}
-use Rattle.network_model.specs.Network.{Network, NodeName, IsNetwork, names, node_of, is_named}
+use Rattle.network_model.specs.Network.{Network, NodeName, IsNetwork, is_named}
 use Rattle.network_model.specs.Run.{Run, site_of}
+use Rattle.network_model.proofs.Networks.{names_differ}
 use Rattle.world_model.specs.declared.station.Station.{Station}
 use Rattle.world_model.specs.Inner.Stands.{Stands, EachStands, AllStand}
 use Rattle.world_model.proofs.Entries.{get-push}
@@ -41,30 +42,6 @@ pub is_lent : {X : Type 0} (lent : Option (Bor X)) (there : Option X) → option
 is_lent None there same some = let e : is_some there ≡ false = sym (ap is_some same) in absurd (cc)
 is_lent (Some x) there same some = refl
 
--- the node of a name has this name
-pub named_so : (network : Network) (name : NodeName) (node : NodeSpec) → node_of network name ≡ Some node → node.name ≡ name
-named_so [] name node there = cc
-named_so (first ∷ others) name node there = by_test (is_named name first.name) refl there (named_so others name node)
-  where
-    by_test : (b : Bool) → is_named name first.name ≡ b → (if b then Some first else node_of others name) ≡ Some node
-        → (node_of others name ≡ Some node → node.name ≡ name) → node.name ≡ name
-    by_test true test found later = (let same : first ≡ node = cc in ap (λ (n : NodeSpec). n.name) (sym same)) ∙ sym ((bytes_eq-Decides name first.name).0 test)
-    by_test false test found later = later found
-
-name_at : (network : Network) (i : ℕ) (node : NodeSpec) → slice_get network i ≡ Some node
-    → (i < length (names network)) × ((d : NodeName) → slice_index_or (names network) i d ≡ node.name)
-name_at [] i node there = absurd (cc)
-name_at (first ∷ others) zero node there = (omega arith, λ d. let same : first ≡ node = cc in ap (λ (n : NodeSpec). n.name) same)
-name_at (first ∷ others) (suc i) node there = let rest = name_at others i node there in (omega (arith, rest.0), rest.1)
-
--- two nodes have two names
-names_differ : (network : Network) → IsNetwork network → (i j : ℕ) (a b : NodeSpec) → slice_get network i ≡ Some a → slice_get network j ≡ Some b
-    → i < j → a.name ≢ b.name
-names_differ network apart i j a b at_i at_j less same =
-    let first = name_at network i a at_i in
-    let second = name_at network j b at_j in
-    apart.names i j a.name less second.0 (first.1 a.name ∙ same ∙ sym (second.1 a.name))
-
 one_place : (i j : ℕ) → (i ≡ j) ⊎ ((i < j) ⊎ (j < i))
 one_place i j = ⊎_elim (λ less. inr (inl less)) (λ least. ⊎_elim (λ more. inr (inr more)) (λ most. inl (omega arith)) (cases_lt j i)) (cases_lt i j)
 
@@ -80,8 +57,8 @@ module _ (network : Network) (apart : IsNetwork network) (run : Run) (event : Ev
     (new : Station) (stands : Stands network (event ∷ run) (site_of event) node.kind new) where
   elsewhere : (i : ℕ) (other : NodeSpec) → slice_get network i ≡ Some other → i ≢ index → is_named (site_of event) other.name ≡ false
   elsewhere i other there differ = not_named (site_of event) other.name (λ same. ⊎_elim (λ e. differ e)
-      (λ order. ⊎_elim (λ less. names_differ network apart i index other node there at less (sym same ∙ sym name))
-      (λ less. names_differ network apart index i node other at there less (name ∙ same)) order)
+      (λ order. ⊎_elim (λ less. names_differ network apart.names i index other node there at less (sym same ∙ sym name))
+      (λ less. names_differ network apart.names index i node other at there less (name ∙ same)) order)
       (one_place i index))
 
   each : (i : ℕ) (other : NodeSpec) (station : Station) → slice_get network i ≡ Some other → slice_get (slice_set stations index new) i ≡ Some station

@@ -3,7 +3,9 @@
 
 mod clock;
 mod entry;
+mod events;
 mod master;
+mod places;
 mod slave;
 mod station;
 mod stepping;

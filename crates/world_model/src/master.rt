@@ -1,27 +1,35 @@
-ghost use Rattle.std.specs.Prelude.{ℕ, option_map};
+ghost use Rattle.std.specs.Prelude.{◌≡◌, ℕ, option_map, IfOk};
 ghost use Rattle.network_model.specs.Network.{Network, NodeName};
 ghost use Rattle.network_model.specs.Run.{Run};
-ghost use Rattle.world_model.specs.Inner.Acts.{MasterActs, Nothing, Reads, IsCopy};
+ghost use Rattle.world_model.specs.Inner.Acts.{happened, MasterActs, Nothing, Reads, IsCopy};
 
-use crate::entry::{Happened, Left, Octets};
+use crate::entry::{Left, Octets};
 use crate::station::{Departure, Master, Room, Shown};
-use network_model::{Event, Outcome, WorldRefusal};
+use network_model::{Event, Outcome, Stepped, WorldRefusal};
 use ptp_units::ScaledTime;
 
 impl Master {
     /// Draws a Sync, which waits for its Follow_Up from then on.
-    pub(crate) fn sync(&mut self, shown: Shown, room: Room) -> Result<Happened, WorldRefusal>
-        ensures { (node : NodeName) (at : ℕ) → MasterActs (Event.Sync node at)
-            (Reads (Event.Sync node at) shown) self.old self.new room result }
+    pub(crate) fn sync(
+        &mut self,
+        shown: Shown,
+        room: Room,
+        tag: u64,
+        left: &mut Left,
+    ) -> Result<Stepped, WorldRefusal>
+        ensures acts { (node : NodeName) (at : ℕ) → MasterActs (Event.Sync node at)
+            (Reads (Event.Sync node at) shown) self.old self.new room (happened result left.new) }
+        ensures tag { IfOk result (λ stepped. stepped.tag ≡ tag) }
     {
         let now = shown?;
         room?;
         let (octets, number) = self.port.next_sync();
         self.waiting = Some(Departure { number, at: now });
-        Ok(Happened {
+        *left = Left::Copy(Octets::Short(octets));
+        Ok(Stepped {
+            tag,
             reading: Some(now),
             outcome: Outcome::Made,
-            left: Left::Copy(Octets::Short(octets)),
         })
     }
 
@@ -30,23 +38,33 @@ impl Master {
         &mut self,
         shown: Shown,
         room: Room,
-    ) -> Result<Happened, WorldRefusal>
-        ensures { (node : NodeName) (at : ℕ) → MasterActs (Event.SyncOne node at)
-            (Reads (Event.SyncOne node at) shown) self.old self.new room result }
+        tag: u64,
+        left: &mut Left,
+    ) -> Result<Stepped, WorldRefusal>
+        ensures acts { (node : NodeName) (at : ℕ) → MasterActs (Event.SyncOne node at)
+            (Reads (Event.SyncOne node at) shown) self.old self.new room (happened result left.new) }
+        ensures tag { IfOk result (λ stepped. stepped.tag ≡ tag) }
     {
         let now = shown?;
         room?;
         let (octets, _) = self.port.one_step_sync(now);
-        Ok(Happened {
+        *left = Left::Copy(Octets::Short(octets));
+        Ok(Stepped {
+            tag,
             reading: Some(now),
             outcome: Outcome::Made,
-            left: Left::Copy(Octets::Short(octets)),
         })
     }
 
     /// Writes the Follow_Up of the Sync that waits for it.
-    pub(crate) fn follow(&mut self, room: Room) -> Result<Happened, WorldRefusal>
-        ensures { (node : NodeName) → MasterActs (Event.Follow node) Nothing self.old self.new room result }
+    pub(crate) fn follow(
+        &mut self,
+        room: Room,
+        tag: u64,
+        left: &mut Left,
+    ) -> Result<Stepped, WorldRefusal>
+        ensures acts { (node : NodeName) → MasterActs (Event.Follow node) Nothing self.old self.new room (happened result left.new) }
+        ensures tag { IfOk result (λ stepped. stepped.tag ≡ tag) }
     {
         let Some(sync) = self.waiting else {
             return Err(WorldRefusal::NothingWaiting);
@@ -56,10 +74,11 @@ impl Master {
             return Err(WorldRefusal::NothingWaiting);
         };
         self.waiting = None;
-        Ok(Happened {
+        *left = Left::Copy(Octets::Short(octets));
+        Ok(Stepped {
+            tag,
             reading: None,
             outcome: Outcome::Made,
-            left: Left::Copy(Octets::Short(octets)),
         })
     }
 
@@ -69,11 +88,14 @@ impl Master {
         heard: Option<&[u8]>,
         shown: Shown,
         room: Room,
-    ) -> Result<Happened, WorldRefusal>
-        ensures { (node : NodeName) (copy at : ℕ) → MasterActs (Event.Arrive node copy at)
+        tag: u64,
+        left: &mut Left,
+    ) -> Result<Stepped, WorldRefusal>
+        ensures acts { (node : NodeName) (copy at : ℕ) → MasterActs (Event.Arrive node copy at)
             (λ network run. IsCopy copy (option_map (λ octets. octets.now) heard.entry) network run
             × Reads (Event.Arrive node copy at) shown network run)
-            self.now self.now room result }
+            self.now self.now room (happened result left.new) }
+        ensures tag { IfOk result (λ stepped. stepped.tag ≡ tag) }
     {
         let Some(octets) = heard else {
             return Err(WorldRefusal::NoCopy);
@@ -81,16 +103,22 @@ impl Master {
         let now = shown?;
         room?;
         match self.port.delay_req(octets, now) {
-            Ok(response) => Ok(Happened {
-                reading: Some(now),
-                outcome: Outcome::Made,
-                left: Left::Copy(Octets::Long(response)),
-            }),
-            Err(refusal) => Ok(Happened {
-                reading: Some(now),
-                outcome: Outcome::Refused(refusal.code()),
-                left: Left::Nothing,
-            }),
+            Ok(response) => {
+                *left = Left::Copy(Octets::Long(response));
+                Ok(Stepped {
+                    tag,
+                    reading: Some(now),
+                    outcome: Outcome::Made,
+                })
+            }
+            Err(refusal) => {
+                *left = Left::Nothing;
+                Ok(Stepped {
+                    tag,
+                    reading: Some(now),
+                    outcome: Outcome::Refused(refusal.code()),
+                })
+            }
         }
     }
 }

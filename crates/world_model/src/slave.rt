@@ -1,11 +1,11 @@
-ghost use Rattle.std.specs.Prelude.{ℕ, option_map};
+ghost use Rattle.std.specs.Prelude.{◌≡◌, ℕ, option_map, IfOk};
 ghost use Rattle.network_model.specs.Network.{Network, NodeName};
 ghost use Rattle.network_model.specs.Run.{Run};
-ghost use Rattle.world_model.specs.Inner.Acts.{SlaveActs, Nothing, Reads, IsCopy, IsNext, IsKind};
+ghost use Rattle.world_model.specs.Inner.Acts.{happened, SlaveActs, Nothing, Reads, IsCopy, IsNext, IsKind};
 
-use crate::entry::{Happened, Left, Octets};
+use crate::entry::{Left, Octets};
 use crate::station::{Departure, Room, Shown, Slave};
-use network_model::{Event, NodeKind, Outcome, WorldRefusal};
+use network_model::{Event, NodeKind, Outcome, Stepped, WorldRefusal};
 use ptp_units::ScaledTime;
 
 impl Slave {
@@ -16,21 +16,24 @@ impl Slave {
         shown: Shown,
         tag: u64,
         room: Room,
-    ) -> Result<Happened, WorldRefusal>
-        ensures { (node : NodeName) (copy at : ℕ) → SlaveActs (Event.Arrive node copy at)
+        left: &mut Left,
+    ) -> Result<Stepped, WorldRefusal>
+        ensures acts { (node : NodeName) (copy at : ℕ) → SlaveActs (Event.Arrive node copy at)
             (λ network run. IsCopy copy (option_map (λ octets. octets.now) heard.entry) network run
             × Reads (Event.Arrive node copy at) shown network run × IsNext tag network run)
-            self.old self.new room result }
+            self.old self.new room (happened result left.new) }
+        ensures tag { IfOk result (λ stepped. stepped.tag ≡ tag) }
     {
         let Some(octets) = heard else {
             return Err(WorldRefusal::NoCopy);
         };
         let now = shown?;
         room?;
-        Ok(Happened {
+        *left = Left::Nothing;
+        Ok(Stepped {
+            tag,
             reading: Some(now),
             outcome: Outcome::Heard(self.port.sync(octets, now, tag)),
-            left: Left::Nothing,
         })
     }
 
@@ -40,20 +43,23 @@ impl Slave {
         heard: Option<&[u8]>,
         tag: u64,
         room: Room,
-    ) -> Result<Happened, WorldRefusal>
-        ensures { (node : NodeName) (copy : ℕ) → SlaveActs (Event.Hear node copy)
+        left: &mut Left,
+    ) -> Result<Stepped, WorldRefusal>
+        ensures acts { (node : NodeName) (copy : ℕ) → SlaveActs (Event.Hear node copy)
             (λ network run. IsCopy copy (option_map (λ octets. octets.now) heard.entry) network run
             × IsNext tag network run)
-            self.old self.new room result }
+            self.old self.new room (happened result left.new) }
+        ensures tag { IfOk result (λ stepped. stepped.tag ≡ tag) }
     {
         let Some(octets) = heard else {
             return Err(WorldRefusal::NoCopy);
         };
         room?;
-        Ok(Happened {
+        *left = Left::Nothing;
+        Ok(Stepped {
+            tag,
             reading: None,
             outcome: Outcome::Heard(self.port.general(octets, tag)),
-            left: Left::Nothing,
         })
     }
 
@@ -63,25 +69,34 @@ impl Slave {
         shown: Shown,
         tag: u64,
         room: Room,
-    ) -> Result<Happened, WorldRefusal>
-        ensures { (node : NodeName) (at : ℕ) → SlaveActs (Event.Request node at)
+        left: &mut Left,
+    ) -> Result<Stepped, WorldRefusal>
+        ensures acts { (node : NodeName) (at : ℕ) → SlaveActs (Event.Request node at)
             (λ network run. Reads (Event.Request node at) shown network run
-            × IsNext tag network run) self.old self.new room result }
+            × IsNext tag network run) self.old self.new room (happened result left.new) }
+        ensures tag { IfOk result (λ stepped. stepped.tag ≡ tag) }
     {
         let now = shown?;
         room?;
         let (octets, number) = self.port.next_request(tag);
         self.waiting = Some(Departure { number, at: now });
-        Ok(Happened {
+        *left = Left::Copy(Octets::Short(octets));
+        Ok(Stepped {
+            tag,
             reading: Some(now),
             outcome: Outcome::Made,
-            left: Left::Copy(Octets::Short(octets)),
         })
     }
 
     /// Learns when the Delay_Req that waits for it departed.
-    pub(crate) fn stamped(&mut self, room: Room) -> Result<Happened, WorldRefusal>
-        ensures { (node : NodeName) → SlaveActs (Event.Stamped node) Nothing self.old self.new room result }
+    pub(crate) fn stamped(
+        &mut self,
+        room: Room,
+        tag: u64,
+        left: &mut Left,
+    ) -> Result<Stepped, WorldRefusal>
+        ensures acts { (node : NodeName) → SlaveActs (Event.Stamped node) Nothing self.old self.new room (happened result left.new) }
+        ensures tag { IfOk result (λ stepped. stepped.tag ≡ tag) }
     {
         let Some(request) = self.waiting else {
             return Err(WorldRefusal::NothingWaiting);
@@ -92,23 +107,31 @@ impl Slave {
             Ok(()) => Outcome::Done,
             Err(refusal) => Outcome::Refused(refusal.code()),
         };
-        Ok(Happened {
+        *left = Left::Nothing;
+        Ok(Stepped {
+            tag,
             reading: None,
-            outcome,
-            left: Left::Nothing,
+            outcome: outcome,
         })
     }
 
     /// Its hold timer runs out.
-    pub(crate) fn tick(&mut self, room: Room) -> Result<Happened, WorldRefusal>
-        ensures { (node : NodeName) → SlaveActs (Event.Tick node) Nothing self.old self.new room result }
+    pub(crate) fn tick(
+        &mut self,
+        room: Room,
+        tag: u64,
+        left: &mut Left,
+    ) -> Result<Stepped, WorldRefusal>
+        ensures acts { (node : NodeName) → SlaveActs (Event.Tick node) Nothing self.old self.new room (happened result left.new) }
+        ensures tag { IfOk result (λ stepped. stepped.tag ≡ tag) }
     {
         room?;
         self.port.tick();
-        Ok(Happened {
+        *left = Left::Nothing;
+        Ok(Stepped {
+            tag,
             reading: None,
             outcome: Outcome::Done,
-            left: Left::Nothing,
         })
     }
 
@@ -117,19 +140,23 @@ impl Slave {
         &mut self,
         other: NodeKind,
         room: Room,
-    ) -> Result<Happened, WorldRefusal>
-        ensures { (node master : NodeName) → SlaveActs (Event.SetMaster node master)
-            (IsKind master other) self.old self.new room result }
+        tag: u64,
+        left: &mut Left,
+    ) -> Result<Stepped, WorldRefusal>
+        ensures acts { (node master : NodeName) → SlaveActs (Event.SetMaster node master)
+            (IsKind master other) self.old self.new room (happened result left.new) }
+        ensures tag { IfOk result (λ stepped. stepped.tag ≡ tag) }
     {
         let NodeKind::Master { config, .. } = other else {
             return Err(WorldRefusal::WrongKind);
         };
         room?;
         self.port.set_master(config.identity);
-        Ok(Happened {
+        *left = Left::Nothing;
+        Ok(Stepped {
+            tag,
             reading: None,
             outcome: Outcome::Done,
-            left: Left::Nothing,
         })
     }
 }

@@ -1,19 +1,19 @@
-ghost use Rattle.std.specs.Prelude.{◌≡◌, List, [], pos, ◌+ℤ◌, ok_or, IfOk, IfErr, OnOk, OnErr};
+ghost use Rattle.std.specs.Prelude.{◌≡◌, List, [], pos, ◌+ℤ◌, length, ok_or, IfOk, IfErr, OnOk, OnErr};
 ghost use Rattle.ptp_units.specs.Moment.{moment_of};
 ghost use Rattle.network_model.specs.Network.{Network, NodeName, IsNetwork};
-ghost use Rattle.world_model.specs.declared.entry.Entry.{Entry};
-ghost use Rattle.world_model.specs.Inner.Stands.{Stands, AllStand, left_stay};
-ghost use Rattle.world_model.specs.Inner.Acts.{Acts, ActsIn, entries_after};
+ghost use Rattle.world_model.specs.Inner.Stands.{Entry, Stands, AllStand, left_stay};
+ghost use Rattle.world_model.specs.Inner.Acts.{Acts, ActsIn, entries_after, happened};
+ghost use Rattle.world_model.specs.Inner.Kept.{lists, entries_of, AllStored, HasRoom};
 
-use crate::clock::{copy_inside, depart};
-use crate::entry::{Entry, Happened, Left, copy_at, octets_of};
+use crate::clock::depart;
+use crate::entry::Left;
+use crate::events::Events;
 use master_port::MasterPort;
-use network_model::{Event, Name, NodeKind, Nodes, Outcome, WorldRefusal};
+use network_model::{Event, Name, NodeKind, Nodes, Outcome, Stepped, WorldRefusal};
 use pairing::RingTable;
 use ptp_units::{BOUND, ScaledTime, Seq};
 use slave_port::{HeldFollow, HeldRequest, HeldSync, SlavePort};
 use std::alloc::Global;
-use transparent_clock::enter;
 
 /// What holds the messages of a slave: at most 16 of each kind.
 pub(crate) type Table<V> = RingTable<V, 16>;
@@ -98,182 +98,233 @@ impl Station {
     pub(crate) fn act(
         &mut self,
         nodes: &Nodes,
-        entries: &mut [Entry],
+        events: &mut Events,
         event: &Event,
         room: Room,
-    ) -> Result<Happened, WorldRefusal>
-        ensures acts { ActsIn nodes.now event.now entries.old self.old self.new room result }
-        ensures entries { OnOk result (entries.new ≡ entries_after event.now entries.old) }
-        ensures kept { OnErr result (entries.new ≡ entries.old) }
+        tag: u64,
+        left: &mut Left,
+    ) -> Result<Stepped, WorldRefusal>
+        requires stored { AllStored (lists events.old.stores) events.old.kept.items }
+        requires tag { tag ≡ length (entries_of events.old) }
+        ensures acts { ActsIn nodes.now event.now (entries_of events.old) self.old self.new room (happened result left.new) }
+        ensures tag { IfOk result (λ stepped. stepped.tag ≡ tag) }
+        ensures entries { OnOk result (entries_of events.new ≡ entries_after event.now (entries_of events.old)) }
+        ensures stored { AllStored (lists events.new.stores) events.new.kept.items }
+        ensures room { HasRoom events.old → HasRoom events.new }
+        ensures kept { OnErr result (entries_of events.new ≡ entries_of events.old) }
     {
         match event {
-            Event::Sync { at, .. } => self.sync(*at, room),
-            Event::SyncOne { at, .. } => self.one_step_sync(*at, room),
-            Event::Follow { .. } => self.follow(room),
-            Event::Enter { copy, at, .. } => self.enter(entries, *copy, *at, room),
-            Event::Leave { node, transit, at } => self.leave(entries, node, *transit, *at, room),
-            Event::Arrive { copy, at, .. } => self.arrive(entries, *copy, *at, room),
-            Event::Hear { copy, .. } => self.hear(entries, *copy, room),
-            Event::Request { at, .. } => self.request(*at, entries, room),
-            Event::Stamped { .. } => self.stamped(room),
-            Event::Tick { .. } => self.tick(room),
-            Event::SetMaster { master, .. } => self.set_master(nodes, master, room),
-            Event::StepClock { diff, .. } => self.step_clock(diff, room),
+            Event::Sync { at, .. } => self.sync(*at, room, tag, left),
+            Event::SyncOne { at, .. } => self.one_step_sync(*at, room, tag, left),
+            Event::Follow { .. } => self.follow(room, tag, left),
+            Event::Enter { copy, at, .. } => self.enter(events, *copy, *at, room, tag, left),
+            Event::Leave { node, transit, at } => self.leave(
+                events, node, *transit, *at, room, tag, left,
+            ),
+            Event::Arrive { copy, at, .. } => self.arrive(events, *copy, *at, room, tag, left),
+            Event::Hear { copy, .. } => self.hear(events, *copy, room, tag, left),
+            Event::Request { at, .. } => self.request(*at, events, room, tag, left),
+            Event::Stamped { .. } => self.stamped(room, tag, left),
+            Event::Tick { .. } => self.tick(room, tag, left),
+            Event::SetMaster { master, .. } => self.set_master(nodes, master, room, tag, left),
+            Event::StepClock { diff, .. } => self.step_clock(diff, room, tag, left),
         }
     }
 
     /// A master sends a Sync.
-    fn sync(&mut self, at: ScaledTime, room: Room) -> Result<Happened, WorldRefusal>
-        ensures { (node : NodeName) (entries : List Entry)
-            → Acts (Event.Sync node at) entries self.old self.new room result }
+    fn sync(
+        &mut self,
+        at: ScaledTime,
+        room: Room,
+        tag: u64,
+        left: &mut Left,
+    ) -> Result<Stepped, WorldRefusal>
+        ensures acts { (node : NodeName) (entries : List Entry)
+            → Acts (Event.Sync node at) entries self.old self.new room (happened result left.new) }
+        ensures tag { IfOk result (λ stepped. stepped.tag ≡ tag) }
     {
         let shown = self.shown(at);
         let Port::Master(master) = &mut self.port else {
             return Err(WorldRefusal::WrongKind);
         };
-        master.sync(shown, room)
+        master.sync(shown, room, tag, left)
     }
 
     /// A master sends a one-step Sync.
-    fn one_step_sync(&mut self, at: ScaledTime, room: Room) -> Result<Happened, WorldRefusal>
-        ensures { (node : NodeName) (entries : List Entry)
-            → Acts (Event.SyncOne node at) entries self.old self.new room result }
+    fn one_step_sync(
+        &mut self,
+        at: ScaledTime,
+        room: Room,
+        tag: u64,
+        left: &mut Left,
+    ) -> Result<Stepped, WorldRefusal>
+        ensures acts { (node : NodeName) (entries : List Entry)
+            → Acts (Event.SyncOne node at) entries self.old self.new room (happened result left.new) }
+        ensures tag { IfOk result (λ stepped. stepped.tag ≡ tag) }
     {
         let shown = self.shown(at);
         let Port::Master(master) = &mut self.port else {
             return Err(WorldRefusal::WrongKind);
         };
-        master.one_step_sync(shown, room)
+        master.one_step_sync(shown, room, tag, left)
     }
 
     /// A master sends the Follow_Up of the Sync that waits for it.
-    fn follow(&mut self, room: Room) -> Result<Happened, WorldRefusal>
-        ensures { (node : NodeName) (entries : List Entry)
-            → Acts (Event.Follow node) entries self.old self.new room result }
+    fn follow(&mut self, room: Room, tag: u64, left: &mut Left) -> Result<Stepped, WorldRefusal>
+        ensures acts { (node : NodeName) (entries : List Entry)
+            → Acts (Event.Follow node) entries self.old self.new room (happened result left.new) }
+        ensures tag { IfOk result (λ stepped. stepped.tag ≡ tag) }
     {
         let Port::Master(master) = &mut self.port else {
             return Err(WorldRefusal::WrongKind);
         };
-        master.follow(room)
+        master.follow(room, tag, left)
     }
 
     /// A copy of a message enters a transparent clock.
     fn enter(
         &self,
-        entries: &[Entry],
+        events: &Events,
         copy: u64,
         at: ScaledTime,
         room: Room,
-    ) -> Result<Happened, WorldRefusal>
-        ensures { (node : NodeName) → Acts (Event.Enter node copy at) entries.now self.now self.now room result }
+        tag: u64,
+        left: &mut Left,
+    ) -> Result<Stepped, WorldRefusal>
+        ensures acts { (node : NodeName) → Acts (Event.Enter node copy at) (entries_of events.now) self.now self.now room (happened result left.new) }
+        ensures tag { IfOk result (λ stepped. stepped.tag ≡ tag) }
     {
         let Port::Clock = &self.port else {
             return Err(WorldRefusal::WrongKind);
         };
-        if copy_at(entries, copy).is_none() {
+        if events.octets(copy).is_none() {
             return Err(WorldRefusal::NoCopy);
         }
         let now = self.shown(at)?;
         room?;
-        Ok(Happened {
+        *left = Left::Stay(now);
+        Ok(Stepped {
+            tag,
             reading: Some(now),
             outcome: Outcome::Entered,
-            left: Left::Stay(enter(now)),
         })
     }
 
     /// A message leaves the transparent clock of this name.
     fn leave(
         &self,
-        entries: &mut [Entry],
+        events: &mut Events,
         clock: &Name,
         transit: u64,
         at: ScaledTime,
         room: Room,
-    ) -> Result<Happened, WorldRefusal>
-        ensures acts { Acts (Event.Leave clock.now transit at) entries.old self.now self.now room result }
-        ensures stay { OnOk result (entries.new ≡ left_stay transit entries.old) }
-        ensures kept { OnErr result (entries.new ≡ entries.old) }
+        tag: u64,
+        left: &mut Left,
+    ) -> Result<Stepped, WorldRefusal>
+        requires { AllStored (lists events.old.stores) events.old.kept.items }
+        ensures acts { Acts (Event.Leave clock.now transit at) (entries_of events.old) self.now self.now room (happened result left.new) }
+        ensures tag { IfOk result (λ stepped. stepped.tag ≡ tag) }
+        ensures stay { OnOk result (entries_of events.new ≡ left_stay transit (entries_of events.old)) }
+        ensures stored { AllStored (lists events.new.stores) events.new.kept.items }
+        ensures room { HasRoom events.old → HasRoom events.new }
+        ensures kept { OnErr result (entries_of events.new ≡ entries_of events.old) }
     {
         let Port::Clock = &self.port else {
             return Err(WorldRefusal::WrongKind);
         };
-        let Some(copy) = copy_inside(entries, clock, transit) else {
+        let Some(copy) = events.copy_inside(clock, transit) else {
             return Err(WorldRefusal::NoTransit);
         };
-        let octets = match copy_at(entries, copy) {
-            Some(octets) => *octets,
+        let octets = match events.copy(copy) {
+            Some(octets) => octets,
             None => return Err(WorldRefusal::NoTransit),
         };
-        depart(entries, transit, octets, self.shown(at), room)
+        depart(events, transit, octets, self.shown(at), room, tag, left)
     }
 
     /// A copy of a message arrives at a master or a slave.
     fn arrive(
         &mut self,
-        entries: &[Entry],
+        events: &Events,
         copy: u64,
         at: ScaledTime,
         room: Room,
-    ) -> Result<Happened, WorldRefusal>
-        ensures { (node : NodeName) → Acts (Event.Arrive node copy at) entries.now self.old self.new room result }
+        tag: u64,
+        left: &mut Left,
+    ) -> Result<Stepped, WorldRefusal>
+        requires tag { tag ≡ length (entries_of events.now) }
+        ensures acts { (node : NodeName) → Acts (Event.Arrive node copy at) (entries_of events.now) self.old self.new room (happened result left.new) }
+        ensures tag { IfOk result (λ stepped. stepped.tag ≡ tag) }
     {
         let shown = self.shown(at);
         match &mut self.port {
-            Port::Master(master) => master.arrive(octets_of(entries, copy), shown, room),
-            Port::Slave(slave) => {
-                slave.arrive(octets_of(entries, copy), shown, entries.len() as u64, room)
-            }
+            Port::Master(master) => master.arrive(events.octets(copy), shown, room, tag, left),
+            Port::Slave(slave) => { slave.arrive(events.octets(copy), shown, tag, room, left) }
             Port::Clock => Err(WorldRefusal::WrongKind),
         }
     }
 
     /// A slave hears a copy of a general message.
-    fn hear(&mut self, entries: &[Entry], copy: u64, room: Room) -> Result<Happened, WorldRefusal>
-        ensures { (node : NodeName) → Acts (Event.Hear node copy) entries.now self.old self.new room result }
+    fn hear(
+        &mut self,
+        events: &Events,
+        copy: u64,
+        room: Room,
+        tag: u64,
+        left: &mut Left,
+    ) -> Result<Stepped, WorldRefusal>
+        requires tag { tag ≡ length (entries_of events.now) }
+        ensures acts { (node : NodeName) → Acts (Event.Hear node copy) (entries_of events.now) self.old self.new room (happened result left.new) }
+        ensures tag { IfOk result (λ stepped. stepped.tag ≡ tag) }
     {
         let Port::Slave(slave) = &mut self.port else {
             return Err(WorldRefusal::WrongKind);
         };
-        slave.hear(octets_of(entries, copy), entries.len() as u64, room)
+        slave.hear(events.octets(copy), tag, room, left)
     }
 
     /// A slave sends a Delay_Req.
     fn request(
         &mut self,
         at: ScaledTime,
-        entries: &[Entry],
+        events: &Events,
         room: Room,
-    ) -> Result<Happened, WorldRefusal>
-        ensures { (node : NodeName) → Acts (Event.Request node at) entries.now self.old self.new room result }
+        tag: u64,
+        left: &mut Left,
+    ) -> Result<Stepped, WorldRefusal>
+        requires tag { tag ≡ length (entries_of events.now) }
+        ensures acts { (node : NodeName) → Acts (Event.Request node at) (entries_of events.now) self.old self.new room (happened result left.new) }
+        ensures tag { IfOk result (λ stepped. stepped.tag ≡ tag) }
     {
         let shown = self.shown(at);
         let Port::Slave(slave) = &mut self.port else {
             return Err(WorldRefusal::WrongKind);
         };
-        slave.request(shown, entries.len() as u64, room)
+        slave.request(shown, tag, room, left)
     }
 
     /// A slave learns when its waiting Delay_Req departed.
-    fn stamped(&mut self, room: Room) -> Result<Happened, WorldRefusal>
-        ensures { (node : NodeName) (entries : List Entry)
-            → Acts (Event.Stamped node) entries self.old self.new room result }
+    fn stamped(&mut self, room: Room, tag: u64, left: &mut Left) -> Result<Stepped, WorldRefusal>
+        ensures acts { (node : NodeName) (entries : List Entry)
+            → Acts (Event.Stamped node) entries self.old self.new room (happened result left.new) }
+        ensures tag { IfOk result (λ stepped. stepped.tag ≡ tag) }
     {
         let Port::Slave(slave) = &mut self.port else {
             return Err(WorldRefusal::WrongKind);
         };
-        slave.stamped(room)
+        slave.stamped(room, tag, left)
     }
 
     /// A slave's hold timer runs out.
-    fn tick(&mut self, room: Room) -> Result<Happened, WorldRefusal>
-        ensures { (node : NodeName) (entries : List Entry)
-            → Acts (Event.Tick node) entries self.old self.new room result }
+    fn tick(&mut self, room: Room, tag: u64, left: &mut Left) -> Result<Stepped, WorldRefusal>
+        ensures acts { (node : NodeName) (entries : List Entry)
+            → Acts (Event.Tick node) entries self.old self.new room (happened result left.new) }
+        ensures tag { IfOk result (λ stepped. stepped.tag ≡ tag) }
     {
         let Port::Slave(slave) = &mut self.port else {
             return Err(WorldRefusal::WrongKind);
         };
-        slave.tick(room)
+        slave.tick(room, tag, left)
     }
 
     /// A slave is told its present master.
@@ -282,9 +333,12 @@ impl Station {
         nodes: &Nodes,
         master: &Name,
         room: Room,
-    ) -> Result<Happened, WorldRefusal>
-        ensures { (node : NodeName) (entries : List Entry)
-            → ActsIn nodes.now (Event.SetMaster node master.now) entries self.old self.new room result }
+        tag: u64,
+        left: &mut Left,
+    ) -> Result<Stepped, WorldRefusal>
+        ensures acts { (node : NodeName) (entries : List Entry)
+            → ActsIn nodes.now (Event.SetMaster node master.now) entries self.old self.new room (happened result left.new) }
+        ensures tag { IfOk result (λ stepped. stepped.tag ≡ tag) }
     {
         let Some(other) = nodes.get(master) else {
             return Err(WorldRefusal::NoNode);
@@ -292,23 +346,31 @@ impl Station {
         let Port::Slave(slave) = &mut self.port else {
             return Err(WorldRefusal::WrongKind);
         };
-        slave.set_master(other.kind, room)
+        slave.set_master(other.kind, room, tag, left)
     }
 
     /// The clock is set.
-    fn step_clock(&mut self, diff: &i128, room: Room) -> Result<Happened, WorldRefusal>
-        ensures { (node : NodeName) (entries : List Entry)
-            → Acts (Event.StepClock node diff.now) entries self.old self.new room result }
+    fn step_clock(
+        &mut self,
+        diff: &i128,
+        room: Room,
+        tag: u64,
+        left: &mut Left,
+    ) -> Result<Stepped, WorldRefusal>
+        ensures acts { (node : NodeName) (entries : List Entry)
+            → Acts (Event.StepClock node diff.now) entries self.old self.new room (happened result left.new) }
+        ensures tag { IfOk result (λ stepped. stepped.tag ≡ tag) }
     {
         if diff.unsigned_abs() >= BOUND {
             return Err(WorldRefusal::ReadingOutOfRange);
         }
         room?;
         self.difference = *diff;
-        Ok(Happened {
+        *left = Left::Nothing;
+        Ok(Stepped {
+            tag,
             reading: None,
             outcome: Outcome::Done,
-            left: Left::Nothing,
         })
     }
 }

@@ -7,7 +7,8 @@ ghost use Rattle.network_model.specs.Premises.{IsWithinOneTurn, exact_limits};
 ghost use Rattle.world_model.specs.State.{new_state, after, IsRefused};
 ghost use Rattle.world_model.specs.Exact.{IsTimely, IsExactAnswer, RunsKeepLaws};
 
-use crate::entry::{Entry, octets_of};
+use crate::events::Events;
+use crate::places::Recent;
 use crate::station::{Station, stations_of};
 use crate::stepping::step;
 use network_model::{CopyOctets, Event, Nodes, Stepped, WorldRefusal};
@@ -20,8 +21,9 @@ use std::marker::Model;
 #[derive(Drop)]
 pub struct World {
     nodes: Nodes,
+    recent: Recent,
     stations: Vec<Station>,
-    entries: Vec<Entry>,
+    events: Events,
 }
 
 impl Model for World {
@@ -29,11 +31,12 @@ impl Model for World {
 
     ghost Value = { State };
 
-    ghost use Rattle.world_model.specs.Inner.Stands.{run_of, IsWorld};
+    ghost use Rattle.world_model.specs.Inner.Stands.{run_of};
+    ghost use Rattle.world_model.specs.Inner.Kept.{entries_of, IsKeptWorld};
 
-    ghost view = { λ w. record { network = w.nodes; run = run_of w.entries.items } };
+    ghost view = { λ w. record { network = w.nodes; run = run_of (entries_of w.events) } };
 
-    ghost invariant = { λ w. IsWorld w.nodes w.stations.items w.entries.items };
+    ghost invariant = { λ w. IsKeptWorld w.nodes w.stations.items w.events };
 }
 
 impl World {
@@ -47,8 +50,9 @@ impl World {
         let stations = stations_of(alloc, &nodes)?;
         Ok(World {
             nodes,
+            recent: Recent::new(),
             stations,
-            entries: Vec::new(alloc),
+            events: Events::new(alloc),
         })
     }
 
@@ -70,7 +74,13 @@ impl World {
             (IsExactAnswer (λ network slave run. IsWithinOneTurn run) self.old event.now) }
         ensures laws { RunsKeepLaws }
     {
-        step(&self.nodes, &mut self.stations, &mut self.entries, event)
+        step(
+            &self.nodes,
+            &mut self.recent,
+            &mut self.stations,
+            &mut self.events,
+            event,
+        )
     }
 
     /// The octets of the copy that the event of this tag made, or None where it made none.
@@ -82,7 +92,7 @@ impl World {
         ensures network { IsNetwork self.now.network }
         ensures run { IsRun self.now.network self.now.run }
     {
-        octets_of(self.entries.as_slice(), copy)
+        self.events.octets(copy)
     }
 
     /// How many events happened.
@@ -91,7 +101,7 @@ impl World {
         ensures network { IsNetwork self.now.network }
         ensures run { IsRun self.now.network self.now.run }
     {
-        self.entries.len() as u64
+        self.events.len()
     }
 
     /// Whether nothing happened yet.

@@ -1,11 +1,9 @@
 -- What the checker keeps of lines, so that it searches for nothing. Its own functions cite these; what its callers
 -- are told is said by the lines alone. A definition `x_by` says by what is kept what trace_model's `Record`, `Journey`
 -- and `Octets` say by the lines, as proofs/Told, proofs/Messages and proofs/FactLines show.
-use Rattle.std.specs.Prelude.{ℕ, ◌+◌, ◌-◌, ℤ, pos, ◌+ℤ◌, Bool, true, false, ◌&&◌, not, List, nat_lt}
+use Rattle.std.specs.Prelude.{ℕ, ◌+◌, ◌-◌, ℤ, pos, ◌+ℤ◌, Bool, true, false, ◌&&◌, not, List, [], ◌∷◌, nat_lt}
 use Rattle.std.specs.Prelude.{slice_get, unwrap_or, ◌==◌, is_some, if◌then◌else◌, Option, Some, None, option_map}
 use Rattle.std.specs.Prelude.{option_and_then}
-use Rattle.std.specs.HashMap.{HashMap, get}
-use Rattle.std.specs.Str.{bytes_eq}
 use Rattle.std.specs.Option.{option_or, option_map_or}
 use Rattle.ptp_units.specs.Sequence.{of_count, next}
 use Rattle.event_codec.specs.Packet.{Contents}
@@ -14,7 +12,7 @@ use Rattle.transparent_clock.specs.Forwarding.{resided}
 use Rattle.network_model.specs.declared.event.Event.{Event}
 use Rattle.network_model.specs.declared.event.Event.TheVariants.{Sync, SyncOne, Follow, Leave, Arrive}
 use Rattle.network_model.specs.declared.event.Event.TheVariants.{Request, SetMaster, StepClock}
-use Rattle.network_model.specs.Network.{Network, NodeName, PortSetup, is_named}
+use Rattle.network_model.specs.Network.{Network, NodeName, PortSetup, is_named, node_of}
 use Rattle.network_model.specs.Run.{site_of, true_moment}
 use Rattle.network_model.specs.Kinds.{entered_copy, named_transit, is_stamped}
 use Rattle.network_model.specs.Truth.{master_at, slave_at}
@@ -203,9 +201,15 @@ new_site = record {
   set_master = None;
 }
 
--- what a map of nodes has of each node
-abbrev pub site_in : {S : Type 0} → HashMap NodeName Site S → Sites
-site_in sites name = unwrap_or (get bytes_eq sites name) new_site
+-- what is kept of each node, where they stand as in the network; of the others no line told anything
+abbrev pub site_in : List Site → Network → Sites
+site_in [] network name = new_site
+site_in (site ∷ sites) [] name = new_site
+site_in (site ∷ sites) (node ∷ others) name = if is_named name node.name then site else site_in sites others name
+
+-- whether an event's node is one of the network
+abbrev pub has_site : Network → Event → Bool
+has_site network event = is_some (node_of network (site_of event))
 
 -- what is kept of each node, with one of them moved by an event
 abbrev pub moved_at : Event → ℕ → Sites → Sites

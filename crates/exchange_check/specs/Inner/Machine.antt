@@ -101,8 +101,8 @@ abbrev pub facts_of : Kept → Facts
 facts_of kept = fact_in kept.facts.items
 
 -- what is kept of nodes
-abbrev pub sites_of : Kept → Sites
-sites_of kept = site_in kept.sites
+abbrev pub sites_of : Network → Kept → Sites
+sites_of network kept = site_in kept.sites.items network
 
 -- what is kept of requests
 abbrev pub stamps_of : Kept → Stamps
@@ -114,10 +114,10 @@ accepted_count (Accepted count) = count
 accepted_count (Refused number why) = 0
 
 -- what is kept is this, after so many lines
-pub record IsKept (kept : Kept) (count : ℕ) (m : Machine) : Type 0 where
+pub record IsKept (network : Network) (kept : Kept) (count : ℕ) (m : Machine) : Type 0 where
   pub count_is : length kept.facts.items ≡ count
   pub facts : facts_of kept ≡ m.facts
-  pub sites : sites_of kept ≡ m.sites
+  pub sites : sites_of network kept ≡ m.sites
   pub stays : AreStays kept.stays (last_stays m.facts) m.leaves count
   pub stamps : stamps_of kept ≡ m.stamps
   pub verdict : kept.verdict ≡ m.verdict

@@ -17,8 +17,9 @@ use Rattle.network_model.specs.Clock.{reading, reading_of}
 use Rattle.network_model.specs.Truth.{master_at, slave_at}
 use Rattle.network_model.specs.Truth.{TellsTruth, copy_of, copy_made}
 use Rattle.network_model.specs.Outcome.{outcome_of, reads, left_outcome}
-use Rattle.world_model.specs.declared.entry.Entry.{Entry}
-use Rattle.world_model.specs.declared.entry.Happened.{Happened}
+use Rattle.world_model.specs.Inner.Stands.{Entry, Happened, happening}
+use Rattle.world_model.specs.declared.entry.Left.{Left}
+use Rattle.network_model.specs.declared.stepped.Stepped.{Stepped}
 use Rattle.world_model.specs.declared.station.Master.{Master}
 use Rattle.world_model.specs.declared.station.Slave.{Slave}
 use Rattle.world_model.specs.declared.station.Station.{Station}
@@ -38,6 +39,11 @@ pub record Brings (network : Network) (run : Run) (event : Event) (After : Type 
   pub stands : After
   pub copy : TellsTruth (copy_made network event run (copy_of network run)) (octets_in happened.left)
   pub stay : stay_in happened.left ≡ option_map reading (entering (place event run))
+
+-- what happened, where an event was accepted
+abbrev pub happened : Result Stepped WorldRefusal → Left → Result Happened WorldRefusal
+happened (Ok stepped) left = Ok (happening stepped left)
+happened (Err why) left = Err why
 
 -- why an event isn't accepted
 abbrev pub Refuses : Network → Run → Event → Room → WorldRefusal → Type 0

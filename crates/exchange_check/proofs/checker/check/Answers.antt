@@ -4,7 +4,7 @@ use Rattle.exchange_check.proofs.Reversed.{AcceptsTruth-of, AcceptsTruth-within_
 use Rattle.exchange_check.proofs.checker.check.Goals as goal
 
 pub loop-line-init : goal.loop-line-init
-loop-line-init c = c.new-kept.ensures
+loop-line-init c = c.new-kept.ensures c.args.nodes.now
 
 pub loop-line-preserved : goal.loop-line-preserved
 loop-line-preserved c =

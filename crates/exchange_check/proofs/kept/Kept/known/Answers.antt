@@ -9,8 +9,8 @@ use Rattle.exchange_check.proofs.kept.Kept.known.Goals as goal
 pub returns : goal.returns
 returns c =
     let line = c.args.line.now in
-    let at_site : c.site-site.result ≡ sites_of c.args.self.now (site_of line.event) =
-    c.site-site.ensures ∙ ap (sites_of c.args.self.now) c.node.ensures in
+    let at_site : c.site-site.result ≡ sites_of c.args.nodes.now c.args.self.now (site_of line.event) =
+    c.site-site.ensures ∙ ap (sites_of c.args.nodes.now c.args.self.now) c.node.ensures in
     let moment = c.true_moment.ensures in
     let reads : c.is_reading.result ≡ is_reading line.reading (shown_by c.site-site.result line.event) =
     rw moment at c.is_reading.ensures in

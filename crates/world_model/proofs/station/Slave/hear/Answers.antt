@@ -8,8 +8,8 @@ use Rattle.world_model.proofs.Readings.{Told, told, IsReading-packet}
 use Rattle.world_model.proofs.Arrivals.{hear-brings}
 use Rattle.world_model.proofs.station.Slave.hear.Goals as goal
 
-pub returns : goal.returns
-returns c = λ node copy network run setup is stands given.
+pub returns-clause-acts : goal.returns-clause-acts
+returns-clause-acts c = λ node copy network run setup is stands given.
     let t : Told (copy_of network run copy) c.in-Some.octets.now = told (copy_of network run copy) c.in-Some.octets.now (rw c.in-Some.is at given.0) in
     let reads = IsReading-packet t.m c.in-Some.octets.now t.packet in (
       ap is_ok c.in_ok-room.was,

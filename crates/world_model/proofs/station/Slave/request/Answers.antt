@@ -6,8 +6,8 @@ use Rattle.world_model.specs.declared.entry.Octets.TheVariants.{Short}
 use Rattle.world_model.proofs.Slaves.{request-brings}
 use Rattle.world_model.proofs.station.Slave.request.Goals as goal
 
-pub returns : goal.returns
-returns c = λ node at network run setup is stands given.
+pub returns-clause-acts : goal.returns-clause-acts
+returns-clause-acts c = λ node at network run setup is stands given.
     let drawn = c.next_request.ensures.octets (slave_setup setup) (history_of network setup node run) stands.port in (
       ap is_ok c.in_ok-room.was,
       request-brings network run node at c.in_ok-now.now setup c.args.self.now is stands (sym c.in_ok-now.was ∙ given.0)

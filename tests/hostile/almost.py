@@ -1,0 +1,148 @@
+"""Lines that are almost spelled as `ptpx` writes them, or in other ways, given to `replay` and `check`: each is read as spelled.py says,
+and as it is behind a blank, where `ptpx` spells it again, and with a key twice, where `ptpx` reads its value."""
+import itertools
+import json
+import re
+
+import inputs
+import spelled
+import told
+from shown import lines_of
+
+FAULT = re.compile(rb'ptpx: fault (80[1-8])(?: \((60[1-8])\))? at line ([1-9][0-9]*)\n')
+VERDICT = re.compile(rb'accepted ([0-9]+)\n|refused event ([0-9]+): (70[1-8])\n')
+
+# Of a hundred lines so many are another line or none, the others the same line, in another spelling or as it was.
+BENT = 8
+
+
+def own(lines):
+    """The lines in `ptpx`'s own spelling."""
+    return [told.compact(json.loads(line)).encode() for line in lines]
+
+
+def altered(rng, lines, bends=True):
+    """The lines in other spellings, some as they were, and some that are almost the same."""
+    kept = rng.choice([0, 0.5, 0.9])
+
+    def other(line):
+        if bends and rng.randrange(100) < BENT:
+            return spelled.bent(rng, line)
+        return line if rng.random() < kept else spelled.respelled(rng, line)
+    return [other(line) for line in lines]
+
+
+def text_of(lines):
+    return b''.join(line + b'\n' for line in lines)
+
+
+def with_key_twice(line):
+    """The same line, where it is an object, with a key twice; what its value is at the second place counts."""
+    try:
+        value = spelled.value_of(line)
+    except ValueError:
+        return line
+    if not isinstance(value, dict) or not value:
+        return line
+    return line.replace(b'{', b'{%s:0,' % json.dumps(next(iter(value))).encode(), 1)
+
+
+def misguessed(given, subcommand, lines):
+    """What is wrong where a guess may be taken of the lines, beside the answers where they are spelled again, or their values read."""
+    answer = given(subcommand, text_of(lines))
+    for words, others in ('behind blanks', [b' ' + line for line in lines]), ('with a key twice', map(with_key_twice, lines)):
+        other = given(subcommand, text_of(others))
+        if answer != other:
+            yield f'{subcommand} answers {answer}, and {words} {other}'
+
+
+def first_fault(lines, recorded):
+    """The place and the number of the first line that isn't read, or None."""
+    events = 0
+    for place, line in enumerate(lines):
+        fault = spelled.fault_of(line, recorded)
+        if not fault:
+            value = spelled.value_of(line)
+            if 'ev' not in value and events or recorded and 'ev' in value and value['n'] != events:
+                fault = '806'
+            events += 'ev' in value
+        if fault:
+            return place, fault
+    return None
+
+
+def start(given, subcommand, lines):
+    """The status, the lines that were written, the fault with its reason, and its place."""
+    status, output, errors = given(subcommand, text_of(lines))
+    fault = FAULT.fullmatch(errors)
+    if fault:
+        return status, lines_of(output), fault[1].decode(), int(fault[3]) - 1
+    if errors or status == 3:
+        raise ValueError(errors)
+    return status, lines_of(output), None, None
+
+
+def misreplayed(given, lines, originals):
+    """What is wrong with the answers to lines of a schedule, in words. A line that isn't read is mended, until all are."""
+    for _ in range(len(lines) + 1):
+        _, answers, number, place = start(given, 'replay', lines)
+        fault = first_fault(lines, False)
+        told_of = answers if number is None else answers[:place]
+        yield from told.mistold(lines, told_of)
+        if number == '807':
+            # Another line than the one that was bent makes an event that can't happen, or a network that isn't one.
+            if fault and fault[0] < place:
+                yield f'807 at line {place + 1}, behind {fault}'
+            return
+        if (fault or (None, None)) != (place, number):
+            yield f'fault {number} at line {place and place + 1} in place of {fault}'
+            return
+        if not fault:
+            if len(answers) != len(lines):
+                yield f'{len(answers)} answers to {len(lines)} lines'
+            return
+        lines = [*lines[:place], originals[place], *lines[place + 1:]]
+
+
+def mischecked(given, lines, originals, bends):
+    """What is wrong with the verdicts on lines of a transcript, in words."""
+    for _ in range(len(lines) + 1):
+        _, answers, number, place = start(given, 'check', lines)
+        fault = first_fault(lines, True)
+        if number == '807':
+            if fault and fault[0] < place:
+                yield f'807 at line {place + 1}, behind {fault}'
+            return
+        if (fault or (None, None)) != (place, number):
+            yield f'fault {number} at line {place and place + 1} in place of {fault}'
+            return
+        if not fault:
+            reports = [line['n'] for _, line in told.reports(lines)]
+            verdict = VERDICT.fullmatch(text_of(answers))
+            if not verdict or verdict[1] and int(verdict[1]) != len(reports) or verdict[2] and int(verdict[2]) not in reports:
+                yield f'verdict {answers}'
+            elif not bends and not verdict[1]:
+                yield f'verdict {answers} on the same lines in other spellings'
+            return
+        lines = [*lines[:place], originals[place], *lines[place + 1:]]
+
+
+def changed(lines, originals):
+    return sum(line != original for line, original in zip(lines, originals))
+
+
+def misread(given, rng):
+    """How many lines of one schedule and its transcript were changed, and what is wrong with the answers."""
+    schedule = own(inputs.walk(rng))
+    _, answers, number, _ = start(given, 'replay', schedule)
+    if number:
+        schedule = schedule[:len(answers)]
+    lines = altered(rng, schedule)
+    wrong = list(itertools.islice(itertools.chain(misguessed(given, 'replay', lines), misreplayed(given, lines, schedule)), 3))
+    count = changed(lines, schedule)
+    if not number and not wrong:
+        bends = rng.random() < 0.7
+        lines = altered(rng, answers, bends)
+        wrong = list(itertools.islice(itertools.chain(misguessed(given, 'check', lines), mischecked(given, lines, answers, bends)), 3))
+        count += changed(lines, answers)
+    return count, wrong, lines
