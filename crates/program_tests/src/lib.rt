@@ -9,8 +9,6 @@ mod datagrams;
 #[cfg(test)]
 mod devices;
 #[cfg(test)]
-mod explain;
-#[cfg(test)]
 mod flaws;
 #[cfg(test)]
 mod json_lines;

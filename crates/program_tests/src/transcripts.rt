@@ -19,7 +19,7 @@ fn checked(alloc: Global, input: &[u8]) -> (Result<Verdict, Fault>, Vec<u8>) {
 }
 
 /// The lines of the transcript, with another line at this place.
-pub(crate) fn changed(alloc: Global, place: usize, other: &str) -> Result<String, Fail> {
+fn changed(alloc: Global, place: usize, other: &str) -> Result<String, Fail> {
     let mut text = String::new(alloc);
     for (index, line) in TRANSCRIPT.iter().enumerate() {
         text.push_str(if index == place { other } else { line })?;

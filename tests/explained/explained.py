@@ -1,0 +1,579 @@
+"""What `ptpx explain` says of transcripts, of schedules and of other input, word for word, and with which status it ends."""
+import collections
+import json
+import os
+import subprocess
+import unittest
+from pathlib import Path
+
+TOP = Path(__file__).resolve().parents[2]
+PROGRAM = os.environ.get('PTPX', TOP / 'crates/ptpx/out/ptpx')
+# One exchange with a slave behind a clock, and what comes of it: lines, each with its LF.
+SCHEDULE, TRANSCRIPT = ((TOP / f'examples/exchange.{kind}.jsonl').read_text().splitlines(True) for kind in ('schedule', 'transcript'))
+Ended = collections.namedtuple('Ended', 'output status errors')
+
+
+def explain(text, options=''):
+    """What the program makes of a text, of which each character is one octet."""
+    ended = subprocess.run([PROGRAM, 'explain', *options.split()], input=text.encode('latin-1'), capture_output=True, timeout=60)
+    return Ended(ended.stdout.decode(), ended.returncode, ended.stderr.decode())
+
+
+def changed(lines, *changes, place=None):
+    """Lines as one text, with old parts replaced by new ones: in the line at a place, or wherever they stand."""
+    begin, end = (0, len(lines)) if place is None else (place, place + 1)
+    text = ''.join(lines[begin:end])
+    for old, new in changes:
+        assert old in text, f'{old} is to be replaced, and is not there'
+        text = text.replace(old, new)
+    return ''.join([*lines[:begin], text, *lines[end:]])
+
+
+# What is said of a report against which one of these reasons stands first.
+REASON = {
+    701: "a tag of the report isn't that of an event as the report needs it, or no event tells when the Delay_Req left",
+    702: "the Sync isn't the one of the Follow_Up, or the Delay_Req isn't the one of the report",
+    703: "a message isn't of the present master of the slave, or came before the slave was told this master",
+    704: "the journey of the Sync or of the Delay_Req can't be followed back to where it was sent, or a stay on it was left twice",
+    705: "a reading isn't that of the clock of its node, or falls while a message is in a clock",
+    707: 'the Sync or the Delay_Req was in clocks for longer than a correction can say',
+    708: "the octets of a message aren't those that a port or a clock writes",
+}
+
+
+def refused(event, line, why):
+    """The line that tells of a report that it is refused; what the reason met stands below it."""
+    return f'event {event}, line {line}, slave S: refused, {why}: {REASON[why]}\n'
+
+
+# The line of the report, with one unit too much.
+TOO_MUCH = '{"copy":11,"ev":"hear","n":13,"node":"S","offset2":"131072001","out":"report","path2":"131072000","tags":[5,7,8,13]}\n'
+
+# One more report, of the same messages, with one unit too much.
+TOLD_TWICE = '{"copy":11,"ev":"hear","n":14,"node":"S","offset2":"131072000","out":"report","path2":"131072001","tags":[5,7,8,14]}\n'
+
+# What is said of a report with one unit too much.
+STORY = """\
+event 13, line 17, slave S: refused, 706: the two results aren't those of the readings
+  t1  event  2  line  6  M  1.000000000                   Sync 0 departs; told by event 6
+      3 to 4  line 7, 8  T in the clock 2000 ns
+  t2  event  5  line  9  S  1.000004000                   a = t2 - t1 - 2000 ns = 2000 ns
+  t3  event  8  line 12  S  2.000001000                   Delay_Req 0 departs; told by event 12
+      9 to 10  line 13, 14  T in the clock 3500.25 ns
+  t4  event 11  line 15  M  2.000004500 + 16384/65536 ns  b = t4 - t3 - 3500.25 ns = 0 ns
+  offset2  reported 131072001  by the readings 131072000  1 unit of 2^-16 ns too much
+  path2    reported 131072000  by the readings 131072000
+1 report: 0 sound
+  706 stands against 1: the two results aren't those of the readings
+verdict: refused event 13: 706
+"""
+
+# The same as JSON, and what is said so of the sound report.
+JUDGED = (
+    '{"by_readings":{"offset2":"131072000","path2":"131072000"},"event":13,"line":17,"node":"S",'
+    '"offset2":"131072001","path2":"131072000","reasons":[706]}\n')
+JUDGED_SOUND = (
+    '{"by_readings":{"offset2":"131072000","path2":"131072000"},"event":13,"line":17,"node":"S",'
+    '"offset2":"131072000","path2":"131072000","reasons":[]}\n')
+SOUND = 'event 13, line 17, slave S: sound\n1 report: 1 sound\nverdict: accepted 1\n'
+
+# The line of the first event, at a node that no name can have.
+NO_NAME = '{"diff":"65536000","ev":"stepclock","n":0,"node":"S 1","out":"done"}\n'
+
+# The first two octets of messages as the standard of 2019 has them, and as that of 2008 does.
+VERSIONS = [
+    ('"hex":"0012', '"hex":"0002'),
+    ('"hex":"0812', '"hex":"0802'),
+    ('"hex":"0112', '"hex":"0102'),
+    ('"hex":"0912', '"hex":"0902'),
+]
+
+# Inputs of other kinds, and what is said of them behind these words.
+OTHER = "the input isn't lines of JSON, but "
+FOREIGN = [
+    ('\xd4\xc3\xb2\xa1\x02\n',
+     'a capture (pcap); show its messages by: '
+     "tshark -n -r - -Y ptp -T jsonraw | jq -r '.[]._source.layers.ptp_raw[0]' | ptpx show\n"),
+    ('\n\r\r\n\x1c\x00\x00\x00',
+     'a capture (pcapng); show its messages by: '
+     "tshark -n -r - -Y ptp -T jsonraw | jq -r '.[]._source.layers.ptp_raw[0]' | ptpx show\n"),
+    ('\x1f\x8b\x08\x00\n', 'compressed by gzip; unpack it by: gzip -dc\n'),
+    ('\xef\xbb\xbf{"kind":"clock","node":"T"}\n', 'text behind a byte order mark; take the mark away by: tail -c +4\n'),
+    ('{"kind":"clock","node":"T"}\r{"kind":"clock","node":"U"}\r', "objects with CR between them; make LF of each CR by: tr '\\r' '\\n'\n"),
+    ('\xff\xfe{\x00\n\x00', 'UTF-16; make UTF-8 of it by: iconv -f UTF-16 -t UTF-8\n'),
+    ('{\x00"\x00\n\x00', 'UTF-16; make UTF-8 of it by: iconv -f UTF-16LE -t UTF-8\n'),
+    ('\x00{\x00"\x00\n', 'UTF-16; make UTF-8 of it by: iconv -f UTF-16BE -t UTF-8\n'),
+    ('0012002c\n0112002c\n', 'datagrams in hexadecimal; show them by: ptpx show\n'),
+    ('1.000004 0012002c\n', 'times with datagrams in hexadecimal; measure by them with: ptpx measure\n'),
+    ('{\n  "kind": "clock",\n  "node": "T"\n}\n', 'JSON objects over several lines; make a line of each by: jq -c .\n'),
+    ('[{"kind":"clock","node":"T"}]\n', "a JSON array; make a line of each of its objects by: jq -c '.[]'\n"),
+    ("{'kind': 'clock', 'node': 'T'}\n",
+     'objects in single quotes, as Python prints them; make JSON of them by: '
+     "python3 -c 'import ast, json, sys; [print(json.dumps(ast.literal_eval(s))) for s in sys.stdin]'\n"),
+    ("[{'kind': 'clock', 'node': 'T'}]\n",
+     'a list in single quotes, as Python prints it; make a line of each object by: '
+     "python3 -c 'import ast, json, sys; [print(json.dumps(o)) for o in ast.literal_eval(sys.stdin.read())]'\n"),
+]
+
+# Inputs of other kinds whose first line is longer than lines may be: their beginning, and what is said of them.
+LONG = [
+    ('[{"kind":"clock","node":"T"},', OTHER + "a JSON array; make a line of each of its objects by: jq -c '.[]'\n"),
+    ('0012002c', OTHER + 'datagrams in hexadecimal; show them by: ptpx show\n'),
+    ('{"kind":"clock",', 'line 1: more than 4096 octets; wanted is an LF after each node and each event\n'),
+]
+
+# The place of a line of the schedule, what is replaced in it by what, and what is said then.
+REFUSED = [
+    (1, '"S"', '"M"',
+     'lines 1 and 2: 601: two nodes have one name, M\n'
+     'no event happens from line 4 on\n'),
+    (1, '00aabbfffeccddee', '001122fffe334455',
+     'lines 1 and 2: 602: two ports have one identity, 001122fffe334455/1\n'
+     'no event happens from line 4 on\n'),
+    (5, '"M"', '"X"',
+     'event 2, line 6: refused, 603: no node is called X; there are M, S, T\n'
+     'no event happens from line 6 on\n'),
+    (4, '"M"', '"X"',
+     'event 1, line 5: refused, 603: no node is called X; there are M, S, T\n'
+     'no event happens from line 5 on\n'),
+    (5, '"M"', '"T"',
+     'event 2, line 6: refused, 604: T is a clock; a sync happens at a master\n'
+     'no event happens from line 6 on\n'),
+    (4, '"M"', '"T"',
+     'event 1, line 5: refused, 604: S is a slave; T, which it names, is a clock; a setmaster happens at a slave, and names a master\n'
+     'no event happens from line 5 on\n'),
+    (8, '"copy":4', '"copy":3',
+     'event 5, line 9: refused, 605: event 3 is an enter, which sent no message; there are events 0 to 4\n'
+     'no event happens from line 9 on\n'),
+    (8, '"copy":4', '"copy":5',
+     'event 5, line 9: refused, 605: there is no event 5 before it; there are events 0 to 4\n'
+     'no event happens from line 9 on\n'),
+    (7, '"transit":3', '"transit":2',
+     'event 4, line 8: refused, 606: event 2 is a sync, and no enter\n'
+     'no event happens from line 8 on\n'),
+    (7, '"transit":3', '"transit":7',
+     'event 4, line 8: refused, 606: there is no event 7 before it; there are events 0 to 3\n'
+     'no event happens from line 8 on\n'),
+    (13, '"transit":9', '"transit":3',
+     'event 10, line 14: refused, 606: what entered by event 3 left already by event 4\n'
+     'no event happens from line 14 on\n'),
+    (3, '65536000', '18446744073709551616000000000',
+     'event 0, line 4: refused, 607: "diff" is 18446744073709551616000000000, which is 281474976710656000000000 ns; '
+     'wanted is less than 2^48 s, ahead or behind\n'
+     'no event happens from line 4 on\n'),
+    (3, '65536000', '-655360000000000',
+     'event 5, line 9: refused, 607: event 0 set the clock of S to the true time and -10000000000 ns; '
+     'at 1.000003000 it would read -8999997000 ns, and a reading is from 0 to below 2^48 s\n'
+     'no event happens from line 9 on\n'),
+    (5, '"sync"', '"syncone"',
+     'event 6, line 10: refused, 608: no Sync waits for its Follow_Up: the last one of M is event 2, a syncone, which has none\n'
+     'no event happens from line 10 on\n'),
+    (10, '{"copy":6,"ev":"hear","node":"S"}', '{"ev":"follow","node":"M"}',
+     'event 7, line 11: refused, 608: no Sync waits for its Follow_Up: event 6 sent that of the last one of M, event 2\n'
+     'no event happens from line 11 on\n'),
+    (10, '{"copy":6,"ev":"hear","node":"S"}', '{"ev":"stamped","node":"S"}',
+     'event 7, line 11: refused, 608: no Delay_Req waits for its departure time: S sent none\n'
+     'no event happens from line 11 on\n'),
+    (16, '{"copy":11,"ev":"hear","node":"S"}', '{"ev":"stamped","node":"S"}',
+     'event 13, line 17: refused, 608: no Delay_Req waits for its departure time: event 12 told that of the last one of S, event 8\n'
+     'no event happens from line 17 on\n'),
+]
+
+# The place of a line of the transcript, what is replaced in it by what, and what is said first then.
+MET = [
+    (16, '[5,7,8,13]', '[2,7,8,13]',
+     refused(13, 17, 701) +
+     '    the 1st of "tags", of the Sync, names event 2, line 6, a sync at M; wanted is an arrive at S\n'
+     '1 report: 0 sound\n'),
+    (16, '[5,7,8,13]', '[5,null,8,13]',
+     refused(13, 17, 701) +
+     '    the 2nd of "tags" is null, but the Sync of event 5, line 9 waits for a Follow_Up\n'
+     '1 report: 0 sound\n'),
+    (16, '[5,7,8,13]', '[5,7,8,7]',
+     refused(13, 17, 701) +
+     '    none of "tags" is 13; wanted is that the Sync (1st), the Follow_Up (2nd) or the Delay_Resp (4th) came '
+     'by the event that reports\n'
+     '    the Delay_Resp of event 7, line 11 is of event 6, line 10, a follow at M; wanted is an arrive at a master before it\n'
+     '    event 12, line 16 tells when the Delay_Req left; wanted is that before the Delay_Resp, event 7\n'
+     '1 report: 0 sound\n'),
+    (15, '"S"', '"M"',
+     refused(13, 17, 701) +
+     '    no event tells when the Delay_Req of event 8, line 12 left\n'
+     '1 report: 0 sound\n'),
+    (8, '"out":"held"', '"out":"done"',
+     refused(13, 17, 701) +
+     '    the 1st of "tags", of the Sync, names event 5, line 9, an arrive at S, which came to nothing; wanted is an arrive at S\n'
+     '1 report: 0 sound\n'),
+    (16, '"copy":11,"ev":"hear"', '"ev":"tick"',
+     refused(13, 17, 701) +
+     "    event 13, line 17, a tick at S, can't report; wanted is an arrive or a hear at a slave\n"
+     '    the 4th of "tags", of the Delay_Resp, names event 13, line 17, a tick at S, which came to nothing; wanted is a hear at S\n'
+     '1 report: 0 sound\n'),
+    (8, '"copy":4', '"copy":1',
+     refused(13, 17, 704) +
+     '    the journey of the Sync stops at event 5, line 9: it names event 1, line 5, a setmaster at S, which sent no such message\n'
+     '1 report: 0 sound\n'),
+    (6, '"out":"entered"', '"out":"done"',
+     refused(13, 17, 704) +
+     '    the journey of the Sync stops at event 4, line 8: it names event 3, line 7, an enter at T, which came to nothing\n'
+     '1 report: 0 sound\n'),
+    (6, '"copy":2', '"copy":4',
+     refused(13, 17, 704) +
+     '    the journey of the Sync stops at event 3, line 7, which names event 4; wanted is one before it\n'
+     '1 report: 0 sound\n'),
+    (7, '"transit":3', '"transit":2',
+     refused(13, 17, 704) +
+     '    the journey of the Sync stops at event 4, line 8: it names event 2, line 6, a sync at M, which is no enter of this clock\n'
+     '1 report: 0 sound\n'),
+    (13, '"transit":9', '"transit":3',
+     refused(13, 17, 704) +
+     '    the Sync entered a clock by event 3, line 7, and left it twice: by event 4, line 8 and by event 10, line 14\n'
+     '    the Delay_Req entered a clock by event 3, line 7, and left it twice: by event 4, line 8 and by event 10, line 14\n'
+     '1 report: 0 sound\n'),
+    (5, '"sync"', '"syncone"',
+     refused(13, 17, 702) +
+     '    the Sync is number 0, event 2, line 6, a syncone at M; it was taken for that of the Follow_Up of event 6, line 10, '
+     'before which its master sent none\n'
+     '  and 708: '),
+    (16, '"offset2":"131072000","out":"report","path2":"131072000","tags":[5,7,8,13]}',
+     '"out":"completed"}\n'
+     '{"at":[3,0,0],"ev":"sync","hex":"0012002c00000200000000000000000000000000001122fffe33445500010001000000000000000000000000",'
+     '"n":14,"node":"M","out":"made","reading":[3,0,0]}\n'
+     '{"at":[3,1000,0],"copy":14,"ev":"arrive","n":15,"node":"S","out":"held","reading":[3,2000,0]}\n'
+     '{"copy":6,"ev":"hear","n":16,"node":"S","offset2":"131072000","out":"report","path2":"131072000","tags":[15,16,8,13]}',
+     refused(16, 20, 702) +
+     '    the Sync is number 1, event 14, line 18, a sync at M; it was taken for that of the Follow_Up of event 6, line 10, '
+     'number 0, event 2, line 6, a sync at M\n'
+     '  t1  event 14  '),
+    (4, '"M"', '"T"',
+     refused(13, 17, 703) +
+     '    S, domain 0, was told no master\n'
+     '    the Sync is of M, domain 0; M answered the Delay_Req\n'
+     '  t1  event  2  '),
+    (0, '"domain":0', '"domain":1',
+     refused(13, 17, 703) +
+     '    event 1, line 5 told S, domain 0, the master M\n'
+     '    the Sync is of M, domain 1; M answered the Delay_Req\n'
+     '  and 708: '),
+    (8, '[1,4000,0]', '[1,4001,0]',
+     refused(13, 17, 705) +
+     '    event 5, line 9, an arrive at S: read is 1.000004001, the true moment is 1.000003000, and they differ by 1001 ns; '
+     'wanted is 1000 ns, which event 0, line 4 set\n'
+     '  and 706: '),
+    (7, '"reading":[1,2500,0]', '"reading":[1,400,0]',
+     refused(13, 17, 705) +
+     '    event 4, line 8, a leave at T: read is 1.000000400, the true moment is 1.000002500, and they differ by -2100 ns; '
+     'wanted is 0 ns, since no event set the clock\n'
+     '    the clock reads 100 ns less at event 4, line 8 than at event 3, line 7; wanted is no less\n'
+     '  and 706: '),
+    (7, '[1,2500,0]', '[140738,488355827,65535]',
+     refused(13, 17, 707) +
+     '    the Sync is to have 140737488355327.9999847412109375 ns in its correctionField, of clocks and of its departure; '
+     'it can say less than 140737488355327.9999847412109375 ns\n'
+     '  and 706: '),
+    (7, '07d00000', '07d10000',
+     refused(13, 17, 708) +
+     '    event 4, line 8, a leave at T: octet 13 from 0, in correctionField, is d1; wanted is d0\n'
+     '  t1  event  2  '),
+    (5, '000000000000"', '0000000000001122"',
+     refused(13, 17, 708) +
+     '    event 2, line 6, a sync at M: all its octets are right; it has 46 octets; wanted are 44\n'
+     '  t1  event  2  '),
+    (9, '0100000000', '0200000001',
+     refused(13, 17, 708) +
+     '    event 6, line 10, a follow at M: octet 39 from 0, in preciseOriginTimestamp, is 02; wanted is 01, and 1 more differ\n'
+     '  t1  event  2  '),
+]
+
+# What is replaced in which lines by what, and what is said first then.
+CHANGED = [
+    # A leave at another clock than the enter.
+    (SCHEDULE, [('{"kind":"clock","node":"T"}', '{"kind":"clock","node":"T"}\n{"kind":"clock","node":"U"}'),
+                ('"node":"T","transit":3', '"node":"U","transit":3')],
+     'event 4, line 9: refused, 606: event 3 is an enter at T, and this is a leave at U\n'
+     'no event happens from line 9 on\n'),
+    # A Delay_Req that another master answers.
+    (TRANSCRIPT, [('{"kind":"clock","node":"T"}',
+                   '{"kind":"clock","node":"T"}\n'
+                   '{"domain":0,"first":0,"id":"001122fffe334466","kind":"master","log":0,"node":"N","port":1}'),
+                  ('"n":11,"node":"M"', '"n":11,"node":"N"')],
+     refused(13, 18, 703) +
+     '    event 1, line 6 told S, domain 0, the master M\n'
+     '    the Sync is of M, domain 0; N answered the Delay_Req\n'
+     '  and 708: '),
+    # A Delay_Resp that completed nothing, and one that is taken for a Follow_Up.
+    (TRANSCRIPT, [('"n":7,"node":"S","out":"completed"', '"n":7,"node":"S","out":"held"'), ('[5,7,8,13]', '[5,13,8,7]')],
+     refused(13, 17, 701) +
+     '    the Follow_Up of event 13, line 17 is of event 11, line 15, an arrive at M; wanted is a follow before it\n'
+     '    the Delay_Resp of event 7, line 11 completed nothing\n'
+     '    event 12, line 16 tells when the Delay_Req left; wanted is that before the Delay_Resp, event 7\n'
+     '1 report: 0 sound\n'),
+    # A two-step Sync without a Follow_Up.
+    (TRANSCRIPT, [('"n":5,"node":"S","out":"held"', '"n":5,"node":"S","out":"completed"'), ('[5,7,8,13]', '[5,null,8,13]')],
+     refused(13, 17, 702) +
+     '    the Sync is number 0, event 2, line 6, a sync at M, two-step; it was taken for one that needs no Follow_Up\n'
+     '  t1  event  2  '),
+    # The first event has a flaw, of a transcript and of a schedule.
+    (TRANSCRIPT, [('"65536000"', '65536000')],
+     'line 4: "diff" is 65536000; wanted is a whole number of at most 32 characters, without +, point or zeros in front, in quotes\n'
+     'no report was judged from line 4 on\n'),
+    (SCHEDULE, [('"65536000"', '65536000')],
+     'line 4: "diff" is 65536000; wanted is a whole number of at most 32 characters, without +, point or zeros in front, in quotes\n'
+     'no event happens from line 4 on\n'),
+    (TRANSCRIPT, [('"ev":"stepclock"', '"Ev":"stepclock"')],
+     'line 4: "ev" of an event or "kind" of a node is missing; there is "Ev"\n'
+     'no report was judged from line 4 on\n'),
+    # One event's number is wrong.
+    (TRANSCRIPT, [('"n":5,', '"n":6,')],
+     'line 9: "n" is 6; wanted is 5, the place among the events from 0: an event before it is missing, or "n" is wrong\n'
+     'no report was judged from line 9 on\n'),
+    # An event that is missing.
+    (TRANSCRIPT, [('{"copy":6,"ev":"hear","n":7,"node":"S","out":"completed"}\n', '')],
+     'line 11: "n" is 8; wanted is 7, the place among the events from 0: an event before it is missing, or "n" is wrong\n'
+     'no report was judged from line 11 on\n'),
+    # An empty line, and a line that is cut in two.
+    (TRANSCRIPT, [('{"ev":"stamped"', '\n{"ev":"stamped"')],
+     'line 16, octet 1: no JSON: nothing; wanted is an object\n'
+     'no report was judged from line 16 on\n'),
+    (TRANSCRIPT, [('{"ev":"stamped",', '{"ev":"stamped",\n')],
+     'line 16, octet 17: no JSON: the line ends before the } of an object\n'
+     'line 17, octet 4: no JSON: something after the value; wanted is the end of the line\n'
+     'no report was judged from line 16 on\n'),
+]
+
+# A second Delay_Req, for which the Delay_Resp to the first one is taken.
+TAKEN_FOR_ANOTHER = [
+    '{"at":[3,0,0],"ev":"request","hex":"0112002c0000000000000000000000000000000000aabbfffeccddee00010001017f00000000000000000000",'
+    '"n":13,"node":"S","out":"made","reading":[3,1000,0]}\n',
+    '{"ev":"stamped","n":14,"node":"S","out":"done"}\n',
+    '{"copy":11,"ev":"hear","n":15,"node":"S","offset2":"131072000","out":"report","path2":"131072000","tags":[5,7,13,15]}\n',
+]
+
+# The slave is told its master again, and reports what came before.
+TOLD_AGAIN = [
+    '{"ev":"setmaster","master":"M","n":13,"node":"S","out":"done"}\n',
+    '{"copy":11,"ev":"hear","n":14,"node":"S","offset2":"131072000","out":"report","path2":"131072000","tags":[5,7,8,14]}\n',
+]
+
+# The octets of the messages of an exchange without residence.
+SYNC = '0012002c00000200000000000000000000000000001122fffe33445500010000000000000000000000000000'
+FOLLOW_UP = '0812002c00000000000000000000000000000000001122fffe33445500010000020000000000000100000000'
+DELAY_REQ = '0112002c0000000000000000000000000000000000aabbfffeccddee00010000017f00000000000000000000'
+DELAY_RESP = '0912003600000000000000000000000000000000001122fffe3344550001000003000000000000020000000000aabbfffeccddee0001'
+
+
+def staying(stays, copy):
+    """A transcript of an exchange whose Sync stays in a clock so many times, for no time, and which reports one unit too much. The
+    first stay is of the copy of this number, which is 1 for the Sync."""
+    first, second = ({'at': moment, 'reading': moment} for moment in ([1, 0, 0], [2, 0, 0]))
+    events = [{'ev': 'setmaster', 'master': 'M', 'node': 'S', 'out': 'done'},
+              {'ev': 'sync', 'hex': SYNC, 'node': 'M', 'out': 'made', **first}]
+    for _ in range(stays):
+        enter, leave = len(events), len(events) + 1
+        events += [{'copy': copy, 'ev': 'enter', 'node': 'T', 'out': 'entered', **first},
+                   {'ev': 'leave', 'hex': SYNC, 'node': 'T', 'out': 'made', 'transit': enter, **first}]
+        copy = leave
+    sync, follow, heard, request, _, answer, report = range(len(events), len(events) + 7)
+    events += [{'copy': sync - 1, 'ev': 'arrive', 'node': 'S', 'out': 'held', **first},
+               {'ev': 'follow', 'hex': FOLLOW_UP, 'node': 'M', 'out': 'made'},
+               {'copy': follow, 'ev': 'hear', 'node': 'S', 'out': 'completed'},
+               {'ev': 'request', 'hex': DELAY_REQ, 'node': 'S', 'out': 'made', **second},
+               {'ev': 'stamped', 'node': 'S', 'out': 'done'},
+               {'copy': request, 'ev': 'arrive', 'hex': DELAY_RESP, 'node': 'M', 'out': 'made', **second},
+               {'copy': answer, 'ev': 'hear', 'node': 'S', 'offset2': '1', 'out': 'report', 'path2': '0',
+                'tags': [sync, heard, request, report]}]
+    numbered = (json.dumps({**event, 'n': number}, sort_keys=True, separators=(',', ':')) for number, event in enumerate(events))
+    return ''.join([*TRANSCRIPT[:3], *(line + '\n' for line in numbered)])
+
+
+class Explained(unittest.TestCase):
+    maxDiff = None
+
+    def begins(self, output, said):
+        self.assertEqual(output[:len(said)], said)
+
+    def ends(self, output, said):
+        self.assertEqual(output[-len(said):], said)
+
+    def test_tells_by_how_much(self):
+        text = changed(TRANSCRIPT, (TRANSCRIPT[16], TOO_MUCH))
+        for options, said in [('', STORY), ('--first', STORY), ('--json', JUDGED), ('--json --first', JUDGED)]:
+            with self.subTest(options=options):
+                ended = explain(text, options)
+                self.assertEqual(ended.output, said)
+                self.assertEqual((ended.status, ended.errors), (1, ''))
+
+    def test_tells_the_first_that_is_refused(self):
+        text = changed(TRANSCRIPT, (TRANSCRIPT[16], TOO_MUCH + TOLD_TWICE))
+        both = '1 report: 0 sound\n  706 stands against 1', '2 reports: 0 sound\n  706 stands against 2'
+        self.assertEqual(explain(text, '--first').output, changed(STORY, both))
+        self.assertIn('\nevent 14, line 18, slave S: refused, 706: ', explain(text).output)
+
+    def test_counts_each_reason(self):
+        output = explain(changed([*TRANSCRIPT, TOLD_TWICE], *VERSIONS)).output
+        self.assertIn("""
+2 reports: 0 sound
+  706 stands against 1: the two results aren't those of the readings
+  708 stands against 2: """, output)
+        self.assertIn('\nwere octets left aside (708), 1 of 2 reports would be sound\n', output)
+
+    def test_tells_of_a_sound_report(self):
+        for options, said in [('', SOUND), ('--json', JUDGED_SOUND), ('--json --first', '')]:
+            with self.subTest(options=options):
+                ended = explain(''.join(TRANSCRIPT), options)
+                self.assertEqual(ended.output, said)
+                self.assertEqual(ended.status, 0)
+
+    def test_tells_what_is_no_line(self):
+        ended = explain(changed(TRANSCRIPT, (TRANSCRIPT[3], NO_NAME)))
+        self.assertEqual(ended.output, """\
+line 4: "node" is "S 1"; wanted are 1 to 16 letters, digits, _ or -
+no report was judged from line 4 on
+""")
+        self.assertEqual((ended.status, ended.errors), (3, 'ptpx: fault 806 at line 4\n'))
+
+    def test_tells_of_input_that_has_no_report(self):
+        for lines, said in [
+            ([], 'there is no report, so nothing was judged\nverdict: accepted 0\n'),
+            (SCHEDULE, "a schedule of 14 events, which all happen; 'ptpx replay' makes a transcript of it, which 'ptpx check' judges\n"),
+        ]:
+            with self.subTest(said=said):
+                ended = explain(''.join(lines))
+                self.assertEqual(ended.output, said)
+                self.assertEqual(ended.status, 0)
+
+    def test_tells_of_input_of_other_kinds(self):
+        for text, said in FOREIGN:
+            with self.subTest(text=text):
+                ended = explain(text)
+                self.assertEqual(ended.output, OTHER + said)
+                self.assertEqual(ended.status, 3)
+
+    def test_tells_of_other_kinds_whose_first_line_is_long(self):
+        for begin, said in LONG:
+            with self.subTest(begin=begin):
+                ended = explain(begin * 1000)
+                self.assertEqual(ended.output, said)
+                self.assertEqual(ended.status, 3)
+
+    def test_tells_of_twenty_lines(self):
+        for count, more in [(20, ''), (21, 'and 1 line more\n'), (22, 'and 2 lines more\n')]:
+            with self.subTest(count=count):
+                output = explain('x\n' * count).output
+                self.assertIn('\nline 20, octet 1: ', output)
+                self.assertNotIn('line 21', output)
+                self.ends(output, more + 'no report was judged from line 1 on\n')
+
+    def test_tells_what_was_read_before_a_line_that_is_too_long(self):
+        ended = explain('\n' + 'x' * 4097)
+        self.assertEqual(ended.output, """\
+line 1, octet 1: no JSON: nothing; wanted is an object
+line 2: more than 4096 octets; wanted is an LF after each node and each event
+""")
+        self.assertEqual(ended.status, 3)
+
+    def test_tells_that_a_first_line_is_empty(self):
+        self.assertEqual(explain('\n').output, """\
+line 1, octet 1: no JSON: nothing; wanted is an object
+no report was judged from line 1 on
+""")
+        self.assertEqual(explain('\n{"node":"T"}\n').output, """\
+line 1, octet 1: no JSON: nothing; wanted is an object
+line 2: "ev" of an event or "kind" of a node is missing
+no report was judged from line 1 on
+""")
+
+    def test_tells_why_an_event_is_refused(self):
+        for place, old, new, said in REFUSED:
+            with self.subTest(old=old, new=new):
+                ended = explain(changed(SCHEDULE, (old, new), place=place))
+                self.assertEqual(ended.output, said)
+                self.assertEqual(ended.status, 3)
+
+    def test_tells_which_nodes_clash(self):
+        text = SCHEDULE[2] + SCHEDULE[0] + SCHEDULE[2]
+        self.assertEqual(explain(text).output, 'lines 1 and 3: 601: two nodes have one name, T\n')
+
+    def test_tells_what_each_reason_met(self):
+        for place, old, new, said in MET:
+            with self.subTest(old=old, new=new):
+                ended = explain(changed(TRANSCRIPT, (old, new), place=place))
+                self.begins(ended.output, said)
+                self.assertEqual(ended.status, 1)
+
+    def test_tells_of_a_follow_up_of_no_sync(self):
+        output = explain(changed(TRANSCRIPT, ('"sync"', '"syncone"'), place=5)).output
+        self.assertIn('    event 6, line 10, a follow at M: no two-step Sync was sent before it, so no octets are right\n', output)
+
+    def test_tells_of_lines_that_were_changed(self):
+        for lines, changes, said in CHANGED:
+            with self.subTest(changes=changes):
+                ended = explain(changed(lines, *changes))
+                self.begins(ended.output, said)
+                self.assertNotEqual(ended.status, 0)
+
+    def test_tells_which_request_was_answered(self):
+        self.begins(explain(''.join(TRANSCRIPT[:16] + TAKEN_FOR_ANOTHER)).output, refused(15, 19, 702) + """\
+    the Delay_Req that the master answered is number 0, event 8, line 12, a request at S; it was taken for number 1, \
+event 13, line 17, a request at S
+  t1  event  2  """)
+
+    def test_tells_of_devices_of_the_older_standard(self):
+        output = explain(changed(TRANSCRIPT, *VERSIONS)).output
+        self.assertIn("""\
+    event 2, line 6, a sync at M: minorVersionPTP, the high half of octet 1 from 0, is 0 (IEEE 1588-2008); \
+wanted is 1 (IEEE 1588-2019); all other octets are right
+""", output)
+        self.ends(output, """\
+were octets left aside (708), 1 of 1 report would be sound
+other octets than a port or a clock writes: 6 of 6 messages
+  in one nibble alone: 6; minorVersionPTP is 0, as real devices of IEEE 1588-2008 write it, where IEEE 1588-2019 has 1
+verdict: refused event 13: 708
+""")
+
+    def test_tells_from_which_field_on_messages_differ(self):
+        # The correctionField of the Sync as it was sent.
+        correction = '000002000000000000000000000000', '000002000000000000000100000000'
+        # An octet behind the Delay_Req as it was sent.
+        suffix = '017f00000000000000000000","n":8', '017f0000000000000000000000","n":8'
+        self.ends(explain(changed(TRANSCRIPT, correction, suffix)).output, """\
+other octets than a port or a clock writes: 2 of 6 messages
+  from correctionField on: 1
+  in the suffix or in length alone: 1
+verdict: refused event 13: 708
+""")
+
+    def test_tells_what_came_before_the_master_was_told(self):
+        self.begins(explain(''.join(TRANSCRIPT[:16] + TOLD_AGAIN)).output, refused(14, 18, 703) + """\
+    event 13, line 17 told S, domain 0, the master M
+    the Sync is of M, domain 0; M answered the Delay_Req
+    the Sync of event 5, line 9 is earlier than that
+    the Follow_Up of event 7, line 11 is earlier than that
+    the Delay_Req of event 8, line 12 is earlier than that
+  t1  event  2  """)
+
+    def test_tells_of_long_journeys_in_few_lines(self):
+        for stays, copy, said in [
+            (20, 1, """\
+  t1  event  1  line  5  M  1.000000000  Sync 0 departs; told by event 43
+      before these in clocks 0 ns
+      10 to 11  line 14, 15  T in the clock 0 ns
+      12 to 13  line 16, 17  T in the clock 0 ns
+"""),
+            (300, 0, """\
+can't be followed back to where it was sent, or a stay on it was left twice
+    the journey of the Sync doesn't stop in its last 256 stays; those before them weren't looked at
+"""),
+        ]:
+            with self.subTest(stays=stays):
+                ended = explain(staying(stays, copy))
+                self.assertIn(said, ended.output)
+                self.assertEqual(ended.status, 1)
+
+    def test_tells_how_much_of_a_journey_was_looked_at(self):
+        output = explain(changed(staying(300, 1), ('"hex":"0812', '"hex":"0802'))).output
+        self.assertIn('    of the journey of the Sync only the last 256 stays were looked at\n', output)
+
+
+if __name__ == '__main__':
+    unittest.main()
