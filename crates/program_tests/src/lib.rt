@@ -21,4 +21,6 @@ mod replay;
 #[cfg(test)]
 mod show;
 #[cfg(test)]
+mod spelling;
+#[cfg(test)]
 mod transcripts;
