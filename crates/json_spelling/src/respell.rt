@@ -5,7 +5,7 @@ ghost use Rattle.json_spelling.specs.Spelling.{IsSpellingOf};
 use crate::joining::join;
 use crate::reading::read_line;
 use crate::walk::walk;
-use crate::writing::write_text;
+use crate::writing::text_of;
 use crate::{order, piece_order};
 use json::Scratch;
 use std::alloc::{AllocError, Global};
@@ -84,6 +84,6 @@ fn reread(
     };
     order::sort(members.as_mut_slice());
     let buffer = mem::replace(text, Vec::new(alloc));
-    *text = write_text(members.as_slice(), buffer)?;
+    *text = text_of(members.as_slice(), buffer)?;
     Ok(true)
 }

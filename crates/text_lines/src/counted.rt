@@ -9,14 +9,14 @@ use std::io::{ErrorKind, Read, Write};
 /// writes that answered one or took no octet. Of a reader, how many octets it gave, too.
 #[derive(Drop)]
 pub struct Counted<T> {
-    device: T,
+    pub(crate) device: T,
     failures: u64,
     given: u64,
     ghost within: { given < 2 ^ 64 },
 }
 
 impl<T> Counted<T> {
-    ghost use Rattle.text_lines.specs.Counted.{device_of, failures_of, given_of, HasFailed};
+    ghost use Rattle.text_lines.specs.Counted.{device_of, failures_of, given_of, HasFailed, HasNotFailed, HasGiven};
 
     /// The device, of which no call has failed yet, and which has given no octet.
     pub fn new(device: T) -> Counted<T>
@@ -52,12 +52,20 @@ impl<T> Counted<T> {
         self.given
     }
 
-    fn count_failure(&mut self)
+    pub(crate) fn count_failure(&mut self)
         ensures device { device_of self.new ≡ device_of self.old }
         ensures failed { HasFailed self.old self.new }
         ensures given { given_of self.new ≡ given_of self.old }
     {
         self.failures = self.failures.saturating_add(1);
+    }
+
+    pub(crate) fn count_given(&mut self, count: usize)
+        ensures device { device_of self.new ≡ device_of self.old }
+        ensures failures { HasNotFailed self.old self.new }
+        ensures given { HasGiven count self.old self.new }
+    {
+        self.given = self.given.saturating_add(count as u64);
     }
 }
 
@@ -77,7 +85,7 @@ impl<R: Read> Read for Counted<R> {
     {
         let answer = self.device.read(buf);
         match answer {
-            Ok(count) => self.given = self.given.saturating_add(count as u64),
+            Ok(count) => self.count_given(count),
             Err(_) => self.count_failure(),
         }
         answer

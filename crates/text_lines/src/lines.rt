@@ -6,7 +6,7 @@ ghost use Rattle.text_lines.specs.Counted.{device_of, greatest_count, HasFailed,
 ghost use Rattle.text_lines.specs.Lines.{line_limit, room_of, without_cr, GivesWithin};
 ghost use Rattle.text_lines.specs.Inner.Reading.{ReadsLine};
 ghost use Rattle.text_lines.specs.Lines.{IsFromReading};
-ghost use Rattle.text_lines.specs.Inner.Reading.{StopsReading};
+ghost use Rattle.text_lines.specs.Inner.Reading.{StopsReading, StopsAt, IsUnended};
 
 use crate::counted::Counted;
 use crate::fault::{ReadingFault, Stopped};
@@ -144,17 +144,62 @@ impl Lines {
             (λ _. HasNotFailed input.old input.new)
             (λ kind. IsFromReading kind input.old input.new) }
     {
-        self.line.clear();
-        while let Some(octet) = read_octet(input)? {
-            if octet == b'\n' {
-                return Ok(true);
+        let stop = read_octets(&mut self.line, &mut input.device);
+        let read = self.line.len();
+        match stop {
+            Stop::Lf => {
+                input.count_given(read + 1);
+                Ok(true)
             }
-            if self.line.try_push(octet).is_err() {
-                return Err(ReadingFault::LineTooLong);
+            Stop::End => {
+                input.count_given(read);
+                self.ended = true;
+                Ok(!self.line.is_empty())
+            }
+            Stop::TooLong => {
+                input.count_given(read + 1);
+                Err(ReadingFault::LineTooLong)
+            }
+            Stop::Failed => {
+                input.count_given(read);
+                input.count_failure();
+                Err(ReadingFault::Read)
             }
         }
-        self.ended = true;
-        Ok(!self.line.is_empty())
+    }
+}
+
+/// Where the reading of a line's octets stops.
+enum Stop {
+    /// Behind an LF.
+    Lf,
+    /// At the end of the input.
+    End,
+    /// Behind one octet more than a line may have.
+    TooLong,
+    /// Where the reader failed.
+    Failed,
+}
+
+/// Reads one octet after the other into the line, which is empty first.
+fn read_octets<R: Read>(line: &mut ArrayVec<u8, LINE_LIMIT>, source: &mut R) -> Stop
+    ensures stop { StopsAt result (R.remaining source.old) (R.remaining source.new) line.new.items }
+    ensures unended { IsUnended line.new.items }
+    ensures within { length line.new.items ≤ line_limit }
+{
+    line.clear();
+    let mut octet = [0];
+    loop {
+        match source.read(&mut octet) {
+            Ok(0) => return Stop::End,
+            Ok(_) if octet[0] == b'\n' => return Stop::Lf,
+            Ok(_) => {
+                if line.try_push(octet[0]).is_err() {
+                    return Stop::TooLong;
+                }
+            }
+            Err(_) => return Stop::Failed,
+        }
     }
 }
 

@@ -1,8 +1,23 @@
 -- What reading a line answers.
-use Rattle.std.specs.Prelude.{◌≡◌, ℕ, ◌+◌, List, [], ◌∷◌, Bool, true, false, Option, Some, None}
+use Rattle.std.specs.Prelude.{◌≡◌, ◌≢◌, ℕ, ◌+◌, List, [], ◌∷◌, ◌++◌, All, length, Bool, true, false, Option, Some, None}
+use Rattle.std.specs.Io.KnownBytes.{Consumes, IsAtEnd}
 use Rattle.text_lines.specs.declared.fault.ReadingFault.{ReadingFault}
 use Rattle.text_lines.specs.declared.fault.ReadingFault.TheVariants.{Read}
-use Rattle.text_lines.specs.Lines.{LeavesUnread, after_lines, lfs_in, lines_of, reading_fault}
+use Rattle.text_lines.specs.declared.lines.Stop.{Stop}
+use Rattle.text_lines.specs.declared.lines.Stop.TheVariants.{Lf, End, TooLong, Failed}
+use Rattle.text_lines.specs.Lines.{LeavesUnread, after_lines, lfs_in, line_limit, lines_of, reading_fault}
+
+-- no octet is an LF
+abbrev pub IsUnended : List ℕ → Type 0
+IsUnended front = All (λ x. x ≢ 10) front
+
+-- the octets of a line were read, and what stopped that
+abbrev pub StopsAt : Stop → (before after : Option (List ℕ)) → List ℕ → Type 0
+StopsAt Lf before after line = Consumes before after (line ++ 10 ∷ [])
+StopsAt End before after line = Consumes before after line × IsAtEnd after
+StopsAt TooLong before after line =
+    (x : ℕ) × (x ≢ 10) × (length line ≡ line_limit) × Consumes before after (line ++ x ∷ [])
+StopsAt Failed before after line = Consumes before after line
 
 -- a fault in reading the line of this number, with which these octets begin, and what it leaves unread
 abbrev pub StopsReading : ReadingFault → (limit number : ℕ) → List ℕ → Option (List ℕ) → Type 0
