@@ -1,5 +1,5 @@
 """Lines that are almost spelled as `ptpx` writes them, or in other ways, given to `replay` and `check`: each is read as spelled.py says,
-and as it is behind a blank, where `ptpx` spells it again, and with a key twice, where `ptpx` reads its value."""
+as it is behind a blank, which `ptpx` leaves out, with an escape, where `ptpx` spells it again, and with a key twice, where it reads its value."""
 import itertools
 import json
 import re
@@ -48,9 +48,12 @@ def with_key_twice(line):
 
 
 def misguessed(given, subcommand, lines):
-    """What is wrong where a guess may be taken of the lines, beside the answers where they are spelled again, or their values read."""
+    """What is wrong where a guess may be taken of the lines, beside the answers where their blanks are left out, where they are spelled
+    again, and where their values are read."""
     answer = given(subcommand, text_of(lines))
-    for words, others in ('behind blanks', [b' ' + line for line in lines]), ('with a key twice', map(with_key_twice, lines)):
+    escaped = [line.replace(b'"node"', b'"\\u006eode"', 1) for line in lines]
+    for words, others in (('behind blanks', [b' ' + line for line in lines]), ('with an escape', escaped),
+                          ('with a key twice', map(with_key_twice, lines))):
         other = given(subcommand, text_of(others))
         if answer != other:
             yield f'{subcommand} answers {answer}, and {words} {other}'

@@ -2,6 +2,7 @@
 -- it, so nobody has to believe it.
 pub mod Judged
 pub mod Kept
+pub mod Lookup
 pub mod Machine
 pub mod Stays
 pub mod Telling

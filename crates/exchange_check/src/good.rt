@@ -4,7 +4,8 @@ ghost use Rattle.std.specs.Prelude.{◌≡◌};
 ghost use Rattle.trace_model.specs.Line.{is_done, is_made, is_entered, completes, is_heard, is_refused, is_ignored};
 ghost use Rattle.trace_model.specs.Line.{is_master, is_slave, is_clock, may_arrive, counts, is_good};
 
-use network_model::{Event, Name, NodeKind, Nodes};
+use crate::lookup::Lookup;
+use network_model::{Event, Name, NodeKind};
 use trace_model::{TraceLine, TraceOut};
 
 fn is_done(out: &TraceOut) -> bool
@@ -52,7 +53,7 @@ fn is_ignored(out: &TraceOut) -> bool
     matches!(out, TraceOut::Ignored(_))
 }
 
-fn is_master(nodes: &Nodes, name: &Name) -> bool
+fn is_master(nodes: &Lookup<'_>, name: &Name) -> bool
     ensures { result ≡ is_master nodes.now name.now }
 {
     match nodes.get(name) {
@@ -61,7 +62,7 @@ fn is_master(nodes: &Nodes, name: &Name) -> bool
     }
 }
 
-fn is_slave(nodes: &Nodes, name: &Name) -> bool
+fn is_slave(nodes: &Lookup<'_>, name: &Name) -> bool
     ensures { result ≡ is_slave nodes.now name.now }
 {
     match nodes.get(name) {
@@ -70,7 +71,7 @@ fn is_slave(nodes: &Nodes, name: &Name) -> bool
     }
 }
 
-fn is_clock(nodes: &Nodes, name: &Name) -> bool
+fn is_clock(nodes: &Lookup<'_>, name: &Name) -> bool
     ensures { result ≡ is_clock nodes.now name.now }
 {
     match nodes.get(name) {
@@ -79,7 +80,7 @@ fn is_clock(nodes: &Nodes, name: &Name) -> bool
     }
 }
 
-fn may_arrive(nodes: &Nodes, node: &Name, out: &TraceOut) -> bool
+fn may_arrive(nodes: &Lookup<'_>, node: &Name, out: &TraceOut) -> bool
     ensures { result ≡ may_arrive nodes.now node.now out.now }
 {
     is_master(nodes, node) && (is_made(out) || is_refused(out))
@@ -87,7 +88,7 @@ fn may_arrive(nodes: &Nodes, node: &Name, out: &TraceOut) -> bool
 }
 
 /// Whether a line is good: its nodes are of the kinds that the event is for, and it may have come out so.
-fn is_good(nodes: &Nodes, event: &Event, out: &TraceOut) -> bool
+fn is_good(nodes: &Lookup<'_>, event: &Event, out: &TraceOut) -> bool
     ensures { result ≡ is_good nodes.now event.now out.now }
 {
     match event {
@@ -109,7 +110,7 @@ fn is_good(nodes: &Nodes, event: &Event, out: &TraceOut) -> bool
 }
 
 /// Whether a line counts: it is good, and its event was neither refused nor ignored.
-pub(crate) fn counts(nodes: &Nodes, line: &TraceLine) -> bool
+pub(crate) fn counts(nodes: &Lookup<'_>, line: &TraceLine) -> bool
     ensures { result ≡ counts nodes.now line.now }
 {
     is_good(nodes, &line.event, &line.out) && !(is_refused(&line.out) || is_ignored(&line.out))

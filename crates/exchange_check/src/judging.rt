@@ -18,9 +18,10 @@ ghost use Rattle.exchange_check.specs.Inner.Machine.{facts_of, sites_of, stamps_
 
 use crate::facts::{Fact, Found, FoundJourney, Site};
 use crate::kept::Kept;
+use crate::lookup::Lookup;
 use crate::octets::{Port, master_at, slave_at};
 use crate::residence::Residence;
-use network_model::{Event, Name, Nodes, Report};
+use network_model::{Event, Name, Report};
 use ptp_units::ScaledTime;
 use trace_model::{Judgement, Reasons, Results, Why};
 
@@ -88,7 +89,7 @@ fn is_told(set: &Option<(Name, u64)>, master: &Name, report: &Report) -> bool
 
 /// Whether the exchange is with the slave's present master.
 fn is_of_master(
-    nodes: &Nodes,
+    nodes: &Lookup<'_>,
     at: &Site,
     slave: &Name,
     report: &Report,
@@ -219,7 +220,7 @@ fn are_octets(found: &Found, sync: &FoundJourney, request: &FoundJourney) -> boo
 
 /// What a report is judged to be whose lines are there, and its two journeys.
 fn journeys_judgement(
-    nodes: &Nodes,
+    nodes: &Lookup<'_>,
     at: &Site,
     slave: &Name,
     report: &Report,
@@ -408,7 +409,7 @@ impl Kept {
     /// What a report of a slave is judged to be.
     fn found_judgement(
         &self,
-        nodes: &Nodes,
+        nodes: &Lookup<'_>,
         slave: &Name,
         report: &Report,
         found: Option<Found>,
@@ -430,7 +431,12 @@ impl Kept {
     }
 
     /// What a report at a line is judged to be.
-    pub(crate) fn judgement(&self, nodes: &Nodes, fact: &Option<Fact>, report: &Report) -> Judgement
+    pub(crate) fn judgement(
+        &self,
+        nodes: &Lookup<'_>,
+        fact: &Option<Fact>,
+        report: &Report,
+    ) -> Judgement
         ensures { result ≡ judgement_by nodes.now (facts_of self.now) (once_in self.now.stays) (stamps_of self.now)
             (sites_of nodes.now self.now) fact.now report.now }
     {

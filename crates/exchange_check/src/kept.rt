@@ -24,6 +24,7 @@ ghost use Rattle.trace_model.specs.Record.{is_reading};
 
 use crate::facts::{Fact, KeptJourney, Known, Site};
 use crate::good::{completes, counts, is_made};
+use crate::lookup::Lookup;
 use crate::octets::{Port, delay_resp, is_written, master_at, resided, sent, slave_at};
 use crate::refusal::CheckFault;
 use crate::residence::Residence;
@@ -149,7 +150,7 @@ impl Kept {
     }
 
     /// What is kept of a node.
-    pub(crate) fn site(&self, nodes: &Nodes, name: &Name) -> Site
+    pub(crate) fn site(&self, nodes: &Lookup<'_>, name: &Name) -> Site
         ensures { result ≡ sites_of nodes.now self.now name.now }
     {
         site_in(self.sites.as_slice(), nodes, name)
@@ -163,7 +164,7 @@ impl Kept {
     }
 
     /// The sequenceId that an event draws.
-    fn number(&self, nodes: &Nodes, event: &Event) -> Seq
+    fn number(&self, nodes: &Lookup<'_>, event: &Event) -> Seq
         ensures { result.0 ≡ number_by nodes.now (sites_of nodes.now self.now) event.now }
     {
         match event {
@@ -179,7 +180,7 @@ impl Kept {
     }
 
     /// What is known of a line from the line itself and from its node.
-    fn known(&self, nodes: &Nodes, line: &TraceLine, number: u64) -> Known
+    fn known(&self, nodes: &Lookup<'_>, line: &TraceLine, number: u64) -> Known
         ensures { result ≡ known_by nodes.now (sites_of nodes.now self.now) line.now number }
     {
         let site = self.site(nodes, &line.event.node());
@@ -227,7 +228,7 @@ impl Kept {
     }
 
     /// The message at the end of a journey.
-    fn message_after(&self, nodes: &Nodes, journey: &KeptJourney) -> Option<PortMessage>
+    fn message_after(&self, nodes: &Lookup<'_>, journey: &KeptJourney) -> Option<PortMessage>
         ensures value { option_map contents_of result ≡ message_after_by nodes.now (facts_of self.now) journey.now }
         ensures sign { IfSome result (λ m. pos 0 ≤ℤ m.header.correction.0) }
     {
@@ -247,7 +248,7 @@ impl Kept {
     /// The Delay_Resp to a message that made this journey and arrives now.
     fn answered(
         &self,
-        nodes: &Nodes,
+        nodes: &Lookup<'_>,
         port: &Port,
         now: ScaledTime,
         journey: Option<KeptJourney>,
@@ -262,7 +263,7 @@ impl Kept {
     /// The message that a line makes.
     fn message(
         &self,
-        nodes: &Nodes,
+        nodes: &Lookup<'_>,
         known: &Known,
         journey: Option<KeptJourney>,
         event: &Event,
@@ -291,13 +292,14 @@ impl Kept {
         if !fact.hears_earlier() {
             return None;
         }
-        self.message(nodes, &fact.known(), fact.journey, &fact.event)
+        let nodes = Lookup::new(nodes, fact.event.node());
+        self.message(&nodes, &fact.known(), fact.journey, &fact.event)
     }
 
     /// What is kept of a line that counts.
     fn fact_of(
         &self,
-        nodes: &Nodes,
+        nodes: &Lookup<'_>,
         line: &TraceLine,
         known: &Known,
         journey: &Option<KeptJourney>,
@@ -323,7 +325,7 @@ impl Kept {
     /// What is kept of a line, where it counts.
     fn fact(
         &self,
-        nodes: &Nodes,
+        nodes: &Lookup<'_>,
         line: &TraceLine,
         known: &Known,
         journey: &Option<KeptJourney>,
@@ -352,7 +354,7 @@ impl Kept {
     }
 
     /// Takes the line of this number, which counts, into what is kept beside facts.
-    fn note(&mut self, nodes: &Nodes, fact: &Fact, number: u64) -> Result<(), CheckFault>
+    fn note(&mut self, nodes: &Lookup<'_>, fact: &Fact, number: u64) -> Result<(), CheckFault>
         ensures sites { has_site nodes.now fact.now.event ≡ true → OnOk result
             (sites_of nodes.now self.new ≡ sites_after fact.now.event number (sites_of nodes.now self.old)) }
         ensures stays { StaysAfter self.old.stays self.new.stays number (stay_of (facts_of self.old) number fact.now)
@@ -385,7 +387,7 @@ impl Kept {
     /// The same, where the line counts.
     fn note_fact(
         &mut self,
-        nodes: &Nodes,
+        nodes: &Lookup<'_>,
         fact: &Option<Fact>,
         number: u64,
     ) -> Result<(), CheckFault>
@@ -410,7 +412,7 @@ impl Kept {
     /// line has no report.
     fn line_judgement(
         &self,
-        nodes: &Nodes,
+        nodes: &Lookup<'_>,
         fact: &Option<Fact>,
         out: &TraceOut,
     ) -> Option<Judgement>
@@ -428,6 +430,20 @@ impl Kept {
     pub(crate) fn step(
         &mut self,
         nodes: &Nodes,
+        line: &TraceLine,
+    ) -> Result<Option<Judgement>, CheckFault>
+        ensures kept { (count : ℕ) (m : Machine) → IsKept nodes.now self.old count m → MatchResult result
+            (λ answer. IsKept nodes.now self.new (count + 1) (after_line nodes.now line.now count m)
+            × (answer ≡ judgement_after nodes.now line.now count m))
+            (λ _. IsKept nodes.now self.new count m) }
+    {
+        self.step_at(&Lookup::new(nodes, line.event.node()), line)
+    }
+
+    /// The same, with the node of the line at hand.
+    fn step_at(
+        &mut self,
+        nodes: &Lookup<'_>,
         line: &TraceLine,
     ) -> Result<Option<Judgement>, CheckFault>
         ensures kept { (count : ℕ) (m : Machine) → IsKept nodes.now self.old count m → MatchResult result

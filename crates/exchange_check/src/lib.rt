@@ -9,6 +9,7 @@ mod good;
 mod history;
 mod judging;
 mod kept;
+mod lookup;
 mod octets;
 mod refusal;
 mod residence;

@@ -10,9 +10,10 @@ ghost use Rattle.network_model.specs.Truth.{master_at, slave_at};
 ghost use Rattle.exchange_check.specs.Inner.Kept.{sent_by, port_setup};
 ghost use Rattle.trace_model.specs.Octets.{is_packet, is_written, drawing_port, message_sent};
 
+use crate::lookup::Lookup;
 use event_codec::{Header, Message, PortConfig, PortMessage, encode};
 use master_port::{one_step_sync, sync};
-use network_model::{Event, Name, NodeKind, Nodes};
+use network_model::{Event, Name, NodeKind};
 use ptp_units::{ScaledTime, Seq};
 use slave_port::delay_req;
 use trace_model::TraceOut;
@@ -25,7 +26,7 @@ pub(crate) struct Port {
 }
 
 /// The port of a master of this name.
-pub(crate) fn master_at(nodes: &Nodes, name: &Name) -> Option<Port>
+pub(crate) fn master_at(nodes: &Lookup<'_>, name: &Name) -> Option<Port>
     ensures { option_map port_setup result ≡ master_at nodes.now name.now }
 {
     match nodes.get(name)?.kind {
@@ -35,7 +36,7 @@ pub(crate) fn master_at(nodes: &Nodes, name: &Name) -> Option<Port>
 }
 
 /// The port of a slave of this name.
-pub(crate) fn slave_at(nodes: &Nodes, name: &Name) -> Option<Port>
+pub(crate) fn slave_at(nodes: &Lookup<'_>, name: &Name) -> Option<Port>
     ensures { option_map port_setup result ≡ slave_at nodes.now name.now }
 {
     match nodes.get(name)?.kind {
@@ -45,7 +46,7 @@ pub(crate) fn slave_at(nodes: &Nodes, name: &Name) -> Option<Port>
 }
 
 /// The port that draws a number at an event.
-pub(crate) fn drawing_port(nodes: &Nodes, event: &Event) -> Option<Port>
+pub(crate) fn drawing_port(nodes: &Lookup<'_>, event: &Event) -> Option<Port>
     ensures { option_map port_setup result ≡ drawing_port nodes.now event.now }
 {
     match event {
@@ -75,7 +76,7 @@ fn message_sent(
 
 /// The message that an event sends, under this number and at this reading.
 pub(crate) fn sent(
-    nodes: &Nodes,
+    nodes: &Lookup<'_>,
     event: &Event,
     number: Seq,
     now: ScaledTime,

@@ -4,8 +4,9 @@ ghost use Rattle.std.specs.Prelude.{◌≡◌, true, OnOk, OnErr};
 ghost use Rattle.exchange_check.specs.Inner.Kept.{has_site, moved, moved_at, site_in};
 
 use crate::facts::Site;
+use crate::lookup::Lookup;
 use crate::refusal::CheckFault;
-use network_model::{Event, Name, Nodes};
+use network_model::{Event, Name};
 
 /// What is kept of a node after an event of it at the line of this number.
 fn moved(event: &Event, number: u64, site: Site) -> Site
@@ -39,7 +40,7 @@ fn moved(event: &Event, number: u64, site: Site) -> Site
 }
 
 /// What is kept of a node.
-pub(crate) fn site_in(sites: &[Site], nodes: &Nodes, name: &Name) -> Site
+pub(crate) fn site_in(sites: &[Site], nodes: &Lookup<'_>, name: &Name) -> Site
     ensures { result ≡ site_in sites.now nodes.now name.now }
 {
     let Some(place) = nodes.index_of(name) else {
@@ -54,7 +55,7 @@ pub(crate) fn site_in(sites: &[Site], nodes: &Nodes, name: &Name) -> Site
 /// An event at a node, at the line of this number. The first one takes room for all nodes.
 pub(crate) fn move_site(
     sites: &mut Vec<Site>,
-    nodes: &Nodes,
+    nodes: &Lookup<'_>,
     event: &Event,
     number: u64,
 ) -> Result<(), CheckFault>

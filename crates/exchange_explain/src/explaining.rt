@@ -1,5 +1,5 @@
 //! What is wrong with a transcript or a schedule, for a person.
-ghost use Rattle.std.specs.Prelude.{◌≡◌, ◌+◌, ℕ, List, MatchResult, OnOk, Some, None, option_map, string_bytes};
+ghost use Rattle.std.specs.Prelude.{◌≡◌, ◌+◌, MatchResult, Some, None, option_map, string_bytes};
 ghost use Rattle.std.specs.Io.KnownBytes.{Appends};
 ghost use Rattle.schedule_reading.specs.declared.fault.TaskFault.TheVariants.{World};
 ghost use Rattle.schedule_reading.specs.Entry.{lines_limit};

@@ -8,7 +8,7 @@ ghost use Rattle.exchange_explain.specs.Judgements.{Told, is_told, judgement_rul
 
 use crate::input::{Found, Input};
 use crate::json::push_judged;
-use schedule_reading::{Judged, LINES_LIMIT, TaskFault, Transcript, write_text};
+use schedule_reading::{LINES_LIMIT, TaskFault, Transcript, write_text};
 use std::alloc::Global;
 use std::io::{Read, Write};
 use text_lines::{Cause, Counted, LineTask, Stopped, answer_lines};

@@ -5,3 +5,5 @@ pub mod Scalars
 pub mod Walks
 pub mod PieceSwaps
 pub mod Joins
+pub mod WithoutBlanks
+pub mod Compacted

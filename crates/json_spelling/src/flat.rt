@@ -1,7 +1,6 @@
 //! Members whose values are scalars, or arrays of three or four of them.
 ghost use Rattle.std.specs.Prelude.{◌≡◌, IfSome};
 ghost use Rattle.json.specs.Reads.{token_of};
-ghost use Rattle.json.specs.Print.{IsPrintable};
 ghost use Rattle.json_spelling.specs.Inner.Flat.{scalar_token};
 
 use json::Token;

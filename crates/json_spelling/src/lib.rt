@@ -1,7 +1,8 @@
-//! A line of JSON in another spelling: without blanks, its keys in ascending order of their octets, its texts without
-//! needless escapes. What is read of it stays the same.
+//! A line of JSON in another spelling: without blanks alone, or with its keys in ascending order of their octets and its
+//! texts without needless escapes, too. What is read of it stays the same.
 #![tactic(auto)]
 
+mod blanks;
 mod flat;
 mod joining;
 mod order;

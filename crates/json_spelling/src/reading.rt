@@ -3,7 +3,7 @@ ghost use Rattle.std.specs.Prelude.{◌≡◌, ◌∷◌, ◌++◌, All, IfOk, I
 ghost use Rattle.json.specs.Token.{begin_array};
 ghost use Rattle.json.specs.Lex.{tokens};
 ghost use Rattle.json.specs.Print.{IsPrintable};
-ghost use Rattle.json_spelling.specs.Inner.Flat.{scalar_token, flat_tokens, object_tokens, IsWritable, IsWritableValue};
+ghost use Rattle.json_spelling.specs.Inner.Flat.{scalar_token, flat_tokens, object_tokens, IsPrintableMember, IsPrintableValue};
 ghost use Rattle.json_spelling.specs.Inner.Parts.{part_tokens};
 
 use crate::flat::{Flat, Member, Scalar};
@@ -22,7 +22,7 @@ pub(crate) fn read_line<'a>(
 ) -> Result<Option<Vec<Member<'a>>>, AllocError>
     ensures taken { IfOk result (λ found. IfSome found
         (λ members. tokens line.now ≡ object_tokens members.items)) }
-    ensures writable { IfOk result (λ found. IfSome found (λ members. All IsWritable members.items)) }
+    ensures writable { IfOk result (λ found. IfSome found (λ members. All IsPrintableMember members.items)) }
 {
     let mut reader = Reader::new(line, scratch)?;
     match read_object(alloc, &mut reader)? {
@@ -39,7 +39,7 @@ fn read_object<'a>(
 ) -> Result<Option<Vec<Member<'a>>>, AllocError>
     ensures taken { IfOk result (λ found. IfSome found
         (λ members. reader.old ≡ object_tokens members.items ++ reader.new)) }
-    ensures writable { IfOk result (λ found. IfSome found (λ members. All IsWritable members.items)) }
+    ensures writable { IfOk result (λ found. IfSome found (λ members. All IsPrintableMember members.items)) }
 {
     let Some(Token::BeginObject) = reader.next() else {
         return Ok(None);
@@ -58,7 +58,7 @@ fn read_object<'a>(
 /// A member, or None at the end of the object.
 fn read_part<'a>(reader: &mut Reader<'a>) -> Option<Option<Member<'a>>>
     ensures taken { IfSome result (λ part. reader.old ≡ part_tokens part ++ reader.new) }
-    ensures writable { IfSome result (λ part. IfSome part IsWritable) }
+    ensures writable { IfSome result (λ part. IfSome part IsPrintableMember) }
 {
     match reader.next()? {
         Token::Key(key) => Some(Some(Member {
@@ -73,7 +73,7 @@ fn read_part<'a>(reader: &mut Reader<'a>) -> Option<Option<Member<'a>>>
 /// A member's value.
 fn read_value<'a>(reader: &mut Reader<'a>) -> Option<Flat<'a>>
     ensures taken { IfSome result (λ value. reader.old ≡ flat_tokens value ++ reader.new) }
-    ensures writable { IfSome result IsWritableValue }
+    ensures writable { IfSome result IsPrintableValue }
 {
     match reader.next()? {
         Token::BeginArray => read_items(reader),
@@ -85,7 +85,7 @@ fn read_value<'a>(reader: &mut Reader<'a>) -> Option<Flat<'a>>
 fn read_items<'a>(reader: &mut Reader<'a>) -> Option<Flat<'a>>
     ensures taken { IfSome result
         (λ value. begin_array ∷ reader.old ≡ flat_tokens value ++ reader.new) }
-    ensures writable { IfSome result IsWritableValue }
+    ensures writable { IfSome result IsPrintableValue }
 {
     let first = read_scalar(reader)?;
     let second = read_scalar(reader)?;

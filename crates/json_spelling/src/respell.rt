@@ -1,11 +1,12 @@
 //! A line, spelled again.
-ghost use Rattle.std.specs.Prelude.{◌≡◌, IfOk, IfSome, IsTrue, IsUtf8};
+ghost use Rattle.std.specs.Prelude.{IfOk, IfSome, IsTrue, IsUtf8};
 ghost use Rattle.json_spelling.specs.Spelling.{IsSpellingOf};
 
+use crate::blanks::write_compact;
 use crate::joining::join;
 use crate::reading::read_line;
 use crate::walk::walk;
-use crate::writing::write_text;
+use crate::writing::text_of;
 use crate::{order, piece_order};
 use json::Scratch;
 use std::alloc::{AllocError, Global};
@@ -29,6 +30,21 @@ impl Respeller {
         }
     }
 
+    /// A line without its blanks, but for those in texts and the first behind a number, `true`, `false` or `null`. None for
+    /// a line that has a backslash, or isn't UTF-8.
+    pub fn without_blanks(&mut self, line: &[u8]) -> Result<Option<&[u8]>, AllocError>
+        ensures { IfOk result (λ found. IfSome found (λ text. IsSpellingOf line.now text.now)) }
+    {
+        let Ok(line) = str::from_utf8(line) else {
+            return Ok(None);
+        };
+        if compacted(line, &mut self.text)? {
+            Ok(Some(self.text.as_slice()))
+        } else {
+            Ok(None)
+        }
+    }
+
     /// A line that is an object whose values are scalars, or arrays of three or four of them, spelled without blanks,
     /// without escapes that needn't be, and with its keys in ascending order of their octets. None for every other line,
     /// and for an object of more than 16 members.
@@ -45,6 +61,18 @@ impl Respeller {
             return Ok(Some(self.text.as_slice()));
         }
         Ok(None)
+    }
+}
+
+/// Spells a line without the blanks that are left out, in place of what `text` holds. Whether it was a line without
+/// backslashes.
+fn compacted(line: &str, text: &mut Vec<u8>) -> Result<bool, AllocError>
+    ensures { IfOk result (λ done. IsTrue done → IsSpellingOf line.now text.new.items) }
+{
+    if write_compact(line.as_bytes(), text)? {
+        Ok(is_utf8(text.as_slice()))
+    } else {
+        Ok(false)
     }
 }
 
@@ -84,6 +112,6 @@ fn reread(
     };
     order::sort(members.as_mut_slice());
     let buffer = mem::replace(text, Vec::new(alloc));
-    *text = write_text(members.as_slice(), buffer)?;
+    *text = text_of(members.as_slice(), buffer)?;
     Ok(true)
 }

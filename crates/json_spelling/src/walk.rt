@@ -1,9 +1,9 @@
 //! The members of a line, each where it stands. Texts with escapes are left to `reading`.
-ghost use Rattle.std.specs.Prelude.{◌≡◌, ◌≤◌, ◌++◌, ◌∷◌, [], ℕ, IsTrue, List, length, take, All, IfOk, IfSome};
+ghost use Rattle.std.specs.Prelude.{◌≡◌, ◌≤◌, ◌++◌, ◌∷◌, [], ℕ, IsTrue, List, length, All, IfOk, IfSome};
 ghost use Rattle.json.specs.Print.{escape};
 ghost use Rattle.json.specs.Lex.{tokens};
 ghost use Rattle.json.specs.Spaced.{IsGap};
-ghost use Rattle.json_spelling.specs.Inner.Pieces.{IsScalar, TakesScalar, TakesItem, TakesValue, TakesPiece, IsPiece, Spells, Walked, pieces_tokens};
+ghost use Rattle.json_spelling.specs.Inner.Pieces.{IsScalar, TakesScalar, TakesItem, TakesValue, TakesPiece, IsPiece, Spells, pieces_tokens};
 
 use json::is_number;
 use std::alloc::{AllocError, Global};

@@ -1,16 +1,16 @@
 //! An object's members, written as JSON.
 ghost use Rattle.std.specs.Prelude.{◌≡◌, All, IfOk, OnOk, IsUtf8};
 ghost use Rattle.json.specs.Lex.{tokens};
-ghost use Rattle.json_spelling.specs.Inner.Flat.{flat_tokens, member_tokens, object_tokens, IsWritable, IsWritableValue};
+ghost use Rattle.json_spelling.specs.Inner.Flat.{flat_tokens, member_tokens, object_tokens, IsPrintableMember, IsPrintableValue};
 ghost use Rattle.json_spelling.specs.Inner.Parts.{Appends};
 
 use crate::flat::{Flat, Member};
-use json::{Token, Writer};
+use json::Writer;
 use std::alloc::AllocError;
 
 /// The text of an object of these members, in a buffer that is emptied first.
-pub(crate) fn write_text(members: &[Member<'_>], buffer: Vec<u8>) -> Result<Vec<u8>, AllocError>
-    requires { All IsWritable members.now }
+pub(crate) fn text_of(members: &[Member<'_>], buffer: Vec<u8>) -> Result<Vec<u8>, AllocError>
+    requires { All IsPrintableMember members.now }
     ensures tokens { IfOk result (λ text. tokens text.items ≡ object_tokens members.now) }
     ensures utf8 { IfOk result (λ text. IsUtf8 text.items) }
 {
@@ -23,7 +23,7 @@ pub(crate) fn write_text(members: &[Member<'_>], buffer: Vec<u8>) -> Result<Vec<
 
 /// Writes an object of these members.
 fn write_object(writer: &mut Writer, members: &[Member<'_>]) -> Result<(), AllocError>
-    requires { All IsWritable members.now }
+    requires { All IsPrintableMember members.now }
     ensures { OnOk result (Appends writer.old writer.new (object_tokens members.now)) }
 {
     writer.begin_object()?;
@@ -35,7 +35,7 @@ fn write_object(writer: &mut Writer, members: &[Member<'_>]) -> Result<(), Alloc
 
 /// Writes a member.
 fn write_member(writer: &mut Writer, member: &Member<'_>) -> Result<(), AllocError>
-    requires { IsWritable member.now }
+    requires { IsPrintableMember member.now }
     ensures { OnOk result (Appends writer.old writer.new (member_tokens member.now)) }
 {
     writer.key(member.key)?;
@@ -44,7 +44,7 @@ fn write_member(writer: &mut Writer, member: &Member<'_>) -> Result<(), AllocErr
 
 /// Writes a value.
 fn write_value(writer: &mut Writer, value: &Flat<'_>) -> Result<(), AllocError>
-    requires { IsWritableValue value.now }
+    requires { IsPrintableValue value.now }
     ensures { OnOk result (Appends writer.old writer.new (flat_tokens value.now)) }
 {
     match value {

@@ -8,7 +8,7 @@ use sha2::{Digest, Sha256};
 use std::hash::{BuildHasher, DefaultHasher, Hasher};
 
 /// SipHash that has taken a digest of all names and identities of a network as its key. Whoever picks them doesn't know the
-/// key before the last is picked, so none can be picked that meet in a table.
+/// key before the last is picked, and each change of one changes it.
 #[derive(Clone, Copy)]
 pub(crate) struct KeyedState {
     keyed: DefaultHasher,

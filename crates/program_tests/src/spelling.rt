@@ -38,6 +38,34 @@ const LEFT: [&[u8]; 9] = [
     b"{\"a\":1,\"b\":1,\"c\":1,\"d\":1,\"e\":1,\"f\":1,\"g\":1,\"h\":1,\"i\":1,\"j\":1,\"k\":1,\"l\":1,\"m\":1,\"n\":1,\"o\":1,\"p\":1,\"q\":1}",
 ];
 
+/// Lines, each without the blanks that are left out.
+const COMPACT: [(&str, &str); 6] = [
+    (r#"{"b": 1, "a": "x"}"#, r#"{"b":1,"a":"x"}"#),
+    ("\t{ \"a b\" : [ 1 ,\n2 ] }\r", "{\"a b\":[1 ,2 ]}"),
+    (r#"{"a, b: c": "d, e: f"}"#, r#"{"a, b: c":"d, e: f"}"#),
+    ("1 2", "1 2"),
+    ("-1 , nul \t\"é \"", "-1 ,nul \"é \""),
+    ("", ""),
+];
+
+/// Lines whose blanks aren't left out.
+const KEPT: [&[u8]; 2] = [b"{\"\\u0061\": 1}", b"{\"a\": \"\xff\"}"];
+
+#[test]
+fn without_blanks(rt: HostRuntime) -> Result<(), Fail> {
+    let mut respeller = Respeller::new(rt.alloc());
+    for (line, wanted) in COMPACT {
+        match respeller.without_blanks(line.as_bytes())? {
+            Some(text) => assert_eq!(rt; str::from_utf8(text)?, wanted, "{line}"),
+            None => assert!(rt; false, "{line}"),
+        }
+    }
+    for line in KEPT {
+        assert!(rt; respeller.without_blanks(line)?.is_none(), "{line:?}");
+    }
+    Ok(())
+}
+
 #[test]
 fn of_objects(rt: HostRuntime) -> Result<(), Fail> {
     let mut respeller = Respeller::new(rt.alloc());

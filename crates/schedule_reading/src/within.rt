@@ -1,14 +1,13 @@
-//! Whether values are within the ranges in which a line that is written is read as it was written. Most of what there
-//! is to know of them their types keep, so that only long numbers, and a reading that stands where there is no moment,
-//! are to be looked for.
-ghost use Rattle.std.specs.Prelude.{◌≡◌, ◌<◌, ◌≤◌, IfSome, IsTrue, is_some, length};
+//! Whether values are within the ranges in which a line that is written is read as it was written. Their types keep most
+//! of that: only long numbers, and a reading that stands where there is no moment, are looked for. What a type keeps, a
+//! proof knows of a value that a function was given; that is what the functions called `know_..` are for, which do nothing.
+ghost use Rattle.std.specs.Prelude.{◌<◌, IfSome, IsTrue};
 ghost use Rattle.hex.specs.Hex.{IsBytes};
 ghost use Rattle.ptp_units.specs.Moment.{bound};
 ghost use Rattle.network_model.specs.Name.{IsName};
 ghost use Rattle.network_model.specs.Run.{true_moment};
 ghost use Rattle.schedule_lines.specs.Ranges.{IsShort, IsEvent, IsNode, IsConfig, IsOut, IsRecorded, IsTag, HasTags};
 ghost use Rattle.schedule_lines.specs.Ranges.{IsTagged};
-ghost use Rattle.schedule_lines.specs.Written.{out_report};
 ghost use Rattle.line_writing.specs.Spelled.{IsScheduled, IsWritable, IsTranscribable};
 
 use event_codec::PortConfig;
@@ -49,7 +48,7 @@ pub(crate) fn is_transcribable(line: &TranscriptLine) -> bool
     }
 }
 
-/// Whether an event of a schedule is.
+/// Whether an event of a schedule is within its ranges.
 fn is_scheduled(event: &Event) -> bool
     ensures { IsTrue result → IsScheduled event.now }
 {
@@ -58,7 +57,7 @@ fn is_scheduled(event: &Event) -> bool
     is_event(event)
 }
 
-/// Whether an event is.
+/// Whether an event is within its ranges.
 fn is_event(event: &Event) -> bool
     ensures { IsTrue result → IsEvent event.now }
 {
@@ -68,7 +67,7 @@ fn is_event(event: &Event) -> bool
     is_short(event.named_difference())
 }
 
-/// Whether what was recorded of an event is.
+/// Whether what was recorded of an event is within its ranges.
 fn is_recorded(line: &TraceLine) -> bool
     ensures { IsTrue result → IsRecorded line.now }
 {
@@ -78,7 +77,7 @@ fn is_recorded(line: &TraceLine) -> bool
         && is_out(&line.out)
 }
 
-/// Whether what an event brought about is.
+/// Whether what an event brought about is within its ranges.
 fn is_out(out: &TraceOut) -> bool
     ensures { IsTrue result → IsOut out.now }
 {
@@ -108,7 +107,7 @@ fn is_short(number: Option<i128>) -> bool
     }
 }
 
-/// Does nothing: the tags of a line have 64 bits.
+/// The tags of a line have 64 bits.
 fn know_tags(number: u64, line: &TraceLine)
     ensures { IsTagged number line.now }
 {
@@ -119,19 +118,19 @@ fn know_tags(number: u64, line: &TraceLine)
     }
 }
 
-/// Does nothing: nor do those of a report have more.
+/// The tags of a report have 64 bits.
 fn know_report(report: Report)
     ensures { HasTags report }
 {}
 
-/// Does nothing: a tag has 64 bits.
+/// A tag has 64 bits.
 fn know_tag(tag: Option<u64>)
     ensures { IfSome tag IsTag }
 {
     let _tag = tag;
 }
 
-/// Does nothing: a name is one.
+/// A name has at most 16 octets, each one that a name may have.
 fn know_name(name: Option<Name>)
     ensures { IfSome name IsName }
 {
@@ -140,7 +139,7 @@ fn know_name(name: Option<Name>)
     }
 }
 
-/// Does nothing: a moment is one.
+/// A moment is below the end of time.
 fn know_moment(time: Option<ScaledTime>)
     ensures { IfSome time (λ units. units < bound) }
 {
@@ -149,14 +148,14 @@ fn know_moment(time: Option<ScaledTime>)
     }
 }
 
-/// Does nothing: octets are.
+/// Octets are below 256.
 fn know_octets(octets: &[u8])
     ensures { IsBytes octets.now }
 {
     let _len = octets.len();
 }
 
-/// Does nothing: a node is one.
+/// A node is within its ranges.
 fn know_node(node: &NodeSpec)
     ensures { IsNode node.now }
 {
@@ -170,12 +169,12 @@ fn know_node(node: &NodeSpec)
     }
 }
 
-/// Does nothing: the settings of a port are within their ranges.
+/// The settings of a port are within their ranges.
 fn know_config(config: PortConfig)
     ensures { IsConfig config }
 {}
 
-/// Does nothing: a number of 16 bits is below 65,536.
+/// A number of 16 bits is below 65,536.
 fn know_number(number: u16)
     ensures { number < 65536 }
 {}

@@ -33,7 +33,8 @@ use Rattle.schedule_replay.specs.Replay.{nodes_text, WritesRun}
 use Rattle.schedule_reading.specs.Entry.{recorded_in}
 use Rattle.schedule_replay.specs.CheckText.{AreRecorded, numbered}
 use Rattle.schedule_replay.specs.Accepted.{EachRunIsTranscribed}
-use Rattle.text_lines.proofs.Cutting.{IsUnended, lines_of-ended}
+use Rattle.text_lines.specs.Inner.Reading.{IsUnended}
+use Rattle.text_lines.proofs.Cutting.{lines_of-ended}
 use Rattle.schedule_replay.proofs.Entries.{value_read}
 use Rattle.schedule_lines.proofs.ShownTexts.{is_shown, Fits}
 use Rattle.schedule_lines.proofs.LineTexts.{event_fits, node_fits}

@@ -1,5 +1,5 @@
 //! A schedule that is replayed line by line.
-ghost use Rattle.std.specs.Prelude.{◌≡◌, ◌⊎◌, ℕ, List, [], ◌∷◌, ◌++◌, MatchResult, Ok, None};
+ghost use Rattle.std.specs.Prelude.{◌≡◌, ℕ, List, [], ◌∷◌, ◌++◌, MatchResult, Ok, None};
 ghost use Rattle.std.specs.Io.KnownBytes.{Appends};
 ghost use Rattle.network_model.specs.Clash.{first_clash};
 ghost use Rattle.world_model.specs.State.{new_state, after, State};
@@ -8,11 +8,9 @@ ghost use Rattle.schedule_lines.specs.declared.reading.schedule.Line.TheVariants
 ghost use Rattle.schedule_replay.specs.Fault.{FailedWith};
 ghost use Rattle.schedule_reading.specs.Fault.{is_write};
 ghost use Rattle.schedule_reading.specs.Entry.{lines_limit};
-ghost use Rattle.schedule_reading.specs.Entry.{entry_in};
 ghost use Rattle.schedule_reading.specs.Schedule.{FaultsAtEnd};
 ghost use Rattle.schedule_replay.specs.Replay.{nodes_text, IsEventLine, ReplaysAnswer, NodesGoOut};
 ghost use Rattle.schedule_replay.specs.Replay.{Follows, replay_rules};
-ghost use Rattle.schedule_reading.specs.Entry.{IsOwnFault};
 ghost use Rattle.schedule_replay.specs.Inner.Replaying.{LeavesUnwritten};
 ghost use Rattle.schedule_replay.specs.Inner.Replaying.{state_of, IsReplaying, WritesNone, StopsEvent, StopsAt};
 ghost use Rattle.text_lines.specs.Counted.{device_of, HasNotFailed, HasFailedIf};

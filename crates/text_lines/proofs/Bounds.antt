@@ -55,12 +55,6 @@ gives_more remaining a b x y z first next = record {
   gone = λ octets known. next.gone (drop first.given octets) (first.gone octets known) ∙ ap Some (drop-drop next.given first.given octets);
 }
 
--- the octets of a line, and one more
-pub line_within : {R : Type 0} (remaining : R → Option (List ℕ)) (count : ℕ) (x y z : Counted R) → count ≤ line_limit → GivesWithin remaining count x y
-    → GivesWithin remaining 1 y z → GivesWithin remaining (line_limit + 1) x z
-line_within remaining count x y z fits so_far octet =
-    gives_less remaining _ _ x z (gives_more remaining _ _ x y z so_far octet) (omega arith)
-
 -- whole lines, and one more
 pub line_more : {R : Type 0} (remaining : R → Option (List ℕ)) (limit count : ℕ) (x y z : Counted R) → GivesWithin remaining (count * (line_limit + 1)) x y
     → GivesWithin remaining (room_of limit (count + 1) + 1) y z → GivesWithin remaining ((count + 1) * (line_limit + 1)) x z

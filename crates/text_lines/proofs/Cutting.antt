@@ -1,14 +1,11 @@
 -- How octets are cut at their first LF.
-use Rattle.std.proofs.Common.{◌≡◌, ◌≢◌, ℕ, suc, ◌+◌, ◌<◌, ◌==◌, List, [], ◌∷◌, ◌++◌, true, false, length, refl, ◌∙◌, arith, add_comm, zero-add, All, if◌then◌else◌}
+use Rattle.std.proofs.Common.{◌≡◌, ◌≢◌, ℕ, suc, ◌+◌, ◌<◌, ◌==◌, List, [], ◌∷◌, ◌++◌, true, false, length, refl, ◌∙◌, arith, add_comm, zero-add, if◌then◌else◌}
 use Rattle.std.proofs.lemmas.Bool.{ne_eqb}
 use Rattle.std.proofs.lemmas.List.Elements.{All-head, All-tail}
 use Rattle.std.proofs.lemmas.List.Sums.{sum_by-cons}
 use Rattle.std.specs.Io.BufRead.{drop_through}
 use Rattle.text_lines.specs.Lines.{begin_line, lines_of, lfs_in}
-
--- no octet is an LF
-abbrev pub IsUnended : List ℕ → Type 0
-IsUnended front = All (λ x. x ≢ 10) front
+use Rattle.text_lines.specs.Inner.Reading.{IsUnended}
 
 first_is : (x : ℕ) (xs : List ℕ) → IsUnended (x ∷ xs) → (x == 10) ≡ false
 first_is x xs h = ne_eqb x 10 (All-head (λ y. y ≢ 10) x xs h)

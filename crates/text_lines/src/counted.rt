@@ -2,6 +2,9 @@ ghost use Rattle.std.specs.Prelude.{◌≡◌, ◌<◌, ◌^◌, MatchResult, On
 ghost use Rattle.std.specs.Io.{ReadsAtMost, WritesAtMost};
 ghost use Rattle.std.specs.Io.KnownBytes.{ReadConsumes, WriteAppends, Keeps, Appends};
 
+mod octets;
+
+pub(crate) use octets::Stop;
 use std::io;
 use std::io::{ErrorKind, Read, Write};
 
@@ -16,7 +19,7 @@ pub struct Counted<T> {
 }
 
 impl<T> Counted<T> {
-    ghost use Rattle.text_lines.specs.Counted.{device_of, failures_of, given_of, HasFailed};
+    ghost use Rattle.text_lines.specs.Counted.{device_of, failures_of, given_of, HasFailed, HasNotFailed, HasGiven};
 
     /// The device, of which no call has failed yet, and which has given no octet.
     pub fn new(device: T) -> Counted<T>
@@ -59,6 +62,14 @@ impl<T> Counted<T> {
     {
         self.failures = self.failures.saturating_add(1);
     }
+
+    fn count_given(&mut self, count: usize)
+        ensures device { device_of self.new ≡ device_of self.old }
+        ensures failures { HasNotFailed self.old self.new }
+        ensures given { HasGiven count self.old self.new }
+    {
+        self.given = self.given.saturating_add(count as u64);
+    }
 }
 
 impl<R: Read> Read for Counted<R> {
@@ -77,7 +88,7 @@ impl<R: Read> Read for Counted<R> {
     {
         let answer = self.device.read(buf);
         match answer {
-            Ok(count) => self.given = self.given.saturating_add(count as u64),
+            Ok(count) => self.count_given(count),
             Err(_) => self.count_failure(),
         }
         answer

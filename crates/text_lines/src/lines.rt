@@ -8,7 +8,7 @@ ghost use Rattle.text_lines.specs.Inner.Reading.{ReadsLine};
 ghost use Rattle.text_lines.specs.Lines.{IsFromReading};
 ghost use Rattle.text_lines.specs.Inner.Reading.{StopsReading};
 
-use crate::counted::Counted;
+use crate::counted::{Counted, Stop};
 use crate::fault::{ReadingFault, Stopped};
 use arrayvec::ArrayVec;
 use std::io::Read;
@@ -144,17 +144,15 @@ impl Lines {
             (λ _. HasNotFailed input.old input.new)
             (λ kind. IsFromReading kind input.old input.new) }
     {
-        self.line.clear();
-        while let Some(octet) = read_octet(input)? {
-            if octet == b'\n' {
-                return Ok(true);
+        match input.read_octets(&mut self.line) {
+            Stop::Lf => Ok(true),
+            Stop::End => {
+                self.ended = true;
+                Ok(!self.line.is_empty())
             }
-            if self.line.try_push(octet).is_err() {
-                return Err(ReadingFault::LineTooLong);
-            }
+            Stop::TooLong => Err(ReadingFault::LineTooLong),
+            Stop::Failed => Err(ReadingFault::Read),
         }
-        self.ended = true;
-        Ok(!self.line.is_empty())
     }
 }
 

@@ -1,5 +1,5 @@
-ghost use Rattle.std.specs.Prelude.{◌≡◌, ◌≤◌, ◌<◌, ◌∷◌, ◌++◌, [], length, option_map, is_some, vec_len, vec_capacity};
-ghost use Rattle.std.specs.Prelude.{IsSome, IfSome, IsTrue, IfErr, OnOk};
+ghost use Rattle.std.specs.Prelude.{◌≡◌, ◌≤◌, ◌<◌, ◌∷◌, ◌++◌, [], length, option_map, vec_len, vec_capacity};
+ghost use Rattle.std.specs.Prelude.{IsSome, IfSome, IfErr, OnOk};
 ghost use Rattle.network_model.specs.Kinds.{entered_copy};
 ghost use Rattle.world_model.specs.Inner.Stands.{listed, octets_at, stay_in, stay_at, left_stay};
 ghost use Rattle.world_model.specs.Inner.Acts.{copy_inside};

@@ -1,6 +1,5 @@
 ghost use Rattle.std.specs.Prelude.{◌≡◌, ℕ, option_map, IfOk};
-ghost use Rattle.network_model.specs.Network.{Network, NodeName};
-ghost use Rattle.network_model.specs.Run.{Run};
+ghost use Rattle.network_model.specs.Network.{NodeName};
 ghost use Rattle.world_model.specs.Inner.Acts.{happened, SlaveActs, Nothing, Reads, IsCopy, IsNext, IsKind};
 
 use crate::entry::{Left, Octets};

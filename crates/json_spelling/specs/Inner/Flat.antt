@@ -27,11 +27,11 @@ abbrev pub object_tokens : List Member → List Token
 object_tokens ms = begin_object ∷ (flat_map member_tokens ms ++ end_object ∷ [])
 
 -- each number's text is a number
-abbrev pub IsWritableValue : Flat → Type 0
-IsWritableValue (One a) = IsPrintable (scalar_token a)
-IsWritableValue (Three a b c) = IsPrintable (scalar_token a) × IsPrintable (scalar_token b) × IsPrintable (scalar_token c)
-IsWritableValue (Four a b c d) =
+abbrev pub IsPrintableValue : Flat → Type 0
+IsPrintableValue (One a) = IsPrintable (scalar_token a)
+IsPrintableValue (Three a b c) = IsPrintable (scalar_token a) × IsPrintable (scalar_token b) × IsPrintable (scalar_token c)
+IsPrintableValue (Four a b c d) =
     IsPrintable (scalar_token a) × IsPrintable (scalar_token b) × IsPrintable (scalar_token c) × IsPrintable (scalar_token d)
 
-abbrev pub IsWritable : Member → Type 0
-IsWritable m = IsWritableValue m.value
+abbrev pub IsPrintableMember : Member → Type 0
+IsPrintableMember m = IsPrintableValue m.value

@@ -1,4 +1,4 @@
-use Rattle.std.proofs.Common.{◌≡◌, ◌∙◌, ◌∷◌, ◌++◌, sym, ap, subst}
+use Rattle.std.proofs.Common.{◌∙◌, ◌∷◌, ◌++◌, sym, ap, subst}
 use Rattle.sha2.specs.Hashers.{Holds256}
 use Rattle.network_model.specs.Inner.Keyed.{octets_of_identity}
 use Rattle.network_model.proofs.Digested.{appended, node_appended}

@@ -8,7 +8,7 @@ use Rattle.exchange_check.specs.Inner.Stays.{LastStays, stay_of, with_stay, AreS
 use Rattle.exchange_check.specs.Inner.Machine.{facts_of, sites_of, stamps_of, sites_told, leaves_told, stamps_told}
 use Rattle.exchange_check.proofs.KeptSites.{fact-there}
 use Rattle.exchange_check.proofs.Keeping.{IsKept-line, judgement-line, accepted-bound}
-use Rattle.exchange_check.proofs.kept.Kept.step.Goals as goal
+use Rattle.exchange_check.proofs.kept.Kept.step_at.Goals as goal
 
 pub returns : goal.returns
 returns c =
