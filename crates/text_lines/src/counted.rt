@@ -72,6 +72,25 @@ impl<T> Counted<T> {
     }
 }
 
+impl<R: Read> Counted<R> {
+    ghost use Rattle.text_lines.specs.Counted.{device_of, given_of, HasFailed, HasNotFailed};
+
+    /// Asks the reader once, and counts where it fails, but not what it gives.
+    fn ask(&mut self, buf: &mut [u8]) -> io::Result<usize>
+        ensures bound { ReadsAtMost result buf.new }
+        ensures bytes { ReadConsumes (R.remaining (device_of self.old)) (R.remaining (device_of self.new))
+            result buf.new }
+        ensures count { MatchResult result (λ _. HasNotFailed self.old self.new) (λ _. HasFailed self.old self.new) }
+        ensures given { given_of self.new ≡ given_of self.old }
+    {
+        let answer = self.device.read(buf);
+        if answer.is_err() {
+            self.count_failure();
+        }
+        answer
+    }
+}
+
 impl<R: Read> Read for Counted<R> {
     ghost use Rattle.text_lines.specs.Counted.{device_of, given_of, HasFailed, HasNotFailed, HasGiven};
 
@@ -86,12 +105,9 @@ impl<R: Read> Read for Counted<R> {
             (λ n. HasGiven n self.old self.new)
             (λ _. given_of self.new ≡ given_of self.old) }
     {
-        let answer = self.device.read(buf);
-        match answer {
-            Ok(count) => self.count_given(count),
-            Err(_) => self.count_failure(),
-        }
-        answer
+        let count = self.ask(buf)?;
+        self.count_given(count);
+        Ok(count)
     }
 }
 

@@ -145,7 +145,7 @@ impl Lines {
             (λ kind. IsFromReading kind input.old input.new) }
     {
         match input.read_octets(&mut self.line) {
-            Stop::Lf => Ok(true),
+            Stop::LineFeed => Ok(true),
             Stop::End => {
                 self.ended = true;
                 Ok(!self.line.is_empty())

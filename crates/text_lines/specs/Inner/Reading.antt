@@ -4,7 +4,7 @@ use Rattle.std.specs.Io.KnownBytes.{Consumes, IsAtEnd}
 use Rattle.text_lines.specs.declared.fault.ReadingFault.{ReadingFault}
 use Rattle.text_lines.specs.declared.fault.ReadingFault.TheVariants.{Read}
 use Rattle.text_lines.specs.declared.counted.octets.Stop.{Stop}
-use Rattle.text_lines.specs.declared.counted.octets.Stop.TheVariants.{Lf, End, TooLong, Failed}
+use Rattle.text_lines.specs.declared.counted.octets.Stop.TheVariants.{LineFeed, End, TooLong, Failed}
 use Rattle.text_lines.specs.Lines.{LeavesUnread, after_lines, lfs_in, line_limit, lines_of, reading_fault}
 
 -- no octet is an LF
@@ -13,7 +13,7 @@ IsUnended front = All (λ x. x ≢ 10) front
 
 -- the octets of a line were read, and what stopped that
 abbrev pub StopsAt : Stop → (before after : Option (List ℕ)) → List ℕ → Type 0
-StopsAt Lf before after line = Consumes before after (line ++ 10 ∷ [])
+StopsAt LineFeed before after line = Consumes before after (line ++ 10 ∷ [])
 StopsAt End before after line = Consumes before after line × IsAtEnd after
 StopsAt TooLong before after line =
     (x : ℕ) × (x ≢ 10) × (length line ≡ line_limit) × Consumes before after (line ++ x ∷ [])
@@ -21,14 +21,14 @@ StopsAt Failed before after line = Consumes before after line
 
 -- how many octets were read
 abbrev pub count_read : Stop → List ℕ → ℕ
-count_read Lf line = length line + 1
+count_read LineFeed line = length line + 1
 count_read End line = length line
 count_read TooLong line = length line + 1
 count_read Failed line = length line
 
 -- whether the reader failed
 abbrev pub is_failure : Stop → Bool
-is_failure Lf = false
+is_failure LineFeed = false
 is_failure End = false
 is_failure TooLong = false
 is_failure Failed = true

@@ -1,9 +1,9 @@
 use Rattle.text_lines.proofs.Reading.{line_ended, line_last, line_too_long, line_failed}
 use Rattle.text_lines.proofs.lines.Lines.read_line.Goals as goal
 
-pub returns-in-Lf-clause-next : goal.returns-in-Lf-clause-next
-returns-in-Lf-clause-next g c = λ octets known.
-    let read = c.in-Lf.ensures in
+pub returns-in-LineFeed-clause-next : goal.returns-in-LineFeed-clause-next
+returns-in-LineFeed-clause-next g c = λ octets known.
+    let read = c.in-LineFeed.ensures in
     rw c.requires.before_end (line_ended _ _ _ _ _ octets read.stop read.unended read.within c.requires.within known)
 
 pub returns-in-End-clause-next : goal.returns-in-End-clause-next
