@@ -8,7 +8,7 @@ use Rattle.json.specs.Text.{content, plain, after_backslash, prepend}
 use Rattle.json.specs.Word.{is_operator, is_space, head, ends_word, after_digits, after_minus, after_sign, after_whole, after_fraction, after_exponent, after_number, number_before, literal, word}
 use Rattle.json.specs.Ascii.{true_text, false_text, null_text}
 use Rattle.json.specs.Lex.{Mode, between, in_word, in_string, in_escape, Class, quote, backslash, operator, space, other, class, Lexeme, token, operator_lexeme, string_token, lex_byte, lex, tokens, punctuate, fresh}
-use Rattle.json_spelling.specs.Inner.Blanks.{compact, HasNoBackslash, is_blank, mode_after}
+use Rattle.json_spelling.specs.Inner.Blanks.{compact, HasNoBackslash, leaves_out, mode_after}
 
 -- ---- texts
 
@@ -280,7 +280,7 @@ abbrev IsSameBy : Mode → List ℕ → Type 0
 IsSameBy m xs = lex m (compact m xs) ≡ lex m xs
 
 between_compact : (c : Class) (x : ℕ) (xs : List ℕ) → class x ≡ c → HasNoBackslash xs → IsSameBy between xs → IsSameBy in_word xs → IsSameBy in_string xs
-    → lex between (cond (is_blank between c) (compact (mode_after between c) xs) (x ∷ compact (mode_after between c) xs)) ≡ lex_byte between c x xs (λ m. lex m xs)
+    → lex between (cond (leaves_out between c) (compact (mode_after between c) xs) (x ∷ compact (mode_after between c) xs)) ≡ lex_byte between c x xs (λ m. lex m xs)
 unfolding lex
 between_compact quote x xs is none same_between same_word same_text =
     ap (λ c. lex_byte between c x (compact in_string xs) (λ m. lex m (compact in_string xs))) is

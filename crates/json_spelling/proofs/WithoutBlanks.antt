@@ -3,12 +3,12 @@ use Rattle.std.proofs.Common.{◌≡◌, ◌∙◌, ◌≤◌, ◌<◌, ◌+◌,
 use Rattle.std.proofs.Math.Seq.{take-suc, drop-cons}
 use Rattle.std.proofs.lemmas.List.{drop_all, get_or-drop}
 use Rattle.json.specs.Lex.{Mode, class}
-use Rattle.json_spelling.specs.Inner.Blanks.{compact, HasNoBackslash, is_blank, mode_after}
+use Rattle.json_spelling.specs.Inner.Blanks.{compact, HasNoBackslash, leaves_out, mode_after}
 
 -- ---- octet by octet
 
 compact_at : (line : List ℕ) (at : ℕ) (m : Mode) → at < length line
-    → compact m (drop at line) ≡ cond (is_blank m (class (get_or line at 0))) (compact (mode_after m (class (get_or line at 0))) (drop (suc at) line)) (get_or line at 0 ∷ compact (mode_after m (class (get_or line at 0))) (drop (suc at) line))
+    → compact m (drop at line) ≡ cond (leaves_out m (class (get_or line at 0))) (compact (mode_after m (class (get_or line at 0))) (drop (suc at) line)) (get_or line at 0 ∷ compact (mode_after m (class (get_or line at 0))) (drop (suc at) line))
 unfolding compact
 compact_at line at m within = ap (compact m) (drop-cons line at 0 within)
 
@@ -19,7 +19,7 @@ one_longer line start at begun within =
     ap (λ n. take n (drop start line)) more ∙ take-suc (drop start line) (at - start) 0 (omega (arith, length-drop start line, begun, within))
     ∙ ap (λ x. take (at - start) (drop start line) ++ x ∷ []) (get_or-drop start line (at - start) 0 ∙ ap (λ n. get_or line n 0) there)
 
-pub keeps : (whole text line : List ℕ) (start at : ℕ) (m : Mode) → start ≤ at → at < length line → is_blank m (class (get_or line at 0)) ≡ false
+pub keeps : (whole text line : List ℕ) (start at : ℕ) (m : Mode) → start ≤ at → at < length line → leaves_out m (class (get_or line at 0)) ≡ false
     → whole ≡ text ++ (take (at - start) (drop start line) ++ compact m (drop at line))
     → whole ≡ text ++ (take (at + 1 - start) (drop start line) ++ compact (mode_after m (class (get_or line at 0))) (drop (at + 1) line))
 keeps whole text line start at m begun within kept is =
@@ -30,7 +30,7 @@ keeps whole text line start at m begun within kept is =
     ∙ ap (λ (ts : List ℕ). text ++ ts) (sym (append_assoc (take (at - start) (drop start line)) (x ∷ []) later) ∙ ap (λ (ts : List ℕ). ts ++ later) (sym (one_longer line start at begun within)))
     ∙ ap (λ n. text ++ (take (at + 1 - start) (drop start line) ++ compact (mode_after m (class x)) (drop n line))) next
 
-pub passes : (whole text new line : List ℕ) (start at : ℕ) (m : Mode) → at < length line → is_blank m (class (get_or line at 0)) ≡ true
+pub passes : (whole text new line : List ℕ) (start at : ℕ) (m : Mode) → at < length line → leaves_out m (class (get_or line at 0)) ≡ true
     → new ≡ text ++ take (at - start) (drop start line)
     → whole ≡ text ++ (take (at - start) (drop start line) ++ compact m (drop at line))
     → whole ≡ new ++ (take (at + 1 - (at + 1)) (drop (at + 1) line) ++ compact (mode_after m (class (get_or line at 0))) (drop (at + 1) line))

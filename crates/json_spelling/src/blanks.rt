@@ -2,7 +2,7 @@
 ghost use Rattle.std.specs.Prelude.{◌≡◌, ◌≢◌, IfOk, IsTrue};
 ghost use Rattle.json.specs.Lex.{between, class};
 ghost use Rattle.json.specs.Word.{is_operator, is_space};
-ghost use Rattle.json_spelling.specs.Inner.Blanks.{compact, HasNoBackslash, is_blank, mode_after, mode_of};
+ghost use Rattle.json_spelling.specs.Inner.Blanks.{compact, HasNoBackslash, leaves_out, mode_after, mode_of};
 
 use std::alloc::AllocError;
 
@@ -38,8 +38,8 @@ fn is_space(octet: u8) -> bool
 
 impl Place {
     /// Whether an octet here is a blank that is left out: one that is in no text and ends no word.
-    fn is_blank(self, octet: u8) -> bool
-        ensures { result ≡ is_blank (mode_of self) (class octet) }
+    fn leaves_out(self, octet: u8) -> bool
+        ensures { result ≡ leaves_out (mode_of self) (class octet) }
     {
         match self {
             Place::Between => is_space(octet),
@@ -63,7 +63,7 @@ impl Place {
 }
 
 /// Writes a line without the blanks that are left out, in place of what `text` holds. Whether it was written, which a
-/// line with a backslash isn't.
+/// line with a backslash, or without a blank to leave out, isn't.
 pub(crate) fn write_compact(line: &[u8], text: &mut Vec<u8>) -> Result<bool, AllocError>
     ensures plain { IfOk result (λ done. IsTrue done → HasNoBackslash line.now) }
     ensures compact { IfOk result (λ done. IsTrue done → text.new.items ≡ compact between line.now) }
@@ -76,11 +76,14 @@ pub(crate) fn write_compact(line: &[u8], text: &mut Vec<u8>) -> Result<bool, All
         if octet == b'\\' {
             return Ok(false);
         }
-        if place.is_blank(octet) {
+        if place.leaves_out(octet) {
             text.extend_from_slice(&line[start..at])?;
             start = at + 1;
         }
         place = place.after(octet);
+    }
+    if start == 0 {
+        return Ok(false);
     }
     text.extend_from_slice(&line[start..])?;
     Ok(true)

@@ -31,7 +31,7 @@ impl Respeller {
     }
 
     /// A line without its blanks, but for those in texts and the first behind a number, `true`, `false` or `null`. None for
-    /// a line that has a backslash, or isn't UTF-8.
+    /// a line that has a backslash, or none of the blanks that are left out, or isn't UTF-8.
     pub fn without_blanks(&mut self, line: &[u8]) -> Result<Option<&[u8]>, AllocError>
         ensures { IfOk result (λ found. IfSome found (λ text. IsSpellingOf line.now text.now)) }
     {
@@ -64,8 +64,8 @@ impl Respeller {
     }
 }
 
-/// Spells a line without the blanks that are left out, in place of what `text` holds. Whether it was a line without
-/// backslashes.
+/// Spells a line without the blanks that are left out, in place of what `text` holds. Whether it was a line with such
+/// blanks, and without backslashes.
 fn compacted(line: &str, text: &mut Vec<u8>) -> Result<bool, AllocError>
     ensures { IfOk result (λ done. IsTrue done → IsSpellingOf line.now text.new.items) }
 {

@@ -39,17 +39,21 @@ const LEFT: [&[u8]; 9] = [
 ];
 
 /// Lines, each without the blanks that are left out.
-const COMPACT: [(&str, &str); 6] = [
+const COMPACT: [(&str, &str); 4] = [
     (r#"{"b": 1, "a": "x"}"#, r#"{"b":1,"a":"x"}"#),
     ("\t{ \"a b\" : [ 1 ,\n2 ] }\r", "{\"a b\":[1 ,2 ]}"),
     (r#"{"a, b: c": "d, e: f"}"#, r#"{"a, b: c":"d, e: f"}"#),
-    ("1 2", "1 2"),
     ("-1 , nul \t\"é \"", "-1 ,nul \"é \""),
-    ("", ""),
 ];
 
-/// Lines whose blanks aren't left out.
-const KEPT: [&[u8]; 2] = [b"{\"\\u0061\": 1}", b"{\"a\": \"\xff\"}"];
+/// Lines whose blanks aren't left out, or that have none.
+const KEPT: [&[u8]; 5] = [
+    b"{\"\\u0061\": 1}",
+    b"{\"a\": \"\xff\"}",
+    b"{\"a b\":[1 ,2 ]}",
+    b"1 2",
+    b"",
+];
 
 #[test]
 fn without_blanks(rt: HostRuntime) -> Result<(), Fail> {

@@ -30,20 +30,20 @@ mode_after in_string other = in_string
 mode_after in_escape c = in_string
 
 -- whether an octet of a class is left out: a blank that is in no string and ends no word
-abbrev pub is_blank : Mode → Class → Bool
-is_blank between quote = false
-is_blank between backslash = false
-is_blank between operator = false
-is_blank between space = true
-is_blank between other = false
-is_blank in_word c = false
-is_blank in_string c = false
-is_blank in_escape c = false
+abbrev pub leaves_out : Mode → Class → Bool
+leaves_out between quote = false
+leaves_out between backslash = false
+leaves_out between operator = false
+leaves_out between space = true
+leaves_out between other = false
+leaves_out in_word c = false
+leaves_out in_string c = false
+leaves_out in_escape c = false
 
 -- what is kept of a text, from a mode on
 unfoldable pub compact : Mode → List ℕ → List ℕ
 compact m [] = []
-compact m (x ∷ xs) = cond (is_blank m (class x)) (compact (mode_after m (class x)) xs) (x ∷ compact (mode_after m (class x)) xs)
+compact m (x ∷ xs) = cond (leaves_out m (class x)) (compact (mode_after m (class x)) xs) (x ∷ compact (mode_after m (class x)) xs)
 
 -- no octet is a backslash
 abbrev pub HasNoBackslash : List ℕ → Type 0

@@ -1,7 +1,7 @@
 use Rattle.std.proofs.Common.{◌+◌, ap, sym, arith}
 use Rattle.json_spelling.specs.Inner.Blanks.{mode_of}
 use Rattle.json_spelling.proofs.WithoutBlanks.{keeps, passes, moved, ends, no_backslash}
-use Rattle.json_spelling.proofs.blanks.write_compact.Goals.{then-is_blank+in_ok-extend_from_slice, else-is_blank}
+use Rattle.json_spelling.proofs.blanks.write_compact.Goals.{then-leaves_out+in_ok-extend_from_slice, else-leaves_out}
 use Rattle.json_spelling.proofs.blanks.write_compact.Goals as goal
 
 pub octets-preserved : goal.octets-preserved
@@ -9,19 +9,19 @@ octets-preserved c =
     let line = c.args.line.now in
     let o = c.octets in
     let plain = no_backslash line o.at c.octets-test.true c.if-octet-eq92.false o.invariant.plain in
-    elim c.if-is_blank.branch [
-      | then-is_blank+in_ok-extend_from_slice w ↦ record {
+    elim c.if-leaves_out.branch [
+      | then-leaves_out+in_ok-extend_from_slice w ↦ record {
         within = grind (arith, w.start-is);
-        text = moved _ w.extend_from_slice.new.self.items c.if-is_blank.text.items line (o.at + 1) c.if-is_blank.start (o.at + 1) _ (mode_of c.after-place.result)
+        text = moved _ w.extend_from_slice.new.self.items c.if-leaves_out.text.items line (o.at + 1) c.if-leaves_out.start (o.at + 1) _ (mode_of c.after-place.result)
             (ap (λ v. v.items) w.text-is) w.start-is c.after-place.ensures
-            (passes _ o.text.items _ line o.start o.at (mode_of o.place) c.octets-test.true (sym w.if-is_blank.ensures) w.in_ok-extend_from_slice.ensures.items o.invariant.text);
+            (passes _ o.text.items _ line o.start o.at (mode_of o.place) c.octets-test.true (sym w.if-leaves_out.ensures) w.in_ok-extend_from_slice.ensures.items o.invariant.text);
         plain = plain;
       }
-      | else-is_blank w ↦ record {
+      | else-leaves_out w ↦ record {
         within = grind (arith, w.start-is, o.invariant.within);
-        text = moved _ o.text.items c.if-is_blank.text.items line o.start c.if-is_blank.start (o.at + 1) _ (mode_of c.after-place.result)
+        text = moved _ o.text.items c.if-leaves_out.text.items line o.start c.if-leaves_out.start (o.at + 1) _ (mode_of c.after-place.result)
             (ap (λ v. v.items) w.text-is) w.start-is c.after-place.ensures
-            (keeps _ o.text.items line o.start o.at (mode_of o.place) o.invariant.within c.octets-test.true (sym w.if-is_blank.ensures) o.invariant.text);
+            (keeps _ o.text.items line o.start o.at (mode_of o.place) o.invariant.within c.octets-test.true (sym w.if-leaves_out.ensures) o.invariant.text);
         plain = plain;
       }
     ]
