@@ -1,6 +1,6 @@
 -- What a line is, from what reading its JSON value answered.
-use Rattle.std.proofs.Common.{◌≡◌, ◌∙◌, ◌⊎◌, sym, ap, inl, inr, List, ℕ, Option, Some, None, Ok, Err, if◌then◌else◌}
-use Rattle.std.specs.Prelude.{ok_or}
+use Rattle.std.proofs.Common.{◌≡◌, ◌∙◌, ◌⊎◌, sym, ap, subst, inl, inr, List, ℕ, Option, Some, None, Ok, Err, if◌then◌else◌}
+use Rattle.std.specs.Prelude.{IfOk, IfSome, Result, ok_or}
 use Rattle.std.specs.Str.{IsUtf8}
 use Rattle.std.proofs.lemmas.Str.{is_utf8-from_IsUtf8}
 use Rattle.serde_json.specs.Data.{Data}
@@ -51,5 +51,12 @@ spelled_recorded line entry is within =
 value_of_utf8 : (line : List ℕ) → IsUtf8 line → value_in line ≡ read line
 value_of_utf8 line utf8 = ap (λ is. if is then read line else None) (is_utf8-from_IsUtf8 line utf8)
 
-pub same_value : (line text : List ℕ) → IsSpellingOf line text → value_in text ≡ value_in line
+same_value : (line text : List ℕ) → IsSpellingOf line text → value_in text ≡ value_in line
 same_value line text other = value_of_utf8 text other.text_utf8 ∙ other.same ∙ sym (value_of_utf8 line other.line_utf8)
+
+-- what was found of a line, where it was found of another spelling of it
+pub same_entry : {E A : Type 0} (reading : Data → Option E) (answer : Result (Option E) A) (line text : List ℕ) → IsSpellingOf line text
+    → IfOk answer (λ found. IfSome found (λ entry. read_by reading (value_in text) ≡ Ok entry))
+    → IfOk answer (λ found. IfSome found (λ entry. read_by reading (value_in line) ≡ Ok entry))
+same_entry reading answer line text other is =
+    subst (λ value. IfOk answer (λ found. IfSome found (λ entry. read_by reading value ≡ Ok entry))) (same_value line text other) is

@@ -1,13 +1,8 @@
-use Rattle.std.proofs.Common.{◌≡◌, Ok, subst}
-use Rattle.std.specs.Prelude.{IfOk, IfSome}
 use Rattle.schedule_lines.specs.TranscriptLine.{transcript_line_of}
-use Rattle.schedule_reading.specs.Entry.{read_by}
-use Rattle.schedule_reading.proofs.Entries.{same_value}
+use Rattle.schedule_reading.proofs.Entries.{same_entry}
 use Rattle.schedule_reading.proofs.reader.LineReader.compact_recorded.Goals as goal
 
 pub returns-in-Some : goal.returns-in-Some
 returns-in-Some c =
     let other = rw c.in-Some.is at c.in_ok-text.ensures in
-    subst (λ value. IfOk c.recorded.result (λ found. IfSome found (λ entry. read_by transcript_line_of value ≡ Ok entry)))
-    (same_value c.args.line.now c.in-Some.text.now other)
-    c.recorded.ensures
+    same_entry transcript_line_of c.recorded.result c.args.line.now c.in-Some.text.now other c.recorded.ensures
