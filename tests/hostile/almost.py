@@ -1,5 +1,6 @@
 """Lines that are almost spelled as `ptpx` writes them, or in other ways, given to `replay` and `check`: each is read as spelled.py says,
 as it is behind a blank, which `ptpx` leaves out, with an escape, where `ptpx` spells it again, and with a key twice, where it reads its value."""
+import functools
 import itertools
 import json
 import re
@@ -85,49 +86,40 @@ def start(given, subcommand, lines):
     return status, lines_of(output), None, None
 
 
-def misreplayed(given, lines, originals):
-    """What is wrong with the answers to lines of a schedule, in words. A line that isn't read is mended, until all are."""
+def misanswered(given, subcommand, lines, originals, mistaken):
+    """What is wrong with the answers to lines, in words: with the fault, and what `mistaken` says of the lines, of the answers before the
+    fault, and of its place or None. A line that isn't read is mended, until all are."""
     for _ in range(len(lines) + 1):
-        _, answers, number, place = start(given, 'replay', lines)
-        fault = first_fault(lines, False)
-        told_of = answers if number is None else answers[:place]
-        yield from told.mistold(lines, told_of)
-        if number == '807':
-            # Another line than the one that was bent makes an event that can't happen, or a network that isn't one.
-            if fault and fault[0] < place:
-                yield f'807 at line {place + 1}, behind {fault}'
-            return
-        if (fault or (None, None)) != (place, number):
+        _, answers, number, place = start(given, subcommand, lines)
+        fault = first_fault(lines, subcommand == 'check')
+        # 807 is another line than the one that was bent, which makes an event that can't happen, or a network that isn't one.
+        impossible = number == '807'
+        if (fault and fault[0] < place) if impossible else (fault or (None, None)) != (place, number):
             yield f'fault {number} at line {place and place + 1} in place of {fault}'
             return
-        if not fault:
-            if len(answers) != len(lines):
-                yield f'{len(answers)} answers to {len(lines)} lines'
+        yield from mistaken(lines, answers, place)
+        if impossible or not fault:
             return
         lines = [*lines[:place], originals[place], *lines[place + 1:]]
 
 
-def mischecked(given, lines, originals, bends):
-    """What is wrong with the verdicts on lines of a transcript, in words."""
-    for _ in range(len(lines) + 1):
-        _, answers, number, place = start(given, 'check', lines)
-        fault = first_fault(lines, True)
-        if number == '807':
-            if fault and fault[0] < place:
-                yield f'807 at line {place + 1}, behind {fault}'
-            return
-        if (fault or (None, None)) != (place, number):
-            yield f'fault {number} at line {place and place + 1} in place of {fault}'
-            return
-        if not fault:
-            reports = [line['n'] for _, line in told.reports(lines)]
-            verdict = VERDICT.fullmatch(text_of(answers))
-            if not verdict or verdict[1] and int(verdict[1]) != len(reports) or verdict[2] and int(verdict[2]) not in reports:
-                yield f'verdict {answers}'
-            elif not bends and not verdict[1]:
-                yield f'verdict {answers} on the same lines in other spellings'
-            return
-        lines = [*lines[:place], originals[place], *lines[place + 1:]]
+def misreplayed(lines, answers, place):
+    """What is wrong with the lines that `replay` writes of a schedule."""
+    yield from told.mistold(lines, answers[:place])
+    if place is None and len(answers) != len(lines):
+        yield f'{len(answers)} answers to {len(lines)} lines'
+
+
+def mischecked(bends, lines, answers, place):
+    """What is wrong with the verdict of `check` on a transcript, which accepts lines that are the same in other spellings."""
+    if place is not None:
+        return
+    reports = [line['n'] for _, line in told.reports(lines)]
+    verdict = VERDICT.fullmatch(text_of(answers))
+    if not verdict or verdict[1] and int(verdict[1]) != len(reports) or verdict[2] and int(verdict[2]) not in reports:
+        yield f'verdict {answers}'
+    elif not bends and not verdict[1]:
+        yield f'verdict {answers} on the same lines in other spellings'
 
 
 def changed(lines, originals):
@@ -136,16 +128,20 @@ def changed(lines, originals):
 
 def misread(given, rng):
     """How many lines of one schedule and its transcript were changed, and what is wrong with the answers."""
+    def wrongs(subcommand, lines, originals, mistaken):
+        every = itertools.chain(misguessed(given, subcommand, lines), misanswered(given, subcommand, lines, originals, mistaken))
+        return list(itertools.islice(every, 3))
+
     schedule = own(inputs.walk(rng))
     _, answers, number, _ = start(given, 'replay', schedule)
     if number:
         schedule = schedule[:len(answers)]
     lines = altered(rng, schedule)
-    wrong = list(itertools.islice(itertools.chain(misguessed(given, 'replay', lines), misreplayed(given, lines, schedule)), 3))
+    wrong = wrongs('replay', lines, schedule, misreplayed)
     count = changed(lines, schedule)
     if not number and not wrong:
         bends = rng.random() < 0.7
         lines = altered(rng, answers, bends)
-        wrong = list(itertools.islice(itertools.chain(misguessed(given, 'check', lines), mischecked(given, lines, answers, bends)), 3))
+        wrong = wrongs('check', lines, answers, functools.partial(mischecked, bends))
         count += changed(lines, answers)
     return count, wrong, lines
