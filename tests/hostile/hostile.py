@@ -9,7 +9,7 @@
   with 706 where one result is another;
 - what `check` accepts has as many reports as it says, and what it refuses is a report;
 - 100,000 lines more, in spellings other than that of `ptpx` or almost in that one, are read up to their first fault as spelled.py says,
-  another such reader, and as `ptpx` reads them behind a blank and with a key twice, where it takes no guess of the line itself;
+  another such reader, and as `ptpx` reads them behind a blank, with an escape and with a key twice, where it takes other ways;
 - what `explain` says of one in five of these inputs ends as `check` or `replay` did, and judges the reports as the verdict does;
 - no run takes more than 64 MiB of memory.
 

@@ -1,7 +1,8 @@
 -- How a text without the blanks that are left out is written octet by octet.
-use Rattle.std.proofs.Common.{◌≡◌, ◌∙◌, ◌≤◌, ◌<◌, ◌+◌, ◌-◌, ℕ, suc, true, false, cond, List, [], ◌∷◌, ◌++◌, length, length-drop, take, drop, get_or, sym, ap, subst, arith, append_assoc, append-nil}
+use Rattle.std.proofs.Common.{◌≡◌, ◌∙◌, ◌≤◌, ◌<◌, ◌==◌, ◌+◌, ◌-◌, ℕ, suc, true, false, cond, Option, None, List, [], ◌∷◌, ◌++◌, length, length-drop, take, drop, get_or, sym, ap, subst, arith, append_assoc, append-nil}
 use Rattle.std.proofs.Math.Seq.{take-suc, drop-cons}
 use Rattle.std.proofs.lemmas.List.{drop_all, get_or-drop}
+use Rattle.memchr.specs.Find.{IsFirstByte, Nowhere, Passes, is_byte}
 use Rattle.json.specs.Lex.{Mode, class}
 use Rattle.json_spelling.specs.Inner.Blanks.{compact, HasNoBackslash, leaves_out, mode_after}
 
@@ -60,7 +61,12 @@ ends whole text new line start at m end wrote is =
     wrote ∙ ap (λ n. text ++ take (n - start) (drop start line)) (sym end) ∙ ap (λ (ts : List ℕ). text ++ ts) (sym (append-nil (take (at - start) (drop start line))))
     ∙ ap (λ (ts : List ℕ). text ++ (take (at - start) (drop start line) ++ compact m ts)) (sym none) ∙ sym is
 
-pub no_backslash : (line : List ℕ) (at : ℕ) → at < length line → (get_or line at 0 ≡ 92 → ⊥) → (HasNoBackslash (drop at line) → HasNoBackslash line) → HasNoBackslash (drop (at + 1) line) → HasNoBackslash line
-no_backslash line at within isnt before rest =
-    let next : suc at ≡ at + 1 = omega arith in
-    before (subst HasNoBackslash (sym (drop-cons line at 0 within ∙ ap (λ n. get_or line at 0 ∷ drop n line) next)) (isnt, rest))
+-- ---- backslashes
+
+nowhere : (line : List ℕ) → Nowhere (Passes (is_byte 92) line) 0 (length line) → HasNoBackslash line
+nowhere [] none = tt
+nowhere (x ∷ xs) none = (λ is. none 0 (omega arith) (omega arith) (ap (λ y. y == 92) is), nowhere xs (λ at from within. none (suc at) (omega arith) (omega (arith, within))))
+
+-- no octet is a backslash where a search found none
+pub no_backslash : (line : List ℕ) (found : Option ℕ) → IsFirstByte (is_byte 92) line found → found ≡ None → HasNoBackslash line
+no_backslash line found first none = nowhere line (subst (IsFirstByte (is_byte 92) line) none first)

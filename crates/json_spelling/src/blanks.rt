@@ -4,6 +4,7 @@ ghost use Rattle.json.specs.Lex.{between, class};
 ghost use Rattle.json.specs.Word.{is_operator, is_space};
 ghost use Rattle.json_spelling.specs.Inner.Blanks.{compact, HasNoBackslash, leaves_out, mode_after, mode_of};
 
+use memchr::memchr;
 use std::alloc::AllocError;
 
 /// Where an octet stands.
@@ -68,14 +69,14 @@ pub(crate) fn write_compact(line: &[u8], text: &mut Vec<u8>) -> Result<bool, All
     ensures plain { IfOk result (λ done. IsTrue done → HasNoBackslash line.now) }
     ensures compact { IfOk result (λ done. IsTrue done → text.new.items ≡ compact between line.now) }
 {
+    if memchr(b'\\', line).is_some() {
+        return Ok(false);
+    }
     text.clear();
     let mut place = Place::Between;
     let mut start = 0;
     'octets: for at in 0..line.len() {
         let octet = line[at];
-        if octet == b'\\' {
-            return Ok(false);
-        }
         if place.leaves_out(octet) {
             text.extend_from_slice(&line[start..at])?;
             start = at + 1;
