@@ -1,65 +1,56 @@
--- How a text without the blanks that are left out is written octet by octet.
-use Rattle.std.proofs.Common.{◌≡◌, ◌∙◌, ◌≤◌, ◌<◌, ◌==◌, ◌+◌, ◌-◌, ℕ, suc, true, false, cond, Option, None, List, [], ◌∷◌, ◌++◌, length, length-drop, take, drop, get_or, sym, ap, subst, arith, append_assoc, append-nil}
-use Rattle.std.proofs.Math.Seq.{take-suc, drop-cons}
-use Rattle.std.proofs.lemmas.List.{drop_all, get_or-drop}
+-- How a line and a text are followed octet by octet that differ in blanks alone.
+use Rattle.std.proofs.Common.{◌≡◌, ◌∙◌, ◌<◌, ◌==◌, ◌+◌, ℕ, suc, true, cond, Option, None, List, [], ◌∷◌, length, drop, get_or, refl, sym, ap, subst, arith}
+use Rattle.std.proofs.Math.Seq.{drop-cons}
+use Rattle.std.proofs.lemmas.Bool.{false≢true}
 use Rattle.memchr.specs.Find.{IsFirstByte, Nowhere, Passes, is_byte}
-use Rattle.json.specs.Lex.{Mode, class}
+use Rattle.json.specs.Lex.{Mode, between, in_word, in_string, in_escape, Class, quote, backslash, operator, space, other, class}
 use Rattle.json_spelling.specs.Inner.Blanks.{compact, HasNoBackslash, leaves_out, mode_after}
 
 -- ---- octet by octet
 
-compact_at : (line : List ℕ) (at : ℕ) (m : Mode) → at < length line
-    → compact m (drop at line) ≡ cond (leaves_out m (class (get_or line at 0))) (compact (mode_after m (class (get_or line at 0))) (drop (suc at) line)) (get_or line at 0 ∷ compact (mode_after m (class (get_or line at 0))) (drop (suc at) line))
+-- what is kept from an octet on, which is x
+abbrev from : Mode → ℕ → List ℕ → List ℕ
+from m x later = cond (leaves_out m (class x)) (compact (mode_after m (class x)) later) (x ∷ compact (mode_after m (class x)) later)
+
+compact_at : (line : List ℕ) (at : ℕ) (m : Mode) → at < length line → compact m (drop at line) ≡ from m (get_or line at 0) (drop (suc at) line)
 unfolding compact
 compact_at line at m within = ap (compact m) (drop-cons line at 0 within)
 
-one_longer : (line : List ℕ) (start at : ℕ) → start ≤ at → at < length line → take (at + 1 - start) (drop start line) ≡ take (at - start) (drop start line) ++ get_or line at 0 ∷ []
-one_longer line start at begun within =
-    let more : at + 1 - start ≡ suc (at - start) = omega (arith, begun) in
-    let there : start + (at - start) ≡ at = omega (arith, begun) in
-    ap (λ n. take n (drop start line)) more ∙ take-suc (drop start line) (at - start) 0 (omega (arith, length-drop start line, begun, within))
-    ∙ ap (λ x. take (at - start) (drop start line) ++ x ∷ []) (get_or-drop start line (at - start) 0 ∙ ap (λ n. get_or line n 0) there)
+-- where both have the same octet next, the same is kept of both if it is behind that octet
+pub same_octet : (line text : List ℕ) (at taken then : ℕ) (m n : Mode) → at < length line → taken < length text → get_or line at 0 ≡ get_or text taken 0
+    → n ≡ mode_after m (class (get_or line at 0)) → then ≡ taken + 1
+    → compact n (drop (at + 1) line) ≡ compact n (drop then text) → compact m (drop at line) ≡ compact m (drop taken text)
+same_octet line text at taken then m n within there same mode next kept =
+    let x = get_or line at 0 in
+    let next_at : suc at ≡ at + 1 = omega arith in
+    let next_taken : then ≡ suc taken = omega (arith, next) in
+    let later : compact (mode_after m (class x)) (drop (suc at) line) ≡ compact (mode_after m (class x)) (drop (suc taken) text) =
+    ap (λ k. compact k (drop (suc at) line)) (sym mode) ∙ ap (λ i. compact n (drop i line)) next_at ∙ kept
+    ∙ ap (λ i. compact n (drop i text)) next_taken ∙ ap (λ k. compact k (drop (suc taken) text)) mode in
+    compact_at line at m within ∙ ap (λ (ts : List ℕ). cond (leaves_out m (class x)) ts (x ∷ ts)) later
+    ∙ ap (λ y. from m y (drop (suc taken) text)) same ∙ sym (compact_at text taken m there)
 
-pub keeps : (whole text line : List ℕ) (start at : ℕ) (m : Mode) → start ≤ at → at < length line → leaves_out m (class (get_or line at 0)) ≡ false
-    → whole ≡ text ++ (take (at - start) (drop start line) ++ compact m (drop at line))
-    → whole ≡ text ++ (take (at + 1 - start) (drop start line) ++ compact (mode_after m (class (get_or line at 0))) (drop (at + 1) line))
-keeps whole text line start at m begun within kept is =
+-- behind a blank that is left out the place is the same
+stays : (m : Mode) (c : Class) → leaves_out m c ≡ true → mode_after m c ≡ m
+stays between quote is = absurd (false≢true is)
+stays between backslash is = absurd (false≢true is)
+stays between operator is = absurd (false≢true is)
+stays between space is = refl
+stays between other is = absurd (false≢true is)
+stays in_word c is = absurd (false≢true is)
+stays in_string c is = absurd (false≢true is)
+stays in_escape c is = absurd (false≢true is)
+
+-- where the line has a blank that is left out next, the same is kept of both if it is behind that blank
+pub blank_more : (line text : List ℕ) (at taken then : ℕ) (m n : Mode) → at < length line → leaves_out m (class (get_or line at 0)) ≡ true
+    → n ≡ m → then ≡ taken
+    → compact n (drop (at + 1) line) ≡ compact n (drop then text) → compact m (drop at line) ≡ compact m (drop taken text)
+blank_more line text at taken then m n within blank mode next kept =
     let x = get_or line at 0 in
     let later = compact (mode_after m (class x)) (drop (suc at) line) in
-    let next : suc at ≡ at + 1 = omega arith in
-    is ∙ ap (λ (ts : List ℕ). text ++ (take (at - start) (drop start line) ++ ts)) (compact_at line at m within ∙ ap (λ b. cond b later (x ∷ later)) kept)
-    ∙ ap (λ (ts : List ℕ). text ++ ts) (sym (append_assoc (take (at - start) (drop start line)) (x ∷ []) later) ∙ ap (λ (ts : List ℕ). ts ++ later) (sym (one_longer line start at begun within)))
-    ∙ ap (λ n. text ++ (take (at + 1 - start) (drop start line) ++ compact (mode_after m (class x)) (drop n line))) next
-
-pub passes : (whole text new line : List ℕ) (start at : ℕ) (m : Mode) → at < length line → leaves_out m (class (get_or line at 0)) ≡ true
-    → new ≡ text ++ take (at - start) (drop start line)
-    → whole ≡ text ++ (take (at - start) (drop start line) ++ compact m (drop at line))
-    → whole ≡ new ++ (take (at + 1 - (at + 1)) (drop (at + 1) line) ++ compact (mode_after m (class (get_or line at 0))) (drop (at + 1) line))
-passes whole text new line start at m within blank wrote is =
-    let x = get_or line at 0 in
-    let later = compact (mode_after m (class x)) (drop (suc at) line) in
-    let next : suc at ≡ at + 1 = omega arith in
-    let none : 0 ≡ at + 1 - (at + 1) = omega arith in
-    is ∙ ap (λ (ts : List ℕ). text ++ (take (at - start) (drop start line) ++ ts)) (compact_at line at m within ∙ ap (λ b. cond b later (x ∷ later)) blank)
-    ∙ sym (append_assoc text (take (at - start) (drop start line)) later) ∙ ap (λ (ts : List ℕ). ts ++ later) (sym wrote)
-    ∙ ap (λ n. new ++ compact (mode_after m (class x)) (drop n line)) next
-    ∙ ap (λ n. new ++ (take n (drop (at + 1) line) ++ compact (mode_after m (class x)) (drop (at + 1) line))) none
-
-pub moved : (whole text new line : List ℕ) (start begun at : ℕ) (m n : Mode) → new ≡ text → begun ≡ start → n ≡ m
-    → whole ≡ text ++ (take (at - start) (drop start line) ++ compact m (drop at line))
-    → whole ≡ new ++ (take (at - begun) (drop begun line) ++ compact n (drop at line))
-moved whole text new line start begun at m n same_text same_start same_mode is =
-    is ∙ ap (λ (ts : List ℕ). ts ++ (take (at - start) (drop start line) ++ compact m (drop at line))) (sym same_text)
-    ∙ ap (λ s. new ++ (take (at - s) (drop s line) ++ compact m (drop at line))) (sym same_start)
-    ∙ ap (λ k. new ++ (take (at - begun) (drop begun line) ++ compact k (drop at line))) (sym same_mode)
-
-pub ends : (whole text new line : List ℕ) (start at : ℕ) (m : Mode) → at ≡ length line → new ≡ text ++ take (length line - start) (drop start line)
-    → whole ≡ text ++ (take (at - start) (drop start line) ++ compact m (drop at line)) → new ≡ whole
-unfolding compact
-ends whole text new line start at m end wrote is =
-    let none : drop at line ≡ [] = drop_all at line (omega (arith, end)) in
-    wrote ∙ ap (λ n. text ++ take (n - start) (drop start line)) (sym end) ∙ ap (λ (ts : List ℕ). text ++ ts) (sym (append-nil (take (at - start) (drop start line))))
-    ∙ ap (λ (ts : List ℕ). text ++ (take (at - start) (drop start line) ++ compact m ts)) (sym none) ∙ sym is
+    let next_at : suc at ≡ at + 1 = omega arith in
+    compact_at line at m within ∙ ap (λ b. cond b later (x ∷ later)) blank ∙ ap (λ k. compact k (drop (suc at) line)) (stays m (class x) blank ∙ sym mode)
+    ∙ ap (λ i. compact n (drop i line)) next_at ∙ kept ∙ ap (λ i. compact n (drop i text)) next ∙ ap (λ k. compact k (drop taken text)) mode
 
 -- ---- backslashes
 

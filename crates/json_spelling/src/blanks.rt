@@ -1,11 +1,12 @@
-//! A line without its blanks, but for those in texts and the first behind a number, `true`, `false` or `null`.
-ghost use Rattle.std.specs.Prelude.{◌≡◌, ◌≢◌, IfOk, IsTrue};
+//! A line and a text that differ in blanks alone, which stand in no text and end no word.
+ghost use Rattle.std.specs.Prelude.{◌≡◌, ◌≢◌, IsTrue};
 ghost use Rattle.json.specs.Lex.{between, class};
 ghost use Rattle.json.specs.Word.{is_operator, is_space};
+ghost use Rattle.json_spelling.specs.Spelling.{IsSpellingOf};
 ghost use Rattle.json_spelling.specs.Inner.Blanks.{compact, HasNoBackslash, leaves_out, mode_after, mode_of};
 
+use crate::respell::is_utf8;
 use memchr::memchr;
-use std::alloc::AllocError;
 
 /// Where an octet stands.
 #[derive(Clone, Copy)]
@@ -38,7 +39,7 @@ fn is_space(octet: u8) -> bool
 }
 
 impl Place {
-    /// Whether an octet here is a blank that is left out: one that is in no text and ends no word.
+    /// Whether an octet here is a blank that may be left out: one that is in no text and ends no word.
     fn leaves_out(self, octet: u8) -> bool
         ensures { result ≡ leaves_out (mode_of self) (class octet) }
     {
@@ -54,38 +55,45 @@ impl Place {
         ensures { mode_of result ≡ mode_after (mode_of self) (class octet) }
     {
         match self {
+            Place::Between if octet == b'"' => Place::Text,
             Place::Text if octet == b'"' => Place::Between,
             Place::Text => Place::Text,
-            Place::Between if octet == b'"' => Place::Text,
             _ if is_operator(octet) || is_space(octet) => Place::Between,
             _ => Place::Word,
         }
     }
 }
 
-/// Writes a line without the blanks that are left out, in place of what `text` holds. Whether it was written, which a
-/// line with a backslash, or without a blank to leave out, isn't.
-pub(crate) fn write_compact(line: &[u8], text: &mut Vec<u8>) -> Result<bool, AllocError>
-    ensures plain { IfOk result (λ done. IsTrue done → HasNoBackslash line.now) }
-    ensures compact { IfOk result (λ done. IsTrue done → text.new.items ≡ compact between line.now) }
+/// Whether a line is a text with further blanks, in no text and behind no word. No line with a backslash is.
+fn is_padded(line: &[u8], text: &[u8]) -> bool
+    ensures line { IsTrue result → HasNoBackslash line.now }
+    ensures text { IsTrue result → HasNoBackslash text.now }
+    ensures compact { IsTrue result → compact between line.now ≡ compact between text.now }
 {
-    if memchr(b'\\', line).is_some() {
-        return Ok(false);
+    if memchr(b'\\', line).is_some() || memchr(b'\\', text).is_some() {
+        return false;
     }
-    text.clear();
     let mut place = Place::Between;
-    let mut start = 0;
+    let mut taken = 0;
     'octets: for at in 0..line.len() {
         let octet = line[at];
-        if place.leaves_out(octet) {
-            text.extend_from_slice(&line[start..at])?;
-            start = at + 1;
+        if taken < text.len() && text[taken] == octet {
+            taken += 1;
+            place = place.after(octet);
+        } else if !place.leaves_out(octet) {
+            return false;
         }
-        place = place.after(octet);
     }
-    if start == 0 {
-        return Ok(false);
+    taken == text.len()
+}
+
+/// Whether a line is this text with further blanks, of which none stands in a text or right behind a word. The same is
+/// read of both then. No line with a backslash is.
+pub fn is_spaced(line: &[u8], text: &[u8]) -> bool
+    ensures { IsTrue result → IsSpellingOf line.now text.now }
+{
+    if !is_padded(line, text) {
+        return false;
     }
-    text.extend_from_slice(&line[start..])?;
-    Ok(true)
+    is_utf8(line) && is_utf8(text)
 }

@@ -1,4 +1,4 @@
-//! A line of JSON in another spelling: without blanks alone, or with its keys in ascending order of their octets and its
+//! A line of JSON in another spelling: with blanks alone, or with its keys in ascending order of their octets and its
 //! texts without needless escapes, too. What is read of it stays the same.
 #![tactic(auto)]
 
@@ -12,4 +12,5 @@ mod respell;
 mod walk;
 mod writing;
 
+pub use blanks::is_spaced;
 pub use respell::Respeller;

@@ -2,7 +2,6 @@
 ghost use Rattle.std.specs.Prelude.{IfOk, IfSome, IsTrue, IsUtf8};
 ghost use Rattle.json_spelling.specs.Spelling.{IsSpellingOf};
 
-use crate::blanks::write_compact;
 use crate::joining::join;
 use crate::reading::read_line;
 use crate::walk::walk;
@@ -30,21 +29,6 @@ impl Respeller {
         }
     }
 
-    /// A line without its blanks, but for those in texts and the first behind a number, `true`, `false` or `null`. None for
-    /// a line that has a backslash, or none of the blanks that are left out, or isn't UTF-8.
-    pub fn without_blanks(&mut self, line: &[u8]) -> Result<Option<&[u8]>, AllocError>
-        ensures { IfOk result (λ found. IfSome found (λ text. IsSpellingOf line.now text.now)) }
-    {
-        let Ok(line) = str::from_utf8(line) else {
-            return Ok(None);
-        };
-        if compacted(line, &mut self.text)? {
-            Ok(Some(self.text.as_slice()))
-        } else {
-            Ok(None)
-        }
-    }
-
     /// A line that is an object whose values are scalars, or arrays of three or four of them, spelled without blanks,
     /// without escapes that needn't be, and with its keys in ascending order of their octets. None for every other line,
     /// and for an object of more than 16 members.
@@ -64,18 +48,6 @@ impl Respeller {
     }
 }
 
-/// Spells a line without the blanks that are left out, in place of what `text` holds. Whether it was a line with such
-/// blanks, and without backslashes.
-fn compacted(line: &str, text: &mut Vec<u8>) -> Result<bool, AllocError>
-    ensures { IfOk result (λ done. IsTrue done → IsSpellingOf line.now text.new.items) }
-{
-    if write_compact(line.as_bytes(), text)? {
-        Ok(is_utf8(text.as_slice()))
-    } else {
-        Ok(false)
-    }
-}
-
 /// Spells a line without escapes, whose only blanks are spaces behind commas and colons, in place of what `text` holds.
 /// Whether it was such a line.
 fn joined(alloc: Global, line: &str, text: &mut Vec<u8>) -> Result<bool, AllocError>
@@ -92,7 +64,7 @@ fn joined(alloc: Global, line: &str, text: &mut Vec<u8>) -> Result<bool, AllocEr
 }
 
 /// Whether octets are UTF-8.
-fn is_utf8(octets: &[u8]) -> bool
+pub(crate) fn is_utf8(octets: &[u8]) -> bool
     ensures { IsTrue result → IsUtf8 octets.now }
 {
     str::from_utf8(octets).is_ok()

@@ -33,25 +33,26 @@ pub was_read : {E : Type 0} (reading : Data → Option E) (line : List ℕ) (val
 was_read {E} reading line value entry is of =
     ap (read_by reading) is ∙ ap (λ (o : Option E). ok_or {E = TaskFault} o Field) (sym of)
 
--- ---- a line that is what is written of something
+-- ---- a line of which the same value is read as of what is written of something
 
-pub spelled_entry : (line : List ℕ) (entry : Line) → line ≡ compact_text (line_data entry) → IsWritable entry → entry_in line ≡ Ok entry
-spelled_entry line entry is within =
+pub spelled_entry : (line text : List ℕ) (entry : Line) → value_in text ≡ value_in line → text ≡ compact_text (line_data entry) → IsWritable entry
+    → entry_in line ≡ Ok entry
+spelled_entry line text entry same is within =
     let back = lines_back entry within in
-    ap entry_in is ∙ ap (read_by line_of) back.0 ∙ ap (λ (o : Option Line). ok_or {E = TaskFault} o Field) back.1
+    ap (read_by line_of) (sym same ∙ ap value_in is ∙ back.0) ∙ ap (λ (o : Option Line). ok_or {E = TaskFault} o Field) back.1
 
-pub spelled_recorded : (line : List ℕ) (entry : TranscriptLine) → line ≡ compact_text (transcript_line_data entry) → IsTranscribable entry
-    → recorded_in line ≡ Ok entry
-spelled_recorded line entry is within =
+pub spelled_recorded : (line text : List ℕ) (entry : TranscriptLine) → value_in text ≡ value_in line → text ≡ compact_text (transcript_line_data entry)
+    → IsTranscribable entry → recorded_in line ≡ Ok entry
+spelled_recorded line text entry same is within =
     let back = transcript_lines_back entry within in
-    ap recorded_in is ∙ ap (read_by transcript_line_of) back.0 ∙ ap (λ (o : Option TranscriptLine). ok_or {E = TaskFault} o Field) back.1
+    ap (read_by transcript_line_of) (sym same ∙ ap value_in is ∙ back.0) ∙ ap (λ (o : Option TranscriptLine). ok_or {E = TaskFault} o Field) back.1
 
 -- ---- a line that is another spelling of a text
 
 value_of_utf8 : (line : List ℕ) → IsUtf8 line → value_in line ≡ read line
 value_of_utf8 line utf8 = ap (λ is. if is then read line else None) (is_utf8-from_IsUtf8 line utf8)
 
-same_value : (line text : List ℕ) → IsSpellingOf line text → value_in text ≡ value_in line
+pub same_value : (line text : List ℕ) → IsSpellingOf line text → value_in text ≡ value_in line
 same_value line text other = value_of_utf8 text other.text_utf8 ∙ other.same ∙ sym (value_of_utf8 line other.line_utf8)
 
 -- what was found of a line, where it was found of another spelling of it

@@ -1,5 +1,5 @@
-//! A guess at what a line is, for a line that is spelled as it would be written. Nothing rests on it: whoever takes it
-//! writes it again and compares the octets.
+//! A guess at what a line is, for a line that is spelled as it would be written, but for blanks. Nothing rests on it: whoever
+//! takes it writes it again and compares the octets.
 mod event;
 mod scan;
 mod told;

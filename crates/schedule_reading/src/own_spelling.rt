@@ -1,12 +1,14 @@
-//! Lines that are spelled as they would be written: a guess is taken at what a line is, and is right where the same octets
-//! are written of it again, which takes less than to read a value.
+//! Lines that are spelled as they would be written, but for blanks: a guess is taken at what a line is, and is right where
+//! the same octets are written of it again, which takes less than to read a value.
 ghost use Rattle.std.specs.Prelude.{◌≡◌, ◌++◌, OnOk, IfOk, IfSome, IsTrue, Ok};
 ghost use Rattle.serde_json.specs.Written.{compact_text};
+ghost use Rattle.schedule_lines.specs.Json.{value_in};
 ghost use Rattle.schedule_lines.specs.Keys.{line_data, transcript_line_data};
 ghost use Rattle.schedule_reading.specs.Entry.{entry_in, recorded_in};
 
 use crate::guess::{guess_entry, guess_recorded};
 use crate::within::{is_transcribable, is_writable};
+use json_spelling::is_spaced;
 use line_writing::{push_event, push_node, push_scheduled};
 use schedule_lines::{Line, TranscriptLine};
 use std::alloc::{AllocError, Global};
@@ -26,7 +28,7 @@ impl OwnSpelling {
         }
     }
 
-    /// What a line of a schedule is that is spelled as it would be written.
+    /// What a line of a schedule is that is spelled as it would be written, but for blanks.
     pub(crate) fn entry(&mut self, line: &[u8]) -> Result<Option<Line>, AllocError>
         ensures { IfOk result (λ found. IfSome found (λ entry. entry_in line.now ≡ Ok entry)) }
     {
@@ -38,7 +40,7 @@ impl OwnSpelling {
         Ok(None)
     }
 
-    /// What a line of a transcript is that is spelled as it would be written.
+    /// What a line of a transcript is that is spelled as it would be written, but for blanks.
     pub(crate) fn recorded(&mut self, line: &[u8]) -> Result<Option<TranscriptLine>, AllocError>
         ensures { IfOk result (λ found. IfSome found (λ entry. recorded_in line.now ≡ Ok entry)) }
     {
@@ -50,7 +52,7 @@ impl OwnSpelling {
         Ok(None)
     }
 
-    /// Whether a line is what is written of this node or event of a schedule.
+    /// Whether a line is what is written of this node or event of a schedule, but for blanks.
     fn spells_entry(&mut self, entry: &Line, line: &[u8]) -> Result<bool, AllocError>
         ensures { IfOk result (λ spells. IsTrue spells → entry_in line.now ≡ Ok entry.now) }
     {
@@ -63,7 +65,7 @@ impl OwnSpelling {
         }
     }
 
-    /// Whether a line is what is written of this node or event of a transcript.
+    /// Whether a line is what is written of this node or event of a transcript, but for blanks.
     fn spells_recorded(&mut self, entry: &TranscriptLine, line: &[u8]) -> Result<bool, AllocError>
         ensures { IfOk result (λ spells. IsTrue spells → recorded_in line.now ≡ Ok entry.now) }
     {
@@ -76,11 +78,11 @@ impl OwnSpelling {
         }
     }
 
-    /// Whether the line is what the guess was written as.
+    /// Whether the line is what the guess was written as, or that with blanks. The same is read of both then.
     fn is_written(&self, line: &[u8]) -> bool
-        ensures { IsTrue result → self.now.text.items ≡ line.now }
+        ensures { IsTrue result → value_in self.now.text.items ≡ value_in line.now }
     {
-        self.text.as_slice() == line
+        self.text.as_slice() == line || is_spaced(line, self.text.as_slice())
     }
 }
 

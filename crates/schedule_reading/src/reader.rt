@@ -1,5 +1,5 @@
-//! Lines, read one by one. Most are spelled as they would be written, which is quickly seen, or would be but for blanks; others
-//! have escapes or their keys in another order besides, and are spelled again. What is left has its value read.
+//! Lines, read one by one. Most are spelled as they would be written, but for blanks, which is quickly seen; others have
+//! escapes, or their keys in another order, and are spelled again. What is left has its value read.
 ghost use Rattle.std.specs.Prelude.{◌≡◌, ◌⊎◌, MatchResult, IfOk, IfSome, Ok};
 ghost use Rattle.schedule_reading.specs.Entry.{entry_in, recorded_in, IsOwnFault};
 
@@ -37,9 +37,6 @@ impl LineReader {
         if let Some(entry) = self.own.entry(line)? {
             return Ok(entry);
         }
-        if let Some(entry) = self.compact_entry(line)? {
-            return Ok(entry);
-        }
         match self.respelled_entry(line)? {
             Some(entry) => Ok(entry),
             None => read_entry(self.alloc, line),
@@ -55,22 +52,9 @@ impl LineReader {
         if let Some(entry) = self.own.recorded(line)? {
             return Ok(entry);
         }
-        if let Some(entry) = self.compact_recorded(line)? {
-            return Ok(entry);
-        }
         match self.respelled_recorded(line)? {
             Some(entry) => Ok(entry),
             None => read_recorded(self.alloc, line),
-        }
-    }
-
-    /// What a line of a schedule is that is spelled as it would be written once its blanks are left out.
-    fn compact_entry(&mut self, line: &[u8]) -> Result<Option<Line>, AllocError>
-        ensures { IfOk result (λ found. IfSome found (λ entry. entry_in line.now ≡ Ok entry)) }
-    {
-        match self.respeller.without_blanks(line)? {
-            Some(text) => self.own.entry(text),
-            None => Ok(None),
         }
     }
 
@@ -80,16 +64,6 @@ impl LineReader {
     {
         match self.respeller.respell(line)? {
             Some(text) => self.own.entry(text),
-            None => Ok(None),
-        }
-    }
-
-    /// What a line of a transcript is that is spelled as it would be written once its blanks are left out.
-    fn compact_recorded(&mut self, line: &[u8]) -> Result<Option<TranscriptLine>, AllocError>
-        ensures { IfOk result (λ found. IfSome found (λ entry. recorded_in line.now ≡ Ok entry)) }
-    {
-        match self.respeller.without_blanks(line)? {
-            Some(text) => self.own.recorded(text),
             None => Ok(None),
         }
     }

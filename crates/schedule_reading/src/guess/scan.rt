@@ -5,21 +5,58 @@ use network_model::Name;
 use ptp_units::{ScaledTime, Timestamp};
 use std::str;
 
-/// What is left of a line.
+/// What is left of a line, and whether blanks are looked for in it.
 #[derive(Drop)]
 pub(crate) struct Scan<'a> {
     rest: &'a [u8],
+    is_spaced: bool,
+}
+
+/// Whether an octet is a blank.
+fn is_blank(octet: u8) -> bool {
+    octet == b' ' || octet == b'\t'
+}
+
+/// What follows blanks.
+fn past_blanks<'a>(rest: &'a [u8]) -> &'a [u8] {
+    for at in 0..rest.len() {
+        if !is_blank(rest[at]) {
+            return &rest[at..];
+        }
+    }
+    b""
+}
+
+/// What follows a word whose punctuation may have blanks behind it, where a text begins with it.
+fn past_spaced<'a>(text: &'a [u8], word: &[u8]) -> Option<&'a [u8]> {
+    let mut rest = past_blanks(text);
+    for octet in word {
+        rest = rest.strip_prefix(&[*octet])?;
+        if matches!(*octet, b':' | b',' | b'[' | b']' | b'{') {
+            rest = past_blanks(rest);
+        }
+    }
+    Some(rest)
 }
 
 impl<'a> Scan<'a> {
-    /// Nothing was passed yet.
+    /// Nothing was passed yet. Blanks are looked for if the line's first colon has one behind it.
     pub(crate) fn new(line: &'a [u8]) -> Scan<'a> {
-        Scan { rest: line }
+        let behind_colon = line.iter().skip_while(|octet| **octet != b':').nth(1);
+        Scan {
+            rest: line,
+            is_spaced: behind_colon.is_some_and(|octet| is_blank(*octet)),
+        }
     }
 
     /// Passes a word, where it stands next.
     pub(crate) fn passes(&mut self, word: &[u8]) -> bool {
-        match self.rest.strip_prefix(word) {
+        let after = if self.is_spaced {
+            past_spaced(self.rest, word)
+        } else {
+            self.rest.strip_prefix(word)
+        };
+        match after {
             Some(rest) => {
                 self.rest = rest;
                 true
