@@ -1,5 +1,5 @@
 """Lines that are almost spelled as `ptpx` writes them, or in other ways, given to `replay` and `check`: each is read as spelled.py says,
-as it is behind a blank, which `ptpx` leaves out, with an escape, where `ptpx` spells it again, and with a key twice, where it reads its value."""
+as it is behind a blank, which `ptpx` passes over, with an escape, where `ptpx` spells it again, and with a key twice, where it reads its value."""
 import functools
 import itertools
 import json

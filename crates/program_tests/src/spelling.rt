@@ -1,6 +1,6 @@
 //! Lines in another spelling, spelled again.
 
-use json_spelling::Respeller;
+use json_spelling::{Respeller, is_spaced};
 use std::str;
 use std::test::Fail;
 
@@ -38,34 +38,39 @@ const LEFT: [&[u8]; 9] = [
     b"{\"a\":1,\"b\":1,\"c\":1,\"d\":1,\"e\":1,\"f\":1,\"g\":1,\"h\":1,\"i\":1,\"j\":1,\"k\":1,\"l\":1,\"m\":1,\"n\":1,\"o\":1,\"p\":1,\"q\":1}",
 ];
 
-/// Lines, each without the blanks that are left out.
-const COMPACT: [(&str, &str); 4] = [
+/// Lines, each with a text that it is but for blanks.
+const SPACED: [(&str, &str); 6] = [
     (r#"{"b": 1, "a": "x"}"#, r#"{"b":1,"a":"x"}"#),
     ("\t{ \"a b\" : [ 1 ,\n2 ] }\r", "{\"a b\":[1 ,2 ]}"),
     (r#"{"a, b: c": "d, e: f"}"#, r#"{"a, b: c":"d, e: f"}"#),
     ("-1 , nul \t\"é \"", "-1 ,nul \"é \""),
+    (r#"{"a":1}"#, r#"{"a":1}"#),
+    ("", ""),
 ];
 
-/// Lines whose blanks aren't left out, or that have none.
-const KEPT: [&[u8]; 5] = [
-    b"{\"\\u0061\": 1}",
-    b"{\"a\": \"\xff\"}",
-    b"{\"a b\":[1 ,2 ]}",
-    b"1 2",
-    b"",
+/// Lines, each with a text that differs in more than blanks, or in blanks of texts or behind words, or has a backslash or isn't
+/// UTF-8.
+const OTHER: [(&[u8], &[u8]); 11] = [
+    (b"{\"a\": 1}", b"{\"a\":2}"),
+    (b"{\"a\": 1}", b"{\"a\":1"),
+    (b"{\"a\": 1", b"{\"a\":1}"),
+    (b"{\"a\":1}", b"{\"a\": 1}"),
+    (b"{\"a\": \"b c\"}", b"{\"a\":\"bc\"}"),
+    (b"{\"a\": \"b \"}", b"{\"a\":\"b\"}"),
+    (b"[1 2]", b"[12]"),
+    (b"[1 , 2]", b"[1,2]"),
+    (b"{\"\\u0061\": 1}", b"{\"\\u0061\":1}"),
+    (b"{\"a\": \"\xff\"}", b"{\"a\":\"\xff\"}"),
+    (b" ", b"1"),
 ];
 
 #[test]
-fn without_blanks(rt: HostRuntime) -> Result<(), Fail> {
-    let mut respeller = Respeller::new(rt.alloc());
-    for (line, wanted) in COMPACT {
-        match respeller.without_blanks(line.as_bytes())? {
-            Some(text) => assert_eq!(rt; str::from_utf8(text)?, wanted, "{line}"),
-            None => assert!(rt; false, "{line}"),
-        }
+fn of_spaced_lines(rt: HostRuntime) -> Result<(), Fail> {
+    for (line, text) in SPACED {
+        assert!(rt; is_spaced(line.as_bytes(), text.as_bytes()), "{line}");
     }
-    for line in KEPT {
-        assert!(rt; respeller.without_blanks(line)?.is_none(), "{line:?}");
+    for (line, text) in OTHER {
+        assert!(rt; !is_spaced(line, text), "{line:?}");
     }
     Ok(())
 }

@@ -40,12 +40,14 @@ fn past_spaced<'a>(text: &'a [u8], word: &[u8]) -> Option<&'a [u8]> {
 }
 
 impl<'a> Scan<'a> {
-    /// Nothing was passed yet. Blanks are looked for if the line's first colon has one behind it.
+    /// Nothing was passed yet. Blanks are looked for if the line begins with one, or has one behind its first colon.
     pub(crate) fn new(line: &'a [u8]) -> Scan<'a> {
+        let first = line.first();
         let behind_colon = line.iter().skip_while(|octet| **octet != b':').nth(1);
         Scan {
             rest: line,
-            is_spaced: behind_colon.is_some_and(|octet| is_blank(*octet)),
+            is_spaced: first.is_some_and(|octet| is_blank(*octet))
+                || behind_colon.is_some_and(|octet| is_blank(*octet)),
         }
     }
 
