@@ -1,13 +1,16 @@
 //! A guess at what a line is, for a line that is spelled as it would be written, but for blanks. Nothing rests on it: whoever
-//! takes it writes it again and compares the octets.
+//! takes it writes it again and compares the octets. So no more of a line is looked at than tells what it may be.
 mod event;
+mod key;
+mod members;
 mod scan;
 mod told;
 
-use crate::guess::event::{Named, event_of};
-use crate::guess::scan::Scan;
-use crate::guess::told::Told;
+use crate::guess::event::{event_of, name_of};
+use crate::guess::members::Members;
+use crate::guess::told::out_of;
 use event_codec::{PortConfig, PortIdentity};
+use hex::FromHex;
 use network_model::{NodeKind, NodeSpec};
 use ptp_units::Seq;
 use schedule_lines::{Line, TranscriptLine};
@@ -15,66 +18,63 @@ use trace_model::TraceLine;
 
 /// The node or the event of a schedule that a line may be.
 pub(crate) fn guess_entry(line: &[u8]) -> Option<Line> {
-    let mut scan = Scan::new(line);
-    if let Some(node) = node(&mut scan) {
-        return Some(Line::Node(node));
+    let mut members = Members::new();
+    members.read(line)?;
+    if let Some(kind) = members.kind {
+        return Some(Line::Node(node_of(&members, kind)?));
     }
-    let mut named = Named::new();
-    named.read_front(&mut scan)?;
-    named.read_master(&mut scan);
-    named.read_node(&mut scan);
-    named.read_transit(&mut scan);
-    Some(Line::Event(event_of(&named)?))
+    Some(Line::Event(event_of(&members)?))
 }
 
 /// The node, or the event with what was recorded of it, that a line of a transcript may be.
 pub(crate) fn guess_recorded(line: &[u8]) -> Option<TranscriptLine> {
-    let mut scan = Scan::new(line);
-    if let Some(node) = node(&mut scan) {
-        return Some(TranscriptLine::Node(node));
+    let mut members = Members::new();
+    members.read(line)?;
+    if let Some(kind) = members.kind {
+        return Some(TranscriptLine::Node(node_of(&members, kind)?));
     }
-    let mut named = Named::new();
-    named.read_front(&mut scan)?;
-    let octets = scan.octets_at(b"\"hex\":\"");
-    named.read_master(&mut scan);
-    let number = scan.whole_at(b"\"n\":")?;
-    named.read_node(&mut scan);
-    let told = Told::read(&mut scan, named.code, octets)?;
-    named.read_transit(&mut scan);
-    let event = event_of(&named)?;
     let line = TraceLine {
-        event,
-        reading: told.reading,
-        out: told.out,
+        event: event_of(&members)?,
+        reading: members.reading,
+        out: out_of(&members)?,
     };
-    Some(TranscriptLine::Event { number, line })
+    Some(TranscriptLine::Event {
+        number: members.number?,
+        line,
+    })
 }
 
-/// The node that a line may be.
-fn node(scan: &mut Scan<'_>) -> Option<NodeSpec> {
-    if scan.passes(b"{\"kind\":\"clock\",\"node\":\"") {
-        return Some(NodeSpec {
-            name: scan.name()?,
-            kind: NodeKind::Clock,
-        });
-    }
-    let domain = scan.whole_at(b"{\"domain\":")?;
-    let first = Seq(u16::try_from(scan.whole_at(b"\"first\":")?).ok()?);
-    let clock = scan.clock_at(b"\"id\":\"")?;
-    let is_master = scan.passes(b"\"kind\":\"master\",");
-    scan.passes(b"\"kind\":\"slave\",");
-    let log = i8::try_from(scan.signed_at(b"\"log\":")?).ok()?;
-    let name = scan.name_at(b"\"node\":\"")?;
-    let port = u16::try_from(scan.whole_at(b"\"port\":")?).ok()?;
-    let config = PortConfig {
-        identity: PortIdentity { clock, port },
-        domain: u8::try_from(domain).ok()?,
-        log,
-    };
-    let kind = if is_master {
-        NodeKind::Master { config, first }
-    } else {
-        NodeKind::Slave { config, first }
+/// The node of these members, and of a kind that is a word.
+fn node_of(members: &Members<'_>, kind: &[u8]) -> Option<NodeSpec> {
+    let name = name_of(members.node)?;
+    let kind = match kind {
+        [b'c', ..] => NodeKind::Clock,
+        [b'm', ..] => NodeKind::Master {
+            config: config_of(members)?,
+            first: first_of(members)?,
+        },
+        _ => NodeKind::Slave {
+            config: config_of(members)?,
+            first: first_of(members)?,
+        },
     };
     Some(NodeSpec { name, kind })
+}
+
+/// The configuration of a port.
+fn config_of(members: &Members<'_>) -> Option<PortConfig> {
+    let identity = PortIdentity {
+        clock: <[u8; 8] as FromHex>::from_hex(members.id?).ok()?,
+        port: u16::try_from(members.port?).ok()?,
+    };
+    Some(PortConfig {
+        identity,
+        domain: u8::try_from(members.domain?).ok()?,
+        log: i8::try_from(members.log?).ok()?,
+    })
+}
+
+/// The number that a port draws first.
+fn first_of(members: &Members<'_>) -> Option<Seq> {
+    Some(Seq(u16::try_from(members.first?).ok()?))
 }

@@ -1,111 +1,63 @@
-//! What stands in a line of its event.
-use crate::guess::scan::Scan;
+//! The event of a line.
+use crate::guess::members::Members;
 use network_model::{Event, Name};
-use ptp_units::ScaledTime;
+use std::str;
 
-/// What an event names, where it is there, and the code of its answer.
-#[derive(Drop)]
-pub(crate) struct Named<'a> {
-    at: Option<ScaledTime>,
-    pub(crate) code: Option<u64>,
-    copy: Option<u64>,
-    diff: Option<i128>,
-    kind: &'a str,
-    master: Option<Name>,
-    node: Option<Name>,
-    transit: Option<u64>,
+/// The name of a text.
+pub(crate) fn name_of(text: Option<&[u8]>) -> Option<Name> {
+    Name::new(str::from_utf8(text?).ok()?)
 }
 
-impl<'a> Named<'a> {
-    /// Nothing was read yet.
-    pub(crate) fn new() -> Named<'a> {
-        Named {
-            at: None,
-            code: None,
-            copy: None,
-            diff: None,
-            kind: "",
-            master: None,
-            node: None,
-            transit: None,
-        }
-    }
-
-    /// What stands up to `ev`, which has to be there.
-    pub(crate) fn read_front(&mut self, scan: &mut Scan<'a>) -> Option<()> {
-        scan.passes(b"{");
-        self.at = scan.moment_at(b"\"at\":[");
-        self.code = scan.whole_at(b"\"code\":");
-        self.copy = scan.whole_at(b"\"copy\":");
-        self.diff = scan.difference_at(b"\"diff\":\"");
-        if !scan.passes(b"\"ev\":\"") {
-            return None;
-        }
-        self.kind = scan.text()?;
-        Some(())
-    }
-
-    /// What stands in `master`.
-    pub(crate) fn read_master(&mut self, scan: &mut Scan<'a>) {
-        self.master = scan.name_at(b"\"master\":\"");
-    }
-
-    /// What stands in `node`.
-    pub(crate) fn read_node(&mut self, scan: &mut Scan<'a>) {
-        self.node = scan.name_at(b"\"node\":\"");
-    }
-
-    /// What stands in `transit`.
-    pub(crate) fn read_transit(&mut self, scan: &mut Scan<'a>) {
-        self.transit = scan.whole_at(b"\"transit\":");
-    }
+/// The number of a text.
+pub(crate) fn difference_of(text: Option<&[u8]>) -> Option<i128> {
+    str::from_utf8(text?).ok()?.parse().ok()
 }
 
-/// The event of these.
-pub(crate) fn event_of(named: &Named<'_>) -> Option<Event> {
-    let node = named.node?;
-    let event = match named.kind {
-        "sync" => Event::Sync {
+/// The event of these members, by no more octets of its word than tell events apart.
+pub(crate) fn event_of(members: &Members<'_>) -> Option<Event> {
+    let node = name_of(members.node)?;
+    let event = match members.ev? {
+        [b's', b'y', _, _] => Event::Sync {
             node,
-            at: named.at?,
+            at: members.at?,
         },
-        "syncone" => Event::SyncOne {
+        [b's', b'y', ..] => Event::SyncOne {
             node,
-            at: named.at?,
+            at: members.at?,
         },
-        "follow" => Event::Follow { node },
-        "enter" => Event::Enter {
+        [b'f', ..] => Event::Follow { node },
+        [b'e', ..] => Event::Enter {
             node,
-            copy: named.copy?,
-            at: named.at?,
+            copy: members.copy?,
+            at: members.at?,
         },
-        "leave" => Event::Leave {
+        [b'l', ..] => Event::Leave {
             node,
-            transit: named.transit?,
-            at: named.at?,
+            transit: members.transit?,
+            at: members.at?,
         },
-        "arrive" => Event::Arrive {
+        [b'a', ..] => Event::Arrive {
             node,
-            copy: named.copy?,
-            at: named.at?,
+            copy: members.copy?,
+            at: members.at?,
         },
-        "hear" => Event::Hear {
+        [b'h', ..] => Event::Hear {
             node,
-            copy: named.copy?,
+            copy: members.copy?,
         },
-        "request" => Event::Request {
+        [b'r', ..] => Event::Request {
             node,
-            at: named.at?,
+            at: members.at?,
         },
-        "stamped" => Event::Stamped { node },
-        "tick" => Event::Tick { node },
-        "setmaster" => Event::SetMaster {
+        [b's', b't', b'a', ..] => Event::Stamped { node },
+        [b't', ..] => Event::Tick { node },
+        [b's', b'e', ..] => Event::SetMaster {
             node,
-            master: named.master?,
+            master: name_of(members.master)?,
         },
-        "stepclock" => Event::StepClock {
+        [b's', ..] => Event::StepClock {
             node,
-            diff: named.diff?,
+            diff: difference_of(members.diff)?,
         },
         _ => return None,
     };
