@@ -49,8 +49,8 @@ def with_key_twice(line):
 
 
 def misguessed(given, subcommand, lines):
-    """What is wrong where a guess may be taken of the lines, beside the answers where their blanks are left out, where they are spelled
-    again, and where their values are read."""
+    """What is wrong where a guess may be taken of the lines, beside the answers where each stands behind a blank, where they are
+    spelled again, and where their values are read."""
     answer = given(subcommand, text_of(lines))
     escaped = [line.replace(b'"node"', b'"\\u006eode"', 1) for line in lines]
     for words, others in (('behind blanks', [b' ' + line for line in lines]), ('with an escape', escaped),

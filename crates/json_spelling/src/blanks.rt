@@ -64,7 +64,8 @@ impl Place {
     }
 }
 
-/// Whether a line is a text with further blanks, in no text and behind no word. No line with a backslash is.
+/// Whether a line is this text with further blanks, none of them between quotation marks or right behind a word. No line with
+/// a backslash is, which what is read rests on.
 fn is_padded(line: &[u8], text: &[u8]) -> bool
     ensures line { IsTrue result → HasNoBackslash line.now }
     ensures text { IsTrue result → HasNoBackslash text.now }
@@ -87,8 +88,8 @@ fn is_padded(line: &[u8], text: &[u8]) -> bool
     taken == text.len()
 }
 
-/// Whether a line is this text with further blanks, of which none stands in a text or right behind a word. The same is
-/// read of both then. No line with a backslash is.
+/// Whether a line is this text with further blanks, none of them between quotation marks or right behind a word. The same is
+/// read of both then. No line with a backslash is, nor one that isn't UTF-8.
 pub fn is_spaced(line: &[u8], text: &[u8]) -> bool
     ensures { IsTrue result → IsSpellingOf line.now text.now }
 {

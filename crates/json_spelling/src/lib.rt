@@ -1,5 +1,5 @@
-//! A line of JSON in another spelling: with blanks alone, or with its keys in ascending order of their octets and its
-//! texts without needless escapes, too. What is read of it stays the same.
+//! A line of JSON in another spelling: a text with further blanks, or spelled again without blanks, with its keys in ascending
+//! order of their octets and its texts without needless escapes. What is read of it stays the same.
 #![tactic(auto)]
 
 mod blanks;

@@ -1,4 +1,4 @@
-//! Lines in another spelling, spelled again.
+//! Lines in another spelling: compared with a text but for blanks, and spelled again.
 
 use json_spelling::{Respeller, is_spaced};
 use std::str;
@@ -39,18 +39,19 @@ const LEFT: [&[u8]; 9] = [
 ];
 
 /// Lines, each with a text that it is but for blanks.
-const SPACED: [(&str, &str); 6] = [
+const SPACED: [(&str, &str); 7] = [
     (r#"{"b": 1, "a": "x"}"#, r#"{"b":1,"a":"x"}"#),
     ("\t{ \"a b\" : [ 1 ,\n2 ] }\r", "{\"a b\":[1 ,2 ]}"),
     (r#"{"a, b: c": "d, e: f"}"#, r#"{"a, b: c":"d, e: f"}"#),
     ("-1 , nul \t\"é \"", "-1 ,nul \"é \""),
     (r#"{"a":1}"#, r#"{"a":1}"#),
+    ("{  \"a\":\t 1}", r#"{"a":1}"#),
     ("", ""),
 ];
 
-/// Lines, each with a text that differs in more than blanks, or in blanks of texts or behind words, or has a backslash or isn't
-/// UTF-8.
-const OTHER: [(&[u8], &[u8]); 11] = [
+/// Lines, each with a text that differs in more than blanks, or in blanks of texts or behind words, or has a blank more, or has
+/// a backslash or isn't UTF-8.
+const OTHER: [(&[u8], &[u8]); 12] = [
     (b"{\"a\": 1}", b"{\"a\":2}"),
     (b"{\"a\": 1}", b"{\"a\":1"),
     (b"{\"a\": 1", b"{\"a\":1}"),
@@ -62,6 +63,7 @@ const OTHER: [(&[u8], &[u8]); 11] = [
     (b"{\"\\u0061\": 1}", b"{\"\\u0061\":1}"),
     (b"{\"a\": \"\xff\"}", b"{\"a\":\"\xff\"}"),
     (b" ", b"1"),
+    (b"nul", b"tru"),
 ];
 
 #[test]

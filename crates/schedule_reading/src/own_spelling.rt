@@ -1,5 +1,5 @@
 //! Lines that are spelled as they would be written, but for blanks: a guess is taken at what a line is, and is right where
-//! the same octets are written of it again, which takes less than to read a value.
+//! the same octets are written of it again, or the line has blanks besides, which takes less than to read a value.
 ghost use Rattle.std.specs.Prelude.{◌≡◌, ◌++◌, OnOk, IfOk, IfSome, IsTrue, Ok};
 ghost use Rattle.serde_json.specs.Written.{compact_text};
 ghost use Rattle.schedule_lines.specs.Json.{value_in};
