@@ -1,5 +1,5 @@
 ghost use Rattle.std.specs.Prelude.{◌≡◌, ℕ, List, false, IsTrue, ◌+◌, ◌≤◌, ◌<◌, if◌then◌else◌, [], ◌∷◌, IfOk};
-ghost use Rattle.std.specs.Prelude.{MatchResult, MatchOption, length};
+ghost use Rattle.std.specs.Prelude.{MatchResult, MatchOption, length, take};
 ghost use Rattle.std.specs.Option.{ForSome};
 ghost use Rattle.std.specs.Io.KnownBytes.{Consumes, IsAtEnd, Keeps};
 ghost use Rattle.text_lines.specs.Counted.{device_of, greatest_count, HasFailed, HasNotFailed};
@@ -10,7 +10,6 @@ ghost use Rattle.text_lines.specs.Inner.Reading.{StopsReading};
 
 use crate::counted::{Counted, Stop};
 use crate::fault::{ReadingFault, Stopped};
-use arrayvec::ArrayVec;
 use std::io::Read;
 
 /// The most octets of a line, without its LF.
@@ -20,10 +19,13 @@ pub const LINE_LIMIT: usize = 4096;
 /// at most how many.
 #[derive(Drop)]
 pub(crate) struct Lines {
-    line: ArrayVec<u8, LINE_LIMIT>,
+    octets: [u8; LINE_LIMIT],
+    /// How many of the octets are the line.
+    size: usize,
     count: u64,
     limit: u64,
     ended: bool,
+    ghost fits: { size ≤ 4096 },
     ghost within: { count ≤ limit },
     ghost counted: { limit < greatest_count },
 }
@@ -59,7 +61,8 @@ impl Lines {
         ensures ended { result.ended ≡ false }
     {
         Lines {
-            line: ArrayVec::new(),
+            octets: [0; LINE_LIMIT],
+            size: 0,
             count: 0,
             limit,
             ended: false,
@@ -75,10 +78,10 @@ impl Lines {
 
     /// The line that was read last, without a CR at its end.
     pub(crate) fn line(&self) -> &[u8]
-        ensures line { result.now ≡ without_cr self.now.line.items }
+        ensures line { result.now ≡ without_cr (take self.now.size self.now.octets) }
         ensures within { length result.now ≤ line_limit }
     {
-        match self.line.as_slice() {
+        match &self.octets[..self.size] {
             [line @ .., b'\r'] => line,
             line => line,
         }
@@ -96,7 +99,7 @@ impl Lines {
         ensures next { ForSome (R.remaining (device_of input.old)) (λ octets.
             let left = R.remaining (device_of input.new) in
             MatchResult result
-            (λ found. ReadsLine found self.old.limit (self.old.count + 1) self.new.line.items self.new.ended octets left)
+            (λ found. ReadsLine found self.old.limit (self.old.count + 1) (take self.new.size self.new.octets) self.new.ended octets left)
             (λ stop. StopsReading stop.what self.old.limit (self.old.count + 1) octets left)) }
         ensures count { MatchResult result
             (λ found. self.new.count ≡ (if found then self.old.count + 1 else self.old.count))
@@ -134,7 +137,7 @@ impl Lines {
         ensures next { ForSome (R.remaining (device_of input.old)) (λ octets.
             let left = R.remaining (device_of input.new) in
             MatchResult result
-            (λ found. ReadsLine found self.old.limit (self.old.count + 1) self.new.line.items self.new.ended octets left)
+            (λ found. ReadsLine found self.old.limit (self.old.count + 1) (take self.new.size self.new.octets) self.new.ended octets left)
             (λ kind. StopsReading kind self.old.limit (self.old.count + 1) octets left)) }
         ensures count { self.new.count ≡ self.old.count }
         ensures limit { self.new.limit ≡ self.old.limit }
@@ -144,11 +147,13 @@ impl Lines {
             (λ _. HasNotFailed input.old input.new)
             (λ kind. IsFromReading kind input.old input.new) }
     {
-        match input.read_octets(&mut self.line) {
+        let (size, stop) = input.read_octets(&mut self.octets);
+        self.size = size;
+        match stop {
             Stop::LineFeed => Ok(true),
             Stop::End => {
                 self.ended = true;
-                Ok(!self.line.is_empty())
+                Ok(self.size != 0)
             }
             Stop::TooLong => Err(ReadingFault::LineTooLong),
             Stop::Failed => Err(ReadingFault::Read),

@@ -1,12 +1,11 @@
 //! The octets of a line, which are counted once the line was read.
-ghost use Rattle.std.specs.Prelude.{◌≡◌, ◌≤◌, length};
+ghost use Rattle.std.specs.Prelude.{◌≡◌, ◌≤◌, length, take};
 ghost use Rattle.text_lines.specs.Counted.{device_of, given_of, HasFailedIf, HasGiven};
 ghost use Rattle.text_lines.specs.Lines.{line_limit};
 ghost use Rattle.text_lines.specs.Inner.Reading.{StopsAt, IsUnended, count_read, is_failure};
 
 use crate::counted::Counted;
 use crate::lines::LINE_LIMIT;
-use arrayvec::ArrayVec;
 use std::io::Read;
 
 /// Where the reading of a line's octets stops.
@@ -23,43 +22,46 @@ pub(crate) enum Stop {
 }
 
 impl<R: Read> Counted<R> {
-    /// Reads one octet after the other into the line, which is emptied first.
-    pub(crate) fn read_octets(&mut self, line: &mut ArrayVec<u8, LINE_LIMIT>) -> Stop
-        ensures stop { StopsAt result (R.remaining (device_of self.old)) (R.remaining (device_of self.new)) line.new.items }
-        ensures unended { IsUnended line.new.items }
-        ensures within { length line.new.items ≤ line_limit }
-        ensures given { HasGiven (count_read result line.new.items) self.old self.new }
-        ensures failures { HasFailedIf (is_failure result) self.old self.new }
+    /// Reads the octets of a line into the front of the room, one after the other. Answers how many there are, and what
+    /// stopped it.
+    pub(crate) fn read_octets(&mut self, room: &mut [u8; LINE_LIMIT]) -> (usize, Stop)
+        ensures stop { StopsAt result.1 (R.remaining (device_of self.old)) (R.remaining (device_of self.new)) (take result.0 room.new) }
+        ensures unended { IsUnended (take result.0 room.new) }
+        ensures count { length (take result.0 room.new) ≡ result.0 }
+        ensures within { result.0 ≤ line_limit }
+        ensures given { HasGiven (count_read result.1 (take result.0 room.new)) self.old self.new }
+        ensures failures { HasFailedIf (is_failure result.1) self.old self.new }
     {
-        let stop = self.read_uncounted(line);
+        let (count, stop) = self.read_uncounted(room);
         let beyond = match stop {
             Stop::LineFeed | Stop::TooLong => 1,
             Stop::End | Stop::Failed => 0,
         };
-        self.count_given(line.len() + beyond);
-        stop
+        self.count_given(count + beyond);
+        (count, stop)
     }
 
     /// The same, without counting what was read.
-    fn read_uncounted(&mut self, line: &mut ArrayVec<u8, LINE_LIMIT>) -> Stop
-        ensures stop { StopsAt result (R.remaining (device_of self.old)) (R.remaining (device_of self.new)) line.new.items }
-        ensures unended { IsUnended line.new.items }
-        ensures within { length line.new.items ≤ line_limit }
+    fn read_uncounted(&mut self, room: &mut [u8; LINE_LIMIT]) -> (usize, Stop)
+        ensures stop { StopsAt result.1 (R.remaining (device_of self.old)) (R.remaining (device_of self.new)) (take result.0 room.new) }
+        ensures unended { IsUnended (take result.0 room.new) }
+        ensures count { length (take result.0 room.new) ≡ result.0 }
+        ensures within { result.0 ≤ line_limit }
         ensures given { given_of self.new ≡ given_of self.old }
-        ensures failures { HasFailedIf (is_failure result) self.old self.new }
+        ensures failures { HasFailedIf (is_failure result.1) self.old self.new }
     {
-        line.clear();
         let mut octet = [0];
+        let mut count = 0;
         loop {
             match self.ask(&mut octet) {
-                Ok(0) => return Stop::End,
-                Ok(_) if octet[0] == b'\n' => return Stop::LineFeed,
+                Ok(0) => return (count, Stop::End),
+                Ok(_) if octet[0] == b'\n' => return (count, Stop::LineFeed),
+                Ok(_) if count == LINE_LIMIT => return (count, Stop::TooLong),
                 Ok(_) => {
-                    if line.try_push(octet[0]).is_err() {
-                        return Stop::TooLong;
-                    }
+                    room[count] = octet[0];
+                    count += 1;
                 }
-                Err(_) => return Stop::Failed,
+                Err(_) => return (count, Stop::Failed),
             }
         }
     }

@@ -1,23 +1,25 @@
+use Rattle.std.proofs.Common.{rules, ◌≡◌, length, take}
 use Rattle.text_lines.proofs.Reading.{line_ended, line_last, line_too_long, line_failed}
 use Rattle.text_lines.proofs.lines.Lines.read_line.Goals as goal
 
 pub returns-in-LineFeed-clause-next : goal.returns-in-LineFeed-clause-next
 returns-in-LineFeed-clause-next g c = λ octets known.
-    let read = c.in-LineFeed.ensures in
-    rw c.requires.before_end (line_ended _ _ _ _ _ octets read.stop read.unended read.within c.requires.within known)
+    let read = c.read_octets-size.ensures in
+    rw c.requires.before_end (line_ended _ _ _ _ _ octets (rw c.in-LineFeed.is at read.stop) read.unended (search rules) c.requires.within known)
 
 pub returns-in-End-clause-next : goal.returns-in-End-clause-next
 returns-in-End-clause-next g c = λ octets known.
-    let read = c.in-End.ensures in
-    rw c.is_empty.ensures (line_last _ _ _ _ _ octets read.stop.0 read.stop.1 read.unended read.within c.requires.within known)
+    let read = c.read_octets-size.ensures in
+    let stop = rw c.in-End.is at read.stop in
+    rw read.count at (line_last _ _ _ _ _ octets stop.0 stop.1 read.unended (search rules) c.requires.within known)
 
 pub returns-in-TooLong-clause-next : goal.returns-in-TooLong-clause-next
 returns-in-TooLong-clause-next g c = λ octets known.
-    let read = c.in-TooLong.ensures in
-    let (x, other, full, stop) = read.stop in
+    let read = c.read_octets-size.ensures in
+    let (x, other, full, stop) = rw c.in-TooLong.is at read.stop in
     line_too_long _ _ _ x _ _ octets stop other read.unended full c.requires.within known
 
 pub returns-in-Failed-clause-next : goal.returns-in-Failed-clause-next
 returns-in-Failed-clause-next g c = λ octets known.
-    let read = c.in-Failed.ensures in
-    line_failed _ _ _ _ _ octets read.stop read.unended read.within c.requires.within known
+    let read = c.read_octets-size.ensures in
+    line_failed _ _ _ _ _ octets (rw c.in-Failed.is at read.stop) read.unended (search rules) c.requires.within known
