@@ -85,22 +85,22 @@ impl Checker {
             (λ _. self.new ≡ record { network = self.old.network; lines = self.old.lines ++ line ∷ [] })
             (λ fault. (fault ≡ Memory) × (self.new ≡ self.old)) }
     {
-        self.feed_judged(line)?;
+        self.feed_judged(&line)?;
         Ok(())
     }
 
     /// Takes in the next line as [`feed`](Checker::feed) does, and answers what its report is judged to
     /// be, by this line and those before it; none where the line has no report.
-    pub fn feed_judged(&mut self, line: TraceLine) -> Result<Option<Judgement>, CheckFault>
+    pub fn feed_judged(&mut self, line: &TraceLine) -> Result<Option<Judgement>, CheckFault>
         ensures fed { MatchResult result
-            (λ _. self.new ≡ record { network = self.old.network; lines = self.old.lines ++ line ∷ [] })
+            (λ _. self.new ≡ record { network = self.old.network; lines = self.old.lines ++ line.now ∷ [] })
             (λ fault. (fault ≡ Memory) × (self.new ≡ self.old)) }
         // Each condition that fails is told, and the results by the readings.
         ensures judged { IfOk result (λ answer. answer
-            ≡ line_judgement self.old.network (line_place line (reverse self.old.lines))) }
+            ≡ line_judgement self.old.network (line_place line.now (reverse self.old.lines))) }
     {
-        let answer = self.kept.step(&self.nodes, &line)?;
-        self.fed.push(&line);
+        let answer = self.kept.step(&self.nodes, line)?;
+        self.fed.push(line);
         Ok(answer)
     }
 

@@ -1,6 +1,7 @@
 //! A transcript, read and judged line by line.
 ghost use Rattle.std.specs.Prelude.{◌≡◌, ◌≢◌, ◌+◌, [], length, MatchOption, MatchResult, None, option_map};
 ghost use Rattle.network_model.specs.Clash.{first_clash};
+ghost use Rattle.network_model.specs.Run.{site_of};
 ghost use Rattle.event_codec.specs.Profile.{contents_of};
 ghost use Rattle.exchange_check.specs.Exchange.{last_exchange};
 ghost use Rattle.exchange_check.specs.Message.{message_at};
@@ -79,12 +80,12 @@ impl Transcript {
             (λ judged. Takes line.now self.old self.new judged)
             (λ fault. (self.new ≡ self.old) × FaultsInTranscript fault self.old.nodes self.old.lines line.now) }
     {
-        match self.reader.read_recorded(line)? {
+        match &self.reader.read_recorded(line)? {
             TranscriptLine::Node(node) => {
-                self.push(node)?;
+                self.push(*node)?;
                 Ok(None)
             }
-            TranscriptLine::Event { number, line } => self.feed(number, line),
+            TranscriptLine::Event { number, line } => self.feed(*number, line),
         }
     }
 
@@ -100,25 +101,23 @@ impl Transcript {
     }
 
     /// Takes what was recorded of one more event, whose number has to be its place among the events.
-    fn feed(&mut self, number: u64, line: TraceLine) -> Result<Option<Judged>, TaskFault>
+    fn feed(&mut self, number: u64, line: &TraceLine) -> Result<Option<Judged>, TaskFault>
         ensures { MatchResult result
-            (λ judged. TakesAt (recorded.Event number line) self.old self.new judged)
-            (λ fault. (self.new ≡ self.old) × StopsAt fault self.old (recorded.Event number line)) }
+            (λ judged. TakesAt (recorded.Event number line.now) self.old self.new judged)
+            (λ fault. (self.new ≡ self.old) × StopsAt fault self.old (recorded.Event number line.now)) }
     {
         if number != self.events() {
             return Err(TaskFault::Field);
         }
         let at = line_number(self.nodes, number)?;
-        let node = line.event.node();
-        let report = report_in(&line.out);
         let judgement = self.judge(line)?;
-        Ok(judged_at(at, number, node, report, judgement))
+        Ok(judged_at(at, number, line, judgement))
     }
 
     /// Judges one more line, by a checker that begins with the first event.
-    fn judge(&mut self, line: TraceLine) -> Result<Option<Judgement>, TaskFault>
+    fn judge(&mut self, line: &TraceLine) -> Result<Option<Judgement>, TaskFault>
         ensures { MatchResult result
-            (λ judgement. Judges line self.old self.new judgement)
+            (λ judgement. Judges line.now self.old self.new judgement)
             (λ fault. (self.new ≡ self.old) × HasNoChecker fault self.old) }
     {
         match &mut self.stage {
@@ -208,33 +207,20 @@ fn line_number(nodes: u64, event: u64) -> Result<u64, TaskFault>
     }
 }
 
-/// A report and what it is judged to be, where both are there.
-fn judged_at(
-    line: u64,
-    event: u64,
-    node: Name,
-    report: Option<Report>,
-    judgement: Option<Judgement>,
-) -> Option<Judged>
-    ensures { result ≡ judged_by line event node report judgement }
+/// The report of a line and what it is judged to be, where it has one.
+fn judged_at(at: u64, event: u64, line: &TraceLine, judgement: Option<Judgement>) -> Option<Judged>
+    ensures { result ≡ judged_by at event (site_of line.now.event) (report_in line.now.out) judgement }
 {
+    let TraceOut::Report(report) = &line.out else {
+        return None;
+    };
     Some(Judged {
-        line,
+        line: at,
         event,
-        node,
-        report: report?,
+        node: line.event.node(),
+        report: *report,
         judgement: judgement?,
     })
-}
-
-/// The report that a line has.
-fn report_in(out: &TraceOut) -> Option<Report>
-    ensures { result ≡ report_in out.now }
-{
-    match out {
-        TraceOut::Report(report) => Some(*report),
-        _ => None,
-    }
 }
 
 /// A checker of these nodes, which was fed nothing yet.

@@ -462,7 +462,7 @@ fn judgements(alloc: Global, lines: Vec<TraceLine>) -> Result<(usize, Option<Jud
         if told.is_some() {
             judged = judged.saturating_add(1);
         }
-        told = checker.feed_judged(line)?;
+        told = checker.feed_judged(&line)?;
     }
     Ok((judged, told))
 }

@@ -9,5 +9,5 @@ use Rattle.exchange_check.proofs.checker.Checker.feed_judged.Goals as goal
 pub returns-clause-judged : goal.returns-clause-judged
 returns-clause-judged c =
     let inside = c.self.inside in
-    judgement-told inside.nodes c.args.line inside.fed _ (c.in_ok-answer.ensures.kept _ _ c.self.invariant).1
-    ∙ ap (λ (t : Transcript). line_judgement t.network (line_place c.args.line (reverse t.lines))) c.self.view_is
+    judgement-told inside.nodes c.args.line.now inside.fed _ (c.in_ok-answer.ensures.kept _ _ c.self.invariant).1
+    ∙ ap (λ (t : Transcript). line_judgement t.network (line_place c.args.line.now (reverse t.lines))) c.self.view_is

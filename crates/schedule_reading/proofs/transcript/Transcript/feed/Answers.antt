@@ -5,5 +5,5 @@ use Rattle.schedule_reading.proofs.transcript.Transcript.feed.Goals as goal
 
 pub returns : goal.returns
 returns c =
-    let so = judged_so c.args.self.now c.args.line (report_in c.args.line.out) in
+    let so = judged_so c.args.self.now c.args.line.now (report_in c.args.line.now.out) in
     search rules
