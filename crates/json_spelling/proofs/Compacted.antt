@@ -12,7 +12,7 @@ use Rattle.json_spelling.specs.Inner.Blanks.{compact, HasNoBackslash, leaves_out
 
 -- ---- texts
 
-stays_in_text : (q b o s : Bool) → q ≡ false → b ≡ false → mode_after in_string (cond q quote (cond b backslash (cond o operator (cond s space other)))) ≡ in_string
+pub stays_in_text : (q b o s : Bool) → q ≡ false → b ≡ false → mode_after in_string (cond q quote (cond b backslash (cond o operator (cond s space other)))) ≡ in_string
 stays_in_text true b o s q_no b_no = absurd (true≢false q_no)
 stays_in_text false true o s q_no b_no = absurd (true≢false b_no)
 stays_in_text false false true s q_no b_no = refl

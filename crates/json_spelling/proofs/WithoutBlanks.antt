@@ -1,5 +1,5 @@
 -- How a line and a text are followed octet by octet that differ in blanks alone.
-use Rattle.std.proofs.Common.{◌≡◌, ◌∙◌, ◌<◌, ◌==◌, ◌+◌, ℕ, suc, true, cond, Option, None, List, [], ◌∷◌, length, drop, get_or, refl, sym, ap, subst, arith}
+use Rattle.std.proofs.Common.{◌≡◌, ◌≢◌, ◌∙◌, ◌<◌, ◌==◌, ◌+◌, ℕ, zero, suc, true, cond, Option, None, List, [], ◌∷◌, length, drop, get_or, refl, sym, ap, subst, arith}
 use Rattle.std.proofs.Math.Seq.{drop-cons}
 use Rattle.std.proofs.lemmas.Bool.{false≢true}
 use Rattle.memchr.specs.Find.{IsFirstByte, Nowhere, Passes, is_byte}
@@ -53,6 +53,17 @@ blank_more line text at taken then m n within blank mode next kept =
     ∙ ap (λ i. compact n (drop i line)) next_at ∙ kept ∙ ap (λ i. compact n (drop i text)) next ∙ ap (λ k. compact k (drop taken text)) mode
 
 -- ---- backslashes
+
+-- octets without a backslash have none from any of them on
+pub none_behind : (n : ℕ) (xs : List ℕ) → HasNoBackslash xs → HasNoBackslash (drop n xs)
+none_behind zero xs none = none
+none_behind (suc n) [] none = tt
+none_behind (suc n) (x ∷ xs) none = none_behind n xs none.1
+
+pub none_at : (xs : List ℕ) (at : ℕ) → at < length xs → HasNoBackslash xs → get_or xs at 0 ≢ 92
+none_at [] at within none = absurd (omega (arith, within))
+none_at (x ∷ xs) zero within none = none.0
+none_at (x ∷ xs) (suc at) within none = none_at xs at (omega (arith, within)) none.1
 
 nowhere : (line : List ℕ) → Nowhere (Passes (is_byte 92) line) 0 (length line) → HasNoBackslash line
 nowhere [] none = tt

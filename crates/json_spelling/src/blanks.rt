@@ -1,6 +1,6 @@
 //! A line and a text that differ in blanks alone, which stand in no text and end no word.
-ghost use Rattle.std.specs.Prelude.{◌≡◌, ◌≢◌, IsTrue};
-ghost use Rattle.json.specs.Lex.{between, class};
+ghost use Rattle.std.specs.Prelude.{◌≡◌, ◌≢◌, ◌≤◌, drop, length, IfSome, IsTrue};
+ghost use Rattle.json.specs.Lex.{between, in_string, class};
 ghost use Rattle.json.specs.Word.{is_operator, is_space};
 ghost use Rattle.json_spelling.specs.Spelling.{IsSpellingOf};
 ghost use Rattle.json_spelling.specs.Inner.Blanks.{compact, HasNoBackslash, leaves_out, mode_after, mode_of};
@@ -64,6 +64,26 @@ impl Place {
     }
 }
 
+/// How many octets a line and a text share up to a quotation mark and with it, where both stand in a text; None where they
+/// differ before.
+fn shared_text(line: &[u8], text: &[u8]) -> Option<usize>
+    requires { HasNoBackslash line.now }
+    ensures within { IfSome result (λ count. (count ≤ length line.now) × (count ≤ length text.now)) }
+    ensures shared { IfSome result (λ count. compact between (drop count line.now) ≡ compact between (drop count text.now)
+        → compact in_string line.now ≡ compact in_string text.now) }
+{
+    for at in 0..line.len().min(text.len()) {
+        let octet = line[at];
+        if text[at] != octet {
+            return None;
+        }
+        if octet == b'"' {
+            return Some(at + 1);
+        }
+    }
+    None
+}
+
 /// Whether a line is this text with further blanks, none of them between quotation marks or right behind a word. No line with
 /// a backslash is, which what is read rests on.
 fn is_padded(line: &[u8], text: &[u8]) -> bool
@@ -75,13 +95,25 @@ fn is_padded(line: &[u8], text: &[u8]) -> bool
         return false;
     }
     let mut place = Place::Between;
+    let mut at = 0;
     let mut taken = 0;
-    'octets: for at in 0..line.len() {
+    'octets: while at < line.len() {
         let octet = line[at];
         if taken < text.len() && text[taken] == octet {
+            at += 1;
             taken += 1;
             place = place.after(octet);
-        } else if !place.leaves_out(octet) {
+            if let Place::Text = place {
+                let Some(count) = shared_text(&line[at..], &text[taken..]) else {
+                    return false;
+                };
+                at += count;
+                taken += count;
+                place = Place::Between;
+            }
+        } else if place.leaves_out(octet) {
+            at += 1;
+        } else {
             return false;
         }
     }
