@@ -32,9 +32,10 @@ impl OwnSpelling {
     pub(crate) fn entry(&mut self, line: &[u8]) -> Result<Option<Line>, AllocError>
         ensures { IfOk result (λ found. IfSome found (λ entry. entry_in line.now ≡ Ok entry)) }
     {
-        if let Some(entry) = guess_entry(line) {
-            if self.spells_entry(&entry, line)? {
-                return Ok(Some(entry));
+        let guess = guess_entry(line);
+        if let Some(entry) = &guess {
+            if self.spells_entry(entry, line)? {
+                return Ok(guess);
             }
         }
         Ok(None)
@@ -44,9 +45,10 @@ impl OwnSpelling {
     pub(crate) fn recorded(&mut self, line: &[u8]) -> Result<Option<TranscriptLine>, AllocError>
         ensures { IfOk result (λ found. IfSome found (λ entry. recorded_in line.now ≡ Ok entry)) }
     {
-        if let Some(entry) = guess_recorded(line) {
-            if self.spells_recorded(&entry, line)? {
-                return Ok(Some(entry));
+        let guess = guess_recorded(line);
+        if let Some(entry) = &guess {
+            if self.spells_recorded(entry, line)? {
+                return Ok(guess);
             }
         }
         Ok(None)

@@ -1,14 +1,13 @@
 //! A transcript, read and judged line by line.
 ghost use Rattle.std.specs.Prelude.{◌≡◌, ◌≢◌, ◌+◌, [], length, MatchOption, MatchResult, None, option_map};
 ghost use Rattle.network_model.specs.Clash.{first_clash};
-ghost use Rattle.network_model.specs.Run.{site_of};
 ghost use Rattle.event_codec.specs.Profile.{contents_of};
 ghost use Rattle.exchange_check.specs.Exchange.{last_exchange};
 ghost use Rattle.exchange_check.specs.Message.{message_at};
-ghost use Rattle.trace_model.specs.Verdict.{report_in, verdict};
+ghost use Rattle.trace_model.specs.Verdict.{verdict};
 ghost use Rattle.schedule_lines.specs.declared.reading.transcript.TranscriptLine.TheVariants as recorded;
 ghost use Rattle.schedule_reading.specs.Transcript.{FaultsInTranscript, HasNoChecker, Takes};
-ghost use Rattle.schedule_reading.specs.Inner.Transcript.{Judges, StopsAt, TakesAt, judged_by};
+ghost use Rattle.schedule_reading.specs.Inner.Transcript.{Judges, StopsAt, TakesAt};
 
 use crate::fault::TaskFault;
 use crate::reader::LineReader;
@@ -110,8 +109,16 @@ impl Transcript {
             return Err(TaskFault::Field);
         }
         let at = line_number(self.nodes, number)?;
-        let judgement = self.judge(line)?;
-        Ok(judged_at(at, number, line, judgement))
+        let (Some(judgement), TraceOut::Report(report)) = (self.judge(line)?, &line.out) else {
+            return Ok(None);
+        };
+        Ok(Some(Judged {
+            line: at,
+            event: number,
+            node: line.event.node(),
+            report: *report,
+            judgement,
+        }))
     }
 
     /// Judges one more line, by a checker that begins with the first event.
@@ -205,22 +212,6 @@ fn line_number(nodes: u64, event: u64) -> Result<u64, TaskFault>
         Some(earlier) => earlier.checked_add(1).ok_or(TaskFault::Memory),
         None => Err(TaskFault::Memory),
     }
-}
-
-/// The report of a line and what it is judged to be, where it has one.
-fn judged_at(at: u64, event: u64, line: &TraceLine, judgement: Option<Judgement>) -> Option<Judged>
-    ensures { result ≡ judged_by at event (site_of line.now.event) (report_in line.now.out) judgement }
-{
-    let TraceOut::Report(report) = &line.out else {
-        return None;
-    };
-    Some(Judged {
-        line: at,
-        event,
-        node: line.event.node(),
-        report: *report,
-        judgement: judgement?,
-    })
 }
 
 /// A checker of these nodes, which was fed nothing yet.

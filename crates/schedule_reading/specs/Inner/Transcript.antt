@@ -1,7 +1,5 @@
 -- How far a transcript was read, and what one more entry does.
-use Rattle.std.specs.Prelude.{◌≡◌, ◌≢◌, ℕ, List, [], ◌∷◌, length, reverse, Option, Some, None, option_map, Ok, ⊤}
-use Rattle.slave_port.specs.declared.heard.Report.{Report}
-use Rattle.network_model.specs.Network.{NodeName}
+use Rattle.std.specs.Prelude.{◌≡◌, ◌≢◌, ℕ, List, [], ◌∷◌, length, reverse, Option, None, Ok, ⊤}
 use Rattle.network_model.specs.Clash.{first_clash}
 use Rattle.trace_model.specs.declared.judgement.Judgement.{Judgement}
 use Rattle.trace_model.specs.declared.line.TraceLine.{TraceLine}
@@ -44,9 +42,3 @@ abbrev pub Judges : TraceLine → (state later : Recorded) → Option Judgement 
 Judges line state later judgement = (first_clash state.nodes ≡ None)
     × (later ≡ record { nodes = state.nodes; lines = line ∷ state.lines })
     × (judgement ≡ line_judgement state.nodes (line_place line state.lines))
-
--- a report and what it is judged to be, where both are there
-abbrev pub judged_by : (line event : ℕ) → NodeName → Option Report → Option Judgement → Option Judged
-judged_by line event node None judgement = None
-judged_by line event node (Some report) judgement = option_map (λ found.
-    record { line = line; event = event; node = node; report = report; judgement = found }) judgement

@@ -99,7 +99,7 @@ impl<'a> Members<'a> {
             Key::Domain => self.domain = Some(scan.whole()),
             Key::Ev => self.ev = Some(scan.text()?),
             Key::First => self.first = Some(scan.whole()),
-            Key::Hex => self.hex = Some(scan.text()?),
+            Key::Hex => self.hex = Some(scan.long_text()?),
             Key::Id => self.id = Some(scan.text()?),
             Key::Kind => self.kind = Some(scan.text()?),
             Key::Log => self.log = Some(scan.signed()?),

@@ -1,5 +1,6 @@
 //! What stands next in a line, behind blanks.
 use hex::decode_to_slice;
+use memchr::memchr;
 use ptp_units::{ScaledTime, Timestamp};
 
 /// What is left of a line.
@@ -26,7 +27,9 @@ impl<'a> Scan<'a> {
 
     /// Passes an octet, where it stands next.
     pub(crate) fn passes(&mut self, octet: u8) -> bool {
-        self.rest = past_blanks(self.rest);
+        if self.rest.first() != Some(&octet) {
+            self.rest = past_blanks(self.rest);
+        }
         match self.rest.split_first() {
             Some((first, after)) if *first == octet => {
                 self.rest = after;
@@ -84,6 +87,17 @@ impl<'a> Scan<'a> {
             }
         }
         None
+    }
+
+    /// Passes a text, soonest where it is long.
+    pub(crate) fn long_text(&mut self) -> Option<&'a [u8]> {
+        if !self.passes(b'"') {
+            return None;
+        }
+        let rest = self.rest;
+        let end = memchr(b'"', rest)?;
+        self.rest = &rest[end + 1..];
+        Some(&rest[..end])
     }
 
     /// Passes a moment.
