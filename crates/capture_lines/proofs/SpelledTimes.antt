@@ -16,7 +16,7 @@ use Rattle.std.proofs.lemmas.Nat.{pow-add}
 use Rattle.std.proofs.Math.Nat.{eq_of_mul-eq-mul_right, one-le-pow}
 use Rattle.std.proofs.Math.Seq.{take-append_seam, drop-append-add}
 use Rattle.ptp_units.specs.Moment.{stamp, moment}
-use Rattle.capture_lines.specs.Decimal.{pointed}
+use Rattle.ptp_units.specs.Nanoseconds.{pointed}
 use Rattle.capture_lines.specs.Timed.{are_digits, number_in, seconds_in, nanoseconds_in, moment_at, time_of, time_in}
 use Rattle.capture_lines.specs.Timed.{TellsExactly}
 use Rattle.capture_lines.proofs.Times.{own, digits_of, parted_at, unless, some_of_map, some_of_then}

@@ -3,7 +3,7 @@ use Rattle.std.proofs.Common.{◌≡◌, ◌++◌, ◌-◌, ◌*◌, pos, negsuc
 use Rattle.std.specs.Fmt.{digits}
 use Rattle.slave_port.specs.declared.heard.Report.{Report}
 use Rattle.capture_lines.specs.declared.measurement.Half.TheVariants.{Sync, Response}
-use Rattle.capture_lines.specs.Decimal.{decimals, nanoseconds_text}
+use Rattle.ptp_units.specs.Nanoseconds.{decimals}
 use Rattle.capture_lines.specs.Measurement.{json_text, row_text}
 use Rattle.capture_lines.specs.Timed.{line_parts, time_in, timed_in}
 
@@ -52,23 +52,6 @@ empty_datagram = refl
 
 no_blank : timed_in (codes "1") ≡ None
 no_blank = refl
-
--- the least part of a nanosecond, twelve and a half below 0, a thousand, and none
-least_part : nanoseconds_text (pos 1) ≡ codes "0.00000762939453125"
-unfolding digits decimals
-least_part = refl
-
-below : nanoseconds_text (negsuc 1638399) ≡ codes "-12.5"
-unfolding digits decimals
-below = refl
-
-thousand : nanoseconds_text (pos 131072000) ≡ codes "1000"
-unfolding digits decimals
-thousand = refl
-
-none : nanoseconds_text (pos 0) ≡ codes "0"
-unfolding digits decimals
-none = refl
 
 -- a report that a two-step Sync completed, as JSON
 report : Report

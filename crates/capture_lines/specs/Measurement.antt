@@ -5,7 +5,7 @@ use Rattle.slave_port.specs.declared.heard.Report.{Report}
 use Rattle.capture_lines.specs.declared.measurement.Half.{Half}
 use Rattle.capture_lines.specs.declared.measurement.Half.TheVariants.{Sync, Response}
 use Rattle.capture_lines.specs.declared.measurement.Measurement.{Measurement}
-use Rattle.capture_lines.specs.Decimal.{nanoseconds_text}
+use Rattle.ptp_units.specs.Nanoseconds.{nanoseconds_text}
 
 -- a measurement, with the time of its line as it stands there
 pub record Measured : Type 0 where

@@ -7,7 +7,7 @@ use Rattle.std.specs.Char.{is_ascii_digit}
 use Rattle.std.specs.Fmt.{decimal}
 use Rattle.std.specs.Str.Parse.{digits_value}
 use Rattle.ptp_units.specs.Moment.{stamp, moment}
-use Rattle.capture_lines.specs.Decimal.{pointed}
+use Rattle.ptp_units.specs.Nanoseconds.{pointed}
 use Rattle.capture_lines.specs.declared.timed.Timed.{Timed}
 
 -- the text of a time, that time in units, and the digits of a datagram

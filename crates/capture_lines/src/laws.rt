@@ -1,14 +1,7 @@
 //! What follows from the definitions alone, for any number and any text.
 ghost use Rattle.std.specs.Prelude.{◌≡◌, ℕ, List, Some, true};
 ghost use Rattle.std.specs.List.{list_all};
-ghost use Rattle.capture_lines.specs.Decimal.{size_text, ShowsExactly};
 ghost use Rattle.capture_lines.specs.Timed.{time_in, is_time_octet, TellsExactly};
-
-/// The text of a number of halves of 2^-16 ns, in nanoseconds, makes exactly that number, and ends in no 0 after a
-/// point.
-pub fn nanoseconds_are_exact()
-    ensures { (size : ℕ) → ShowsExactly size (size_text size) }
-{}
 
 /// A text is read as a time exactly where its digits make that time: whole seconds below 2^48 without zeros in
 /// front, and nothing, or a point and at most nine decimals.

@@ -2,11 +2,9 @@
 //! what was measured, as JSON or as a row of a table.
 #![tactic(auto)]
 
-mod decimal;
 pub mod laws;
 mod measurement;
 mod timed;
 
-pub use decimal::Nanoseconds;
 pub use measurement::{Half, Measurement, push_json, push_row, table_head};
 pub use timed::{Timed, read_timed};

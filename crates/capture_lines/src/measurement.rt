@@ -2,7 +2,7 @@ ghost use Rattle.std.specs.Prelude.{◌≡◌, ◌++◌, OnOk, Some};
 ghost use Rattle.std.specs.String.{string_bytes};
 ghost use Rattle.capture_lines.specs.Measurement.{measured_of, half_text, follow_text, json_text, table_head, row_text};
 
-use crate::decimal::Nanoseconds;
+use ptp_units::Nanoseconds;
 use slave_port::Report;
 use std::alloc::AllocError;
 use std::fmt;

@@ -8,7 +8,7 @@ use Rattle.event_codec.specs.declared.port.PortConfig.{PortConfig}
 use Rattle.event_codec.specs.declared.refusal.DecodeRefusal.TheVariants.{OtherType}
 use Rattle.event_codec.specs.Profile.{header_of}
 use Rattle.event_codec.specs.Reading.{Reading}
-use Rattle.capture_lines.specs.Decimal.{decimals}
+use Rattle.ptp_units.specs.Nanoseconds.{decimals}
 use Rattle.std.specs.Fmt.{digits}
 use Rattle.capture_measure.specs.declared.measuring.Form.TheVariants.{Table}
 use Rattle.capture_measure.specs.declared.watch.Wanted.{Wanted}

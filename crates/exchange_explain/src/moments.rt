@@ -1,7 +1,6 @@
 //! Moments and lengths of time as text.
 
-use capture_lines::Nanoseconds;
-use ptp_units::ScaledTime;
+use ptp_units::{Nanoseconds, ScaledTime};
 use std::fmt;
 use std::fmt::{Display, Formatter};
 

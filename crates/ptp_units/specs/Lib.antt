@@ -3,3 +3,4 @@ pub mod Interval
 pub mod Sequence
 pub mod Exchange
 pub mod Refusal
+pub mod Nanoseconds

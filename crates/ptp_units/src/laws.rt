@@ -3,6 +3,7 @@
 
 ghost use Rattle.std.specs.Prelude.{◌≡◌, ◌+◌, ◌*◌, ◌^◌, ◌<◌, ◌↔◌, ℕ, IsTrue};
 ghost use Rattle.ptp_units.specs.Moment.{Stamp, IsStamp, bound, moment, stamp_of, fraction_of};
+ghost use Rattle.ptp_units.specs.Nanoseconds.{size_text, ShowsExactly};
 ghost use Rattle.ptp_units.specs.Sequence.{of_count, is_newer};
 
 /// A timestamp and a fraction of a nanosecond name exactly one moment, and each moment is named by
@@ -27,4 +28,10 @@ pub fn same_number()
 pub fn newer_number()
     ensures { (m n : ℕ) → m < n + 32768 → n < m + 32768
         → (IsTrue (is_newer (of_count m) (of_count n)) ↔ (n < m)) }
+{}
+
+/// The text of a number of halves of 2^-16 ns, in nanoseconds, makes exactly that number, and ends in no 0 after a
+/// point.
+pub fn nanoseconds_are_exact()
+    ensures { (size : ℕ) → ShowsExactly size (size_text size) }
 {}

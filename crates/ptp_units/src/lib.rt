@@ -6,6 +6,7 @@
 mod exchange;
 mod interval;
 pub mod laws;
+mod nanoseconds;
 mod refusal;
 mod scaled_time;
 mod sequence;
@@ -13,6 +14,7 @@ mod timestamp;
 
 pub use exchange::{delay_bracket, offset2, path2, sync_bracket};
 pub use interval::{Interval, TOO_BIG};
+pub use nanoseconds::Nanoseconds;
 pub use refusal::UnitRefusal;
 pub use scaled_time::{BOUND, ScaledTime};
 pub use sequence::Seq;

@@ -5,8 +5,8 @@ use Rattle.std.specs.List.{list_all}
 use Rattle.std.specs.Char.{is_ascii_digit}
 use Rattle.std.proofs.lemmas.Str.Parse.{IsNumeralModel, numerals_by_weight}
 use Rattle.std.proofs.lemmas.Bool.Decides.{nat_tests}
-use Rattle.capture_lines.specs.Decimal.{decimals, size_text, ShowsExactly}
-use Rattle.capture_lines.proofs.LongDivision.{decimals-nothing, decimals-no_places, decimals-step}
+use Rattle.ptp_units.specs.Nanoseconds.{decimals, size_text, ShowsExactly}
+use Rattle.ptp_units.proofs.LongDivision.{decimals-nothing, decimals-no_places, decimals-step}
 
 -- each digit with the weight of its place
 abbrev weigh : List ℕ → ℕ

@@ -1,8 +1,8 @@
 use Rattle.std.proofs.Common.{◌+◌, ◌*◌, ◌/◌, [], ◌∷◌, ◌++◌, refl, true, arith}
 use Rattle.std.proofs.Output.{has_written_append, has_written_of_eq}
 use Rattle.std.proofs.lemmas.Fmt.{decimal_digit}
-use Rattle.capture_lines.proofs.LongDivision.{moved, ended, out_of_places}
-use Rattle.capture_lines.proofs.decimal.DecimalsDisplay.fmt.Goals as goal
+use Rattle.ptp_units.proofs.LongDivision.{moved, ended, out_of_places}
+use Rattle.ptp_units.proofs.nanoseconds.DecimalsDisplay.fmt.Goals as goal
 
 pub loop-place-preserved : goal.loop-place-preserved
 loop-place-preserved g c =

@@ -1,7 +1,7 @@
 use Rattle.std.proofs.Common.{◌≡◌, ℕ, ◌-◌, ◌<◌, List, ◌++◌}
 use Rattle.std.specs.Fmt.{HasWritten, IsPlainFormatter}
-use Rattle.capture_lines.specs.Decimal.{decimals}
-use Rattle.capture_lines.proofs.decimal.DecimalsDisplay.fmt.Given as goal
+use Rattle.ptp_units.specs.Nanoseconds.{decimals}
+use Rattle.ptp_units.proofs.nanoseconds.DecimalsDisplay.fmt.Given as goal
 
 -- what was written and the decimals of what is left are those of the whole
 abbrev pub invariant-loop-place : goal.invariant-loop-place

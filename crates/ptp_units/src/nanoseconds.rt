@@ -1,5 +1,5 @@
 ghost use Rattle.std.specs.Prelude.{◌<◌, Some};
-ghost use Rattle.capture_lines.specs.Decimal.{decimals, nanoseconds_text};
+ghost use Rattle.ptp_units.specs.Nanoseconds.{decimals, nanoseconds_text};
 
 use std::fmt;
 use std::fmt::{Display, Formatter};

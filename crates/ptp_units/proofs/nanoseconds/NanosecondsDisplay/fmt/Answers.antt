@@ -2,10 +2,10 @@ use Rattle.std.proofs.Common.{ap, inl, inr, rules, FitsSigned}
 use Rattle.std.specs.Int.{w128}
 use Rattle.std.proofs.Output.{has_written_of_eq}
 use Rattle.std.proofs.lemmas.Int.{to_z-of_z}
-use Rattle.capture_lines.proofs.LongDivision.{shown}
-use Rattle.capture_lines.proofs.decimal.NanosecondsDisplay.fmt.Goals.{then-self-lt0, else-self-lt0, then-rest-eq0}
-use Rattle.capture_lines.proofs.decimal.NanosecondsDisplay.fmt.Goals.{else-rest-eq0}
-use Rattle.capture_lines.proofs.decimal.NanosecondsDisplay.fmt.Goals as goal
+use Rattle.ptp_units.proofs.LongDivision.{shown}
+use Rattle.ptp_units.proofs.nanoseconds.NanosecondsDisplay.fmt.Goals.{then-self-lt0, else-self-lt0, then-rest-eq0}
+use Rattle.ptp_units.proofs.nanoseconds.NanosecondsDisplay.fmt.Goals.{else-rest-eq0}
+use Rattle.ptp_units.proofs.nanoseconds.NanosecondsDisplay.fmt.Goals as goal
 
 pub returns-clause-writes : goal.returns-clause-writes
 returns-clause-writes g c = λ plain ok.

@@ -7,7 +7,7 @@ use Rattle.std.specs.Fmt.{decimal}
 use Rattle.std.specs.Int.RustNames.{unsigned_abs}
 use lib.Signed.{lt_z}
 use borrow.Author.Differences.{ints}
-use Rattle.capture_lines.specs.Decimal.{decimals, pointed, nanoseconds_text}
+use Rattle.ptp_units.specs.Nanoseconds.{decimals, pointed, nanoseconds_text}
 
 pub decimals-nothing : (places : ℕ) → decimals places 0 ≡ []
 unfolding decimals

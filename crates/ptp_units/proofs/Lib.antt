@@ -1,0 +1,3 @@
+pub mod LongDivision
+pub mod ExactDecimals
+pub mod Worked
