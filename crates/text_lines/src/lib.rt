@@ -12,7 +12,7 @@ mod writing;
 
 pub use counted::Counted;
 pub use fault::{Cause, ReadingFault, Stopped};
-pub use lines::LINE_LIMIT;
+pub use lines::{LINE_LIMIT, LINES_LIMIT};
 pub use numbered::Numbered;
 pub use octet_reader::OctetReader;
 pub use task::{LineTask, answer_lines};
