@@ -14,7 +14,7 @@ use Rattle.capture_lines.specs.Measurement.{table_head}
 use Rattle.capture_measure.specs.declared.measuring.Form.{Form}
 use Rattle.capture_measure.specs.declared.measuring.Form.TheVariants.{Json, Table}
 use Rattle.capture_measure.specs.declared.measuring.MeasureFault.{MeasureFault}
-use Rattle.capture_measure.specs.declared.measuring.MeasureFault.TheVariants.{Write, Field}
+use Rattle.capture_measure.specs.declared.measuring.MeasureFault.TheVariants.{Write, Field, Memory}
 use Rattle.capture_measure.specs.declared.watch.Wanted.{Wanted}
 use Rattle.capture_measure.specs.Row.{Row, IsRow}
 use Rattle.capture_measure.specs.Measured.{written}
@@ -52,6 +52,12 @@ abbrev pub Stops : List ℕ → Recording → MeasureFault → List ℕ → Type
 Stops line r Field out = ((row : Row) → IsNext r line row → ⊥) × (out ≡ [])
 Stops line r fault out =
     (row : Row) × IsNext r line row × (rest : List ℕ) × (written_of (with_row row r) ≡ written_of r ++ (out ++ rest))
+
+-- the number of a fault
+abbrev pub number_of : MeasureFault → ℕ
+number_of Write = 802
+number_of Field = 806
+number_of Memory = 808
 
 -- whether this fault says that the writer failed
 abbrev pub is_of_writer : MeasureFault → Bool

@@ -5,17 +5,18 @@ ghost use Rattle.std.specs.Prelude.{Some, None, ⊤};
 ghost use Rattle.std.specs.List.{All};
 ghost use Rattle.text_lines.specs.Counted.{device_of, HasFailed, HasNotFailed, HasFailedIf};
 ghost use Rattle.std.specs.Io.KnownBytes.{Appends};
+ghost use Rattle.text_lines.specs.Fault.{no_refusal};
 ghost use Rattle.text_lines.specs.Lines.{line_limit, input_limit, GivesWithin};
 ghost use Rattle.text_lines.specs.Task.{FailedAt};
 ghost use Rattle.event_codec.specs.Reading.{Reading, IsReading};
 ghost use Rattle.capture_model.specs.Listening.{after_all};
 ghost use Rattle.capture_lines.specs.Measurement.{measured_of};
-ghost use Rattle.capture_measure.specs.declared.measuring.MeasureFault.TheVariants.{Memory};
+ghost use Rattle.capture_measure.specs.declared.measuring.MeasureFault.TheVariants.{Memory, Write};
 ghost use Rattle.capture_measure.specs.Watch.{watched_in};
 ghost use Rattle.capture_measure.specs.Row.{Row, datagrams, IsRow};
 ghost use Rattle.capture_measure.specs.Measured.{half_of, text_as, report_text, reports_text};
 ghost use Rattle.capture_measure.specs.Measure.{Recording, begun, head_text, is_of_writer, measure_rules};
-ghost use Rattle.capture_measure.specs.Measure.{MeasuresAnswer};
+ghost use Rattle.capture_measure.specs.Measure.{number_of, MeasuresAnswer};
 ghost use Rattle.capture_measure.specs.Inner.Listener.{IsListener, report_by};
 ghost use Rattle.capture_measure.specs.Inner.Watching.{IsWatch};
 ghost use Rattle.capture_measure.specs.Inner.Measuring.{reading_of, IsLine, NoRow, HasRow, IsUnread, IsRead, IsRowOf};
@@ -34,7 +35,9 @@ use std::alloc::{AllocError, AllocFailed, Global};
 use std::fmt;
 use std::fmt::{Display, Formatter};
 use std::io::{Read, Write};
-use text_lines::{Cause, Counted, LINE_LIMIT, LineTask, Stopped, answer_lines};
+use text_lines::{
+    Cause, Counted, LINE_LIMIT, LineTask, Numbered, Stopped, WriteFailed, answer_lines, write_text,
+};
 
 /// The most octets of a datagram, which is written in two digits each.
 const DATAGRAM_LIMIT: usize = LINE_LIMIT / 2;
@@ -60,6 +63,32 @@ pub enum MeasureFault {
     Field,
     /// Memory was refused.
     Memory,
+}
+
+impl Numbered for MeasureFault {
+    ghost number_of = { number_of };
+
+    ghost refusal_of = { no_refusal };
+
+    fn number(&self) -> u16 {
+        match self {
+            MeasureFault::Write => 802,
+            MeasureFault::Field => 806,
+            MeasureFault::Memory => 808,
+        }
+    }
+
+    fn refusal(&self) -> Option<u16> {
+        None
+    }
+}
+
+impl From<WriteFailed> for MeasureFault {
+    ghost from_gives = { λ _ fault. fault ≡ Write };
+
+    fn from(_failed: WriteFailed) -> MeasureFault {
+        MeasureFault::Write
+    }
 }
 
 impl From<AllocError> for MeasureFault {
@@ -234,13 +263,9 @@ impl Reports {
             Form::Json => push_json(&mut self.text, measured)?,
             Form::Table => push_row(&mut self.text, measured)?,
         }
-        match output.write_all(self.text.as_bytes()) {
-            Ok(()) => {
-                self.tally.count_report();
-                Ok(())
-            }
-            Err(_) => Err(MeasureFault::Write),
-        }
+        write_text::<W, MeasureFault>(self.text.as_str(), output)?;
+        self.tally.count_report();
+        Ok(())
     }
 
     /// Counts a line by which it isn't known yet whom to watch.
@@ -576,10 +601,7 @@ fn write_head<W: Write>(form: Form, output: &mut Counted<W>) -> Result<(), Measu
 {
     match form {
         Form::Json => Ok(()),
-        Form::Table => match output.write_all(table_head().as_bytes()) {
-            Ok(()) => Ok(()),
-            Err(_) => Err(MeasureFault::Write),
-        },
+        Form::Table => write_text(table_head(), output),
     }
 }
 

@@ -8,12 +8,11 @@ use Rattle.text_lines.specs.declared.fault.Cause.{Cause}
 use Rattle.text_lines.specs.declared.fault.Stopped.{Stopped}
 use Rattle.text_lines.specs.declared.fault.Cause.TheVariants.{Reading, Task}
 use Rattle.text_lines.specs.Counted.{device_of, HasNotFailed, HasFailedIf}
-use Rattle.text_lines.specs.Lines.{IsFromReading}
+use Rattle.text_lines.specs.Lines.{lines_limit, IsFromReading}
 use Rattle.text_lines.specs.Task.{Rules, AnswersAll, AnswersUntil}
 use Rattle.schedule_reading.specs.declared.fault.TaskFault.{TaskFault}
 use Rattle.schedule_reading.specs.declared.fault.TaskFault.TheVariants.{Write, World, Memory}
 use Rattle.schedule_reading.specs.declared.transcript.Judged.{Judged}
-use Rattle.schedule_reading.specs.Entry.{lines_limit}
 use Rattle.schedule_reading.specs.Fault.{is_write}
 use Rattle.schedule_reading.specs.Verdict.{verdict_text}
 use Rattle.exchange_explain.specs.declared.explaining.Explained.{Explained}

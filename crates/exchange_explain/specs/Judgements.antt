@@ -12,7 +12,7 @@ use Rattle.text_lines.specs.Task.{Rules, Answers}
 use Rattle.schedule_reading.specs.declared.fault.TaskFault.{TaskFault}
 use Rattle.schedule_reading.specs.declared.fault.TaskFault.TheVariants.{Write}
 use Rattle.schedule_reading.specs.declared.transcript.Judged.{Judged}
-use Rattle.schedule_reading.specs.Entry.{lines_limit}
+use Rattle.text_lines.specs.Lines.{lines_limit}
 use Rattle.schedule_reading.specs.Fault.{is_write}
 use Rattle.exchange_explain.specs.declared.input.Found.{Found}
 use Rattle.exchange_explain.specs.declared.input.Input.{Input}

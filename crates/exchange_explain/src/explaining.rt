@@ -2,11 +2,10 @@
 ghost use Rattle.std.specs.Prelude.{◌≡◌, ◌+◌, MatchResult, Some, None, option_map, string_bytes};
 ghost use Rattle.std.specs.Io.KnownBytes.{Appends};
 ghost use Rattle.schedule_reading.specs.declared.fault.TaskFault.TheVariants.{World};
-ghost use Rattle.schedule_reading.specs.Entry.{lines_limit};
 ghost use Rattle.schedule_reading.specs.Fault.{is_write};
 ghost use Rattle.exchange_explain.specs.declared.explaining.Explained.TheVariants.{Flawed};
 ghost use Rattle.text_lines.specs.Counted.{device_of, HasFailedIf, HasNotFailed};
-ghost use Rattle.text_lines.specs.Lines.{input_limit, GivesWithin};
+ghost use Rattle.text_lines.specs.Lines.{input_limit, lines_limit, GivesWithin};
 ghost use Rattle.exchange_explain.specs.Explained.{Seen, Sees, SeesFirst, EndsIn, TellsEnd, explain_rules};
 ghost use Rattle.exchange_explain.specs.Explained.{ExplainsAnswer, ExplainFailedWith};
 ghost use Rattle.exchange_explain.specs.Input.{lines_in};
@@ -21,10 +20,12 @@ use crate::report::{is_sound, push_sound};
 use crate::tally::{Tally, push_found};
 use line_flaws::Foreign;
 use network_model::WorldRefusal;
-use schedule_reading::{Judged, LINES_LIMIT, TaskFault, Transcript, write_text};
+use schedule_reading::{Judged, TaskFault, Transcript};
 use std::alloc::{AllocError, Global};
 use std::io::{Read, Write};
-use text_lines::{Cause, Counted, LineTask, ReadingFault, Stopped, answer_lines};
+use text_lines::{
+    Cause, Counted, LINES_LIMIT, LineTask, ReadingFault, Stopped, answer_lines, write_text,
+};
 
 /// What an input is found to be.
 #[derive(Clone, Copy, Debug, PartialEq, Eq)]

@@ -1,17 +1,16 @@
 //! A transcript whose reports are judged, a line of JSON each.
 ghost use Rattle.std.specs.Prelude.{◌≡◌, MatchResult};
-ghost use Rattle.schedule_reading.specs.Entry.{lines_limit};
 ghost use Rattle.text_lines.specs.Counted.{HasNotFailed};
-ghost use Rattle.text_lines.specs.Lines.{input_limit, GivesWithin};
+ghost use Rattle.text_lines.specs.Lines.{input_limit, lines_limit, GivesWithin};
 ghost use Rattle.text_lines.specs.Task.{FailedAt};
 ghost use Rattle.exchange_explain.specs.Judgements.{Told, is_told, judgement_rules, JudgesAnswer};
 
 use crate::input::{Found, Input};
 use crate::json::push_judged;
-use schedule_reading::{LINES_LIMIT, TaskFault, Transcript, write_text};
+use schedule_reading::{TaskFault, Transcript};
 use std::alloc::Global;
 use std::io::{Read, Write};
-use text_lines::{Cause, Counted, LineTask, Stopped, answer_lines};
+use text_lines::{Cause, Counted, LINES_LIMIT, LineTask, Stopped, answer_lines, write_text};
 
 /// Judges each report of a transcript.
 #[derive(Drop)]

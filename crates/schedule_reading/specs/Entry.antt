@@ -1,4 +1,4 @@
--- What a line is, or its fault, and how many lines there are at the most.
+-- What a line is, or its fault.
 use Rattle.std.specs.Prelude.{◌≡◌, ◌⊎◌, ℕ, List, Option, Some, None, ok_or, Result, Err}
 use Rattle.serde_json.specs.Data.{Data}
 use Rattle.schedule_lines.specs.Json.{value_in}
@@ -8,10 +8,6 @@ use Rattle.schedule_lines.specs.Line.{line_of}
 use Rattle.schedule_lines.specs.TranscriptLine.{transcript_line_of}
 use Rattle.schedule_reading.specs.declared.fault.TaskFault.{TaskFault}
 use Rattle.schedule_reading.specs.declared.fault.TaskFault.TheVariants.{Json, Field}
-
--- the most lines
-abbrev pub lines_limit : ℕ
-lines_limit = 1048576
 
 -- what a line's value is by such a reading, or the line's fault
 abbrev pub read_by : {E : Type 0} → (Data → Option E) → Option Data → Result E TaskFault

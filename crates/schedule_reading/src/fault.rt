@@ -1,11 +1,12 @@
 //! Why lines are taken no further.
 ghost use Rattle.std.specs.Prelude.{◌≡◌};
-ghost use Rattle.schedule_reading.specs.Fault.{fault_of};
-ghost use Rattle.schedule_reading.specs.declared.fault.TaskFault.TheVariants.{Memory};
+ghost use Rattle.schedule_reading.specs.Fault.{fault_of, number_of, refusal_of};
+ghost use Rattle.schedule_reading.specs.declared.fault.TaskFault.TheVariants.{Memory, Write};
 
 use exchange_check::CheckFault;
 use network_model::WorldRefusal;
 use std::alloc::{AllocError, AllocFailed};
+use text_lines::{Numbered, WriteFailed};
 
 /// Why a line isn't taken, or the end has no answer.
 #[derive(Clone, Copy, Debug, PartialEq, Eq)]
@@ -22,6 +23,29 @@ pub enum TaskFault {
     Memory,
 }
 
+impl Numbered for TaskFault {
+    ghost number_of = { number_of };
+
+    ghost refusal_of = { refusal_of };
+
+    fn number(&self) -> u16 {
+        match self {
+            TaskFault::Write => 802,
+            TaskFault::Json => 805,
+            TaskFault::Field => 806,
+            TaskFault::World(_) => 807,
+            TaskFault::Memory => 808,
+        }
+    }
+
+    fn refusal(&self) -> Option<u16> {
+        match self {
+            TaskFault::World(why) => Some(why.code()),
+            _ => None,
+        }
+    }
+}
+
 impl From<AllocError> for TaskFault {
     ghost from_gives = { λ _ fault. fault ≡ Memory };
 
@@ -35,6 +59,14 @@ impl<T: Drop> From<AllocFailed<T>> for TaskFault {
 
     fn from(_refused: AllocFailed<T>) -> TaskFault {
         TaskFault::Memory
+    }
+}
+
+impl From<WriteFailed> for TaskFault {
+    ghost from_gives = { λ _ fault. fault ≡ Write };
+
+    fn from(_failed: WriteFailed) -> TaskFault {
+        TaskFault::Write
     }
 }
 

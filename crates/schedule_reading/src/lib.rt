@@ -15,8 +15,5 @@ pub use entry::{read_entry, read_recorded};
 pub use fault::TaskFault;
 pub use reader::LineReader;
 pub use stage::Stage;
-pub use text::{push_verdict, write_octets, write_text};
+pub use text::push_verdict;
 pub use transcript::{Judged, Transcript};
-
-/// The most lines of an input.
-pub const LINES_LIMIT: u64 = 1_048_576;

@@ -10,10 +10,10 @@ use Rattle.network_model.specs.Network.{Network}
 use Rattle.network_model.specs.Run.{Run}
 use Rattle.schedule_lines.specs.declared.reading.schedule.Line.{Line}
 use Rattle.schedule_lines.specs.declared.reading.schedule.Line.TheVariants as entries
-use Rattle.text_lines.specs.Lines.{AreRead}
+use Rattle.text_lines.specs.Lines.{lines_limit, AreRead}
 use Rattle.schedule_reading.specs.declared.fault.TaskFault.{TaskFault}
 use Rattle.schedule_reading.specs.declared.fault.TaskFault.TheVariants.{Json, Field, Memory}
-use Rattle.schedule_reading.specs.Entry.{lines_limit, read_by}
+use Rattle.schedule_reading.specs.Entry.{read_by}
 use Rattle.schedule_lines.specs.Json.{value_in}
 use Rattle.schedule_reading.specs.Entry.{entry_in}
 use Rattle.schedule_reading.specs.Entry.{IsOwnFault}

@@ -17,14 +17,14 @@ use Rattle.schedule_lines.specs.Ranges.{IsNode, IsEvent, IsLine}
 use Rattle.schedule_lines.proofs.Ranges.{reads_in_range}
 use Rattle.schedule_reading.specs.declared.fault.TaskFault.{TaskFault}
 use Rattle.schedule_reading.specs.declared.fault.TaskFault.TheVariants.{Field}
-use Rattle.schedule_reading.specs.Entry.{lines_limit, read_by}
+use Rattle.schedule_reading.specs.Entry.{read_by}
 use Rattle.schedule_lines.specs.Json.{value_in}
 use Rattle.schedule_replay.proofs.Entries.{AreEntries, schedule_of}
 use Rattle.schedule_replay.specs.Accepted.{IsInRange, EachReplayIsAccepted}
 use Rattle.network_model.proofs.ExactPremises.{IsExact}
 use Rattle.schedule_replay.proofs.OneTranscript.{accepted_by, checked_by}
 use Rattle.text_lines.specs.declared.fault.ReadingFault.TheVariants.{TooManyLines, LineTooLong}
-use Rattle.text_lines.specs.Lines.{lines_of, line_limit, without_cr}
+use Rattle.text_lines.specs.Lines.{lines_of, line_limit, without_cr, lines_limit}
 use Rattle.schedule_replay.specs.CheckText.{ChecksAll, ChecksUntil}
 use Rattle.schedule_replay.proofs.Replayed.{replayed}
 use Rattle.schedule_lines.specs.declared.reading.schedule.Line.TheVariants as entries

@@ -27,8 +27,8 @@ use Rattle.schedule_lines.proofs.Printed.{event_texts_back, node_texts_back}
 use Rattle.schedule_lines.proofs.ReadBack.{reads_back}
 use Rattle.schedule_reading.specs.declared.fault.TaskFault.{TaskFault}
 use Rattle.schedule_reading.specs.declared.fault.TaskFault.TheVariants.{Field}
-use Rattle.text_lines.specs.Lines.{lines_of, without_cr, line_limit, reading_fault}
-use Rattle.schedule_reading.specs.Entry.{lines_limit, read_by}
+use Rattle.text_lines.specs.Lines.{lines_of, without_cr, line_limit, reading_fault, lines_limit}
+use Rattle.schedule_reading.specs.Entry.{read_by}
 use Rattle.schedule_replay.specs.Replay.{nodes_text, WritesRun}
 use Rattle.schedule_reading.specs.Entry.{recorded_in}
 use Rattle.schedule_replay.specs.CheckText.{AreRecorded, numbered}

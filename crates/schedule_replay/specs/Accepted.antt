@@ -17,8 +17,7 @@ use Rattle.schedule_replay.specs.declared.fault.FaultKind.TheVariants.{Read, Wri
 use Rattle.schedule_replay.specs.declared.fault.FaultKind.TheVariants.{Field, World, Memory}
 use Rattle.schedule_replay.specs.Replay.{nodes_text, WritesRun, ReplaysAll}
 use Rattle.schedule_replay.specs.CheckText.{AreRecorded, transcript_of, ChecksAll, ChecksUntil, Checks}
-use Rattle.text_lines.specs.Lines.{lines_of}
-use Rattle.schedule_reading.specs.Entry.{lines_limit}
+use Rattle.text_lines.specs.Lines.{lines_of, lines_limit}
 
 -- nodes and events whose values are within their ranges, and no more than lines are allowed
 pub record IsInRange (nodes : Network) (run : Run) : Type 0 where

@@ -10,12 +10,12 @@ use Rattle.schedule_lines.specs.declared.reading.transcript.TranscriptLine.{Tran
 use Rattle.schedule_replay.specs.declared.fault.Fault.{Fault}
 use Rattle.schedule_reading.specs.declared.fault.TaskFault.{TaskFault}
 use Rattle.schedule_reading.specs.declared.fault.TaskFault.TheVariants.{Write, World, Memory}
-use Rattle.schedule_reading.specs.Entry.{lines_limit, recorded_in}
+use Rattle.schedule_reading.specs.Entry.{recorded_in}
 use Rattle.schedule_reading.specs.Fault.{is_write}
 use Rattle.schedule_reading.specs.Verdict.{verdict_text}
 use Rattle.schedule_reading.specs.Transcript.{Recorded, Follows, FaultsInTranscript, nothing}
 use Rattle.text_lines.specs.declared.counted.Counted.{Counted}
-use Rattle.text_lines.specs.Lines.{AreRead}
+use Rattle.text_lines.specs.Lines.{lines_limit, AreRead}
 use Rattle.text_lines.specs.Task.{Rules, AnswersAll}
 use Rattle.schedule_replay.specs.Answer.{SaysUntil, Says, SaysAnswer}
 use Rattle.schedule_lines.specs.declared.reading.transcript.TranscriptLine.TheVariants as recorded

@@ -1,8 +1,9 @@
 -- The numbers of the faults, and which device failed.
-use Rattle.std.specs.Prelude.{ℕ, MatchResult, Result}
+use Rattle.std.specs.Prelude.{◌≡◌, ℕ, MatchResult, Option, Some, None, Result}
 use Rattle.text_lines.specs.declared.counted.Counted.{Counted}
 use Rattle.schedule_replay.specs.declared.fault.Fault.{Fault}
 use Rattle.schedule_replay.specs.declared.fault.FaultKind.{FaultKind}
+use Rattle.network_model.specs.Refusal.{code_of as world_code}
 use Rattle.schedule_reading.specs.declared.fault.TaskFault.{TaskFault}
 use Rattle.schedule_reading.specs.declared.fault.TaskFault.TheVariants as tasks
 use Rattle.schedule_replay.specs.declared.fault.FaultKind.TheVariants.{Read, Write, LineTooLong, TooManyLines, Json}
@@ -15,6 +16,9 @@ use Rattle.text_lines.specs.declared.fault.ReadingFault.{ReadingFault}
 use Rattle.text_lines.specs.declared.fault.ReadingFault.TheVariants as reading
 use Rattle.text_lines.specs.declared.fault.Stopped.{Stopped}
 use Rattle.text_lines.specs.Counted.{HasFailed, HasNotFailed}
+use Rattle.text_lines.specs.Fault.{number_by, refusal_by, no_refusal}
+use Rattle.schedule_reading.specs.Fault.{number_of, refusal_of as task_refusal}
+use Rattle.capture_measure.specs.Measure.{number_of as measuring_number}
 
 -- the number of a fault
 abbrev pub code_of : FaultKind → ℕ
@@ -26,6 +30,11 @@ code_of Json = 805
 code_of Field = 806
 code_of (World why) = 807
 code_of Memory = 808
+
+-- the number of the refusal that a fault is about
+abbrev pub refusal_of : FaultKind → Option ℕ
+refusal_of (World why) = Some (world_code why)
+refusal_of kind = None
 
 -- the fault by which a fault in reading is told
 abbrev pub of_reading : ReadingFault → FaultKind
@@ -52,6 +61,13 @@ of_measuring (Reading fault) = of_reading fault
 of_measuring (Task measuring.Write) = Write
 of_measuring (Task measuring.Field) = Field
 of_measuring (Task measuring.Memory) = Memory
+
+-- a kind of fault has the number, and its refusal's, of what stopped the answering or the measuring of lines
+pub record FaultsHaveOneNumber : Type 0 where
+  pub answering : (what : Cause TaskFault) → code_of (kind_of what) ≡ number_by number_of what
+  pub answering_refusal : (what : Cause TaskFault) → refusal_of (kind_of what) ≡ refusal_by task_refusal what
+  pub measuring : (what : Cause MeasureFault) → code_of (of_measuring what) ≡ number_by measuring_number what
+  pub measuring_refusal : (what : Cause MeasureFault) → refusal_of (of_measuring what) ≡ refusal_by no_refusal what
 
 -- the kind of a fault
 abbrev pub kind_at : Fault → FaultKind

@@ -19,7 +19,7 @@ use Rattle.world_model.specs.State.{State}
 use Rattle.schedule_lines.specs.declared.reading.schedule.Line.{Line}
 use Rattle.schedule_replay.specs.Answer.{Says, SaysAnswer}
 use Rattle.schedule_reading.specs.Fault.{is_write}
-use Rattle.schedule_reading.specs.Entry.{lines_limit}
+use Rattle.text_lines.specs.Lines.{lines_limit}
 use Rattle.schedule_lines.specs.declared.reading.schedule.Line.TheVariants as entries
 
 -- the lines of the nodes

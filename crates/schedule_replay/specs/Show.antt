@@ -9,7 +9,7 @@ use Rattle.text_lines.specs.declared.counted.Counted.{Counted}
 use Rattle.text_lines.specs.Task.{Rules}
 use Rattle.schedule_replay.specs.Answer.{Says, SaysAnswer}
 use Rattle.schedule_reading.specs.Fault.{is_write}
-use Rattle.schedule_reading.specs.Entry.{lines_limit}
+use Rattle.text_lines.specs.Lines.{lines_limit}
 
 -- the digits are a datagram in hexadecimal, and this is its text with an LF
 pub record IsAnswer (digits written : List ℕ) : Type 0 where

@@ -1,17 +1,16 @@
 //! A transcript that is checked line by line.
 ghost use Rattle.std.specs.Prelude.{◌≡◌};
-ghost use Rattle.schedule_reading.specs.Entry.{lines_limit};
 ghost use Rattle.schedule_reading.specs.Transcript.{Recorded};
 ghost use Rattle.schedule_replay.specs.Fault.{FailedWith};
 ghost use Rattle.schedule_replay.specs.CheckText.{check_rules, ChecksAnswer};
-ghost use Rattle.text_lines.specs.Lines.{input_limit, GivesWithin};
+ghost use Rattle.text_lines.specs.Lines.{input_limit, lines_limit, GivesWithin};
 
 use crate::fault::Fault;
 use exchange_check::Verdict;
-use schedule_reading::{LINES_LIMIT, TaskFault, Transcript, push_verdict, write_text};
+use schedule_reading::{TaskFault, Transcript, push_verdict};
 use std::alloc::Global;
 use std::io::{Read, Write};
-use text_lines::{Counted, LineTask, answer_lines};
+use text_lines::{Counted, LINES_LIMIT, LineTask, answer_lines, write_text};
 
 /// Checks each line of a transcript.
 #[derive(Drop)]
@@ -49,7 +48,7 @@ impl LineTask for Checking {
         let verdict = self.transcript.verdict()?;
         let mut text = String::new(self.alloc);
         push_verdict(&mut text, verdict)?;
-        write_text(text.as_str(), output)?;
+        write_text::<W, TaskFault>(text.as_str(), output)?;
         Ok(verdict)
     }
 }

@@ -1,11 +1,10 @@
 ghost use Rattle.std.specs.Prelude.{◌≡◌};
 
-use capture_measure::MeasureFault;
 use network_model::WorldRefusal;
 use schedule_reading::TaskFault;
 use std::fmt;
 use std::fmt::{Display, Formatter};
-use text_lines::{Cause, ReadingFault, Stopped};
+use text_lines::{Cause, Numbered, ReadingFault, Stopped};
 use thiserror::Error;
 
 /// A fault that ended the reading of lines, and where. The display text says both in words.
@@ -64,6 +63,25 @@ impl FaultKind {
             FaultKind::Field => 806,
             FaultKind::World(_) => 807,
             FaultKind::Memory => 808,
+        }
+    }
+}
+
+impl Numbered for FaultKind {
+    ghost use Rattle.schedule_replay.specs.Fault.{code_of, refusal_of};
+
+    ghost number_of = { code_of };
+
+    ghost refusal_of = { refusal_of };
+
+    fn number(&self) -> u16 {
+        self.code()
+    }
+
+    fn refusal(&self) -> Option<u16> {
+        match self {
+            FaultKind::World(why) => Some(why.code()),
+            _ => None,
         }
     }
 }
@@ -128,25 +146,6 @@ impl From<Stopped<Cause<TaskFault>>> for Fault {
         let what = match stop.what {
             Cause::Reading(fault) => fault.into(),
             Cause::Task(fault) => fault.into(),
-        };
-        Fault {
-            line: stop.line,
-            what,
-        }
-    }
-}
-
-impl From<Stopped<Cause<MeasureFault>>> for Fault {
-    ghost use Rattle.schedule_replay.specs.Fault.{of_measuring};
-
-    ghost from_gives = { λ stop fault. (fault.line ≡ stop.line) × (fault.what ≡ of_measuring stop.what) };
-
-    fn from(stop: Stopped<Cause<MeasureFault>>) -> Fault {
-        let what = match stop.what {
-            Cause::Reading(fault) => fault.into(),
-            Cause::Task(MeasureFault::Write) => FaultKind::Write,
-            Cause::Task(MeasureFault::Field) => FaultKind::Field,
-            Cause::Task(MeasureFault::Memory) => FaultKind::Memory,
         };
         Fault {
             line: stop.line,

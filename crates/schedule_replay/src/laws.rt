@@ -1,4 +1,5 @@
 //! What follows from the definitions alone, for any octets and for what is written of any run.
+ghost use Rattle.schedule_replay.specs.Fault.{FaultsHaveOneNumber};
 ghost use Rattle.network_model.specs.Premises.{exact_limits, IsFreshAndTicked, IsWithinTurn};
 ghost use Rattle.schedule_replay.specs.Accepted.{EachRunIsTranscribed, EachRunIsAccepted, EachRunIsChecked};
 ghost use Rattle.schedule_replay.specs.Accepted.{EachReplayIsAccepted};
@@ -51,4 +52,9 @@ pub fn octets_have_one_answer()
     ensures replay { HasOneAnswer kind_at Replays }
     ensures check_text { HasOneAnswer kind_at Checks }
     ensures measure { (form : Form) (wanted : Wanted) → HasOneAnswer measuring_kind (Measures form wanted) }
+{}
+
+/// A fault has one number, whoever tells it: a kind of fault has that of what stopped the lines.
+pub fn faults_have_one_number()
+    ensures { FaultsHaveOneNumber }
 {}

@@ -6,8 +6,7 @@ ghost use Rattle.schedule_replay.specs.Program.{check_status, found_status, stat
 ghost use Rattle.command_line.specs.Arguments.{AsksNothing, HasHelpFlag, Names, NamesNothing};
 ghost use Rattle.capture_measure.specs.Measure.{measure_rules};
 ghost use Rattle.schedule_replay.specs.Inner.Allowed.{lines_allowed};
-ghost use Rattle.schedule_reading.specs.Entry.{lines_limit};
-ghost use Rattle.text_lines.specs.Lines.{input_limit, GivesWithin};
+ghost use Rattle.text_lines.specs.Lines.{input_limit, lines_limit, GivesWithin};
 
 use crate::checking::check_text;
 use crate::fault::{Fault, FaultKind};
@@ -20,7 +19,7 @@ use exchange_check::Verdict;
 use exchange_explain::{Explained, Found, explain, write_judgements};
 use std::alloc::Global;
 use std::io::{Read, Write};
-use text_lines::Counted;
+use text_lines::{Counted, Numbered, Stopped};
 
 /// The whole program over its arguments, of which the first is its own name: runs the subcommand that
 /// they name, and answers the exit status. Status 0: done or accepted, or help was asked for, which
@@ -84,8 +83,8 @@ fn run<R: Read, W: Write, E: Write>(
     ensures bounded { GivesWithin R.remaining (input_limit (lines_allowed subcommand)) input.old input.new }
 {
     match subcommand {
-        Subcommand::Show => finish(errors, hints, show(alloc, input, output)),
-        Subcommand::Replay => finish(errors, hints, replay(alloc, input, output)),
+        Subcommand::Show => finish_hinted(errors, hints, show(alloc, input, output)),
+        Subcommand::Replay => finish_hinted(errors, hints, replay(alloc, input, output)),
         Subcommand::Check => finish_check(errors, hints, check_text(alloc, input, output)),
         Subcommand::Measure(options) => run_measure(alloc, options, input, output, errors),
         Subcommand::Explain(options) => run_explain(alloc, options, input, output, errors),
@@ -106,19 +105,13 @@ fn run_explain<R: Read, W: Write, E: Write>(
     if options.json {
         return match write_judgements(alloc, options.first, input, output) {
             Ok(found) => found_status(found),
-            Err(stop) => report(errors, stop.into()),
+            Err(stop) => report(errors, stop),
         };
     }
     match explain(alloc, options.first, input, output) {
         Ok(Explained::Whole(found)) => found_status(found),
-        Ok(Explained::Flawed { line, what }) => report(
-            errors,
-            Fault {
-                line,
-                what: what.into(),
-            },
-        ),
-        Err(stop) => report(errors, stop.into()),
+        Ok(Explained::Flawed { line, what }) => report(errors, Stopped { line, what }),
+        Err(stop) => report(errors, stop),
     }
 }
 
@@ -150,23 +143,33 @@ fn run_measure<R: Read, W: Write, E: Write>(
     };
     let form = if options.csv { Form::Table } else { Form::Json };
     let (answer, summary) = measure(alloc, &wanted, form, input, output);
-    let status = finish(errors, Hints::None, answer);
+    let status = finish(errors, answer);
     summary.tell(errors);
     status
 }
 
 /// A fault before any line is read.
-fn before_lines(what: FaultKind) -> Fault {
-    Fault { line: 0, what }
+fn before_lines(what: FaultKind) -> Stopped<FaultKind> {
+    Stopped { line: 0, what }
 }
 
 /// Answers the exit status of a subcommand that ended, and says its fault.
-fn finish<F: Into<Fault>, E: Write>(errors: &mut E, hints: Hints, answer: Result<u64, F>) -> u8
+fn finish<F: Numbered + Copy, E: Write>(errors: &mut E, answer: Result<u64, Stopped<F>>) -> u8
     ensures { result ≡ status_of answer }
 {
     match answer {
         Ok(_) => 0,
-        Err(fault) => report_with(errors, hints, fault.into()),
+        Err(stop) => report(errors, stop),
+    }
+}
+
+/// The same, with the hint to its fault.
+fn finish_hinted<E: Write>(errors: &mut E, hints: Hints, answer: Result<u64, Fault>) -> u8
+    ensures { result ≡ status_of answer }
+{
+    match answer {
+        Ok(_) => 0,
+        Err(fault) => report_hinted(errors, hints, fault),
     }
 }
 
@@ -177,31 +180,30 @@ fn finish_check<E: Write>(errors: &mut E, hints: Hints, answer: Result<Verdict, 
     match answer {
         Ok(Verdict::Accepted(_)) => 0,
         Ok(Verdict::Refused { .. }) => 1,
-        Err(fault) => report_with(errors, hints, fault),
+        Err(fault) => report_hinted(errors, hints, fault),
     }
 }
 
 /// Says a fault and the hint to it, and answers the exit status.
-fn report_with<E: Write>(errors: &mut E, hints: Hints, fault: Fault) -> u8
+fn report_hinted<E: Write>(errors: &mut E, hints: Hints, fault: Fault) -> u8
     ensures { result ≡ 3 }
 {
-    let status = report(errors, fault);
-    if let Some(hint) = hints.hint(fault.what) {
-        let _ = writeln!(errors, "ptpx: {} is {hint}", fault.what.code());
+    let Fault { line, what } = fault;
+    let status = report(errors, Stopped { line, what });
+    if let Some(hint) = hints.hint(what) {
+        let _ = writeln!(errors, "ptpx: {} is {hint}", what.code());
     }
     status
 }
 
 /// Says a fault, and answers the exit status.
-fn report<E: Write>(errors: &mut E, fault: Fault) -> u8
+fn report<F: Numbered + Copy, E: Write>(errors: &mut E, stop: Stopped<F>) -> u8
     ensures { result ≡ 3 }
 {
-    let (what, line) = (fault.what, fault.line);
-    let _ = match what {
-        FaultKind::World(why) => {
-            writeln!(errors, "ptpx: fault {what} ({}) at line {line}", why.code())
-        }
-        _ => writeln!(errors, "ptpx: fault {what} at line {line}"),
+    let (line, number) = (stop.line, stop.what.number());
+    let _ = match stop.what.refusal() {
+        Some(refusal) => writeln!(errors, "ptpx: fault {number} ({refusal}) at line {line}"),
+        None => writeln!(errors, "ptpx: fault {number} at line {line}"),
     };
     3
 }

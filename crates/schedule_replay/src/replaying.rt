@@ -7,24 +7,23 @@ ghost use Rattle.schedule_lines.specs.Written.{node_data, event_data, line_text}
 ghost use Rattle.schedule_lines.specs.declared.reading.schedule.Line.TheVariants as entries;
 ghost use Rattle.schedule_replay.specs.Fault.{FailedWith};
 ghost use Rattle.schedule_reading.specs.Fault.{is_write};
-ghost use Rattle.schedule_reading.specs.Entry.{lines_limit};
 ghost use Rattle.schedule_reading.specs.Schedule.{FaultsAtEnd};
 ghost use Rattle.schedule_replay.specs.Replay.{nodes_text, IsEventLine, ReplaysAnswer, NodesGoOut};
 ghost use Rattle.schedule_replay.specs.Replay.{Follows, replay_rules};
 ghost use Rattle.schedule_replay.specs.Inner.Replaying.{LeavesUnwritten};
 ghost use Rattle.schedule_replay.specs.Inner.Replaying.{state_of, IsReplaying, WritesNone, StopsEvent, StopsAt};
 ghost use Rattle.text_lines.specs.Counted.{device_of, HasNotFailed, HasFailedIf};
-ghost use Rattle.text_lines.specs.Lines.{input_limit, GivesWithin};
+ghost use Rattle.text_lines.specs.Lines.{input_limit, lines_limit, GivesWithin};
 ghost use Rattle.text_lines.specs.Task.{WentOut};
 
 use crate::fault::Fault;
 use line_writing::{push_event, push_node};
 use network_model::{Event, NodeSpec, Nodes};
 use schedule_lines::Line;
-use schedule_reading::{LINES_LIMIT, LineReader, Stage, TaskFault, write_octets};
+use schedule_reading::{LineReader, Stage, TaskFault};
 use std::alloc::Global;
 use std::io::{Read, Write};
-use text_lines::{Counted, LineTask, answer_lines};
+use text_lines::{Counted, LINES_LIMIT, LineTask, answer_lines, write_octets};
 use trace_model::TraceLine;
 use world_model::World;
 

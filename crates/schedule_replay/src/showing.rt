@@ -1,16 +1,15 @@
 ghost use Rattle.std.specs.Prelude.{◌≡◌, ◌≤◌, length, MatchResult, ◌⊎◌, ⊤};
 ghost use Rattle.std.specs.String.{string_bytes};
 ghost use Rattle.schedule_replay.specs.Fault.{FailedWith};
-ghost use Rattle.schedule_reading.specs.Entry.{lines_limit};
 ghost use Rattle.schedule_replay.specs.Show.{IsAnswer, ShowsAnswer, StopsShowing, show_rules};
-ghost use Rattle.text_lines.specs.Lines.{input_limit, line_limit, GivesWithin};
+ghost use Rattle.text_lines.specs.Lines.{input_limit, line_limit, lines_limit, GivesWithin};
 
 use crate::fault::Fault;
 use datagram_text::push_datagram;
-use schedule_reading::{LINES_LIMIT, TaskFault, write_text};
+use schedule_reading::TaskFault;
 use std::alloc::Global;
 use std::io::{Read, Write};
-use text_lines::{Counted, LINE_LIMIT, LineTask, answer_lines};
+use text_lines::{Counted, LINE_LIMIT, LINES_LIMIT, LineTask, answer_lines, write_text};
 
 /// The most octets of a datagram, which is written in two digits each.
 const DATAGRAM_LIMIT: usize = LINE_LIMIT / 2;

@@ -1,4 +1,5 @@
 pub mod Counted
+pub mod Fault
 pub mod OctetReader
 pub mod Lines
 pub mod Task

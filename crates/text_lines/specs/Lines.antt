@@ -35,6 +35,10 @@ without_cr line = strip_last 13 line
 abbrev pub line_limit : ℕ
 line_limit = 4096
 
+-- the most lines of an input, but of a recording, which has no such limit
+abbrev pub lines_limit : ℕ
+lines_limit = 1048576
+
 -- the fault in reading the line of this number, counted from 1, of at most so many lines: too many lines comes before
 -- too long a line
 abbrev pub reading_fault : (limit number : ℕ) → List ℕ → Option ReadingFault

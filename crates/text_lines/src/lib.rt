@@ -5,11 +5,15 @@
 mod counted;
 mod fault;
 mod lines;
+mod numbered;
 mod octet_reader;
 mod task;
+mod writing;
 
 pub use counted::Counted;
 pub use fault::{Cause, ReadingFault, Stopped};
-pub use lines::LINE_LIMIT;
+pub use lines::{LINE_LIMIT, LINES_LIMIT};
+pub use numbered::Numbered;
 pub use octet_reader::OctetReader;
 pub use task::{LineTask, answer_lines};
+pub use writing::{WriteFailed, write_octets, write_text};

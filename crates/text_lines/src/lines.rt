@@ -15,6 +15,9 @@ use std::io::Read;
 /// The most octets of a line, without its LF.
 pub const LINE_LIMIT: usize = 4096;
 
+/// The most lines of an input, but of a recording, which has no such limit.
+pub const LINES_LIMIT: u64 = 1_048_576;
+
 /// The line that was read last, in the one buffer that all lines share, and how many were read, of
 /// at most how many.
 #[derive(Drop)]

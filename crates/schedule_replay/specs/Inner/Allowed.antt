@@ -3,7 +3,7 @@ use Rattle.std.specs.Prelude.{ℕ}
 use Rattle.command_line.specs.declared.arguments.Subcommand.{Subcommand}
 use Rattle.command_line.specs.declared.arguments.Subcommand.TheVariants.{Measure}
 use Rattle.capture_measure.specs.Measure.{measure_rules}
-use Rattle.schedule_reading.specs.Entry.{lines_limit}
+use Rattle.text_lines.specs.Lines.{lines_limit}
 
 -- how many lines a subcommand allows
 abbrev pub lines_allowed : Subcommand → ℕ

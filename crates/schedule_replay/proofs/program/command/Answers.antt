@@ -5,9 +5,8 @@ use Rattle.command_line.proofs.Invocations.{named_asks_no_help, names_one}
 use Rattle.command_line.specs.Arguments.{Names}
 use Rattle.command_line.specs.declared.arguments.Subcommand.TheVariants.{Show, Replay, Check, Measure, Explain}
 use Rattle.command_line.specs.declared.measure.MeasureOptions.{MeasureOptions}
-use Rattle.text_lines.specs.Lines.{input_limit, GivesWithin}
+use Rattle.text_lines.specs.Lines.{input_limit, lines_limit, GivesWithin}
 use Rattle.schedule_replay.specs.Inner.Allowed.{lines_allowed}
-use Rattle.schedule_reading.specs.Entry.{lines_limit}
 use Rattle.schedule_replay.specs.Program.{Runs}
 use Rattle.schedule_replay.proofs.program.command.Goals as goal
 

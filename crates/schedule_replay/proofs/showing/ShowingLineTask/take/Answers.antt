@@ -6,18 +6,19 @@ use Rattle.schedule_reading.specs.declared.fault.TaskFault.TheVariants.{Write}
 use Rattle.schedule_reading.specs.Fault.{is_write}
 use Rattle.schedule_replay.specs.Show.{IsAnswer, show_rules}
 use Rattle.text_lines.specs.Task.{WentOut}
+use Rattle.text_lines.specs.declared.writing.WriteFailed.{WriteFailed}
 use Rattle.schedule_replay.proofs.showing.ShowingLineTask.take.Goals as goal
 
 -- the answer to a line was written, or the writer failed
 written : {A : Type 0} (r : Result A TaskFault) (line text : List ℕ) (before after : Option (List ℕ))
     → IsAnswer line text
-    → MatchResult r (λ _. Appends before after text) (λ fault. fault ≡ Write)
+    → MatchResult r (λ _. Appends before after text) (λ fault. (failed : WriteFailed) × (fault ≡ Write))
     → MatchResult r
     (λ _. (later : Unit {0}) × (out : List ℕ) × Unit {0} × show_rules.Takes line tt later out
     × Appends before after out)
     (λ fault. (out : List ℕ) × show_rules.Stops line tt fault out × WentOut (is_write fault) (Appends before after out))
 written (Ok x) line text before after shown appended = (tt, text, tt, shown, appended)
-written (Err fault) line text before after shown is = rw is ([], (ap is_ok shown.hexadecimal, refl), tt)
+written (Err fault) line text before after shown is = rw is.1 ([], (ap is_ok shown.hexadecimal, refl), tt)
 
 pub returns-clause-taken : goal.returns-clause-taken
 returns-clause-taken g c = λ state at.

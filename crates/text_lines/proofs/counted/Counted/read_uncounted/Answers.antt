@@ -1,4 +1,4 @@
-use Rattle.std.proofs.Common.{rules, ◌≡◌, length, take, arith}
+use Rattle.std.proofs.Common.{rules, ◌≡◌, length, take}
 use Rattle.text_lines.specs.Lines.{line_limit}
 use Rattle.text_lines.proofs.Reading.{read_one}
 use Rattle.text_lines.proofs.counted.Counted.read_uncounted.Goals as goal

@@ -1,4 +1,4 @@
-use Rattle.std.proofs.Common.{rules, ◌≡◌, length, take}
+use Rattle.std.proofs.Common.{rules}
 use Rattle.text_lines.proofs.Reading.{line_ended, line_last, line_too_long, line_failed}
 use Rattle.text_lines.proofs.lines.Lines.read_line.Goals as goal
 
