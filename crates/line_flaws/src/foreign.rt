@@ -1,5 +1,6 @@
 //! Input of another kind than lines of JSON, by its first octets.
 
+use crate::class::Class;
 use std::fmt;
 use std::fmt::{Display, Formatter};
 
@@ -145,28 +146,29 @@ impl Display for Foreign {
 
 /// The octets before the first LF.
 fn first_line(start: &[u8]) -> &[u8] {
-    let count = start.iter().take_while(|octet| **octet != b'\n').count();
-    start.get(..count).unwrap_or(start)
+    let (line, _) = Class::InLine.split(start);
+    line
 }
 
 /// Whether an object ends just before a CR, after which one begins.
 fn has_objects_by_cr(text: &[u8]) -> bool {
-    text.windows(3).any(|octets| octets == b"}\r{".as_slice())
+    for octets in text.windows(3) {
+        if octets == b"}\r{".as_slice() {
+            return true;
+        }
+    }
+    false
 }
 
 /// Whether these are pairs of hexadecimal digits, one at least.
 fn is_hexadecimal(text: &[u8]) -> bool {
-    !text.is_empty() && text.len() % 2 == 0 && text.iter().all(|octet| octet.is_ascii_hexdigit())
+    !text.is_empty() && text.len() % 2 == 0 && Class::HexDigit.has_all(text)
 }
 
 /// Whether it is a time, a blank, and pairs of hexadecimal digits.
 fn is_recording(line: &[u8]) -> bool {
-    let count = line
-        .iter()
-        .take_while(|octet| octet.is_ascii_digit() || **octet == b'.')
-        .count();
-    match line.get(count..) {
-        Some([b' ', datagram @ ..]) => count > 0 && is_hexadecimal(datagram),
+    match Class::DigitOrPoint.split(line) {
+        ([_, ..], [b' ', datagram @ ..]) => is_hexadecimal(datagram),
         _ => false,
     }
 }

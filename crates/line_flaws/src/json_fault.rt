@@ -1,6 +1,7 @@
 //! Why a line is no JSON, and where.
 ghost use Rattle.line_flaws.specs.Truth.{IsSoOfOctets};
 
+use crate::class::Class;
 use crate::flaw::Flaw;
 use arrayvec::ArrayVec;
 use std::fmt::{Display, Formatter};
@@ -346,11 +347,7 @@ fn second_unit<'a>(first: &'a [u8], rest: &'a [u8]) -> Result<&'a [u8], Halt<'a>
 /// The number of the four hexadecimal digits at the front.
 fn unit(digits: &[u8]) -> Option<u16> {
     let text = str::from_utf8(digits.get(..4)?).ok()?;
-    if text
-        .as_bytes()
-        .iter()
-        .all(|octet| octet.is_ascii_hexdigit())
-    {
+    if Class::HexDigit.has_all(text.as_bytes()) {
         u16::from_str_radix(text, 16).ok()
     } else {
         None
@@ -359,11 +356,8 @@ fn unit(digits: &[u8]) -> Option<u16> {
 
 /// What comes after the digits at the front.
 fn after_digits(rest: &[u8]) -> &[u8] {
-    let count = rest
-        .iter()
-        .take_while(|octet| octet.is_ascii_digit())
-        .count();
-    rest.get(count..).unwrap_or(&[])
+    let (_, after) = Class::Digit.split(rest);
+    after
 }
 
 /// Goes over digits, of which one has to be there.
@@ -426,13 +420,9 @@ fn number_end(rest: &[u8]) -> Result<&[u8], Halt<'_>> {
 
 /// Goes over a word.
 fn word(rest: &[u8]) -> Result<&[u8], Halt<'_>> {
-    let count = rest
-        .iter()
-        .take_while(|octet| octet.is_ascii_alphanumeric() || **octet == b'_')
-        .count();
-    let word = rest.get(..count).unwrap_or(&[]);
+    let (word, after) = Class::Word.split(rest);
     match word {
-        b"true" | b"false" | b"null" => Ok(rest.get(count..).unwrap_or(&[])),
+        b"true" | b"false" | b"null" => Ok(after),
         b"NaN" | b"nan" | b"NAN" | b"Infinity" | b"inf" | b"Inf" => {
             Halt::at(rest, JsonFault::NoNumber)
         }

@@ -2,6 +2,7 @@
 //! which input of another kind one begins as.
 #![tactic(auto)]
 
+mod class;
 mod excerpt;
 mod flaw;
 mod foreign;

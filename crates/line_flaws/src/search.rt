@@ -30,15 +30,62 @@ struct Allowed {
 }
 
 impl Allowed {
-    /// Whether a key is one of these, as it stands in its quotes.
-    fn has(self, key: &[u8]) -> bool {
-        self.common
-            .iter()
-            .chain(self.own)
-            .chain(self.told)
-            .chain(self.outcome)
-            .any(|allowed| allowed.text().as_bytes() == unquoted(key))
+    /// No key.
+    const NONE: Allowed = Allowed {
+        common: &[],
+        own: &[],
+        told: &[],
+        outcome: &[],
+    };
+
+    /// Whether a key is one of these, without its quotes.
+    fn has(self, name: &[u8]) -> bool {
+        is_among(self.common, name)
+            || is_among(self.own, name)
+            || is_among(self.told, name)
+            || is_among(self.outcome, name)
     }
+}
+
+/// Whether one of the keys has this name.
+fn is_among(keys: &[Key], name: &[u8]) -> bool {
+    for key in keys {
+        if key.text().as_bytes() == name {
+            return true;
+        }
+    }
+    false
+}
+
+/// Whether one of the keys is near this name.
+fn is_near_one(keys: &[Key], name: &[u8]) -> bool {
+    for key in keys {
+        if is_near(key.text().as_bytes(), name) {
+            return true;
+        }
+    }
+    false
+}
+
+/// The first key of a line that isn't allowed, but near one of these.
+fn key_near<'a>(line: &'a [u8], keys: &[Key], allowed: Allowed) -> Option<&'a [u8]> {
+    for member in Members::of(line) {
+        let name = unquoted(member.key);
+        if !allowed.has(name) && is_near_one(keys, name) {
+            return Some(member.key);
+        }
+    }
+    None
+}
+
+/// The first key of a line, without escapes, that isn't allowed.
+fn key_too_much<'a>(line: &'a [u8], allowed: Allowed) -> Option<&'a [u8]> {
+    for member in Members::of(line) {
+        if !allowed.has(unquoted(member.key)) && !member.key.contains(&b'\\') {
+            return Some(member.key);
+        }
+    }
+    None
 }
 
 /// The flaw of a value that isn't a line of the form.
@@ -98,9 +145,7 @@ impl<'a, 'v> Search<'a, 'v> {
         };
         let allowed = Allowed {
             common,
-            own: &[],
-            told: &[],
-            outcome: &[],
+            ..Allowed::NONE
         };
         self.flaw_of(Key::Kind, allowed)
     }
@@ -116,8 +161,7 @@ impl<'a, 'v> Search<'a, 'v> {
         let allowed = Allowed {
             common: &[Key::Ev, Key::Node],
             own,
-            told: &[],
-            outcome: &[],
+            ..Allowed::NONE
         };
         match (form, self.has(Key::Number), self.has(Key::Out)) {
             (Form::Schedule, true, true) => Some(Flaw::HasOutcome),
@@ -220,9 +264,10 @@ impl<'a, 'v> Search<'a, 'v> {
         requires { get (text_of key) (view self.value.now) ≡ None }
         ensures { (events : ℕ) → IsSoOfValue events (view self.entry.value.now) result }
     {
-        let near = Members::of(self.line).map(|member| member.key).find(|found| !allowed.has(found)
-            && is_near(key.text().as_bytes(), unquoted(found)));
-        Flaw::Missing { key, near }
+        Flaw::Missing {
+            key,
+            near: key_near(self.line, &[key], allowed),
+        }
     }
 
     /// That neither an event nor a node is named.
@@ -231,21 +276,17 @@ impl<'a, 'v> Search<'a, 'v> {
         requires node { get (codes "kind") (view self.value.now) ≡ None }
         ensures { (events : ℕ) → IsSoOfValue events (view self.entry.value.now) result }
     {
-        let near = Members::of(self.line).map(|member| member.key).find(|found| is_near(
-            b"ev",
-            unquoted(found),
-        ) || is_near(b"kind", unquoted(found)));
-        Flaw::NoKind { near }
+        Flaw::NoKind {
+            near: key_near(self.line, &[Key::Ev, Key::Kind], Allowed::NONE),
+        }
     }
 
     /// The first key without escapes that isn't allowed.
     fn too_much(self, kind: Key, allowed: Allowed) -> Option<Flaw<'a>>
         ensures { IfSome result (λ flaw. (events : ℕ) → IsSoOfValue events (view self.entry.value.now) flaw) }
     {
-        let key = Members::of(self.line)
-            .map(|member| member.key)
-            .find(|found| !allowed.has(found) && !found.contains(&b'\\'))?;
-        let out = if is_of_outcome(unquoted(key)) && self.has(Key::Out) {
+        let key = key_too_much(self.line, allowed)?;
+        let out = if is_among(&OF_OUTCOMES, unquoted(key)) && self.has(Key::Out) {
             Some(self.found(Key::Out))
         } else {
             None
@@ -272,12 +313,8 @@ fn parts_of(key: Key) -> &'static [Part] {
     }
 }
 
-/// Whether it is a key that tells an outcome, beside `out`.
-fn is_of_outcome(name: &[u8]) -> bool {
-    [Key::Hex, Key::Code, Key::Offset2, Key::Path2, Key::Tags]
-        .iter()
-        .any(|key| key.text().as_bytes() == name)
-}
+/// The keys that tell an outcome, beside `out`.
+const OF_OUTCOMES: [Key; 5] = [Key::Hex, Key::Code, Key::Offset2, Key::Path2, Key::Tags];
 
 /// Whether a name differs in the case of letters alone, or by one octet that is another, missing or
 /// too much, or by two that changed places.

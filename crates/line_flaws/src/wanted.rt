@@ -1,5 +1,6 @@
 //! What is wanted of a value.
 
+use crate::class::Class;
 use network_model::Name;
 use serde_json::Value;
 use std::fmt;
@@ -149,9 +150,7 @@ fn has_items(value: &Value, count: usize) -> bool {
 
 /// Whether all are hexadecimal digits, of either case.
 fn is_hexadecimal(text: &str) -> bool {
-    text.as_bytes()
-        .iter()
-        .all(|octet| octet.is_ascii_hexdigit())
+    Class::HexDigit.has_all(text.as_bytes())
 }
 
 /// Whether it is a whole number in decimal, within 32 octets, in its one spelling.
@@ -164,12 +163,10 @@ fn is_difference(text: &[u8]) -> bool {
 
 /// Whether these are decimal digits that don't begin with 0.
 fn is_positive(digits: &[u8]) -> bool {
-    matches!(digits, [b'1'..=b'9', ..]) && digits.iter().all(|octet| octet.is_ascii_digit())
+    matches!(digits, [b'1'..=b'9', ..]) && Class::Digit.has_all(digits)
 }
 
 /// Whether a point or an exponent is there.
 fn has_point(number: &[u8]) -> bool {
-    number
-        .iter()
-        .any(|octet| matches!(octet, b'.' | b'e' | b'E'))
+    number.contains(&b'.') || number.contains(&b'e') || number.contains(&b'E')
 }
