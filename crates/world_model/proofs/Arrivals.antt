@@ -22,7 +22,7 @@ use Rattle.network_model.specs.Clock.{reading}
 use Rattle.network_model.specs.Truth.{TellsTruth, copy_of, master_at, slave_at, responded}
 use Rattle.network_model.specs.SlaveHistory.{slave_setup, history_of}
 use Rattle.network_model.specs.Outcome.{◌>>=◌, node_as, port_of, reads, heard, answered_outcome, arrived_outcome}
-use Rattle.world_model.specs.Inner.Stands.{Happened}
+use Rattle.world_model.specs.declared.entry.Happened.{Happened}
 use Rattle.world_model.specs.declared.entry.Octets.{Octets}
 use Rattle.world_model.specs.declared.entry.Left.TheVariants.{Copy, Nothing}
 use Rattle.world_model.specs.declared.station.Master.{Master}

@@ -16,7 +16,7 @@ use Rattle.network_model.proofs.LeftOnce.{leave_before, not_left}
 use Rattle.world_model.specs.Inner.Stands.{Entry}
 use Rattle.world_model.specs.declared.entry.Left.{Left}
 use Rattle.world_model.specs.declared.entry.Left.TheVariants.{Copy, Stay, Nothing}
-use Rattle.world_model.specs.Inner.Stands.{Happened}
+use Rattle.world_model.specs.declared.entry.Happened.{Happened}
 use Rattle.world_model.specs.Inner.Stands.{run_of, octets_in, stay_in, event_at, octets_at, stay_at, ended, left_stay, entering, open_stay, Keeps}
 use Rattle.world_model.specs.Inner.Acts.{Brings, entries_after}
 use Rattle.world_model.proofs.Own.{same_if}

@@ -1,19 +1,17 @@
 -- A world after one more event.
-use Rattle.std.proofs.Common.{◌≡◌, ◌∙◌, ℕ, zero, suc, ◌<◌, true, List, [], ◌∷◌, ◌++◌, length, slice_get, slice_set, slice_index_or, Option, Some, None, Ok, Err, Result, IsOk, is_some, option_map, inl, inr, IfErr, OnOk, sym, ap, refl, subst, arith}
+use Rattle.std.proofs.Common.{◌≡◌, ◌∙◌, ℕ, zero, suc, ◌<◌, true, List, [], ◌∷◌, ◌++◌, length, slice_get, slice_set, slice_index_or, Option, Some, None, Result, is_some, option_map, sym, ap, refl, subst, arith}
 use Rattle.network_model.specs.declared.event.Event.{Event}
 use Rattle.network_model.specs.declared.node.NodeKind.{NodeKind}
 use Rattle.network_model.specs.declared.node.NodeSpec.{NodeSpec}
 use Rattle.network_model.specs.declared.refusal.WorldRefusal.{WorldRefusal}
-use Rattle.network_model.specs.declared.refusal.WorldRefusal.TheVariants.{Memory}
 use Rattle.network_model.specs.Network.{Network, NodeName, node_of}
 use Rattle.network_model.specs.Run.{Run, site_of}
 use Rattle.network_model.specs.Outcome.{IsStepped}
 use Rattle.world_model.specs.Inner.Stands.{Entry}
-use Rattle.world_model.specs.Inner.Stands.{Happened}
+use Rattle.world_model.specs.declared.entry.Happened.{Happened}
 use Rattle.world_model.specs.declared.station.Station.{Station}
-use Rattle.world_model.specs.State.{IsRefused}
 use Rattle.world_model.specs.Inner.Stands.{run_of, Keeps, Stands, AllStand, IsWorld}
-use Rattle.world_model.specs.Inner.Acts.{Room, Brings, Answers, ActsIn, Refuses, entries_after}
+use Rattle.world_model.specs.Inner.Acts.{Brings, Answers, ActsIn, entries_after}
 use Rattle.network_model.proofs.Networks.{named_so}
 use Rattle.world_model.proofs.Stations.{AllStand-after}
 use Rattle.world_model.proofs.Entries.{run_of-after, Keeps-after}
@@ -45,7 +43,7 @@ set_same (y ∷ ys) (suc i) x same = ap (λ rest. y ∷ rest) (set_same ys i x s
 
 module _ (network : Network) (event : Event) (stations : List Station) (entries : List Entry) (world : IsWorld network stations entries)
     (name : NodeName) (is_site : name ≡ site_of event) (index : ℕ) (here : Found network name index)
-    (less : index < length stations) (old new : Station) (is_old : old ≡ slice_index_or stations index old) (room : Room) where
+    (less : index < length stations) (old new : Station) (is_old : old ≡ slice_index_or stations index old) (HasRoom : Type 0) where
   kind : NodeKind
   kind = here.node.kind
 
@@ -57,8 +55,8 @@ module _ (network : Network) (event : Event) (stations : List Station) (entries 
       (world.nodes.each index here.node old here.at (reads_at stations index old less is_old))
 
   -- what comes of the event
-  pub answered : (result : Result Happened WorldRefusal) → ActsIn network event entries old new room result
-      → Answers network (run_of entries) event room (Stands network (event ∷ run_of entries) (site_of event) here.node.kind new) (new ≡ old) result
+  pub answered : (result : Result Happened WorldRefusal) → ActsIn network event entries old new HasRoom result
+      → Answers network (run_of entries) event HasRoom (Stands network (event ∷ run_of entries) (site_of event) here.node.kind new) (new ≡ old) result
   answered result acts =
       acts (run_of entries) here.node.kind
       (ap (option_map (λ (n : NodeSpec). n.kind)) (ap (node_of network) (sym is_site) ∙ here.is)) stood world.events
@@ -79,13 +77,3 @@ module _ (network : Network) (event : Event) (stations : List Station) (entries 
 
   pub refused-world : new ≡ old → IsWorld network (slice_set stations index new) entries
   refused-world same = subst (λ (ss : List Station). IsWorld network ss entries) (sym (ap (slice_set stations index) same ∙ set_same stations index old is_old)) world
-
-  pub refused-why : (why : WorldRefusal) → IfErr room (λ w. w ≡ Memory) → Refuses network (run_of entries) event room why
-      → IsRefused (record { network = network; run = run_of entries }) event why
-  refused-why why memory (inl refused) = inl refused
-  refused-why why memory (inr no_room) = inr (subst (λ (r : Room). IfErr r (λ w. w ≡ Memory)) no_room.0 memory, no_room.1)
-
--- what holds where a result is a value
-pub on_ok : (room : Room) {P : Type 0} → OnOk room P → IsOk room → P
-on_ok (Ok x) holds ok = holds
-on_ok (Err why) holds ok = absurd (cc)

@@ -15,7 +15,7 @@ use Rattle.network_model.specs.declared.event.Event.TheVariants.{Enter, Leave}
 use Rattle.network_model.specs.declared.node.NodeKind.{NodeKind}
 use Rattle.network_model.specs.declared.node.NodeKind.TheVariants as kinds
 use Rattle.network_model.specs.declared.refusal.WorldRefusal.{WorldRefusal}
-use Rattle.network_model.specs.declared.refusal.WorldRefusal.TheVariants.{NoNode, WrongKind, NoCopy, NoTransit}
+use Rattle.network_model.specs.declared.refusal.WorldRefusal.TheVariants.{NoNode, WrongKind, NoCopy, NoTransit, Memory}
 use Rattle.network_model.specs.declared.stepped.Outcome.{Outcome}
 use Rattle.network_model.specs.declared.stepped.Outcome.TheVariants.{Made, Entered, Refused}
 use Rattle.network_model.specs.Network.{Network, NodeName, kind_of, is_named}
@@ -27,13 +27,13 @@ use Rattle.network_model.specs.Outcome.{◌>>=◌, node_as, clock_of, reads, ope
 use Rattle.network_model.proofs.Places.{accepted-place_at}
 use Rattle.network_model.proofs.Leaving.{copy_made-forwarded, copy_of-since}
 use Rattle.world_model.specs.Inner.Stands.{Entry}
-use Rattle.world_model.specs.Inner.Stands.{Happened}
+use Rattle.world_model.specs.declared.entry.Happened.{Happened}
 use Rattle.world_model.specs.declared.entry.Octets.{Octets}
 use Rattle.world_model.specs.declared.entry.Left.TheVariants.{Copy, Nothing}
 use Rattle.world_model.specs.declared.station.Port.TheVariants as ports
 use Rattle.world_model.specs.declared.station.Station.{Station}
 use Rattle.world_model.specs.Inner.Stands.{listed, octets_in, event_at, octets_at, stay_at, entering, open_stay, Keeps, PortStands, Stands}
-use Rattle.world_model.specs.Inner.Acts.{Room, Answers, IsSent, Gives, Departs, copy_taken, copy_inside}
+use Rattle.world_model.specs.Inner.Acts.{Answers, IsSent, Gives, Departs, copy_taken, copy_inside}
 use Rattle.event_codec.proofs.Lengths.{length-Packet}
 use Rattle.world_model.proofs.Readings.{packet_read}
 use Rattle.world_model.proofs.Own.{difference-stays, reading_of-read, reading-read}
@@ -165,15 +165,15 @@ module _ (network : Network) (run : Run) (entries : List Entry) (clock : NodeNam
       ∙ ap (λ o. ok_or o NoTransit >>= last in_clock.entered) (ap (option_and_then (copy_of network in_clock.entered.earlier)) in_clock.takes ∙ in_clock.before)
 
   module _ (station : Station) (is_port : station.port ≡ ports.Clock) (stands : Stands network run clock kinds.Clock station) (shown : Result ℕ WorldRefusal)
-      (shows : shown ≡ reads (Leave clock transit at) run) (room : Room) where
+      (shows : shown ≡ reads (Leave clock transit at) run) (HasRoom : Type 0) where
     stood : Stands network (Leave clock transit at ∷ run) clock kinds.Clock station
     stood = record {
       difference = stands.difference ∙ sym (difference-stays (Leave clock transit at) run refl);
       port = subst (PortStands network (Leave clock transit at ∷ run) clock kinds.Clock) (sym is_port) tt;
     }
 
-    pub leave-answers : (result : Result Happened WorldRefusal) → Departs in_clock.m (reading in_clock.entered) shown room result
-        → Answers network run (Leave clock transit at) room (Stands network (Leave clock transit at ∷ run) clock kinds.Clock station) (station ≡ station) result
+    pub leave-answers : (result : Result Happened WorldRefusal) → Departs in_clock.m (reading in_clock.entered) shown HasRoom result
+        → Answers network run (Leave clock transit at) HasRoom (Stands network (Leave clock transit at ∷ run) clock kinds.Clock station) (station ≡ station) result
     leave-answers (Ok happened) departs =
         let now : ℕ = departs.1.0 in
         let reads_now : Ok now ≡ reads (Leave clock transit at) run = sym departs.1.1 ∙ shows in
@@ -195,26 +195,26 @@ module _ (network : Network) (run : Run) (entries : List Entry) (clock : NodeNam
         goes_on (Ok t) ok = refl
         goes_on (Err other) ok = absurd (cc)
 
-        refused : (shown ≡ Err why) ⊎ ((room ≡ Err why) × IsOk shown)
-            → (outcome_of network run (Leave clock transit at) ≡ Err why) ⊎ ((room ≡ Err why) × IsOk (outcome_of network run (Leave clock transit at)))
+        refused : (shown ≡ Err why) ⊎ ((why ≡ Memory) × IsOk shown)
+            → (outcome_of network run (Leave clock transit at) ≡ Err why) ⊎ ((why ≡ Memory) × IsOk (outcome_of network run (Leave clock transit at)))
         refused (inl not_shown) = inl (leave-outcome ∙ ap (leaves in_clock.m (reading in_clock.entered)) (sym shows ∙ not_shown))
         refused (inr no_room) = inr (no_room.0, subst IsOk (sym leave-outcome) (goes_on (reads (Leave clock transit at) run) (subst IsOk shows no_room.1)))
 
 -- a message that leaves this clock
 pub leaving : (network : Network) (run : Run) (entries : List Entry) (clock : NodeName) (transit copy at : ℕ) (kind : NodeKind) (station : Station)
-    (shown : Result ℕ WorldRefusal) (room : Room) (result : Result Happened WorldRefusal) (octets : List ℕ)
+    (shown : Result ℕ WorldRefusal) (HasRoom : Type 0) (result : Result Happened WorldRefusal) (octets : List ℕ)
     → Keeps network run entries → copy_inside entries clock transit ≡ Some copy → octets_at entries copy ≡ Some octets
     → kind_of network clock ≡ Some kind → station.port ≡ ports.Clock → Stands network run clock kind station → shown ≡ reads (Leave clock transit at) run
-    → ((m : Contents) (entered : ℕ) → Packet m octets → stay_at entries transit ≡ Some entered → Departs m entered shown room result)
-    → Answers network run (Leave clock transit at) room (Stands network (Leave clock transit at ∷ run) clock kind station) (station ≡ station) result
-leaving network run entries clock transit copy at kinds.Clock station shown room result octets keeps found kept is_kind is_port stands shows departs =
+    → ((m : Contents) (entered : ℕ) → Packet m octets → stay_at entries transit ≡ Some entered → Departs m entered shown HasRoom result)
+    → Answers network run (Leave clock transit at) HasRoom (Stands network (Leave clock transit at ∷ run) clock kind station) (station ≡ station) result
+leaving network run entries clock transit copy at kinds.Clock station shown HasRoom result octets keeps found kept is_kind is_port stands shows departs =
     let in_clock = inside network run entries clock transit copy keeps found in
     let packet : Packet in_clock.m octets = subst (λ (o : Option (List ℕ)). TellsTruth (Some in_clock.m) o) kept (subst (λ (o : Option Contents). TellsTruth o (octets_at entries copy)) in_clock.is (keeps.copies copy)) in
-    leave-answers network run entries clock transit copy at in_clock is_kind station is_port stands shown shows room result
+    leave-answers network run entries clock transit copy at in_clock is_kind station is_port stands shown shows HasRoom result
     (departs in_clock.m (reading in_clock.entered) packet in_clock.stay)
-leaving network run entries clock transit copy at (kinds.Master config first) station shown room result octets keeps found kept is_kind is_port stands shows departs =
+leaving network run entries clock transit copy at (kinds.Master config first) station shown HasRoom result octets keeps found kept is_kind is_port stands shows departs =
     absurd (subst (PortStands network run clock (kinds.Master config first)) is_port stands.port)
-leaving network run entries clock transit copy at (kinds.Slave config first) station shown room result octets keeps found kept is_kind is_port stands shows departs =
+leaving network run entries clock transit copy at (kinds.Slave config first) station shown HasRoom result octets keeps found kept is_kind is_port stands shows departs =
     absurd (subst (PortStands network run clock (kinds.Slave config first)) is_port stands.port)
 
 -- the copy of a message inside a clock is kept

@@ -7,14 +7,14 @@ use Rattle.network_model.specs.declared.refusal.WorldRefusal.{WorldRefusal}
 use Rattle.network_model.specs.Network.{Network, NodeName, PortSetup, kind_of, master_port, slave_port}
 use Rattle.network_model.specs.Run.{Run, site_of}
 use Rattle.network_model.specs.Kinds.{named_difference}
-use Rattle.world_model.specs.Inner.Stands.{Happened}
+use Rattle.world_model.specs.declared.entry.Happened.{Happened}
 use Rattle.world_model.specs.declared.station.Master.{Master}
 use Rattle.world_model.specs.declared.station.Slave.{Slave}
 use Rattle.world_model.specs.declared.station.Port.{Port}
 use Rattle.world_model.specs.declared.station.Port.TheVariants as ports
 use Rattle.world_model.specs.declared.station.Station.{Station}
 use Rattle.world_model.specs.Inner.Stands.{MasterStands, SlaveStands, PortStands, Stands}
-use Rattle.world_model.specs.Inner.Acts.{Room, Answers, MasterActs, SlaveActs}
+use Rattle.world_model.specs.Inner.Acts.{Answers, MasterActs, SlaveActs}
 use Rattle.world_model.proofs.Own.{difference-stays}
 
 -- a master stands at a node of its kind, with its setup
@@ -56,9 +56,9 @@ slave_there network run name (kinds.Master config first) setup slave is stands =
 slave_there network run name kinds.Clock setup slave is stands = absurd (cc)
 
 -- what an event brings about, said of more
-weaker : (network : Network) (run : Run) (event : Event) (room : Room) {A B Same Also : Type 0} → (A → B) → (Same → Also)
-    → (result : Result Happened WorldRefusal) → Answers network run event room A Same result → Answers network run event room B Also result
-weaker network run event room wider kept (Ok happened) answers = (
+weaker : (network : Network) (run : Run) (event : Event) (HasRoom : Type 0) {A B Same Also : Type 0} → (A → B) → (Same → Also)
+    → (result : Result Happened WorldRefusal) → Answers network run event HasRoom A Same result → Answers network run event HasRoom B Also result
+weaker network run event HasRoom wider kept (Ok happened) answers = (
   answers.0,
   record {
     outcome = answers.1.outcome;
@@ -68,11 +68,11 @@ weaker network run event room wider kept (Ok happened) answers = (
     stay = answers.1.stay;
   },
 )
-weaker network run event room wider kept (Err why) answers = (kept answers.0, answers.1)
+weaker network run event HasRoom wider kept (Err why) answers = (kept answers.0, answers.1)
 
 module _ (network : Network) (run : Run) (kind : NodeKind) (event : Event) (station : Station) (calm : named_difference event ≡ None)
     (is_kind : kind_of network (site_of event) ≡ Some kind) (stands : Stands network run (site_of event) kind station)
-    (room : Room) (result : Result Happened WorldRefusal) where
+    (HasRoom : Type 0) (result : Result Happened WorldRefusal) where
   -- the station with another port
   abbrev pub with_port : Port → Station
   with_port port = record { difference = station.difference; port = port }
@@ -81,21 +81,21 @@ module _ (network : Network) (run : Run) (kind : NodeKind) (event : Event) (stat
   after port stood = record { difference = stands.difference ∙ sym (difference-stays event run calm); port = stood }
 
   pub lift-master : (old new : Master) (Given : Network → Run → Type 0) → station.port ≡ ports.Master old
-      → MasterActs event Given old new room result → Given network run
-      → Answers network run event room (Stands network (event ∷ run) (site_of event) kind (with_port (ports.Master new))) (with_port (ports.Master new) ≡ station) result
+      → MasterActs event Given old new HasRoom result → Given network run
+      → Answers network run event HasRoom (Stands network (event ∷ run) (site_of event) kind (with_port (ports.Master new))) (with_port (ports.Master new) ≡ station) result
   lift-master old new Given is acts given =
       let here = master_here network run (site_of event) kind old (subst (PortStands network run (site_of event) kind) is stands.port) in
-      weaker network run event room
+      weaker network run event HasRoom
       (λ stood. after (ports.Master new) (master_there network (event ∷ run) (site_of event) kind here.setup new here.is stood))
       (λ same. ap with_port (ap ports.Master same ∙ sym is)) result
       (acts network run here.setup (ap (option_and_then master_port) is_kind ∙ here.is) here.stands given)
 
   pub lift-slave : (old new : Slave) (Given : Network → Run → Type 0) → station.port ≡ ports.Slave old
-      → SlaveActs event Given old new room result → Given network run
-      → Answers network run event room (Stands network (event ∷ run) (site_of event) kind (with_port (ports.Slave new))) (with_port (ports.Slave new) ≡ station) result
+      → SlaveActs event Given old new HasRoom result → Given network run
+      → Answers network run event HasRoom (Stands network (event ∷ run) (site_of event) kind (with_port (ports.Slave new))) (with_port (ports.Slave new) ≡ station) result
   lift-slave old new Given is acts given =
       let here = slave_here network run (site_of event) kind old (subst (PortStands network run (site_of event) kind) is stands.port) in
-      weaker network run event room
+      weaker network run event HasRoom
       (λ stood. after (ports.Slave new) (slave_there network (event ∷ run) (site_of event) kind here.setup new here.is stood))
       (λ same. ap with_port (ap ports.Slave same ∙ sym is)) result
       (acts network run here.setup (ap (option_and_then slave_port) is_kind ∙ here.is) here.stands given)

@@ -1,3 +1,4 @@
+use network_model::Outcome;
 use ptp_units::ScaledTime;
 
 /// The octets of a copy.
@@ -18,4 +19,13 @@ pub(crate) enum Left {
     Stay(ScaledTime),
     /// Nothing.
     Nothing,
+}
+
+/// What an accepted event did at its node.
+#[derive(Clone, Copy)]
+pub(crate) struct Happened {
+    /// What the node's clock showed, where the event has a true moment.
+    pub(crate) reading: Option<ScaledTime>,
+    pub(crate) outcome: Outcome,
+    pub(crate) left: Left,
 }

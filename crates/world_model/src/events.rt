@@ -1,12 +1,11 @@
 ghost use Rattle.std.specs.Prelude.{◌≡◌, ◌≤◌, ◌<◌, ◌∷◌, ◌++◌, [], length, option_map, vec_len, vec_capacity};
-ghost use Rattle.std.specs.Prelude.{IsSome, IfSome, IfErr, OnOk};
+ghost use Rattle.std.specs.Prelude.{IsSome, IsTrue, IfSome, IfErr, OnOk};
 ghost use Rattle.network_model.specs.Kinds.{entered_copy};
 ghost use Rattle.world_model.specs.Inner.Stands.{listed, octets_at, stay_in, stay_at, left_stay};
-ghost use Rattle.world_model.specs.Inner.Acts.{copy_inside};
+ghost use Rattle.world_model.specs.Inner.Acts.{copy_inside, entries_after};
 ghost use Rattle.world_model.specs.Inner.Kept.{lists, slot_at, left_in, entries_of, IsStored, AllStored, Extends, HasPlace, HasRoom};
 
 use crate::entry::{Left, Octets};
-use crate::station::Room;
 use network_model::{Event, Name, WorldRefusal};
 use ptp_units::ScaledTime;
 use std::alloc::Global;
@@ -59,16 +58,19 @@ pub(crate) struct Events {
     pub(crate) stores: Stores,
 }
 
-/// Takes the room for one more.
-fn room_for_one<T>(list: &mut Vec<T>) -> Room
+/// Takes the room for one more, where memory gives it.
+fn reserve_one<T>(list: &mut Vec<T>)
     ensures items { list.new.items ≡ list.old.items }
-    ensures room { OnOk result (vec_len list.new < vec_capacity list.new) }
-    ensures refused { IfErr result (λ why. why ≡ WorldRefusal.Memory) }
 {
-    match list.reserve(1) {
-        Ok(()) => Ok(()),
-        Err(_) => Err(WorldRefusal::Memory),
-    }
+    // Whether it was given, `Events::room` says.
+    let _ = list.reserve(1);
+}
+
+/// Whether there is room for one more.
+fn has_room<T>(list: &Vec<T>) -> bool
+    ensures { IsTrue result → vec_len list.now < vec_capacity list.now }
+{
+    list.len() < list.capacity()
 }
 
 impl Stores {
@@ -107,15 +109,20 @@ impl Stores {
         }
     }
 
-    /// Takes the room for what one more event leaves.
-    fn reserve(&mut self) -> Room
-        ensures lists { lists self.new ≡ lists self.old }
-        ensures room { OnOk result (HasPlace self.new) }
-        ensures refused { IfErr result (λ why. why ≡ WorldRefusal.Memory) }
+    /// Takes the room for what one more event leaves, where memory gives it.
+    fn reserve(&mut self)
+        ensures { lists self.new ≡ lists self.old }
     {
-        room_for_one(&mut self.short)?;
-        room_for_one(&mut self.long)?;
-        room_for_one(&mut self.stays)
+        reserve_one(&mut self.short);
+        reserve_one(&mut self.long);
+        reserve_one(&mut self.stays);
+    }
+
+    /// Whether there is room for what one more event leaves.
+    fn has_place(&self) -> bool
+        ensures { IsTrue result → HasPlace self.now }
+    {
+        has_room(&self.short) && has_room(&self.long) && has_room(&self.stays)
     }
 }
 
@@ -204,7 +211,7 @@ impl Events {
     }
 
     /// When a message that is inside a clock entered it, by that clock.
-    fn entered(&self, transit: u64) -> Option<ScaledTime>
+    pub(crate) fn entered(&self, transit: u64) -> Option<ScaledTime>
         ensures { result ≡ stay_at (entries_of self.now) transit }
     {
         match self.slot(transit) {
@@ -217,7 +224,7 @@ impl Events {
     }
 
     /// Takes a message out of a clock.
-    pub(crate) fn take_out(&mut self, transit: u64) -> Option<ScaledTime>
+    fn take_out(&mut self, transit: u64) -> Option<ScaledTime>
         ensures value { result ≡ stay_at (entries_of self.old) transit }
         ensures stay { entries_of self.new ≡ left_stay transit (entries_of self.old) }
         ensures stored { AllStored (lists self.old.stores) self.old.kept.items
@@ -233,33 +240,66 @@ impl Events {
         }
     }
 
-    /// Takes the room for one more event.
-    pub(crate) fn reserve(&mut self) -> Room
+    /// Takes the room for one more event, where memory gives it.
+    pub(crate) fn reserve(&mut self)
         ensures kept { self.new.kept.items ≡ self.old.kept.items }
         ensures lists { lists self.new.stores ≡ lists self.old.stores }
-        ensures room { OnOk result (HasRoom self.new) }
-        ensures refused { IfErr result (λ why. why ≡ WorldRefusal.Memory) }
     {
-        room_for_one(&mut self.kept)?;
-        self.stores.reserve()
+        reserve_one(&mut self.kept);
+        self.stores.reserve();
     }
 
-    /// Puts an event after the others, with what it leaves, for which there is room. Answers its tag.
-    pub(crate) fn push(&mut self, event: &Event, left: &Left) -> u64
+    /// Refused with 609 where there is no room for one more event.
+    pub(crate) fn room(&self) -> Result<(), WorldRefusal>
+        ensures room { OnOk result (HasRoom self.now) }
+        ensures refused { IfErr result (λ why. why ≡ WorldRefusal.Memory) }
+    {
+        if has_room(&self.kept) && self.stores.has_place() {
+            Ok(())
+        } else {
+            Err(WorldRefusal::Memory)
+        }
+    }
+
+    /// Ends the stay that an event leaves.
+    fn end_stay(&mut self, event: &Event)
+        ensures entries { entries_of self.new ≡ entries_after event.now (entries_of self.old) }
+        ensures stored { AllStored (lists self.old.stores) self.old.kept.items
+            → AllStored (lists self.new.stores) self.new.kept.items }
+        ensures room { HasRoom self.old → HasRoom self.new }
+    {
+        if let Event::Leave { transit, .. } = event {
+            self.take_out(*transit);
+        }
+    }
+
+    /// Puts an event after the others, with what it leaves, for which there is room.
+    fn push(&mut self, event: &Event, left: &Left)
         requires room { HasRoom self.old }
         requires entered { IsSome (stay_in left.now) → IsSome (entered_copy event.now) }
         requires stored { AllStored (lists self.old.stores) self.old.kept.items }
         ensures entries { entries_of self.new
             ≡ entries_of self.old ++ record { event = event.now; left = left.now } ∷ [] }
         ensures stored { AllStored (lists self.new.stores) self.new.kept.items }
-        ensures tag { result ≡ length (entries_of self.old) }
     {
-        let tag = self.len();
         let slot = self.stores.put(event, left);
         self.kept.push_reserved(Kept {
             event: Snapshot::of(event),
             slot,
         });
-        tag
+    }
+
+    /// Keeps an event that happened, with what it leaves, for which there is room. The stay that it
+    /// leaves itself ends.
+    pub(crate) fn keep(&mut self, event: &Event, left: &Left)
+        requires room { HasRoom self.old }
+        requires entered { IsSome (stay_in left.now) → IsSome (entered_copy event.now) }
+        requires stored { AllStored (lists self.old.stores) self.old.kept.items }
+        ensures entries { entries_of self.new
+            ≡ entries_after event.now (entries_of self.old) ++ record { event = event.now; left = left.now } ∷ [] }
+        ensures stored { AllStored (lists self.new.stores) self.new.kept.items }
+    {
+        self.end_stay(event);
+        self.push(event, left);
     }
 }

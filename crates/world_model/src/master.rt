@@ -1,83 +1,62 @@
-ghost use Rattle.std.specs.Prelude.{◌≡◌, ℕ, option_map, IfOk};
+ghost use Rattle.std.specs.Prelude.{ℕ, option_map};
 ghost use Rattle.network_model.specs.Network.{NodeName};
-ghost use Rattle.world_model.specs.Inner.Acts.{happened, MasterActs, Nothing, Reads, IsCopy};
+ghost use Rattle.world_model.specs.Inner.Kept.{HasRoom};
+ghost use Rattle.world_model.specs.Inner.Acts.{MasterActs, Nothing, Reads, IsCopy, shown_at};
 
-use crate::entry::{Left, Octets};
-use crate::station::{Departure, Master, Room, Shown};
-use network_model::{Event, Outcome, Stepped, WorldRefusal};
+use crate::entry::{Happened, Left, Octets};
+use crate::events::Events;
+use crate::station::{Answer, Departure, Master, shown};
+use network_model::{Event, Outcome, WorldRefusal};
 use ptp_units::ScaledTime;
 
 impl Master {
     /// Draws a Sync, which waits for its Follow_Up from then on.
-    pub(crate) fn sync(
-        &mut self,
-        shown: Shown,
-        room: Room,
-        tag: u64,
-        left: &mut Left,
-    ) -> Result<Stepped, WorldRefusal>
-        ensures acts { (node : NodeName) (at : ℕ) → MasterActs (Event.Sync node at)
-            (Reads (Event.Sync node at) shown) self.old self.new room (happened result left.new) }
-        ensures tag { IfOk result (λ stepped. stepped.tag ≡ tag) }
+    pub(crate) fn sync(&mut self, at: ScaledTime, ahead: &i128, events: &Events) -> Answer
+        ensures { (node : NodeName) → MasterActs (Event.Sync node at)
+            (Reads (Event.Sync node at) (shown_at at ahead.now)) self.old self.new (HasRoom events.now) result }
     {
-        let now = shown?;
-        room?;
+        let now = shown(at, ahead)?;
+        events.room()?;
         let (octets, number) = self.port.next_sync();
         self.waiting = Some(Departure { number, at: now });
-        *left = Left::Copy(Octets::Short(octets));
-        Ok(Stepped {
-            tag,
+        Ok(Happened {
             reading: Some(now),
             outcome: Outcome::Made,
+            left: Left::Copy(Octets::Short(octets)),
         })
     }
 
     /// Draws a one-step Sync.
-    pub(crate) fn one_step_sync(
-        &mut self,
-        shown: Shown,
-        room: Room,
-        tag: u64,
-        left: &mut Left,
-    ) -> Result<Stepped, WorldRefusal>
-        ensures acts { (node : NodeName) (at : ℕ) → MasterActs (Event.SyncOne node at)
-            (Reads (Event.SyncOne node at) shown) self.old self.new room (happened result left.new) }
-        ensures tag { IfOk result (λ stepped. stepped.tag ≡ tag) }
+    pub(crate) fn one_step_sync(&mut self, at: ScaledTime, ahead: &i128, events: &Events) -> Answer
+        ensures { (node : NodeName) → MasterActs (Event.SyncOne node at)
+            (Reads (Event.SyncOne node at) (shown_at at ahead.now)) self.old self.new (HasRoom events.now) result }
     {
-        let now = shown?;
-        room?;
+        let now = shown(at, ahead)?;
+        events.room()?;
         let (octets, _) = self.port.one_step_sync(now);
-        *left = Left::Copy(Octets::Short(octets));
-        Ok(Stepped {
-            tag,
+        Ok(Happened {
             reading: Some(now),
             outcome: Outcome::Made,
+            left: Left::Copy(Octets::Short(octets)),
         })
     }
 
     /// Writes the Follow_Up of the Sync that waits for it.
-    pub(crate) fn follow(
-        &mut self,
-        room: Room,
-        tag: u64,
-        left: &mut Left,
-    ) -> Result<Stepped, WorldRefusal>
-        ensures acts { (node : NodeName) → MasterActs (Event.Follow node) Nothing self.old self.new room (happened result left.new) }
-        ensures tag { IfOk result (λ stepped. stepped.tag ≡ tag) }
+    pub(crate) fn follow(&mut self, events: &Events) -> Answer
+        ensures { (node : NodeName) → MasterActs (Event.Follow node) Nothing self.old self.new (HasRoom events.now) result }
     {
         let Some(sync) = self.waiting else {
             return Err(WorldRefusal::NothingWaiting);
         };
-        room?;
+        events.room()?;
         let Ok(octets) = self.port.sync_left(sync.number, sync.at) else {
             return Err(WorldRefusal::NothingWaiting);
         };
         self.waiting = None;
-        *left = Left::Copy(Octets::Short(octets));
-        Ok(Stepped {
-            tag,
+        Ok(Happened {
             reading: None,
             outcome: Outcome::Made,
+            left: Left::Copy(Octets::Short(octets)),
         })
     }
 
@@ -85,37 +64,33 @@ impl Master {
     pub(crate) fn arrive(
         &self,
         heard: Option<&[u8]>,
-        shown: Shown,
-        room: Room,
-        tag: u64,
-        left: &mut Left,
-    ) -> Result<Stepped, WorldRefusal>
-        ensures acts { (node : NodeName) (copy at : ℕ) → MasterActs (Event.Arrive node copy at)
+        at: ScaledTime,
+        ahead: &i128,
+        events: &Events,
+    ) -> Answer
+        ensures { (node : NodeName) (copy : ℕ) → MasterActs (Event.Arrive node copy at)
             (λ network run. IsCopy copy (option_map (λ octets. octets.now) heard.entry) network run
-            × Reads (Event.Arrive node copy at) shown network run)
-            self.now self.now room (happened result left.new) }
-        ensures tag { IfOk result (λ stepped. stepped.tag ≡ tag) }
+            × Reads (Event.Arrive node copy at) (shown_at at ahead.now) network run)
+            self.now self.now (HasRoom events.now) result }
     {
         let Some(octets) = heard else {
             return Err(WorldRefusal::NoCopy);
         };
-        let now = shown?;
-        room?;
+        let now = shown(at, ahead)?;
+        events.room()?;
         match self.port.delay_req(octets, now) {
             Ok(response) => {
-                *left = Left::Copy(Octets::Long(response));
-                Ok(Stepped {
-                    tag,
+                Ok(Happened {
                     reading: Some(now),
                     outcome: Outcome::Made,
+                    left: Left::Copy(Octets::Long(response)),
                 })
             }
             Err(refusal) => {
-                *left = Left::Nothing;
-                Ok(Stepped {
-                    tag,
+                Ok(Happened {
                     reading: Some(now),
                     outcome: Outcome::Refused(refusal.code()),
+                    left: Left::Nothing,
                 })
             }
         }

@@ -1,10 +1,12 @@
-ghost use Rattle.std.specs.Prelude.{◌≡◌, ℕ, option_map, IfOk};
+ghost use Rattle.std.specs.Prelude.{ℕ, option_map, length};
 ghost use Rattle.network_model.specs.Network.{NodeName};
-ghost use Rattle.world_model.specs.Inner.Acts.{happened, SlaveActs, Nothing, Reads, IsCopy, IsNext, IsKind};
+ghost use Rattle.world_model.specs.Inner.Kept.{entries_of, HasRoom};
+ghost use Rattle.world_model.specs.Inner.Acts.{SlaveActs, Nothing, Reads, IsCopy, IsNext, IsKind, shown_at};
 
-use crate::entry::{Left, Octets};
-use crate::station::{Departure, Room, Shown, Slave};
-use network_model::{Event, NodeKind, Outcome, Stepped, WorldRefusal};
+use crate::entry::{Happened, Left, Octets};
+use crate::events::Events;
+use crate::station::{Answer, Departure, Slave, shown};
+use network_model::{Event, NodeKind, Outcome, WorldRefusal};
 use ptp_units::ScaledTime;
 
 impl Slave {
@@ -12,150 +14,109 @@ impl Slave {
     pub(crate) fn arrive(
         &mut self,
         heard: Option<&[u8]>,
-        shown: Shown,
-        tag: u64,
-        room: Room,
-        left: &mut Left,
-    ) -> Result<Stepped, WorldRefusal>
-        ensures acts { (node : NodeName) (copy at : ℕ) → SlaveActs (Event.Arrive node copy at)
+        at: ScaledTime,
+        ahead: &i128,
+        events: &Events,
+    ) -> Answer
+        ensures { (node : NodeName) (copy : ℕ) → SlaveActs (Event.Arrive node copy at)
             (λ network run. IsCopy copy (option_map (λ octets. octets.now) heard.entry) network run
-            × Reads (Event.Arrive node copy at) shown network run × IsNext tag network run)
-            self.old self.new room (happened result left.new) }
-        ensures tag { IfOk result (λ stepped. stepped.tag ≡ tag) }
+            × Reads (Event.Arrive node copy at) (shown_at at ahead.now) network run × IsNext (length (entries_of events.now)) network run)
+            self.old self.new (HasRoom events.now) result }
     {
         let Some(octets) = heard else {
             return Err(WorldRefusal::NoCopy);
         };
-        let now = shown?;
-        room?;
-        *left = Left::Nothing;
-        Ok(Stepped {
-            tag,
+        let now = shown(at, ahead)?;
+        events.room()?;
+        Ok(Happened {
             reading: Some(now),
-            outcome: Outcome::Heard(self.port.sync(octets, now, tag)),
+            outcome: Outcome::Heard(self.port.sync(octets, now, events.len())),
+            left: Left::Nothing,
         })
     }
 
     /// Is handed a general message.
-    pub(crate) fn hear(
-        &mut self,
-        heard: Option<&[u8]>,
-        tag: u64,
-        room: Room,
-        left: &mut Left,
-    ) -> Result<Stepped, WorldRefusal>
-        ensures acts { (node : NodeName) (copy : ℕ) → SlaveActs (Event.Hear node copy)
+    pub(crate) fn hear(&mut self, heard: Option<&[u8]>, events: &Events) -> Answer
+        ensures { (node : NodeName) (copy : ℕ) → SlaveActs (Event.Hear node copy)
             (λ network run. IsCopy copy (option_map (λ octets. octets.now) heard.entry) network run
-            × IsNext tag network run)
-            self.old self.new room (happened result left.new) }
-        ensures tag { IfOk result (λ stepped. stepped.tag ≡ tag) }
+            × IsNext (length (entries_of events.now)) network run)
+            self.old self.new (HasRoom events.now) result }
     {
         let Some(octets) = heard else {
             return Err(WorldRefusal::NoCopy);
         };
-        room?;
-        *left = Left::Nothing;
-        Ok(Stepped {
-            tag,
+        events.room()?;
+        Ok(Happened {
             reading: None,
-            outcome: Outcome::Heard(self.port.general(octets, tag)),
+            outcome: Outcome::Heard(self.port.general(octets, events.len())),
+            left: Left::Nothing,
         })
     }
 
     /// Draws a Delay_Req, which waits for its departure time from then on.
-    pub(crate) fn request(
-        &mut self,
-        shown: Shown,
-        tag: u64,
-        room: Room,
-        left: &mut Left,
-    ) -> Result<Stepped, WorldRefusal>
-        ensures acts { (node : NodeName) (at : ℕ) → SlaveActs (Event.Request node at)
-            (λ network run. Reads (Event.Request node at) shown network run
-            × IsNext tag network run) self.old self.new room (happened result left.new) }
-        ensures tag { IfOk result (λ stepped. stepped.tag ≡ tag) }
+    pub(crate) fn request(&mut self, at: ScaledTime, ahead: &i128, events: &Events) -> Answer
+        ensures { (node : NodeName) → SlaveActs (Event.Request node at)
+            (λ network run. Reads (Event.Request node at) (shown_at at ahead.now) network run
+            × IsNext (length (entries_of events.now)) network run) self.old self.new (HasRoom events.now) result }
     {
-        let now = shown?;
-        room?;
-        let (octets, number) = self.port.next_request(tag);
+        let now = shown(at, ahead)?;
+        events.room()?;
+        let (octets, number) = self.port.next_request(events.len());
         self.waiting = Some(Departure { number, at: now });
-        *left = Left::Copy(Octets::Short(octets));
-        Ok(Stepped {
-            tag,
+        Ok(Happened {
             reading: Some(now),
             outcome: Outcome::Made,
+            left: Left::Copy(Octets::Short(octets)),
         })
     }
 
     /// Learns when the Delay_Req that waits for it departed.
-    pub(crate) fn stamped(
-        &mut self,
-        room: Room,
-        tag: u64,
-        left: &mut Left,
-    ) -> Result<Stepped, WorldRefusal>
-        ensures acts { (node : NodeName) → SlaveActs (Event.Stamped node) Nothing self.old self.new room (happened result left.new) }
-        ensures tag { IfOk result (λ stepped. stepped.tag ≡ tag) }
+    pub(crate) fn stamped(&mut self, events: &Events) -> Answer
+        ensures { (node : NodeName) → SlaveActs (Event.Stamped node) Nothing self.old self.new (HasRoom events.now) result }
     {
         let Some(request) = self.waiting else {
             return Err(WorldRefusal::NothingWaiting);
         };
-        room?;
+        events.room()?;
         self.waiting = None;
         let outcome = match self.port.request_left(request.number, request.at) {
             Ok(()) => Outcome::Done,
             Err(refusal) => Outcome::Refused(refusal.code()),
         };
-        *left = Left::Nothing;
-        Ok(Stepped {
-            tag,
+        Ok(Happened {
             reading: None,
-            outcome: outcome,
+            outcome,
+            left: Left::Nothing,
         })
     }
 
     /// Its hold timer runs out.
-    pub(crate) fn tick(
-        &mut self,
-        room: Room,
-        tag: u64,
-        left: &mut Left,
-    ) -> Result<Stepped, WorldRefusal>
-        ensures acts { (node : NodeName) → SlaveActs (Event.Tick node) Nothing self.old self.new room (happened result left.new) }
-        ensures tag { IfOk result (λ stepped. stepped.tag ≡ tag) }
+    pub(crate) fn tick(&mut self, events: &Events) -> Answer
+        ensures { (node : NodeName) → SlaveActs (Event.Tick node) Nothing self.old self.new (HasRoom events.now) result }
     {
-        room?;
+        events.room()?;
         self.port.tick();
-        *left = Left::Nothing;
-        Ok(Stepped {
-            tag,
+        Ok(Happened {
             reading: None,
             outcome: Outcome::Done,
+            left: Left::Nothing,
         })
     }
 
     /// Is told its present master, which has to be one.
-    pub(crate) fn set_master(
-        &mut self,
-        other: NodeKind,
-        room: Room,
-        tag: u64,
-        left: &mut Left,
-    ) -> Result<Stepped, WorldRefusal>
-        ensures acts { (node master : NodeName) → SlaveActs (Event.SetMaster node master)
-            (IsKind master other) self.old self.new room (happened result left.new) }
-        ensures tag { IfOk result (λ stepped. stepped.tag ≡ tag) }
+    pub(crate) fn set_master(&mut self, other: NodeKind, events: &Events) -> Answer
+        ensures { (node master : NodeName) → SlaveActs (Event.SetMaster node master)
+            (IsKind master other) self.old self.new (HasRoom events.now) result }
     {
         let NodeKind::Master { config, .. } = other else {
             return Err(WorldRefusal::WrongKind);
         };
-        room?;
+        events.room()?;
         self.port.set_master(config.identity);
-        *left = Left::Nothing;
-        Ok(Stepped {
-            tag,
+        Ok(Happened {
             reading: None,
             outcome: Outcome::Done,
+            left: Left::Nothing,
         })
     }
 }

@@ -2,13 +2,12 @@ ghost use Rattle.world_model.specs.Inner.Stands.{IsWorld, run_of};
 ghost use Rattle.world_model.specs.Inner.Kept.{lists, entries_of, AllStored};
 ghost use Rattle.world_model.specs.Inner.Steps.{Steps};
 
-use crate::entry::Left;
 use crate::events::Events;
 use crate::places::{Recent, place_of, site};
 use crate::station::Station;
 use network_model::{Event, Nodes, Stepped, WorldRefusal};
 
-/// One event. All room for it is taken first.
+/// One event. The room for it is taken first.
 pub(crate) fn step(
     nodes: &Nodes,
     recent: &mut Recent,
@@ -22,16 +21,19 @@ pub(crate) fn step(
     ensures stored { AllStored (lists events.new.stores) events.new.kept.items }
     ensures steps { Steps nodes.now (run_of (entries_of events.old)) event.now result (run_of (entries_of events.new)) }
 {
-    let room = events.reserve();
+    events.reserve();
     let Some(index) = place_of(nodes, recent, site(event)) else {
         return Err(WorldRefusal::NoNode);
     };
-    let tag = events.len();
-    let mut left = Left::Nothing;
-    match stations[index].act(nodes, events, event, room, tag, &mut left) {
-        Ok(stepped) => {
-            events.push(event, &left);
-            Ok(stepped)
+    match stations[index].act(nodes, events, event) {
+        Ok(happened) => {
+            let tag = events.len();
+            events.keep(event, &happened.left);
+            Ok(Stepped {
+                tag,
+                reading: happened.reading,
+                outcome: happened.outcome,
+            })
         }
         Err(why) => Err(why),
     }

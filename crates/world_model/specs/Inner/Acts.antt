@@ -1,7 +1,8 @@
 -- What an event does at its node. The world's own functions cite these.
-use Rattle.std.specs.Prelude.{◌≡◌, ◌⊎◌, ℕ, List, ◌∷◌, length, if◌then◌else◌, Option, Some, None, option_map}
+use Rattle.std.specs.Prelude.{◌≡◌, ◌⊎◌, ℕ, ℤ, pos, ◌+ℤ◌, ok_or, List, ◌∷◌, length, if◌then◌else◌, Option, Some, None, option_map}
 use Rattle.std.specs.Prelude.{option_and_then, Ok, Err, Result, IsOk, MatchResult}
 use Rattle.std.specs.Result.{result_ok}
+use Rattle.ptp_units.specs.Moment.{moment_of}
 use Rattle.event_codec.specs.Packet.{Contents, Packet}
 use Rattle.transparent_clock.specs.declared.refusal.ClockRefusal.{ClockRefusal}
 use Rattle.transparent_clock.specs.Forwarding.{forwarded}
@@ -10,6 +11,7 @@ use Rattle.network_model.specs.declared.event.Event.TheVariants.{Leave}
 use Rattle.network_model.specs.declared.node.NodeKind.{NodeKind}
 use Rattle.network_model.specs.declared.stepped.Outcome.{Outcome}
 use Rattle.network_model.specs.declared.refusal.WorldRefusal.{WorldRefusal}
+use Rattle.network_model.specs.declared.refusal.WorldRefusal.TheVariants.{ReadingOutOfRange, Memory}
 use Rattle.network_model.specs.Network.{Network, NodeName, PortSetup, kind_of, is_named}
 use Rattle.network_model.specs.Run.{Run, place, site_of}
 use Rattle.network_model.specs.Kinds.{entered_copy}
@@ -17,9 +19,9 @@ use Rattle.network_model.specs.Clock.{reading, reading_of}
 use Rattle.network_model.specs.Truth.{master_at, slave_at}
 use Rattle.network_model.specs.Truth.{TellsTruth, copy_of, copy_made}
 use Rattle.network_model.specs.Outcome.{outcome_of, reads, left_outcome}
-use Rattle.world_model.specs.Inner.Stands.{Entry, Happened, happening}
-use Rattle.world_model.specs.declared.entry.Left.{Left}
-use Rattle.network_model.specs.declared.stepped.Stepped.{Stepped}
+use Rattle.world_model.specs.State.{IsRefused}
+use Rattle.world_model.specs.Inner.Stands.{Entry}
+use Rattle.world_model.specs.declared.entry.Happened.{Happened}
 use Rattle.world_model.specs.declared.station.Master.{Master}
 use Rattle.world_model.specs.declared.station.Slave.{Slave}
 use Rattle.world_model.specs.declared.station.Station.{Station}
@@ -27,9 +29,9 @@ use Rattle.world_model.specs.Inner.Stands.{octets_in, stay_in, entering, event_a
 use Rattle.world_model.specs.Inner.Stands.{MasterStands}
 use Rattle.world_model.specs.Inner.Stands.{SlaveStands, Stands}
 
--- room for one more entry, or why there is none
-abbrev pub Room : Type 0
-Room = Result (Unit {0}) WorldRefusal
+-- what a clock that is so far ahead shows at this true moment, or why it shows nothing
+abbrev pub shown_at : ℕ → ℤ → Result ℕ WorldRefusal
+shown_at at ahead = ok_or (moment_of (pos at +ℤ ahead)) ReadingOutOfRange
 
 -- What an accepted event brings about: its outcome and reading, a copy or a stay for later events, and what its node
 -- then stands for.
@@ -40,51 +42,41 @@ pub record Brings (network : Network) (run : Run) (event : Event) (After : Type 
   pub copy : TellsTruth (copy_made network event run (copy_of network run)) (octets_in happened.left)
   pub stay : stay_in happened.left ≡ option_map reading (entering (place event run))
 
--- what happened, where an event was accepted
-abbrev pub happened : Result Stepped WorldRefusal → Left → Result Happened WorldRefusal
-happened (Ok stepped) left = Ok (happening stepped left)
-happened (Err why) left = Err why
-
--- why an event isn't accepted
-abbrev pub Refuses : Network → Run → Event → Room → WorldRefusal → Type 0
-Refuses network run event room why =
-    (outcome_of network run event ≡ Err why) ⊎ ((room ≡ Err why) × IsOk (outcome_of network run event))
-
 -- an event is accepted, for which there is room, or it is refused and its node is as it was
-abbrev pub Answers : Network → Run → Event → Room → (After Same : Type 0) → Result Happened WorldRefusal → Type 0
-Answers network run event room After Same result =
-    MatchResult result (λ happened. IsOk room × Brings network run event After happened)
-    (λ why. Same × Refuses network run event room why)
+abbrev pub Answers : Network → Run → Event → (HasRoom After Same : Type 0) → Result Happened WorldRefusal → Type 0
+Answers network run event HasRoom After Same result =
+    MatchResult result (λ happened. HasRoom × Brings network run event After happened)
+    (λ why. Same × IsRefused (record { network = network; run = run }) event why)
 
 -- an event at a node whose station was old and is new, in one network, for every run that this station and these
 -- entries keep
-abbrev pub ActsIn : Network → Event → List Entry → (old new : Station) → Room → Result Happened WorldRefusal → Type 0
-ActsIn network event entries old new room result =
+abbrev pub ActsIn : Network → Event → List Entry → (old new : Station) → (HasRoom : Type 0) → Result Happened WorldRefusal → Type 0
+ActsIn network event entries old new HasRoom result =
     (run : Run) (kind : NodeKind)
     → kind_of network (site_of event) ≡ Some kind → Stands network run (site_of event) kind old
     → Keeps network run entries
-    → Answers network run event room (Stands network (event ∷ run) (site_of event) kind new) (new ≡ old) result
+    → Answers network run event HasRoom (Stands network (event ∷ run) (site_of event) kind new) (new ≡ old) result
 
 -- the same in every network
-abbrev pub Acts : Event → List Entry → (old new : Station) → Room → Result Happened WorldRefusal → Type 0
-Acts event entries old new room result = (network : Network) → ActsIn network event entries old new room result
+abbrev pub Acts : Event → List Entry → (old new : Station) → (HasRoom : Type 0) → Result Happened WorldRefusal → Type 0
+Acts event entries old new HasRoom result = (network : Network) → ActsIn network event entries old new HasRoom result
 
 -- the same of a master, where this is given
-abbrev pub MasterActs : Event → (Given : Network → Run → Type 0) → (old new : Master) → Room
+abbrev pub MasterActs : Event → (Given : Network → Run → Type 0) → (old new : Master) → (HasRoom : Type 0)
     → Result Happened WorldRefusal → Type 0
-MasterActs event Given old new room result =
+MasterActs event Given old new HasRoom result =
     (network : Network) (run : Run) (setup : PortSetup)
     → master_at network (site_of event) ≡ Some setup → MasterStands run (site_of event) setup old → Given network run
-    → Answers network run event room (MasterStands (event ∷ run) (site_of event) setup new) (new ≡ old) result
+    → Answers network run event HasRoom (MasterStands (event ∷ run) (site_of event) setup new) (new ≡ old) result
 
 -- the same of a slave
-abbrev pub SlaveActs : Event → (Given : Network → Run → Type 0) → (old new : Slave) → Room
+abbrev pub SlaveActs : Event → (Given : Network → Run → Type 0) → (old new : Slave) → (HasRoom : Type 0)
     → Result Happened WorldRefusal → Type 0
-SlaveActs event Given old new room result =
+SlaveActs event Given old new HasRoom result =
     (network : Network) (run : Run) (setup : PortSetup)
     → slave_at network (site_of event) ≡ Some setup → SlaveStands network run (site_of event) setup old
     → Given network run
-    → Answers network run event room (SlaveStands network (event ∷ run) (site_of event) setup new) (new ≡ old) result
+    → Answers network run event HasRoom (SlaveStands network (event ∷ run) (site_of event) setup new) (new ≡ old) result
 
 -- nothing is given
 abbrev pub Nothing : Network → Run → Type 0
@@ -120,12 +112,12 @@ IsSent message octets sent = MatchResult sent
     (λ refusal. message ≡ Err refusal)
 
 -- a message that entered a clock at one reading leaves at this one, for which there is room, or it doesn't
-abbrev pub Departs : Contents → ℕ → Result ℕ WorldRefusal → Room → Result Happened WorldRefusal → Type 0
-Departs m entered shown room result = MatchResult result
-    (λ happened. IsOk room × ((now : ℕ) × (shown ≡ Ok now)
+abbrev pub Departs : Contents → ℕ → Result ℕ WorldRefusal → (HasRoom : Type 0) → Result Happened WorldRefusal → Type 0
+Departs m entered shown HasRoom result = MatchResult result
+    (λ happened. HasRoom × ((now : ℕ) × (shown ≡ Ok now)
     × Gives (Some now) (left_outcome (forwarded (Ok m) entered now))
     (result_ok (forwarded (Ok m) entered now)) happened))
-    (λ why. (shown ≡ Err why) ⊎ ((room ≡ Err why) × IsOk shown))
+    (λ why. (shown ≡ Err why) ⊎ ((why ≡ Memory) × IsOk shown))
 
 -- the copy that an entry's event took into this clock
 abbrev pub copy_taken : NodeName → Event → Option ℕ

@@ -8,8 +8,6 @@ use Rattle.slave_port.specs.StandsFor.{StandsFor}
 use Rattle.network_model.specs.declared.event.Event.{Event}
 use Rattle.network_model.specs.declared.event.Event.TheVariants.{Sync}
 use Rattle.network_model.specs.declared.node.NodeKind.{NodeKind}
-use Rattle.network_model.specs.declared.stepped.Outcome.{Outcome}
-use Rattle.network_model.specs.declared.stepped.Stepped.{Stepped}
 use Rattle.network_model.specs.declared.node.NodeKind.TheVariants as kinds
 use Rattle.network_model.specs.declared.node.NodeSpec.{NodeSpec}
 use Rattle.network_model.specs.Network.{Network, NodeName, IsNetwork, PortSetup}
@@ -30,16 +28,6 @@ use Rattle.world_model.specs.declared.station.Slave.{Slave}
 use Rattle.world_model.specs.declared.station.Port.{Port}
 use Rattle.world_model.specs.declared.station.Port.TheVariants as ports
 use Rattle.world_model.specs.declared.station.Station.{Station}
-
--- what an event brings about at its node
-pub record Happened : Type 0 where
-  pub reading : Option ℕ
-  pub outcome : Outcome
-  pub left : Left
-
--- the same, as an answer and what it left tell it
-abbrev pub happening : Stepped → Left → Happened
-happening stepped left = record { reading = stepped.reading; outcome = stepped.outcome; left = left }
 
 -- an event that happened, and what it left
 pub record Entry : Type 0 where

@@ -1,4 +1,4 @@
-use Rattle.std.proofs.Common.{◌∙◌, ◌∷◌, ap, sym, is_ok, subst, ℕ}
+use Rattle.std.proofs.Common.{◌∙◌, ◌∷◌, ap, sym, subst, ℕ}
 use Rattle.slave_port.specs.History as calls
 use Rattle.slave_port.specs.StandsFor.{StandsFor}
 use Rattle.network_model.specs.SlaveHistory.{slave_setup, history_of}
@@ -6,13 +6,13 @@ use Rattle.world_model.specs.declared.entry.Octets.TheVariants.{Short}
 use Rattle.world_model.proofs.Slaves.{request-brings}
 use Rattle.world_model.proofs.station.Slave.request.Goals as goal
 
-pub returns-clause-acts : goal.returns-clause-acts
-returns-clause-acts c = λ node at network run setup is stands given.
+pub returns : goal.returns
+returns c = λ node network run setup is stands given.
     let drawn = c.next_request.ensures.octets (slave_setup setup) (history_of network setup node run) stands.port in (
-      ap is_ok c.in_ok-room.was,
-      request-brings network run node at c.in_ok-now.now setup c.args.self.now is stands (sym c.in_ok-now.was ∙ given.0)
+      c.in_ok-room.ensures.room,
+      request-brings network run node c.args.at c.in_ok-now.now setup c.args.self.now is stands (sym c.in_ok-now.was ∙ c.shown.ensures ∙ given.0)
           (Short c.next_request.result.0) c.next_request.result.1 c.next_request.new.self drawn
           (c.next_request.ensures.number (slave_setup setup) (history_of network setup node run) stands.port)
-          (subst (λ (tag : ℕ). StandsFor (slave_setup setup) c.next_request.new.self (calls.NextRequest tag ∷ history_of network setup node run)) (sym given.1)
+          (subst (λ (tag : ℕ). StandsFor (slave_setup setup) c.next_request.new.self (calls.NextRequest tag ∷ history_of network setup node run)) (c.len.ensures ∙ sym given.1)
           (c.next_request.ensures.stands (slave_setup setup) (history_of network setup node run) stands.port)),
     )

@@ -2,13 +2,12 @@ use Rattle.std.proofs.Common.{◌∙◌, pos, ◌+ℤ◌, ok_or, ap, refl}
 use Rattle.ptp_units.specs.Moment.{moment_of}
 use Rattle.network_model.specs.declared.event.Event.TheVariants.{Sync}
 use Rattle.network_model.specs.declared.refusal.WorldRefusal.TheVariants.{ReadingOutOfRange}
-use Rattle.world_model.specs.Inner.Acts.{Reads}
-use Rattle.world_model.specs.Inner.Acts.{happened}
+use Rattle.world_model.specs.Inner.Kept.{HasRoom}
 use Rattle.world_model.proofs.Lifting.{lift-master}
 use Rattle.world_model.proofs.station.Station.sync.Goals as goal
 
-pub returns-clause-acts : goal.returns-clause-acts
-returns-clause-acts c = λ node entries network run kind is_kind stands keeps.
-    lift-master network run kind (Sync node c.args.at) c.args.self.now refl is_kind stands c.args.room (happened c.sync.result c.sync.new.left) c.in-Master.master c.sync.new.self
-    (Reads (Sync node c.args.at) c.shown-shown.result) c.in-Master.is (c.sync.ensures.acts node c.args.at)
-    (c.shown-shown.ensures ∙ ap (λ d. ok_or (moment_of (pos c.args.at +ℤ d)) ReadingOutOfRange) stands.difference)
+pub returns : goal.returns
+returns c = λ node entries network run kind is_kind stands keeps.
+    lift-master network run kind (Sync node c.args.at) c.args.self.now refl is_kind stands (HasRoom c.args.events.now) c.sync.result c.in-Master.master c.sync.new.self
+    _ c.in-Master.is (c.sync.ensures node)
+    (ap (λ d. ok_or (moment_of (pos c.args.at +ℤ d)) ReadingOutOfRange) stands.difference)
