@@ -9,8 +9,6 @@ mod datagrams;
 #[cfg(test)]
 mod devices;
 #[cfg(test)]
-mod flaws;
-#[cfg(test)]
 mod json_lines;
 #[cfg(test)]
 mod program;
@@ -20,7 +18,5 @@ mod refusals;
 mod replay;
 #[cfg(test)]
 mod show;
-#[cfg(test)]
-mod spelling;
 #[cfg(test)]
 mod transcripts;

@@ -128,7 +128,7 @@ fn stops_at_a_line_that_is_no_json(rt: HostRuntime) -> Result<(), Fail> {
 }
 
 /// Lines that are no JSON.
-pub(crate) const NO_JSON: [&[u8]; 13] = [
+const NO_JSON: [&[u8]; 13] = [
     b"",
     b"x",
     b"\r",

@@ -1,0 +1,64 @@
+//! What lines of schedules and transcripts are, and how they are written.
+
+use crate::flaws::says_why;
+use line_flaws::{Flaw, schedule_flaw, transcript_flaw};
+use line_writing::{push_event, push_node};
+use schedule_lines::{Line, TranscriptLine};
+use serde_json::Value;
+use std::alloc::{AllocError, Global};
+
+const NO_JSON: &str = "no JSON";
+
+/// What a line of a schedule is, and whether it is said why where it is none.
+pub(crate) fn of_schedule(alloc: Global, line: &[u8]) -> anyhow::Result<String> {
+    let what = match Value::from_slice(alloc, line) {
+        Ok(value) => match Line::of(&value) {
+            Some(Line::Node(_)) => "node",
+            Some(Line::Event(_)) => "event",
+            None => "neither",
+        },
+        Err(_) => NO_JSON,
+    };
+    Ok(reasoned(alloc, what, schedule_flaw(alloc, line, 0)?)?)
+}
+
+/// The same of a line of a transcript.
+pub(crate) fn of_transcript(alloc: Global, line: &[u8]) -> anyhow::Result<String> {
+    let what = match Value::from_slice(alloc, line) {
+        Ok(value) => match TranscriptLine::of(&value) {
+            Some(TranscriptLine::Node(_)) => "node",
+            Some(TranscriptLine::Event { .. }) => "event",
+            None => "neither",
+        },
+        Err(_) => NO_JSON,
+    };
+    Ok(reasoned(alloc, what, transcript_flaw(alloc, line, 0)?)?)
+}
+
+fn reasoned(alloc: Global, what: &str, flaw: Option<Flaw<'_>>) -> Result<String, AllocError> {
+    match flaw {
+        None => String::from_str(alloc, what),
+        Some(flaw) if says_why(&flaw) => format!(in alloc; "{what}, with a reason"),
+        Some(_) => format!(in alloc; "{what}, without a reason"),
+    }
+}
+
+/// A node, written again.
+pub(crate) fn node_written(alloc: Global, line: &[u8]) -> anyhow::Result<String> {
+    let value = Value::from_slice(alloc, line)?;
+    let mut text = Vec::new(alloc);
+    if let Some(Line::Node(node)) = Line::of(&value) {
+        push_node(&mut text, &node)?;
+    }
+    Ok(String::from_utf8(text)?)
+}
+
+/// An event of a transcript, written again.
+pub(crate) fn event_written(alloc: Global, line: &[u8]) -> anyhow::Result<String> {
+    let value = Value::from_slice(alloc, line)?;
+    let mut text = Vec::new(alloc);
+    if let Some(TranscriptLine::Event { number, line }) = TranscriptLine::of(&value) {
+        push_event(&mut text, number, &line)?;
+    }
+    Ok(String::from_utf8(text)?)
+}
