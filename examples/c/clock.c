@@ -75,7 +75,7 @@ int main(int argc, char **argv)
     struct pollfd waits[4] = {
         {one.event, POLLIN, 0}, {one.general, POLLIN, 0}, {other.event, POLLIN, 0}, {other.general, POLLIN, 0}};
     for (;;) {
-        if (poll(waits, 4, -1) < 0)
+        if (poll(waits, 4, -1) < 0 && errno != EINTR)
             fail("poll");
         pass(&one, &other, stay_longer);
         pass(&other, &one, stay_longer);

@@ -129,7 +129,7 @@ static void run(struct station *station)
     struct pollfd waits = {net->event, POLLIN, 0};
     while (station->syncs > 0) {
         const int64_t wait = keep_time(station) - milliseconds();
-        if (poll(&waits, 1, wait > 0 ? (int)wait : 0) < 0)
+        if (poll(&waits, 1, wait > 0 ? (int)wait : 0) < 0 && errno != EINTR)
             fail("poll");
         if (receive(net, net->event, &it) && is_for(&it, station->config.domain))
             answer(station, &it);

@@ -174,7 +174,7 @@ static void run(struct station *station)
     struct pollfd waits[2] = {{net->event, POLLIN, 0}, {net->general, POLLIN, 0}};
     while (station->reports > 0) {
         const int64_t wait = keep_time(station) - milliseconds();
-        if (poll(waits, 2, wait > 0 ? (int)wait : 0) < 0)
+        if (poll(waits, 2, wait > 0 ? (int)wait : 0) < 0 && errno != EINTR)
             fail("poll");
         if (receive(net, net->event, &it) && is_for(&it, station->domain))
             hear_event(station, &it);
