@@ -68,6 +68,14 @@ extern "C" {
 #define PTPX_ALIGNED
 #endif
 
+#if defined(__cplusplus)
+#define PTPX_OCTETS_OF(memory) static_cast<uint8_t *>(memory)
+#define PTPX_ADDRESS_OF(memory) reinterpret_cast<uintptr_t>(memory)
+#else
+#define PTPX_OCTETS_OF(memory) ((uint8_t *)(memory))
+#define PTPX_ADDRESS_OF(memory) ((uintptr_t)(memory))
+#endif
+
 /* What the archive takes for granted of the compiler: else a program is refused here. */
 #if defined(__cplusplus)
 #define PTPX_HOLDS(name, condition) static_assert(condition, #name)
@@ -579,9 +587,9 @@ static inline uint16_t ptpx_slave_init(struct ptpx_slave *slave, void *memory, s
         return PTPX_NULL;
     if (size < PTPX_SLAVE_SIZE)
         return PTPX_SMALL_MEMORY;
-    if ((uintptr_t)memory % PTPX_SLAVE_ALIGNMENT != 0)
+    if (PTPX_ADDRESS_OF(memory) % PTPX_SLAVE_ALIGNMENT != 0)
         return PTPX_UNALIGNED_MEMORY;
-    slave->memory = (uint8_t *)memory;
+    slave->memory = PTPX_OCTETS_OF(memory);
     ptpx_raw_slave_init(slave, config, first);
     return PTPX_DONE;
 }
@@ -711,9 +719,9 @@ static inline uint16_t ptpx_wide_slave_init(struct ptpx_wide_slave *slave, void 
         return PTPX_NULL;
     if (size < PTPX_WIDE_SLAVE_SIZE)
         return PTPX_SMALL_MEMORY;
-    if ((uintptr_t)memory % PTPX_SLAVE_ALIGNMENT != 0)
+    if (PTPX_ADDRESS_OF(memory) % PTPX_SLAVE_ALIGNMENT != 0)
         return PTPX_UNALIGNED_MEMORY;
-    slave->memory = (uint8_t *)memory;
+    slave->memory = PTPX_OCTETS_OF(memory);
     ptpx_raw_wide_slave_init(slave, config, first);
     return PTPX_DONE;
 }
