@@ -13,7 +13,7 @@
 static void must(uint16_t refusal)
 {
     if (refusal != PTPX_DONE) {
-        fprintf(stderr, "refused %u\n", (unsigned)refusal);
+        fprintf(stderr, "refused %d\n", refusal);
         exit(1);
     }
 }
@@ -75,7 +75,7 @@ int main(void)
     must(ptpx_slave_general(&slave, response, sizeof response, 13, &heard));
 
     if (heard.kind != PTPX_REPORT) {
-        fprintf(stderr, "no report: %u, %u\n", (unsigned)heard.kind, (unsigned)heard.reason);
+        fprintf(stderr, "no report: %d, %d\n", heard.kind, heard.reason);
         return 1;
     }
     must(ptpx_signed_to_int64(heard.offset2, &offset2));

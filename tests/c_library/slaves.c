@@ -86,6 +86,24 @@ static void reports(void)
     check_guards();
 }
 
+/* The last departure that was told before the answer counts, and 0 is a departure, too. */
+static void departures(void)
+{
+    struct pair pair = new_pair();
+    uint8_t request[44] = {0}, response[54] = {0};
+    uint16_t number = 0;
+    CHECK(sync_half(&pair, 100, 109) == PTPX_COMPLETED);
+    CHECK(ptpx_slave_next_request(&pair.slave, 1, request, &number) == PTPX_DONE);
+    CHECK(ptpx_master_delay_req(&pair.master, request, 44, at(113, 0, 0), response) == PTPX_DONE);
+    CHECK(ptpx_slave_request_left(&pair.slave, number, at(50, 0, 0)) == PTPX_DONE);
+    CHECK(ptpx_slave_request_left(&pair.slave, number, at(110, 0, 0)) == PTPX_DONE);
+    CHECK(on_general(&pair, response, 54, 2) == PTPX_REPORT);
+    CHECK(narrow(pair.heard.path2) == 12 * (int64_t)65536 * 1000000000);
+    CHECK(ptpx_slave_request_left(&pair.slave, number, at(0, 0, 0)) == PTPX_DONE);
+    CHECK(on_general(&pair, response, 54, 2) == PTPX_REPORT);
+    CHECK(narrow(pair.heard.path2) == 122 * (int64_t)65536 * 1000000000);
+}
+
 static void one_step_reports(void)
 {
     struct pair pair = new_pair();
@@ -264,6 +282,7 @@ static void refused_slaves(void)
 int main(void)
 {
     reports();
+    departures();
     one_step_reports();
     reasons_of_syncs();
     reasons_of_responses();

@@ -1,6 +1,7 @@
 /*
  * How much stack the calls take, with the functions here that make them, seen on a stack of their own that was painted
- * before. Fails not far above what docs/EMBEDDING.md says. With WIDE the slave is a wide one.
+ * before. Fails not far above what docs/EMBEDDING.md says. With WIDE the slave is a wide one. With LAZY the program is
+ * one whose memcpy, memmove and memset are bound as they are first called, by the dynamic linker on the same stack.
  */
 #define _GNU_SOURCE
 #include <ucontext.h>
@@ -10,6 +11,14 @@
 
 #define STACK 262144
 #define PAINT 0x5C
+
+#ifdef LAZY
+#define STACK_OF_LINKER 8192
+#define BINDING ", bound lazily"
+#else
+#define STACK_OF_LINKER 0
+#define BINDING ""
+#endif
 
 static _Alignas(16) uint8_t stack[STACK];
 static ucontext_t outside, inside;
@@ -95,8 +104,9 @@ int main(void)
     const size_t base = used(nothing);
     const size_t init = used(slave_init) - base, ports = used(port_calls) - base;
     const size_t codec = used(codec_calls) - base, times = used(time_calls) - base;
-    printf("stack: init of a " KIND " %zu, other calls of ports %zu, codec and clock %zu, times %zu octets\n", init,
-           ports, codec, times);
-    CHECK(init <= STACK_OF_INIT && ports <= 1024 && codec <= 768 && times <= 768);
+    printf("stack" BINDING ": init of a " KIND " %zu, other calls of ports %zu, codec and clock %zu, times %zu octets\n",
+           init, ports, codec, times);
+    CHECK(init <= STACK_OF_INIT + STACK_OF_LINKER && ports <= 1024 + STACK_OF_LINKER);
+    CHECK(codec <= 768 + STACK_OF_LINKER && times <= 768 + STACK_OF_LINKER);
     return 0;
 }

@@ -11,7 +11,11 @@
  *
  * Times. A moment is a whole number of 2^-16 ns since the beginning of the timescale, below 2^48 s, in two words
  * (struct ptpx_time). ptpx_time_join makes one of seconds and nanoseconds. The comments say whose clock each time is
- * of.
+ * of. 0 is a moment as any other: a stamp that the kernel leaves at 0, since there is none, isn't to be passed on.
+ *
+ * Messages. Over UDP event messages come to port 319 and general messages to port 320. Ethernet has no ports: there
+ * messageType says it, the low four bits of the first octet: 0 to 7 are event messages, 8 to 15 general ones. Where
+ * octets are no message (302, 401, 501), ptpx_decode says why (201 to 206).
  *
  * Memory. The library allocates nothing, keeps nothing between calls but in the structs that it is handed, and needs
  * of its surroundings memcpy, memmove and memset alone. A message that arrives is passed with the count of its octets;
@@ -50,6 +54,10 @@ extern "C" {
 #define PTPX_LOOK_AT_IT
 #endif
 
+#if defined(__cplusplus) && __cplusplus < 201103L
+#error "ptpx.h is for C99 and later, and for C++11 and later"
+#endif
+
 #if defined(__cplusplus)
 #define PTPX_ALIGNED alignas(16)
 #elif defined(__STDC_VERSION__) && __STDC_VERSION__ >= 201112L
@@ -58,6 +66,23 @@ extern "C" {
 #define PTPX_ALIGNED __attribute__((aligned(16)))
 #else
 #define PTPX_ALIGNED
+#endif
+
+#if defined(__cplusplus)
+#define PTPX_OCTETS_OF(memory) static_cast<uint8_t *>(memory)
+#define PTPX_ADDRESS_OF(memory) reinterpret_cast<uintptr_t>(memory)
+#else
+#define PTPX_OCTETS_OF(memory) ((uint8_t *)(memory))
+#define PTPX_ADDRESS_OF(memory) ((uintptr_t)(memory))
+#endif
+
+/* What the archive takes for granted of the compiler: else a program is refused here. */
+#if defined(__cplusplus)
+#define PTPX_HOLDS(name, condition) static_assert(condition, #name)
+#elif defined(__STDC_VERSION__) && __STDC_VERSION__ >= 201112L
+#define PTPX_HOLDS(name, condition) _Static_assert(condition, #name)
+#else
+#define PTPX_HOLDS(name, condition) typedef char ptpx_holds_##name[(condition) ? 1 : -1]
 #endif
 
 /* Why a call is refused. */
@@ -233,6 +258,36 @@ struct ptpx_heard {
     uint64_t request_tag;       /* the tag of its Delay_Req */
     uint64_t response_tag;      /* the tag of its Delay_Resp */
 };
+
+/* Where the archive takes the fields to lie, which a struct that is packed by a flag or a pragma has elsewhere. */
+#define PTPX_LIES(type, field, octet) (offsetof(struct type, field) == (octet))
+PTPX_HOLDS(layout_of_pointers, sizeof(void *) == 8 && sizeof(size_t) == 8 && sizeof(bool) == 1);
+PTPX_HOLDS(layout_of_time, sizeof(struct ptpx_time) == 16 && PTPX_LIES(ptpx_time, low, 8));
+PTPX_HOLDS(layout_of_signed, sizeof(struct ptpx_signed) == 16 && PTPX_LIES(ptpx_signed, low, 8));
+PTPX_HOLDS(layout_of_timestamp, sizeof(struct ptpx_timestamp) == 16 && PTPX_LIES(ptpx_timestamp, nanos, 8));
+PTPX_HOLDS(layout_of_identity, sizeof(struct ptpx_identity) == 10 && PTPX_LIES(ptpx_identity, port, 8));
+PTPX_HOLDS(layout_of_config, sizeof(struct ptpx_config) == 12 && PTPX_LIES(ptpx_config, domain, 10)
+                                 && PTPX_LIES(ptpx_config, log, 11));
+PTPX_HOLDS(layout_of_message,
+           sizeof(struct ptpx_message) == 72 && PTPX_LIES(ptpx_message, flags, 5)
+               && PTPX_LIES(ptpx_message, correction, 8) && PTPX_LIES(ptpx_message, specific, 16)
+               && PTPX_LIES(ptpx_message, source, 20)
+               && PTPX_LIES(ptpx_message, sequence, 30) && PTPX_LIES(ptpx_message, log, 32)
+               && PTPX_LIES(ptpx_message, control, 33) && PTPX_LIES(ptpx_message, timestamp, 40)
+               && PTPX_LIES(ptpx_message, requesting, 56) && PTPX_LIES(ptpx_message, suffix_length, 66));
+PTPX_HOLDS(layout_of_stay, sizeof(struct ptpx_stay) == 24 && PTPX_LIES(ptpx_stay, inside, 16));
+PTPX_HOLDS(layout_of_master, sizeof(struct ptpx_master) == 18 && PTPX_LIES(ptpx_master, next, 12)
+                                 && PTPX_LIES(ptpx_master, waiting, 14) && PTPX_LIES(ptpx_master, waits, 16));
+PTPX_HOLDS(layout_of_slave, sizeof(struct ptpx_slave) == 8 && sizeof(struct ptpx_wide_slave) == 8);
+PTPX_HOLDS(layout_of_memory, sizeof(struct ptpx_slave_memory) == PTPX_SLAVE_SIZE
+                                 && sizeof(struct ptpx_wide_slave_memory) == PTPX_WIDE_SLAVE_SIZE);
+PTPX_HOLDS(layout_of_heard, sizeof(struct ptpx_heard) == 72 && PTPX_LIES(ptpx_heard, reason, 2)
+                                && PTPX_LIES(ptpx_heard, one_step, 4) && PTPX_LIES(ptpx_heard, offset2, 8)
+                                && PTPX_LIES(ptpx_heard, path2, 24) && PTPX_LIES(ptpx_heard, sync_tag, 40)
+                                && PTPX_LIES(ptpx_heard, follow_tag, 48) && PTPX_LIES(ptpx_heard, request_tag, 56)
+                                && PTPX_LIES(ptpx_heard, response_tag, 64));
+#undef PTPX_LIES
+#undef PTPX_HOLDS
 
 /* The library's own calls. Use the inline functions below. */
 uint16_t ptpx_raw_signed_to_int64(struct ptpx_signed value, int64_t *narrow);
@@ -499,7 +554,12 @@ static inline uint16_t ptpx_master_sync_left(struct ptpx_master *master, uint16_
     return ptpx_raw_master_sync_left(master, number, t1, octets);
 }
 
-/* The 54 octets of the Delay_Resp to a Delay_Req that arrived at t4 by the master's clock. 101, 302 to 305. */
+/*
+ * The 54 octets of the Delay_Resp to a Delay_Req that arrived at t4 by the master's clock. Its logMessageInterval, in
+ * octet 33, is that of the Syncs, as of all that a master writes; slaves take it for the shortest interval of their
+ * Delay_Reqs, so write there what they are to keep to. Where the Delay_Req came by unicast (4 in octet 6), the answer
+ * goes to its sender, with 4 in octet 6, too, and 0x7f in octet 33. 101, 302 to 305.
+ */
 PTPX_LOOK_AT_IT
 static inline uint16_t ptpx_master_delay_req(const struct ptpx_master *master, const uint8_t *octets, size_t length,
                                              struct ptpx_time t4, uint8_t response[54])
@@ -527,14 +587,18 @@ static inline uint16_t ptpx_slave_init(struct ptpx_slave *slave, void *memory, s
         return PTPX_NULL;
     if (size < PTPX_SLAVE_SIZE)
         return PTPX_SMALL_MEMORY;
-    if ((uintptr_t)memory % PTPX_SLAVE_ALIGNMENT != 0)
+    if (PTPX_ADDRESS_OF(memory) % PTPX_SLAVE_ALIGNMENT != 0)
         return PTPX_UNALIGNED_MEMORY;
-    slave->memory = (uint8_t *)memory;
+    slave->memory = PTPX_OCTETS_OF(memory);
     ptpx_raw_slave_init(slave, config, first);
     return PTPX_DONE;
 }
 
-/* As a new port of the same configuration, whose Delay_Reqs are numbered from first on. */
+/*
+ * As a new port of the same configuration, whose Delay_Reqs are numbered from first on. So it has no master, which no
+ * other call brings about: call it, with the number behind that of the last Delay_Req, where the master fell silent
+ * and no other one is there.
+ */
 static inline uint16_t ptpx_slave_restart(struct ptpx_slave *slave, uint16_t first)
 {
     if (slave == NULL || slave->memory == NULL)
@@ -588,7 +652,8 @@ static inline uint16_t ptpx_slave_next_request(struct ptpx_slave *slave, uint64_
 
 /*
  * The Delay_Req of this number left at t3 by the slave's clock. A Delay_Resp that is heard before this call is
- * ignored (510). 101, 511.
+ * ignored (510): so stamps of what was sent are read before the general port is. A second call for a number counts in
+ * the place of the first, for what is heard after it. 101, 511.
  */
 PTPX_LOOK_AT_IT
 static inline uint16_t ptpx_slave_request_left(struct ptpx_slave *slave, uint16_t number, struct ptpx_time t3)
@@ -654,9 +719,9 @@ static inline uint16_t ptpx_wide_slave_init(struct ptpx_wide_slave *slave, void 
         return PTPX_NULL;
     if (size < PTPX_WIDE_SLAVE_SIZE)
         return PTPX_SMALL_MEMORY;
-    if ((uintptr_t)memory % PTPX_SLAVE_ALIGNMENT != 0)
+    if (PTPX_ADDRESS_OF(memory) % PTPX_SLAVE_ALIGNMENT != 0)
         return PTPX_UNALIGNED_MEMORY;
-    slave->memory = (uint8_t *)memory;
+    slave->memory = PTPX_OCTETS_OF(memory);
     ptpx_raw_wide_slave_init(slave, config, first);
     return PTPX_DONE;
 }
