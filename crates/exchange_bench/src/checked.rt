@@ -16,53 +16,84 @@ struct Watched {
 }
 
 impl Watched {
-    /// The slave follows the master.
+    /// Nothing has happened yet.
     fn new(alloc: Global, names: &Names) -> Option<Watched> {
         let specs = nodes_of(names);
         let world = World::new(alloc, Nodes::new(alloc, &specs).ok()?).ok()?;
-        let checker = Checker::new(alloc, Nodes::new(alloc, &specs).ok()?).ok()?;
-        let mut watched = Watched { world, checker };
-        watched.happen(&set_master(names))?;
-        Some(watched)
+        let checker = new_checker(alloc, names)?;
+        Some(Watched { world, checker })
     }
 
-    /// An event happens, and the checker is told. Answers the event's tag.
-    fn happen(&mut self, event: &Event) -> Option<u64> {
-        let stepped = self.world.step(event).ok()?;
-        let line = TraceLine::of(event, &stepped, &self.world);
-        self.checker.feed(line).ok()?;
-        Some(stepped.tag)
+    /// Events happen, and the checker is told of each.
+    fn happen(&mut self, events: &[Event]) -> Option<()> {
+        for event in events {
+            let stepped = self.world.step(event).ok()?;
+            let line = TraceLine::of(event, &stepped, &self.world);
+            self.checker.feed(line).ok()?;
+        }
+        Some(())
     }
+
+    /// The tag of the next event.
+    fn next(&self) -> u64 {
+        self.world.len()
+    }
+}
+
+/// A checker of transcripts of these nodes.
+fn new_checker(alloc: Global, names: &Names) -> Option<Checker> {
+    Checker::new(alloc, Nodes::new(alloc, &nodes_of(names)).ok()?).ok()
 }
 
 /// So many lines of whole exchanges.
 pub fn mixed(alloc: Global, lines: u64) -> Option<Verdict> {
     let names = Names::new()?;
     let mut watched = Watched::new(alloc, &names)?;
+    watched.happen(&[set_master(&names)])?;
     for second in 0..lines / 16 {
-        for event in exchange(&names, watched.world.len(), second) {
-            watched.happen(&event)?;
-        }
+        let events = exchange(&names, watched.next(), second);
+        watched.happen(&events)?;
     }
     Some(watched.checker.verdict())
 }
 
-/// A message passes a clock, in no time. Answers the tag of the copy that left.
-fn pass(watched: &mut Watched, names: &Names, copy: u64) -> Option<u64> {
+/// The slave follows the master, which sends a Sync, by the event of tag 1, and its Follow_Up.
+fn sent(names: &Names) -> [Event; 3] {
     let at = moment(1, 0);
-    let node = names.near;
-    let transit = watched.happen(&Event::Enter { node, copy, at })?;
-    watched.happen(&Event::Leave { node, transit, at })
+    let node = names.master;
+    [
+        set_master(names),
+        Event::Sync { node, at },
+        Event::Follow { node },
+    ]
 }
 
-/// The slave hears the answer to a Delay_Req that took no time. Answers the tag of the answer.
-fn answer(watched: &mut Watched, names: &Names) -> Option<u64> {
+/// A message enters a clock, by an event of this tag, and leaves it in no time.
+fn stay(names: &Names, copy: u64, transit: u64) -> [Event; 2] {
+    let at = moment(1, 0);
+    let node = names.near;
+    [
+        Event::Enter { node, copy, at },
+        Event::Leave { node, transit, at },
+    ]
+}
+
+/// The slave hears the Sync and its Follow_Up, and its Delay_Req, which is sent by the event of this tag, takes no time to
+/// the master, which answers it.
+fn asked(names: &Names, copy: u64, request: u64) -> [Event; 5] {
     let at = moment(1, 0);
     let node = names.slave;
-    let copy = watched.happen(&Event::Request { node, at })?;
-    watched.happen(&Event::Stamped { node })?;
-    let node = names.master;
-    watched.happen(&Event::Arrive { node, copy, at })
+    [
+        Event::Arrive { node, copy, at },
+        Event::Hear { node, copy: 2 },
+        Event::Request { node, at },
+        Event::Stamped { node },
+        Event::Arrive {
+            node: names.master,
+            copy: request,
+            at,
+        },
+    ]
 }
 
 /// A Sync passes a clock in a quarter of so many lines, one stay behind the other; in the other half
@@ -70,85 +101,65 @@ fn answer(watched: &mut Watched, names: &Names) -> Option<u64> {
 pub fn long_journey(alloc: Global, lines: u64) -> Option<Verdict> {
     let names = Names::new()?;
     let mut watched = Watched::new(alloc, &names)?;
-    let at = moment(1, 0);
-    let node = names.master;
-    let mut copy = watched.happen(&Event::Sync { node, at })?;
-    let follow = watched.happen(&Event::Follow { node })?;
+    watched.happen(&sent(&names))?;
+    let mut copy = 1u64;
     for _ in 0..lines / 4 {
-        copy = pass(&mut watched, &names, copy)?;
+        let transit = watched.next();
+        watched.happen(&stay(&names, copy, transit))?;
+        copy = transit.saturating_add(1);
     }
+    let request = watched.next().saturating_add(2);
+    watched.happen(&asked(&names, copy, request))?;
     let node = names.slave;
-    watched.happen(&Event::Arrive { node, copy, at })?;
-    watched.happen(&Event::Hear { node, copy: follow })?;
-    let copy = answer(&mut watched, &names)?;
+    let copy = request.saturating_add(2);
     for _ in 0..lines / 2 {
-        watched.happen(&Event::Hear { node, copy })?;
+        watched.happen(&[Event::Hear { node, copy }])?;
     }
     Some(watched.checker.verdict())
 }
 
-/// A checker, and how many lines it was fed.
-#[derive(Drop)]
-struct Forged {
-    checker: Checker,
-    lines: u64,
+/// The line of an event that is said to have come out.
+fn forged(event: Event) -> TraceLine {
+    let out = match event {
+        Event::Enter { .. } => TraceOut::Entered,
+        _ => TraceOut::Made(ArrayVec::new()),
+    };
+    TraceLine {
+        event,
+        reading: None,
+        out,
+    }
 }
 
-impl Forged {
-    /// A line of this event, which is said to have come out so. Answers the line's number.
-    fn tell(&mut self, event: Event, out: TraceOut) -> Option<u64> {
-        let reading = None;
-        self.checker
-            .feed(TraceLine {
-                event,
-                reading,
-                out,
-            })
-            .ok()?;
-        let number = self.lines;
-        self.lines = number.saturating_add(1);
-        Some(number)
+/// A checker is told of events that never happened.
+fn tell(checker: &mut Checker, events: &[Event]) -> Option<()> {
+    for event in events {
+        checker.feed(forged(*event)).ok()?;
     }
-
-    /// A copy enters a clock and leaves it. Answers the number of the Enter line; the copy that left
-    /// has the next.
-    fn pass(&mut self, names: &Names, copy: u64) -> Option<u64> {
-        let at = moment(1, 0);
-        let node = names.near;
-        let transit = self.tell(Event::Enter { node, copy, at }, TraceOut::Entered)?;
-        self.leave(names, transit)?;
-        Some(transit)
-    }
-
-    /// A copy leaves after a stay.
-    fn leave(&mut self, names: &Names, transit: u64) -> Option<u64> {
-        let at = moment(1, 0);
-        let node = names.near;
-        self.tell(
-            Event::Leave { node, transit, at },
-            TraceOut::Made(ArrayVec::new()),
-        )
-    }
+    Some(())
 }
 
 /// So many lines of a tree of copies, in which each stay is left twice: copies enter and leave, two
 /// from each copy, of which one goes on, and then the stays are left again, the last ones first.
 pub fn broken_tree(alloc: Global, lines: u64) -> Option<Verdict> {
     let names = Names::new()?;
-    let checker = Checker::new(alloc, Nodes::new(alloc, &nodes_of(&names)).ok()?).ok()?;
-    let mut forged = Forged { checker, lines: 0 };
+    let mut checker = new_checker(alloc, &names)?;
     let at = moment(1, 0);
-    let node = names.master;
-    let mut copy = forged.tell(Event::Sync { node, at }, TraceOut::Made(ArrayVec::new()))?;
-    let mut transits = Vec::new(alloc);
-    for _ in 0..lines / 6 {
-        transits.push(forged.pass(&names, copy)?).ok()?;
-        let transit = forged.pass(&names, copy)?;
-        transits.push(transit).ok()?;
-        copy = transit.saturating_add(1);
+    let master = names.master;
+    tell(&mut checker, &[Event::Sync { node: master, at }])?;
+    let stays = (lines / 6).saturating_mul(2);
+    let mut copy = 0u64;
+    for _ in 0..stays {
+        let transit = checker.len();
+        tell(&mut checker, &stay(&names, copy, transit))?;
+        if transit % 4 == 3 {
+            copy = transit.saturating_add(1);
+        }
     }
-    for transit in transits.iter().rev() {
-        forged.leave(&names, *transit)?;
+    let node = names.near;
+    for number in (0..stays).rev() {
+        let transit = number.saturating_mul(2).saturating_add(1);
+        tell(&mut checker, &[Event::Leave { node, transit, at }])?;
     }
-    Some(forged.checker.verdict())
+    Some(checker.verdict())
 }
