@@ -1,13 +1,4 @@
-pub mod ErrorKinds
-pub mod WordForms
-pub mod Turns
-pub mod FlagWords
-pub mod FlagRows
-pub mod OptionWords
-pub mod OptionWalk
-pub mod OptionRows
-pub mod SubcommandNames
-pub mod OptionVerdict
-pub mod CommandLines
+pub mod Tables
+pub mod RowOptions
 pub mod Invocations
-pub mod WorkedOptions
+pub mod WorkedWords

@@ -1,71 +1,55 @@
--- What the arguments of `ptpx` ask for.
-use Rattle.std.specs.Prelude.{◌≡◌, ◌⊎◌, ℕ, true, List, [], ◌∷◌, Some, codes, drop, slice_get}
+-- What the arguments of `ptpx` ask for, as clap reads them.
+use Rattle.std.specs.Prelude.{◌≡◌, List, [], ◌∷◌, Option, Some, None, ℕ, codes, if◌then◌else◌}
+use Rattle.std.specs.Prelude.{option_and_then, option_map}
+use Rattle.std.specs.Str.{bytes_eq}
+use Rattle.clap.specs.Faults.{fault_of}
+use Rattle.clap.specs.Kinds.{IsAmong}
+use Rattle.clap.specs.Simple.{subcommand_of}
+use Rattle.clap.specs.Walk.{Row, Text}
+use Rattle.clap.specs.declared.error.kind.ErrorKind.TheVariants.{DisplayHelp}
 use Rattle.command_line.specs.declared.arguments.Invocation.{Invocation}
 use Rattle.command_line.specs.declared.arguments.Invocation.TheVariants.{Run, Help, Mistake}
 use Rattle.command_line.specs.declared.arguments.Subcommand.{Subcommand}
 use Rattle.command_line.specs.declared.arguments.Subcommand.TheVariants.{Show, Replay, Check, Measure, Explain}
-use Rattle.command_line.specs.Options.{AreExplainOptions, AreOptions, Asking, OptionName, explain_options}
-use Rattle.command_line.specs.Options.{is_help_flag, measure_options, reading_of}
+use Rattle.command_line.specs.Options.{explain_options_of, measure_options_of}
+use Rattle.command_line.specs.Program.{program}
 
--- the argument that names a subcommand
-abbrev pub name_of : Subcommand → List ℕ
-name_of Show = codes "show"
-name_of Replay = codes "replay"
-name_of Check = codes "check"
-name_of (Measure options) = codes "measure"
-name_of (Explain options) = codes "explain"
+-- the subcommand of a name, with the options that its rows say
+abbrev pub chosen : Text → List Row → Option Subcommand
+chosen name rows =
+    if bytes_eq name (codes "show") then Some Show
+    else if bytes_eq name (codes "replay") then Some Replay
+    else if bytes_eq name (codes "check") then Some Check
+    else if bytes_eq name (codes "measure") then option_map (λ options. Measure options) (measure_options_of rows)
+    else if bytes_eq name (codes "explain") then Some (Explain (explain_options_of rows))
+    else None
 
--- after the program's own name stands this name, and then these words
-abbrev pub BeginsWith : List ℕ → List (List ℕ) → List (List ℕ) → Type 0
-BeginsWith name words rest = drop 1 words ≡ name ∷ rest
+-- the subcommand that was met under its name, with its rows
+abbrev pub chosen_of : Option (Text × List Row) → Option Subcommand
+chosen_of met = option_and_then (λ m. chosen m.0 m.1) met
 
--- after the program's own name stands the subcommand's name, alone or with `--` after it
-abbrev pub NamesAlone : List (List ℕ) → Subcommand → Type 0
-NamesAlone words s = BeginsWith (name_of s) words [] ⊎ BeginsWith (name_of s) words (codes "--" ∷ [])
-
--- the arguments name the subcommand; after `measure` and `explain` stand their options
+-- the arguments name the subcommand: clap takes them, and meets its name with these options
 abbrev pub Names : List (List ℕ) → Subcommand → Type 0
-Names words (Measure options) =
-    (rest : List (List ℕ)) × BeginsWith (codes "measure") words rest × AreOptions rest options
-Names words (Explain options) =
-    (rest : List (List ℕ)) × BeginsWith (codes "explain") words rest × AreExplainOptions rest options
-Names words s = NamesAlone words s
+Names words s = (fault_of program words ≡ []) × (chosen_of (subcommand_of program words) ≡ Some s)
 
 -- the arguments name no subcommand
 abbrev pub NamesNothing : List (List ℕ) → Type 0
 NamesNothing words = (s : Subcommand) → Names words s → ⊥
 
--- the argument is `--help`, or `-h` with anything after it
-abbrev pub AsksHelp : List ℕ → Type 0
-AsksHelp word = is_help_flag word ≡ true
-
--- help is asked for in the place of a subcommand's name, or right after it
-abbrev pub HasEarlyHelpFlag : List (List ℕ) → Type 0
-HasEarlyHelpFlag words = (word : List ℕ) × AsksHelp word
-    × ((slice_get words 1 ≡ Some word)
-    ⊎ ((s : Subcommand) × (slice_get words 1 ≡ Some (name_of s)) × (slice_get words 2 ≡ Some word)))
-
--- help is asked for after these options of the subcommand of this name
-abbrev pub AsksHelpAfter : List ℕ → List OptionName → List (List ℕ) → Type 0
-AsksHelpAfter name known words =
-    (rest : List (List ℕ)) × BeginsWith name words rest × (reading_of known rest ≡ Asking)
-
--- help is asked for there, or after options of `measure` or of `explain`
+-- help is asked for, and clap answers nothing else
 abbrev pub HasHelpFlag : List (List ℕ) → Type 0
-HasHelpFlag words = HasEarlyHelpFlag words
-    ⊎ (AsksHelpAfter (codes "measure") measure_options words
-    ⊎ AsksHelpAfter (codes "explain") explain_options words)
+HasHelpFlag words = fault_of program words ≡ DisplayHelp ∷ []
 
--- the first argument after the program's name is `help`
-abbrev pub BeginsWithHelp : List (List ℕ) → Type 0
-BeginsWithHelp words = slice_get words 1 ≡ Some (codes "help")
+-- help is what clap may answer, as where it is asked for, or where the arguments begin with `help`
+abbrev pub MayAskHelp : List (List ℕ) → Type 0
+MayAskHelp words = IsAmong DisplayHelp (fault_of program words)
 
 -- the arguments ask for no subcommand and no help
 abbrev pub AsksNothing : List (List ℕ) → Type 0
-AsksNothing words = NamesNothing words × (HasHelpFlag words → ⊥) × (BeginsWithHelp words → ⊥)
+AsksNothing words = NamesNothing words × (MayAskHelp words → ⊥)
 
 -- the invocation is what the arguments ask for; where they begin with `help`, it may be either kind of text
 abbrev pub Asks : List (List ℕ) → Invocation → Type 0
 Asks words (Run s) = Names words s
-Asks words (Help text) = HasHelpFlag words ⊎ BeginsWithHelp words
+Asks words (Help text) = MayAskHelp words
 Asks words (Mistake text) = NamesNothing words × (HasHelpFlag words → ⊥)

@@ -1,5 +1,6 @@
 pub mod Number
 pub mod PortText
 pub mod Options
+pub mod Program
 pub mod Arguments
 pub mod Inner

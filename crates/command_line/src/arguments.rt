@@ -1,16 +1,19 @@
 //! What the arguments of `ptpx` ask for, as `clap` reads them.
-ghost use Rattle.std.specs.Prelude.{◌≡◌, false, IfOk, Some, map, string_bytes};
-ghost use Rattle.clap.specs.Matches.{subcommand_name_of};
+ghost use Rattle.std.specs.Prelude.{◌≡◌, IfOk, false, map, string_bytes};
 ghost use Rattle.clap.specs.declared.builder.command.Command.TheViews.{out-Command as fields_of};
-ghost use Rattle.clap.specs.Simple.{app_of, new_shape, shape_of, subcommand_rows_of};
+ghost use Rattle.clap.specs.Simple.{app_of, shape_of, subcommand_rows_of};
 ghost use Rattle.clap.specs.Values.{kind_of};
 ghost use Rattle.clap.specs.Walk.{rule_of};
-ghost use Rattle.command_line.specs.Arguments.{Asks, name_of};
-ghost use Rattle.command_line.specs.Inner.Clap.{Chooses, ShowsKind, bare_program, flag_rule, program};
+ghost use Rattle.clap.specs.declared.error.kind.ErrorKind.TheVariants.{ValueValidation};
+ghost use Rattle.command_line.specs.Arguments.{Asks, chosen_of};
+ghost use Rattle.command_line.specs.Inner.Shown.{Chooses, ShowsKind};
+ghost use Rattle.command_line.specs.Program.{bare_program, program_of, row_of, rule_for, shape_for};
 
-use crate::explain::{ExplainOptions, explain, explain_options};
+use crate::explain::{ExplainOptions, explain_options};
 use crate::help;
-use crate::measure::{MeasureOptions, measure, mistake, options_in};
+use crate::measure::{MeasureOptions, measure_options};
+use crate::options::WrongValue;
+use crate::table::{OptionRow, SubcommandRow, subcommands};
 use clap::error::ErrorKind;
 use clap::{Arg, ArgAction, ArgMatches, Command, Error};
 use std::alloc::{AllocError, Global};
@@ -41,28 +44,30 @@ pub enum Invocation {
     Mistake(String),
 }
 
-/// A subcommand as `clap` has it, with a line that says what it does, and its help.
-pub(crate) fn with_help<'a>(
-    alloc: Global,
-    name: &'static str,
-    about: &'static str,
-    help: &'static str,
-) -> Command<'a>
-    ensures shape { shape_of result ≡ new_shape name.now }
-    ensures local { (fields_of result).has_globals ≡ false }
-{
-    Command::new(alloc, name).about(about).after_help(help)
-}
-
-/// An option without a value, as `clap` has it, with a line that says what it is.
-pub(crate) fn flag<'a>(alloc: Global, name: &'static str, help: &'static str) -> Arg<'a>
-    ensures rule { rule_of result ≡ flag_rule name.now }
+/// An option of the table, as `clap` has it.
+fn option<'a>(alloc: Global, row: &OptionRow) -> Arg<'a>
+    ensures rule { rule_of result ≡ rule_for row.now }
     ensures local { result.global ≡ false }
 {
-    Arg::new(alloc, name)
-        .long(name)
-        .action(ArgAction::SetTrue)
-        .help(help)
+    let option = Arg::new(alloc, row.name).long(row.name).help(row.about);
+    match row.value {
+        Some(value) => option.value_name(value),
+        None => option.action(ArgAction::SetTrue),
+    }
+}
+
+/// A subcommand of the table with its options, as `clap` has it.
+fn with_options<'a>(alloc: Global, row: &SubcommandRow) -> Result<Command<'a>, AllocError>
+    ensures shape { IfOk result (λ c. shape_of c ≡ shape_for (row_of row.now)) }
+    ensures local { IfOk result (λ c. (fields_of c).has_globals ≡ false) }
+{
+    let mut command = Command::new(alloc, row.name)
+        .about(row.about)
+        .after_help(row.help);
+    for next in row.options {
+        command = command.arg(option(alloc, next))?;
+    }
+    Ok(command)
 }
 
 /// `ptpx` without its subcommands, as `clap` has it.
@@ -77,63 +82,70 @@ fn bare_program<'a>(alloc: Global) -> Result<Command<'a>, AllocError>
     Ok(program)
 }
 
-/// `ptpx` as `clap` has it.
-fn program<'a>(alloc: Global) -> Result<Command<'a>, AllocError>
-    ensures app { IfOk result (λ c. app_of c ≡ program) }
+/// `ptpx` with the subcommands of a table, as `clap` has it.
+fn program<'a>(alloc: Global, rows: &[SubcommandRow]) -> Result<Command<'a>, AllocError>
+    ensures app { IfOk result (λ c. app_of c ≡ program_of (map row_of rows.now)) }
 {
-    let show = with_help(
-        alloc,
-        "show",
-        "Print the datagrams that standard input gives in hexadecimal, one a line",
-        help::SHOW,
-    );
-    let replay = with_help(
-        alloc,
-        "replay",
-        "Print what comes of the events that standard input gives, one a line",
-        help::REPLAY,
-    );
-    let check = with_help(
-        alloc,
-        "check",
-        "Print whether each report of the transcript that standard input gives is sound",
-        help::CHECK,
-    );
-    bare_program(alloc)?
-        .subcommand(show)?
-        .subcommand(replay)?
-        .subcommand(check)?
-        .subcommand(measure(alloc)?)?
-        .subcommand(explain(alloc)?)
+    let mut program = bare_program(alloc)?;
+    for row in rows {
+        program = program.subcommand(with_options(alloc, row)?)?;
+    }
+    Ok(program)
 }
 
 /// Reads the arguments, of which the first is the program's own name. Memory fails by `AllocError`.
 pub fn parse(alloc: Global, words: &[String]) -> Result<Invocation, AllocError>
     ensures asked { IfOk result (Asks (map string_bytes words.now)) }
 {
-    match program(alloc)?.try_get_matches_from(words) {
+    match program(alloc, subcommands())?.try_get_matches_from(words) {
         Ok(matches) => chosen(alloc, &matches),
         Err(error) => refusal(alloc, error),
     }
 }
 
-/// The subcommand that was met, or the mistake in its options.
+/// The subcommand that was met, or the mistake in its options. `clap` takes no words in which it meets none of the table.
 fn chosen(alloc: Global, matches: &ArgMatches<'_>) -> Result<Invocation, AllocError>
-    requires met { (s : Subcommand) × (subcommand_name_of matches.now ≡ Some (name_of s)) }
-    ensures { IfOk result (Chooses (subcommand_rows_of matches.now)) }
+    ensures { IfOk result (Chooses (chosen_of (subcommand_rows_of matches.now))) }
 {
     let subcommand = match matches.subcommand() {
         Some(("show", _)) => Subcommand::Show,
         Some(("replay", _)) => Subcommand::Replay,
         Some(("check", _)) => Subcommand::Check,
-        Some(("measure", options)) => match options_in(options) {
+        Some(("measure", options)) => match measure_options(options) {
             Ok(options) => Subcommand::Measure(options),
-            Err(wrong) => return refusal(alloc, mistake(alloc, wrong)?),
+            Err(wrong) => return refusal(alloc, mistake(alloc, "measure", wrong)?),
         },
         Some(("explain", options)) => Subcommand::Explain(explain_options(options)),
-        _ => unreachable!(),
+        _ => return Ok(Invocation::Mistake(String::new(alloc))),
     };
     Ok(Invocation::Run(subcommand))
+}
+
+/// The mistake of a value, with the usage of the subcommand.
+fn mistake(
+    alloc: Global,
+    subcommand_name: &str,
+    wrong: WrongValue<'_>,
+) -> Result<Error, AllocError>
+    ensures kind { IfOk result (λ e. kind_of e ≡ ValueValidation) }
+{
+    let WrongValue {
+        option,
+        value,
+        name,
+        wanted,
+    } = wrong;
+    let message = format!(in alloc;
+        "invalid value '{value}' for '--{option} <{name}>': wanted is {wanted}"
+    )?;
+    let program_name = format!(in alloc; "ptpx {subcommand_name}")?;
+    let command = match subcommands().iter().find(|row| row.name == subcommand_name) {
+        Some(row) => with_options(alloc, row)?,
+        None => bare_program(alloc)?,
+    };
+    command
+        .bin_name(program_name.as_str())?
+        .error(ErrorKind::ValueValidation, &message)
 }
 
 /// The text of an error of `clap`.

@@ -1,15 +1,11 @@
-//! `explain` and its options, as `clap` reads them.
-ghost use Rattle.std.specs.Prelude.{◌≡◌, IfOk, false};
+//! The options of `explain`.
+ghost use Rattle.std.specs.Prelude.{◌≡◌};
 ghost use Rattle.clap.specs.Matches.{found_of};
-ghost use Rattle.clap.specs.Simple.{shape_of};
 ghost use Rattle.clap.specs.Walk.{rows_of};
-ghost use Rattle.clap.specs.declared.builder.command.Command.TheViews.{out-Command as fields_of};
-ghost use Rattle.command_line.specs.Inner.Clap.{ExplainRowsSay, explain_shape};
+ghost use Rattle.command_line.specs.Options.{explain_options_of};
 
-use crate::arguments::{flag, with_help};
-use crate::help;
-use clap::{ArgMatches, Command};
-use std::alloc::{AllocError, Global};
+use crate::options::is_used;
+use clap::ArgMatches;
 
 /// The options of `explain`.
 #[derive(Clone, Copy, Debug, PartialEq, Eq)]
@@ -20,33 +16,12 @@ pub struct ExplainOptions {
     pub json: bool,
 }
 
-/// `explain` as `clap` has it.
-pub(crate) fn explain<'a>(alloc: Global) -> Result<Command<'a>, AllocError>
-    ensures shape { IfOk result (λ c. shape_of c ≡ explain_shape) }
-    ensures local { IfOk result (λ c. (fields_of c).has_globals ≡ false) }
-{
-    let first = flag(
-        alloc,
-        "first",
-        "Tell only the first report that is refused, in place of each",
-    );
-    let json = flag(
-        alloc,
-        "json",
-        "Write JSON, a line a report, in place of text",
-    );
-    let about = "Print what is wrong with what standard input gives, where, and by how much";
-    with_help(alloc, "explain", about, help::EXPLAIN)
-        .arg(first)?
-        .arg(json)
-}
-
 /// The options that were met.
 pub(crate) fn explain_options(matches: &ArgMatches<'_>) -> ExplainOptions
-    ensures { ExplainRowsSay (rows_of (found_of matches.now)) result }
+    ensures { result ≡ explain_options_of (rows_of (found_of matches.now)) }
 {
     ExplainOptions {
-        first: matches.get_flag("first"),
-        json: matches.get_flag("json"),
+        first: is_used(matches, "first"),
+        json: is_used(matches, "json"),
     }
 }

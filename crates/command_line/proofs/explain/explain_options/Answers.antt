@@ -1,14 +1,10 @@
-use Rattle.std.proofs.Common.{codes}
+use Rattle.std.proofs.Common.{ap₂, codes}
 use Rattle.clap.specs.Matches.{found_of}
-use Rattle.command_line.proofs.FlagRows.{flag_of}
+use Rattle.command_line.proofs.RowOptions.{explain_made, is_read}
 use Rattle.command_line.proofs.explain.explain_options.Goals as goal
 
 pub returns : goal.returns
 returns c =
     let found = found_of c.args.matches.now in
-    let first = c.get_flag.ensures in
-    let json = c.get_flag-2.ensures in
-    record {
-      first = flag_of found (codes "first") c.get_flag.result first.none first.value first.other;
-      json = flag_of found (codes "json") c.get_flag-2.result json.none json.value json.other;
-    }
+    ap₂ explain_made (is_read found (codes "first") c.is_used.result c.is_used.ensures)
+    (is_read found (codes "json") c.is_used-2.result c.is_used-2.ensures)

@@ -1,7 +1,7 @@
 use Rattle.std.proofs.Common.{◌≡◌, ℕ, List, map, inl, refl, subst}
 use Rattle.std.specs.Prelude.{string_bytes}
 use Rattle.command_line.specs.declared.arguments.Subcommand.{Subcommand}
-use Rattle.command_line.proofs.Invocations.{named_asks_no_help, names_one}
+use Rattle.command_line.proofs.Invocations.{flag_asks_help, named_asks_no_help, names_one}
 use Rattle.command_line.specs.Arguments.{Names}
 use Rattle.command_line.specs.declared.arguments.Subcommand.TheVariants.{Show, Replay, Check, Measure, Explain}
 use Rattle.command_line.specs.declared.measure.MeasureOptions.{MeasureOptions}
@@ -17,7 +17,7 @@ returns-in-Ok-Run-clause-runs g c = λ s named.
 
 pub returns-in-Ok-Run-clause-help : goal.returns-in-Ok-Run-clause-help
 returns-in-Ok-Run-clause-help g c = λ flag.
-    absurd (named_asks_no_help (map string_bytes c.args.words.now) c.in-Ok-Run.subcommand (rw c.in-Ok-Run.field-0-is at c.in-Ok-Run.ensures.asked) (inl flag))
+    absurd (named_asks_no_help (map string_bytes c.args.words.now) c.in-Ok-Run.subcommand (rw c.in-Ok-Run.field-0-is at c.in-Ok-Run.ensures.asked) (flag_asks_help (map string_bytes c.args.words.now) flag))
 
 pub returns-in-Ok-clause-runs : goal.returns-in-Ok-clause-runs
 returns-in-Ok-clause-runs g c = λ s named.
