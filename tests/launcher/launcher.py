@@ -48,6 +48,7 @@ class Launcher(unittest.TestCase):
         for name in ('low', 'left', 'right', 'other'):
             self.write(f'crates/{name}/src/lib.rt', name)
         self.write('crates/ptpx/src/main.rt', PROGRAM)
+        self.write('crates/command_line/src/table.rt', (TOP / 'crates/command_line/src/table.rt').read_text())
         self.answer(ANSWERS)
 
     def write(self, path, text):
@@ -274,7 +275,8 @@ class Launcher(unittest.TestCase):
 
     def test_says_what_it_reads_of_a_terminal(self):
         self.built()
-        for subcommand, what in (('show', 'hexadecimal'), ('replay', 'schedule'), ('check', 'transcript'), ('help', None)):
+        said = {'show': 'hexadecimal', 'replay': 'events', 'check': 'transcript', 'measure': 'recording', 'explain': 'wrong', 'help': None}
+        for subcommand, what in said.items():
             ours, theirs = pty.openpty()
             os.write(ours, b'line\n\x04')
             ran = self.call('ptpx', subcommand, input=None, stdin=theirs)
