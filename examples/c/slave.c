@@ -75,6 +75,7 @@ static void hear_announce(struct station *station, const struct arrival *it)
     memcpy(source.clock, it->octets + 20, sizeof source.clock);
     if (it->length < ANNOUNCE_LENGTH || (it->octets[6] & ALTERNATE_MASTER_FLAG) != 0)
         return;
+    judge_master(station); /* this Announce may come too late */
     if (!station->has_master) {
         print("follows", &source);
         must(ptpx_slave_set_master(&station->slave, &source));
