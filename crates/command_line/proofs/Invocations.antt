@@ -12,7 +12,7 @@ use Rattle.clap.specs.declared.error.kind.ErrorKind.{ErrorKind}
 use Rattle.clap.specs.declared.error.kind.ErrorKind.TheVariants as kind
 use Rattle.clap.specs.declared.parser.matches.ArgMatches.{ArgMatches}
 use Rattle.clap.proofs.OnLiterals.{clap_on_literals}
-use Rattle.command_line.specs.Arguments.{Asks, HasHelpFlag, MayAskHelp, Names, chosen_of}
+use Rattle.command_line.specs.Arguments.{Asks, HasHelpFlag, MayAskHelp, Names, chosen_of, faults_in, named_in}
 use Rattle.command_line.specs.Inner.Shown.{Chooses, ShowsKind}
 use Rattle.command_line.specs.Program.{program}
 use Rattle.command_line.specs.declared.arguments.Invocation.{Invocation}
@@ -35,6 +35,7 @@ some_kind k ks e = cc
 asked : (words : List Text) (m : ArgMatches) → fault_of program words ≡ []
     → subcommand_rows_of m ≡ subcommand_of program words
     → (r : Invocation) → Chooses (chosen_of (subcommand_rows_of m)) r → Asks words r
+unfolding faults_in named_in
 asked words m none met (Run s) chooses = (none, ap chosen_of (sym met) ∙ chooses)
 asked words m none met (Help text) chooses = absurd chooses
 asked words m none met (Mistake text) chooses = (
@@ -55,6 +56,7 @@ asked_from a is words m none has r chooses =
 
 told : (words : List Text) (k : ErrorKind) → (k ≡ kind.OutOfMemory) ⊎ IsAmong k (fault_of program words)
     → (r : Invocation) → ShowsKind k r → Asks words r
+unfolding faults_in named_in
 told words k among (Run s) shows = absurd shows
 told words k (inl memory) (Help text) shows =
     let both : kind.DisplayHelp ≡ kind.OutOfMemory = sym shows ∙ memory in cc

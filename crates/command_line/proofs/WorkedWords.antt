@@ -3,31 +3,30 @@ use Rattle.std.proofs.Common.{◌≡◌, false, true, refl, List, [], ◌∷◌,
 use Rattle.std.specs.Str.{chars}
 use Rattle.hex.proofs.OnLiterals.{hex_on_literals}
 use Rattle.clap.proofs.OnLiterals.{clap_on_literals}
-use Rattle.clap.specs.Faults.{fault_of, walk_fault}
+use Rattle.clap.specs.Faults.{walk_fault}
 use Rattle.clap.specs.Kinds.{Kinds}
 use Rattle.clap.specs.Walk.{walked}
 use Rattle.clap.specs.declared.error.kind.ErrorKind.{ErrorKind}
 use Rattle.clap.specs.declared.error.kind.ErrorKind.TheVariants as kind
-use Rattle.command_line.specs.Arguments.{HasHelpFlag, Names, NamesNothing}
+use Rattle.command_line.specs.Arguments.{HasHelpFlag, Names, NamesNothing, faults_in, named_in}
 use Rattle.command_line.specs.Number.{domain_of}
 use Rattle.command_line.specs.PortText.{port_identity_of}
-use Rattle.command_line.specs.Program.{program}
 use Rattle.command_line.specs.declared.arguments.Subcommand.TheVariants.{Show, Measure, Explain}
 
 -- ---- words of the program
 
 -- words of which clap refuses one name no subcommand
-refused : (words : List (List ℕ)) (k : ErrorKind) (ks : Kinds) → fault_of program words ≡ k ∷ ks → NamesNothing words
+refused : (words : List (List ℕ)) (k : ErrorKind) (ks : Kinds) → faults_in words ≡ k ∷ ks → NamesNothing words
 refused words k ks is s named = let both : k ∷ ks ≡ [] = sym is ∙ named.0 in cc
 
 name_alone : Names (codes "ptpx" ∷ codes "show" ∷ [])
     (Show)
-unfolding clap_on_literals walk_fault walked hex_on_literals chars
+unfolding clap_on_literals walk_fault walked hex_on_literals chars faults_in named_in
 name_alone = (refl, refl)
 
 name_and_mark : Names (codes "ptpx" ∷ codes "show" ∷ codes "--" ∷ [])
     (Show)
-unfolding clap_on_literals walk_fault walked hex_on_literals chars
+unfolding clap_on_literals walk_fault walked hex_on_literals chars faults_in named_in
 name_and_mark = (refl, refl)
 
 measured : Names (codes "ptpx" ∷ codes "measure" ∷ codes "--csv" ∷ codes "--slave" ∷ codes "00aabbfffeccddee/1" ∷ [])
@@ -37,62 +36,62 @@ measured : Names (codes "ptpx" ∷ codes "measure" ∷ codes "--csv" ∷ codes "
       domain = None;
       csv = true;
     }))
-unfolding clap_on_literals walk_fault walked hex_on_literals chars
+unfolding clap_on_literals walk_fault walked hex_on_literals chars faults_in named_in
 measured = (refl, refl)
 
 explained : Names (codes "ptpx" ∷ codes "explain" ∷ codes "--json" ∷ codes "--first" ∷ [])
     (Explain (record { first = true; json = true }))
-unfolding clap_on_literals walk_fault walked hex_on_literals chars
+unfolding clap_on_literals walk_fault walked hex_on_literals chars faults_in named_in
 explained = (refl, refl)
 
 explained_whole : Names (codes "ptpx" ∷ codes "explain" ∷ [])
     (Explain (record { first = false; json = false }))
-unfolding clap_on_literals walk_fault walked hex_on_literals chars
+unfolding clap_on_literals walk_fault walked hex_on_literals chars faults_in named_in
 explained_whole = (refl, refl)
 
 no_name : NamesNothing (codes "ptpx" ∷ [])
-unfolding clap_on_literals walk_fault walked hex_on_literals chars
+unfolding clap_on_literals walk_fault walked hex_on_literals chars faults_in named_in
 no_name = refused (codes "ptpx" ∷ []) kind.MissingSubcommand [] refl
 
 no_such_name : NamesNothing (codes "ptpx" ∷ codes "shown" ∷ [])
-unfolding clap_on_literals walk_fault walked hex_on_literals chars
+unfolding clap_on_literals walk_fault walked hex_on_literals chars faults_in named_in
 no_such_name = refused (codes "ptpx" ∷ codes "shown" ∷ []) kind.UnknownArgument (kind.InvalidSubcommand ∷ []) refl
 
 word_past_name : NamesNothing (codes "ptpx" ∷ codes "replay" ∷ codes "x" ∷ [])
-unfolding clap_on_literals walk_fault walked hex_on_literals chars
+unfolding clap_on_literals walk_fault walked hex_on_literals chars faults_in named_in
 word_past_name = refused (codes "ptpx" ∷ codes "replay" ∷ codes "x" ∷ []) kind.UnknownArgument [] refl
 
 flag_with_value : NamesNothing (codes "ptpx" ∷ codes "explain" ∷ codes "--first=x" ∷ [])
-unfolding clap_on_literals walk_fault walked hex_on_literals chars
+unfolding clap_on_literals walk_fault walked hex_on_literals chars faults_in named_in
 flag_with_value = refused (codes "ptpx" ∷ codes "explain" ∷ codes "--first=x" ∷ []) kind.TooManyValues [] refl
 
 repeated : NamesNothing (codes "ptpx" ∷ codes "measure" ∷ codes "--csv" ∷ codes "--csv" ∷ [])
-unfolding clap_on_literals walk_fault walked hex_on_literals chars
+unfolding clap_on_literals walk_fault walked hex_on_literals chars faults_in named_in
 repeated = refused (codes "ptpx" ∷ codes "measure" ∷ codes "--csv" ∷ codes "--csv" ∷ []) kind.ArgumentConflict [] refl
 
 word_past_mark : NamesNothing (codes "ptpx" ∷ codes "measure" ∷ codes "--" ∷ codes "--csv" ∷ [])
-unfolding clap_on_literals walk_fault walked hex_on_literals chars
+unfolding clap_on_literals walk_fault walked hex_on_literals chars faults_in named_in
 word_past_mark = refused (codes "ptpx" ∷ codes "measure" ∷ codes "--" ∷ codes "--csv" ∷ []) kind.UnknownArgument [] refl
 
 option_of_the_other : NamesNothing (codes "ptpx" ∷ codes "explain" ∷ codes "--csv" ∷ [])
-unfolding clap_on_literals walk_fault walked hex_on_literals chars
+unfolding clap_on_literals walk_fault walked hex_on_literals chars faults_in named_in
 option_of_the_other = refused (codes "ptpx" ∷ codes "explain" ∷ codes "--csv" ∷ []) kind.UnknownArgument [] refl
 
 help_in_front : HasHelpFlag (codes "ptpx" ∷ codes "--help" ∷ [])
-unfolding clap_on_literals walk_fault walked hex_on_literals chars
+unfolding clap_on_literals walk_fault walked hex_on_literals chars faults_in named_in
 help_in_front = refl
 
 help_of_measure : HasHelpFlag (codes "ptpx" ∷ codes "measure" ∷ codes "-h" ∷ [])
-unfolding clap_on_literals walk_fault walked hex_on_literals chars
+unfolding clap_on_literals walk_fault walked hex_on_literals chars faults_in named_in
 help_of_measure = refl
 
 help_after_option : HasHelpFlag (codes "ptpx" ∷ codes "explain" ∷ codes "--first" ∷ codes "--help" ∷ codes "y" ∷ [])
-unfolding clap_on_literals walk_fault walked hex_on_literals chars
+unfolding clap_on_literals walk_fault walked hex_on_literals chars faults_in named_in
 help_after_option = refl
 
-help_or_mistake : fault_of program (codes "ptpx" ∷ codes "help" ∷ [])
+help_or_mistake : faults_in (codes "ptpx" ∷ codes "help" ∷ [])
     ≡ kind.DisplayHelp ∷ kind.InvalidSubcommand ∷ []
-unfolding clap_on_literals walk_fault walked hex_on_literals chars
+unfolding clap_on_literals walk_fault walked hex_on_literals chars faults_in named_in
 help_or_mistake = refl
 
 -- ---- values

@@ -3,7 +3,7 @@ use Rattle.std.specs.Prelude.{◌≡◌, List, [], ◌∷◌, Option, Some, None
 use Rattle.std.specs.Prelude.{option_and_then, option_map}
 use Rattle.std.specs.Str.{bytes_eq}
 use Rattle.clap.specs.Faults.{fault_of}
-use Rattle.clap.specs.Kinds.{IsAmong}
+use Rattle.clap.specs.Kinds.{IsAmong, Kinds}
 use Rattle.clap.specs.Simple.{subcommand_of}
 use Rattle.clap.specs.Walk.{Row, Text}
 use Rattle.clap.specs.declared.error.kind.ErrorKind.TheVariants.{DisplayHelp}
@@ -28,9 +28,17 @@ chosen name rows =
 abbrev pub chosen_of : Option (Text × List Row) → Option Subcommand
 chosen_of met = option_and_then (λ m. chosen m.0 m.1) met
 
+-- the kinds of error of which clap answers one to these words; none where it takes them
+unfoldable pub faults_in : List (List ℕ) → Kinds
+faults_in words = fault_of program words
+
+-- the subcommand that clap enters at these words, with the options that its rows say
+unfoldable pub named_in : List (List ℕ) → Option Subcommand
+named_in words = chosen_of (subcommand_of program words)
+
 -- the arguments name the subcommand: clap takes them, and meets its name with these options
 abbrev pub Names : List (List ℕ) → Subcommand → Type 0
-Names words s = (fault_of program words ≡ []) × (chosen_of (subcommand_of program words) ≡ Some s)
+Names words s = (faults_in words ≡ []) × (named_in words ≡ Some s)
 
 -- the arguments name no subcommand
 abbrev pub NamesNothing : List (List ℕ) → Type 0
@@ -38,11 +46,11 @@ NamesNothing words = (s : Subcommand) → Names words s → ⊥
 
 -- help is asked for, and clap answers nothing else
 abbrev pub HasHelpFlag : List (List ℕ) → Type 0
-HasHelpFlag words = fault_of program words ≡ DisplayHelp ∷ []
+HasHelpFlag words = faults_in words ≡ DisplayHelp ∷ []
 
 -- help is what clap may answer, as where it is asked for, or where the arguments begin with `help`
 abbrev pub MayAskHelp : List (List ℕ) → Type 0
-MayAskHelp words = IsAmong DisplayHelp (fault_of program words)
+MayAskHelp words = IsAmong DisplayHelp (faults_in words)
 
 -- the arguments ask for no subcommand and no help
 abbrev pub AsksNothing : List (List ℕ) → Type 0

@@ -5,7 +5,9 @@ use Rattle.schedule_reading.specs.declared.fault.TaskFault.{TaskFault}
 use Rattle.schedule_reading.specs.declared.fault.TaskFault.TheVariants.{Write}
 use Rattle.schedule_reading.specs.Fault.{is_write}
 use Rattle.schedule_replay.specs.Show.{IsAnswer, show_rules}
+use Rattle.text_lines.specs.Counted.{HasFailed, HasFailedIf, HasNotFailed}
 use Rattle.text_lines.specs.Task.{WentOut}
+use Rattle.text_lines.specs.declared.counted.Counted.{Counted}
 use Rattle.text_lines.specs.declared.writing.WriteFailed.{WriteFailed}
 use Rattle.schedule_replay.proofs.showing.ShowingLineTask.take.Goals as goal
 
@@ -24,3 +26,15 @@ pub returns-clause-taken : goal.returns-clause-taken
 returns-clause-taken g c = λ state at.
     written c.write_text.result c.args.digits.now _ _ _ c.in_ok-make_answer.ensures
     (rw c.as_str.ensures.value at c.write_text.ensures.written)
+
+-- a failure of the writer is counted where the fault says so
+counted : {A W : Type 0} (r : Result A TaskFault) (text : List ℕ) (before after : Option (List ℕ)) (old new : Counted W)
+    → MatchResult r (λ _. Appends before after text) (λ fault. (failed : WriteFailed) × (fault ≡ Write))
+    → MatchResult r (λ _. HasNotFailed old new) (λ _. HasFailed old new)
+    → MatchResult r (λ _. HasNotFailed old new) (λ fault. HasFailedIf (is_write fault) old new)
+counted (Ok x) text before after old new appended failures = failures
+counted (Err fault) text before after old new is failed = rw is.1 failed
+
+pub returns-clause-failures : goal.returns-clause-failures
+returns-clause-failures g c =
+    counted c.write_text.result _ _ _ _ _ c.write_text.ensures.written c.write_text.ensures.failures
