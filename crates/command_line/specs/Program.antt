@@ -24,8 +24,10 @@ subcommands =
     (codes "show", [])
     ∷ (codes "replay", [])
     ∷ (codes "check", [])
-    ∷ (codes "measure",
-        with_value (codes "slave") ∷ with_value (codes "master") ∷ with_value (codes "domain") ∷ flag (codes "csv") ∷ [])
+    ∷ (
+      codes "measure",
+      with_value (codes "slave") ∷ with_value (codes "master") ∷ with_value (codes "domain") ∷ flag (codes "csv") ∷ [],
+    )
     ∷ (codes "explain", flag (codes "first") ∷ flag (codes "json") ∷ [])
     ∷ []
 

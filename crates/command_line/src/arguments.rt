@@ -122,11 +122,7 @@ fn chosen(alloc: Global, matches: &ArgMatches<'_>) -> Result<Invocation, AllocEr
 }
 
 /// The mistake of a value, with the usage of the subcommand.
-fn mistake(
-    alloc: Global,
-    subcommand_name: &str,
-    wrong: WrongValue<'_>,
-) -> Result<Error, AllocError>
+fn mistake(alloc: Global, subcommand_name: &str, wrong: WrongValue<'_>) -> Result<Error, AllocError>
     ensures kind { IfOk result (λ e. kind_of e ≡ ValueValidation) }
 {
     let WrongValue {

@@ -39,3 +39,7 @@ pub returns-in-Ok-Run-clause-bounded : goal.returns-in-Ok-Run-clause-bounded
 returns-in-Ok-Run-clause-bounded g c = λ none.
     let usual = allowed (map string_bytes c.args.words.now) c.in-Ok-Run.subcommand (rw c.in-Ok-Run.field-0-is at c.in-Ok-Run.ensures.asked) none in
     subst (λ (n : ℕ). GivesWithin g.R.Read.remaining (input_limit n) c.args.input.now c.run.new.input) usual c.run.ensures.bounded
+
+pub returns-in-Ok-Run-clause-unread : goal.returns-in-Ok-Run-clause-unread
+returns-in-Ok-Run-clause-unread g c = λ nothing.
+    absurd (nothing c.in-Ok-Run.subcommand (rw c.in-Ok-Run.field-0-is at c.in-Ok-Run.ensures.asked))
