@@ -192,7 +192,7 @@ static inline bool take(const struct interface *net, int fd, int flags, struct a
     it->is_stamped = false;
     if (count < 0 && errno != EAGAIN && errno != EINTR)
         perror(net->name);
-    if (count < 0)
+    if (count < 0 || (message.msg_flags & MSG_TRUNC) != 0)
         return false;
     it->length = (size_t)count;
     for (struct cmsghdr *at = CMSG_FIRSTHDR(&message); at != NULL; at = CMSG_NXTHDR(&message, at))

@@ -118,8 +118,10 @@ static void told(struct station *station, const struct ptpx_heard *heard)
     }
     if (heard->kind != PTPX_REPORT || station->reports == 0)
         return;
-    must(ptpx_nanoseconds_of_twice(heard->offset2, &offset));
-    must(ptpx_nanoseconds_of_twice(heard->path2, &path));
+    if (ptpx_nanoseconds_of_twice(heard->offset2, &offset) != 0 || ptpx_nanoseconds_of_twice(heard->path2, &path) != 0) {
+        fprintf(stderr, "a report of more nanoseconds than 64 bits hold\n");
+        return;
+    }
     printf("offset %" PRId64 " ns, path delay %" PRId64 " ns\n", offset, path);
     station->reports--;
 }

@@ -275,14 +275,18 @@ class Launcher(unittest.TestCase):
 
     def test_says_what_it_reads_of_a_terminal(self):
         self.built()
-        said = {'show': 'hexadecimal', 'replay': 'events', 'check': 'transcript', 'measure': 'recording', 'explain': 'wrong', 'help': None}
-        for subcommand, what in said.items():
+        said = {'show': 'hexadecimal', 'replay': 'events', 'check': 'transcript', 'measure': 'recording', 'explain': 'wrong', 'show x': None, 'help': None}
+        table = (TOP / 'crates/command_line/src/table.rt').read_text()
+        for name, about in re.findall(r'SubcommandRow {\n *name: "(.*)",\n *about: "(.*)",\n', table):
+            said.setdefault(name, about)
+        self.assertEqual(len(said) - 2, table.count('SubcommandRow {') - 1)
+        for words, what in said.items():
             ours, theirs = pty.openpty()
             os.write(ours, b'line\n\x04')
-            ran = self.call('ptpx', subcommand, input=None, stdin=theirs)
+            ran = self.call('ptpx', *words.split(), input=None, stdin=theirs)
             os.close(ours)
             os.close(theirs)
-            self.assertIn(f'built: {subcommand}\nline\n', ran.stdout)
+            self.assertIn(f'built: {words}\nline\n', ran.stdout)
             self.assertEqual(len(ran.stderr.splitlines()), 1 if what else 0)
             self.assertIn(what or '', ran.stderr)
 

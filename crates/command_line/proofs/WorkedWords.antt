@@ -11,7 +11,7 @@ use Rattle.clap.specs.declared.error.kind.ErrorKind.TheVariants as kind
 use Rattle.command_line.specs.Arguments.{HasHelpFlag, Names, NamesNothing, faults_in, named_in}
 use Rattle.command_line.specs.Number.{domain_of}
 use Rattle.command_line.specs.PortText.{port_identity_of}
-use Rattle.command_line.specs.declared.arguments.Subcommand.TheVariants.{Show, Measure, Explain}
+use Rattle.command_line.specs.declared.arguments.Subcommand.TheVariants.{Show, Replay, Check, Measure, Explain}
 
 -- ---- words of the program
 
@@ -48,6 +48,45 @@ explained_whole : Names (codes "ptpx" ∷ codes "explain" ∷ [])
     (Explain (record { first = false; json = false }))
 unfolding clap_on_literals walk_fault walked hex_on_literals chars faults_in named_in
 explained_whole = (refl, refl)
+
+second_name : Names (codes "ptpx" ∷ codes "replay" ∷ []) Replay
+unfolding clap_on_literals walk_fault walked hex_on_literals chars faults_in named_in
+second_name = (refl, refl)
+
+third_name : Names (codes "ptpx" ∷ codes "check" ∷ []) Check
+unfolding clap_on_literals walk_fault walked hex_on_literals chars faults_in named_in
+third_name = (refl, refl)
+
+values_behind_both : Names (codes "ptpx" ∷ codes "measure" ∷ codes "--master=00aabb.fffe.ccddee-2" ∷ codes "--domain" ∷ codes "7" ∷ [])
+    (Measure (record {
+      slave = None;
+      master = Some (record { clock = 0 ∷ 170 ∷ 187 ∷ 255 ∷ 254 ∷ 204 ∷ 221 ∷ 238 ∷ []; port = 2 });
+      domain = Some 7;
+      csv = false;
+    }))
+unfolding clap_on_literals walk_fault walked hex_on_literals chars faults_in named_in
+values_behind_both = (refl, refl)
+
+mark_behind_option : Names (codes "ptpx" ∷ codes "measure" ∷ codes "--csv" ∷ codes "--" ∷ [])
+    (Measure (record { slave = None; master = None; domain = None; csv = true }))
+unfolding clap_on_literals walk_fault walked hex_on_literals chars faults_in named_in
+mark_behind_option = (refl, refl)
+
+-- a value that writes nothing
+no_options : (words : List (List ℕ)) → named_in words ≡ None → NamesNothing words
+no_options words is s named = let both : None ≡ Some s = sym is ∙ named.1 in cc
+
+empty_value : NamesNothing (codes "ptpx" ∷ codes "measure" ∷ codes "--slave=" ∷ [])
+unfolding clap_on_literals walk_fault walked hex_on_literals chars faults_in named_in
+empty_value = no_options (codes "ptpx" ∷ codes "measure" ∷ codes "--slave=" ∷ []) refl
+
+repeated_before_help : NamesNothing (codes "ptpx" ∷ codes "measure" ∷ codes "--csv" ∷ codes "--csv" ∷ codes "--help" ∷ [])
+unfolding clap_on_literals walk_fault walked hex_on_literals chars faults_in named_in
+repeated_before_help = refused (codes "ptpx" ∷ codes "measure" ∷ codes "--csv" ∷ codes "--csv" ∷ codes "--help" ∷ []) kind.ArgumentConflict [] refl
+
+help_with_more_letters : HasHelpFlag (codes "ptpx" ∷ codes "show" ∷ codes "-hx" ∷ [])
+unfolding clap_on_literals walk_fault walked hex_on_literals chars faults_in named_in
+help_with_more_letters = refl
 
 no_name : NamesNothing (codes "ptpx" ∷ [])
 unfolding clap_on_literals walk_fault walked hex_on_literals chars faults_in named_in
