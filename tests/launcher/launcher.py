@@ -48,7 +48,8 @@ class Launcher(unittest.TestCase):
         for name in ('low', 'left', 'right', 'other'):
             self.write(f'crates/{name}/src/lib.rt', name)
         self.write('crates/ptpx/src/main.rt', PROGRAM)
-        self.write('crates/command_line/src/table.rt', (TOP / 'crates/command_line/src/table.rt').read_text())
+        for file in (TOP / 'crates/command_line/src/commands').glob('*.rt'):
+            self.write(str(file.relative_to(TOP)), file.read_text())
         self.answer(ANSWERS)
 
     def write(self, path, text):
@@ -276,10 +277,12 @@ class Launcher(unittest.TestCase):
     def test_says_what_it_reads_of_a_terminal(self):
         self.built()
         said = {'show': 'hexadecimal', 'replay': 'events', 'check': 'transcript', 'measure': 'recording', 'explain': 'wrong', 'show x': None, 'help': None}
-        table = (TOP / 'crates/command_line/src/table.rt').read_text()
-        for name, about in re.findall(r'SubcommandRow {\n *name: "(.*)",\n *about: "(.*)",\n', table):
+        files = [*(TOP / 'crates/command_line/src/commands').glob('*.rt')]
+        for file in files:
+            name, about = re.search(r'SubcommandRow {\n *name: "(.*)",\n *about: "(.*)",\n', file.read_text()).groups()
+            self.assertEqual(name, file.stem)
             said.setdefault(name, about)
-        self.assertEqual(len(said) - 2, table.count('SubcommandRow {') - 1)
+        self.assertEqual(len(said) - 2, len(files))
         for words, what in said.items():
             ours, theirs = pty.openpty()
             os.write(ours, b'line\n\x04')

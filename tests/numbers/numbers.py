@@ -1,11 +1,11 @@
 #!/usr/bin/env python3
-"""Compares what docs/NUMBERS.md, the help of ptpx, its manual page and the header for C say of each number with what the code says.
+"""Compares what docs/NUMBERS.md, the help of ptpx and the header for C say of each number with what the code says.
 
 The code's texts are those of the types whose `code` answers numbers: the attribute `error` of each variant, and of FaultKind, which
 shows its number alone, the words beside it. In docs/NUMBERS.md each number has one row, in the order in which the types try
 them, and the row says what to do. In the help a number stands in front of its text, which may go on in the lines below; what is said of 806 there is each
-subcommand's own, and 807 is followed by the refusals of a network. It has to say each number but those that calls alone answer; so
-has the manual page, once each.
+subcommand's own, and 807 is followed by the refusals of a network. It has to say each number but those that calls alone
+answer. The manual page is made of the help.
 """
 
 import re
@@ -20,7 +20,6 @@ WORDS = re.compile(r'FaultKind::(\w+)(?:\(\w+\))? => (?:\{\s*)?(?:f\.write_str\(
 ROW = re.compile(r"^\| (\d{3}) \| ([^|]*) \| ([^|]*) \|$", re.M)
 SAID = re.compile(r"^ +(?:refused )?\(?(\d{3})\)?(?: type \d+)? +(\S.*(?:\n {7,}(?!refused|\(?\d{3}\)? |sync |ignored)\S.*)*)", re.M)
 DECLARED = re.compile(r"^ +PTPX_\w+ = (\d{3}),? +/\* (.*) \*/$", re.M)
-IN_MANUAL = re.compile(r"^\.B (\d{3})\n(.*)$", re.M)
 OWN = {806, 807}
 # What the inline functions of the header answer.
 OF_HEADER = {901, 902, 906, 907}
@@ -44,15 +43,9 @@ def texts_of_code():
 def texts_of_help():
     """What the help says of numbers: each number with each of its texts."""
     for path in SOURCES:
-        if path.name == "help.rt":
+        if path.parent.name == "commands":
             for number, text in SAID.findall(path.read_text()):
                 yield int(number), re.sub(r"\s+", " ", text).rstrip('";#')
-
-
-def texts_of_manual():
-    """What the manual page says of numbers: each number with its text."""
-    page = (TOP / "packaging/ptpx.1").read_text().replace(r"\(ha", "^")
-    return [(int(number), text) for number, text in IN_MANUAL.findall(page)]
 
 
 def texts_of_header():
@@ -86,17 +79,13 @@ def main():
     wrong += [f"ptpx.h says of {n}: {text}\n  and the code: {code.get(n)}"
               for n, text in header.items() if text != without_value(code.get(n, ""))]
     wrong += [f"ptpx.h doesn't have {n}" for n in sorted(code.keys() - header.keys()) if n < 600 and n != 104 or n > 900]
-    helped, manual = list(texts_of_help()), texts_of_manual()
-    numbers = [n for n, _ in manual]
+    helped = list(texts_of_help())
     wrong += [f"help says of {n}: {text}\n  and the code: {code.get(n)}"
               for n, text in helped if n not in OWN and not is_same(text, code.get(n, ""))]
     wrong += [f"help doesn't say {n}: {code[n]}" for n in sorted(code.keys() - OF_CALLS - {n for n, _ in helped})]
-    wrong += [f"ptpx.1 says of {n}: {text}\n  and the code: {code.get(n)}"
-              for n, text in manual if n not in OWN and not is_same(text, code.get(n, ""))]
-    wrong += [f"ptpx.1 has {n} {numbers.count(n)} times" for n in sorted(code.keys() - OF_CALLS) if numbers.count(n) != 1]
     for line in wrong:
         print(line)
-    print(f"{len(page)} numbers, of which help says {len({n for n, _ in helped})}, ptpx.1 {len(numbers)}, and ptpx.h {len(header)}")
+    print(f"{len(page)} numbers, of which help says {len({n for n, _ in helped})}, and ptpx.h {len(header)}")
     return 1 if wrong or not helped else 0
 
 

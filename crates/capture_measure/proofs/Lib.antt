@@ -4,6 +4,8 @@ pub mod Goes
 pub mod Heard
 pub mod Kept
 pub mod Listeners
+pub mod OneCourse
+pub mod OneRow
 pub mod Readings
 pub mod Reports
 pub mod Rows

@@ -8,15 +8,15 @@ use Rattle.text_lines.specs.Counted.{HasNotFailed, HasFailedIf}
 use Rattle.capture_model.specs.declared.watched.Watched.{Watched}
 use Rattle.capture_measure.specs.declared.listener.Listener.{Listener}
 use Rattle.capture_measure.specs.declared.measuring.Form.{Form}
-use Rattle.capture_measure.specs.declared.measuring.MeasureFault.{MeasureFault}
-use Rattle.capture_measure.specs.declared.measuring.MeasureFault.TheVariants.{Memory}
+use Rattle.text_lines.specs.declared.line_fault.LineFault.{LineFault}
+use Rattle.text_lines.specs.declared.line_fault.LineFault.TheVariants.{Memory}
 use Rattle.capture_measure.specs.declared.measuring.Stage.{Stage}
 use Rattle.capture_measure.specs.declared.measuring.Stage.TheVariants.{Kept, Passed, Hearing}
 use Rattle.capture_measure.specs.declared.watch.Wanted.{Wanted}
 use Rattle.capture_measure.specs.Watch.{watched_in}
 use Rattle.capture_measure.specs.Row.{Row, datagrams, heard}
 use Rattle.capture_measure.specs.Measured.{reports_text, written}
-use Rattle.capture_measure.specs.Measure.{is_of_writer}
+use Rattle.text_lines.specs.Fault.{is_write}
 use Rattle.capture_measure.specs.Inner.Measuring.{Goes, GoesUntil, AreWithin, AreKept, IsHearing, IsStage}
 use Rattle.capture_measure.proofs.Rows.{heard-few, heard-many, written-known, written-unknown}
 use Rattle.capture_measure.proofs.Told.{watched-stays}
@@ -27,17 +27,17 @@ on_ok_then (Ok x) f p = f p
 on_ok_then (Err e) f p = tt
 
 -- where nothing is written
-pub nothing_goes : {T : Type 0} (r : Result T MeasureFault) (a : Option (List ℕ))
+pub nothing_goes : {T : Type 0} (r : Result T LineFault) (a : Option (List ℕ))
     → MatchResult r (λ _. ⊤) (λ fault. fault ≡ Memory) → Goes r [] a a
 nothing_goes (Ok x) a is = Appends-nil a
 nothing_goes (Err fault) a is =
-    subst (λ (f : MeasureFault). GoesUntil f [] a a) (sym is) (tt, [], [], refl, Appends-nil a)
+    subst (λ (f : LineFault). GoesUntil f [] a a) (sym is) (tt, [], [], refl, Appends-nil a)
 
-pub nothing_fails : {T W : Type 0} (r : Result T MeasureFault) (o : Counted W)
+pub nothing_fails : {T W : Type 0} (r : Result T LineFault) (o : Counted W)
     → MatchResult r (λ _. ⊤) (λ fault. fault ≡ Memory)
-    → MatchResult r (λ _. HasNotFailed o o) (λ fault. HasFailedIf (is_of_writer fault) o o)
+    → MatchResult r (λ _. HasNotFailed o o) (λ fault. HasFailedIf (is_write fault) o o)
 nothing_fails (Ok x) o is = refl
-nothing_fails (Err fault) o is = subst (λ (f : MeasureFault). HasFailedIf (is_of_writer f) o o) (sym is) refl
+nothing_fails (Err fault) o is = subst (λ (f : LineFault). HasFailedIf (is_write f) o o) (sym is) refl
 
 -- no line that is kept is too long
 pub are_within : (w : Wanted) (rows : List Row) (stage : Stage) → IsStage w rows stage → AreWithin stage

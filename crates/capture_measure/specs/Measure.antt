@@ -1,5 +1,5 @@
 -- What `measure` makes of the lines that it reads.
-use Rattle.std.specs.Prelude.{◌≡◌, ℕ, ◌+◌, ◌-◌, ◌^◌, Bool, true, false, List, [], ◌∷◌, ◌++◌, length, Option, Result}
+use Rattle.std.specs.Prelude.{◌≡◌, ℕ, ◌+◌, ◌-◌, ◌^◌, List, [], ◌∷◌, ◌++◌, length, Option, Result}
 use Rattle.std.specs.Prelude.{Err}
 use Rattle.std.specs.Prelude.{◌⊎◌}
 use Rattle.std.specs.Option.{ForSome}
@@ -9,12 +9,13 @@ use Rattle.text_lines.specs.declared.fault.Cause.{Cause}
 use Rattle.text_lines.specs.declared.fault.Cause.TheVariants.{Task}
 use Rattle.text_lines.specs.declared.fault.Stopped.{Stopped}
 use Rattle.text_lines.specs.Counted.{device_of, HasFailed}
+use Rattle.text_lines.specs.Fault.{is_write}
 use Rattle.text_lines.specs.Task.{Rules, Answers}
 use Rattle.capture_lines.specs.Measurement.{table_head}
 use Rattle.capture_measure.specs.declared.measuring.Form.{Form}
 use Rattle.capture_measure.specs.declared.measuring.Form.TheVariants.{Json, Table}
-use Rattle.capture_measure.specs.declared.measuring.MeasureFault.{MeasureFault}
-use Rattle.capture_measure.specs.declared.measuring.MeasureFault.TheVariants.{Write, Field, Memory}
+use Rattle.text_lines.specs.declared.line_fault.LineFault.{LineFault}
+use Rattle.text_lines.specs.declared.line_fault.LineFault.TheVariants.{Write, Field, Memory}
 use Rattle.capture_measure.specs.declared.watch.Wanted.{Wanted}
 use Rattle.capture_measure.specs.Row.{Row, IsRow}
 use Rattle.capture_measure.specs.Measured.{written}
@@ -48,32 +49,21 @@ Takes line r later out =
 
 -- why a line isn't taken: it is none of a recording, or memory or the writer failed; then a part of what it adds went
 -- out
-abbrev pub Stops : List ℕ → Recording → MeasureFault → List ℕ → Type 0
+abbrev pub Stops : List ℕ → Recording → LineFault → List ℕ → Type 0
 Stops line r Field out = ((row : Row) → IsNext r line row → ⊥) × (out ≡ [])
 Stops line r fault out =
     (row : Row) × IsNext r line row × (rest : List ℕ) × (written_of (with_row row r) ≡ written_of r ++ (out ++ rest))
 
--- the number of a fault
-abbrev pub number_of : MeasureFault → ℕ
-number_of Write = 802
-number_of Field = 806
-number_of Memory = 808
-
--- whether this fault says that the writer failed
-abbrev pub is_of_writer : MeasureFault → Bool
-is_of_writer Write = true
-is_of_writer fault = false
-
 -- each line that is taken adds to a recording, and the number of lines is answered at the end; as many lines are
 -- allowed as can be counted
-abbrev pub measure_rules : Rules Recording ℕ MeasureFault
+abbrev pub measure_rules : Rules Recording ℕ LineFault
 measure_rules = record {
   lines_limit = 2 ^ 64 - 2;
   Takes = Takes;
   Stops = Stops;
   Ends = λ lines r answer out. (answer ≡ lines) × (out ≡ []);
   StopsAtEnd = λ r fault out. ⊥;
-  is_of_writer = is_of_writer;
+  is_of_writer = is_write;
 }
 
 -- what goes out before the first line is read
@@ -83,13 +73,13 @@ head_text Table = table_head
 
 -- what an answer of `measure` over these octets says: the head went out, and then what the lines bring
 abbrev pub Measures : Form → Wanted → List ℕ → (left before after : Option (List ℕ))
-    → Result ℕ (Stopped (Cause MeasureFault)) → Type 0
+    → Result ℕ (Stopped (Cause LineFault)) → Type 0
 Measures form w octets left before after answer =
     (headed : Option (List ℕ)) × Appends before headed (head_text form)
     × Answers measure_rules (begun form w) octets left headed after answer
 
 -- the head of a table couldn't be written, and nothing was read
-pub record HasNoHead {R W : Type 0} (form : Form) (answer : Result ℕ (Stopped (Cause MeasureFault)))
+pub record HasNoHead {R W : Type 0} (form : Form) (answer : Result ℕ (Stopped (Cause LineFault)))
     (input input' : Counted R) (output output' : Counted W) : Type 0 where
   pub table : form ≡ Table
   pub stopped : answer ≡ Err (record { line = 0; what = Task Write })
@@ -98,7 +88,7 @@ pub record HasNoHead {R W : Type 0} (form : Form) (answer : Result ℕ (Stopped 
 
 -- what an answer of `measure` says where the reader tells its octets, and where the writer does
 abbrev pub MeasuresAnswer : {R W : Type 0} → Form → Wanted → (R → Option (List ℕ)) → (W → Option (List ℕ))
-    → Result ℕ (Stopped (Cause MeasureFault))
+    → Result ℕ (Stopped (Cause LineFault))
     → (input input' : Counted R) (output output' : Counted W) → Type 0
 MeasuresAnswer form w remaining contents answer input input' output output' =
     HasNoHead form answer input input' output output'

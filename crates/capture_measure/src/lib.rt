@@ -7,5 +7,5 @@ mod measuring;
 mod tally;
 mod watch;
 
-pub use measuring::{Form, MeasureFault, Summary, measure};
+pub use measuring::{Form, Summary, measure};
 pub use watch::Wanted;

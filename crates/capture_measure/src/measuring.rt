@@ -5,18 +5,17 @@ ghost use Rattle.std.specs.Prelude.{Some, None, ⊤};
 ghost use Rattle.std.specs.List.{All};
 ghost use Rattle.text_lines.specs.Counted.{device_of, HasFailed, HasNotFailed, HasFailedIf};
 ghost use Rattle.std.specs.Io.KnownBytes.{Appends};
-ghost use Rattle.text_lines.specs.Fault.{no_refusal};
+ghost use Rattle.text_lines.specs.Fault.{is_write};
 ghost use Rattle.text_lines.specs.Lines.{line_limit, input_limit, GivesWithin};
 ghost use Rattle.text_lines.specs.Task.{FailedAt};
 ghost use Rattle.event_codec.specs.Reading.{Reading, IsReading};
 ghost use Rattle.capture_model.specs.Listening.{after_all};
 ghost use Rattle.capture_lines.specs.Measurement.{measured_of};
-ghost use Rattle.capture_measure.specs.declared.measuring.MeasureFault.TheVariants.{Memory, Write};
 ghost use Rattle.capture_measure.specs.Watch.{watched_in};
 ghost use Rattle.capture_measure.specs.Row.{Row, datagrams, IsRow};
 ghost use Rattle.capture_measure.specs.Measured.{half_of, text_as, report_text, reports_text};
-ghost use Rattle.capture_measure.specs.Measure.{Recording, begun, head_text, is_of_writer, measure_rules};
-ghost use Rattle.capture_measure.specs.Measure.{number_of, MeasuresAnswer};
+ghost use Rattle.capture_measure.specs.Measure.{Recording, begun, head_text, measure_rules};
+ghost use Rattle.capture_measure.specs.Measure.{MeasuresAnswer};
 ghost use Rattle.capture_measure.specs.Inner.Listener.{IsListener, report_by};
 ghost use Rattle.capture_measure.specs.Inner.Watching.{IsWatch};
 ghost use Rattle.capture_measure.specs.Inner.Measuring.{reading_of, IsLine, NoRow, HasRow, IsUnread, IsRead, IsRowOf};
@@ -31,12 +30,12 @@ use capture_model::Watched;
 use datagram_text::Identity;
 use event_codec::{Body, DecodeRefusal, Message, decode};
 use slave_port::{Heard, Report};
-use std::alloc::{AllocError, AllocFailed, Global};
+use std::alloc::Global;
 use std::fmt;
 use std::fmt::{Display, Formatter};
 use std::io::{Read, Write};
 use text_lines::{
-    Cause, Counted, LINE_LIMIT, LineTask, Numbered, Stopped, WriteFailed, answer_lines, write_text,
+    Cause, Counted, LINE_LIMIT, LineFault, LineTask, Stopped, answer_lines, write_text,
 };
 
 /// The most octets of a datagram, which is written in two digits each.
@@ -52,59 +51,6 @@ pub enum Form {
     Json,
     /// Rows of a table, below its head, with commas between the columns.
     Table,
-}
-
-/// Why a line isn't measured.
-#[derive(Clone, Copy, Debug, PartialEq, Eq)]
-pub enum MeasureFault {
-    /// The writer failed.
-    Write,
-    /// The line is no time and datagram.
-    Field,
-    /// Memory was refused.
-    Memory,
-}
-
-impl Numbered for MeasureFault {
-    ghost number_of = { number_of };
-
-    ghost refusal_of = { no_refusal };
-
-    fn number(&self) -> u16 {
-        match self {
-            MeasureFault::Write => 802,
-            MeasureFault::Field => 806,
-            MeasureFault::Memory => 808,
-        }
-    }
-
-    fn refusal(&self) -> Option<u16> {
-        None
-    }
-}
-
-impl From<WriteFailed> for MeasureFault {
-    ghost from_gives = { λ _ fault. fault ≡ Write };
-
-    fn from(_failed: WriteFailed) -> MeasureFault {
-        MeasureFault::Write
-    }
-}
-
-impl From<AllocError> for MeasureFault {
-    ghost from_gives = { λ _ fault. fault ≡ Memory };
-
-    fn from(_refused: AllocError) -> MeasureFault {
-        MeasureFault::Memory
-    }
-}
-
-impl<T: Drop> From<AllocFailed<T>> for MeasureFault {
-    ghost from_gives = { λ _ fault. fault ≡ Memory };
-
-    fn from(_refused: AllocFailed<T>) -> MeasureFault {
-        MeasureFault::Memory
-    }
 }
 
 /// Which half of a report a message completes.
@@ -201,14 +147,14 @@ fn read_line<'line, 'room>(
     earlier: u64,
     line: &'line [u8],
     room: &'room mut [u8; DATAGRAM_LIMIT],
-) -> Result<Line<'line, 'room>, MeasureFault>
+) -> Result<Line<'line, 'room>, LineFault>
     requires { length line.now ≤ line_limit }
     ensures { MatchResult result
         (IsRead (earlier + 1) line.now)
         (λ fault. IsUnread fault (earlier + 1) line.now) }
 {
     let Some(timed) = read_parts(line, room) else {
-        return Err(MeasureFault::Field);
+        return Err(LineFault::Field);
     };
     let octets = &room[..timed.digits.len() / 2];
     let said = message_in(octets);
@@ -219,7 +165,7 @@ fn read_line<'line, 'room>(
             octets,
             said,
         }),
-        None => Err(MeasureFault::Memory),
+        None => Err(LineFault::Memory),
     }
 }
 
@@ -250,20 +196,20 @@ impl Reports {
         &mut self,
         measured: &Measurement<'_>,
         output: &mut Counted<W>,
-    ) -> Result<(), MeasureFault>
+    ) -> Result<(), LineFault>
         ensures written { Goes result (text_as self.old.form (measured_of measured.now))
             (W.contents (device_of output.old)) (W.contents (device_of output.new)) }
         ensures form { self.new.form ≡ self.old.form }
         ensures failures { MatchResult result
             (λ _. HasNotFailed output.old output.new)
-            (λ fault. HasFailedIf (is_of_writer fault) output.old output.new) }
+            (λ fault. HasFailedIf (is_write fault) output.old output.new) }
     {
         self.text.clear();
         match self.form {
             Form::Json => push_json(&mut self.text, measured)?,
             Form::Table => push_row(&mut self.text, measured)?,
         }
-        write_text::<W, MeasureFault>(self.text.as_str(), output)?;
+        write_text::<W, LineFault>(self.text.as_str(), output)?;
         self.tally.count_report();
         Ok(())
     }
@@ -285,7 +231,7 @@ impl Reports {
         listener: &mut Listener,
         read: &Line<'_, '_>,
         output: &mut Counted<W>,
-    ) -> Result<(), MeasureFault>
+    ) -> Result<(), LineFault>
         requires { IsReading read.now.octets.now (reading_of read.now.said) }
         ensures heard { (watched : Watched) (earlier : List Row) (row : Row) → IsRowOf read.now row
             → IsListener watched listener.old (after_all watched (datagrams earlier))
@@ -296,7 +242,7 @@ impl Reports {
         ensures form { self.new.form ≡ self.old.form }
         ensures failures { MatchResult result
             (λ _. HasNotFailed output.old output.new)
-            (λ fault. HasFailedIf (is_of_writer fault) output.old output.new) }
+            (λ fault. HasFailedIf (is_write fault) output.old output.new) }
     {
         self.tally.count_time(read.timed.time);
         let message = match &read.said {
@@ -327,7 +273,7 @@ impl Reports {
         earlier: u64,
         line: &[u8],
         output: &mut Counted<W>,
-    ) -> Result<u64, MeasureFault>
+    ) -> Result<u64, LineFault>
         requires { length line.now ≤ line_limit }
         ensures heard { (watched : Watched) (before : List Row) (row : Row) → IsRow (earlier + 1) line.now row
             → IsListener watched listener.old (after_all watched (datagrams before))
@@ -341,7 +287,7 @@ impl Reports {
         ensures form { self.new.form ≡ self.old.form }
         ensures failures { MatchResult result
             (λ _. HasNotFailed output.old output.new)
-            (λ fault. HasFailedIf (is_of_writer fault) output.old output.new) }
+            (λ fault. HasFailedIf (is_write fault) output.old output.new) }
     {
         let mut room = [0; DATAGRAM_LIMIT];
         let read = match read_line(earlier, line, &mut room) {
@@ -358,7 +304,7 @@ impl Reports {
         listener: &mut Listener,
         kept: &[Vec<u8>],
         output: &mut Counted<W>,
-    ) -> Result<(), MeasureFault>
+    ) -> Result<(), LineFault>
         requires { All (λ line. length line.items ≤ line_limit) kept.now }
         ensures heard { (watched : Watched) (rows : List Row) → AreRows [] (map (λ line. line.items) kept.now) rows
             → IsListener watched listener.old (after_all watched [])
@@ -368,7 +314,7 @@ impl Reports {
         ensures form { self.new.form ≡ self.old.form }
         ensures failures { MatchResult result
             (λ _. HasNotFailed output.old output.new)
-            (λ fault. HasFailedIf (is_of_writer fault) output.old output.new) }
+            (λ fault. HasFailedIf (is_write fault) output.old output.new) }
     {
         let mut number = 0;
         for line in kept {
@@ -385,7 +331,7 @@ impl Reports {
         listener: &mut Listener,
         stage: &Stage,
         output: &mut Counted<W>,
-    ) -> Result<(), MeasureFault>
+    ) -> Result<(), LineFault>
         requires { AreWithin stage.now }
         ensures heard { (watched : Watched) (rows : List Row) → AreKept stage.now rows
             → IsListener watched listener.old (after_all watched [])
@@ -395,7 +341,7 @@ impl Reports {
         ensures form { self.new.form ≡ self.old.form }
         ensures failures { MatchResult result
             (λ _. HasNotFailed output.old output.new)
-            (λ fault. HasFailedIf (is_of_writer fault) output.old output.new) }
+            (λ fault. HasFailedIf (is_write fault) output.old output.new) }
     {
         match stage {
             Stage::Kept(kept) => {
@@ -411,7 +357,7 @@ impl Reports {
 impl LineTask for Measuring {
     type Answer = u64;
 
-    type Fault = MeasureFault;
+    type Fault = LineFault;
 
     ghost State = { Recording };
 
@@ -423,7 +369,7 @@ impl LineTask for Measuring {
         u64::MAX - 1
     }
 
-    fn take<W: Write>(&mut self, line: &[u8], output: &mut Counted<W>) -> Result<(), MeasureFault> {
+    fn take<W: Write>(&mut self, line: &[u8], output: &mut Counted<W>) -> Result<(), LineFault> {
         if let Stage::Hearing(listener) = &mut self.stage {
             self.lines = self.reports.hear(listener, self.lines, line, output)?;
             return Ok(());
@@ -442,11 +388,7 @@ impl LineTask for Measuring {
     }
 
     /// How many lines there were.
-    fn finish<W: Write>(
-        &mut self,
-        lines: u64,
-        _output: &mut Counted<W>,
-    ) -> Result<u64, MeasureFault> {
+    fn finish<W: Write>(&mut self, lines: u64, _output: &mut Counted<W>) -> Result<u64, LineFault> {
         Ok(lines)
     }
 }
@@ -472,7 +414,7 @@ impl Measuring {
     }
 
     /// Keeps a line by which it isn't known yet whom to watch, unless there are too many.
-    fn keep(&mut self, read: &Line<'_, '_>, line: &[u8]) -> Result<(), MeasureFault>
+    fn keep(&mut self, read: &Line<'_, '_>, line: &[u8]) -> Result<(), LineFault>
         requires { length line.now ≤ line_limit }
         ensures kept { (w : Wanted) (rows : List Row) (row : Row) → IsRow (length rows + 1) line.now row
             → watched_in w (datagrams (row ∷ rows)) ≡ None → read.now.number ≡ length rows + 1
@@ -502,7 +444,7 @@ impl Measuring {
         watched: Watched,
         read: &Line<'_, '_>,
         output: &mut Counted<W>,
-    ) -> Result<(), MeasureFault>
+    ) -> Result<(), LineFault>
         requires says { IsReading read.now.octets.now (reading_of read.now.said) }
         requires kept { AreWithin self.old.stage }
         ensures begun { (earlier : List Row) (row : Row) → IsRowOf read.now row
@@ -514,7 +456,7 @@ impl Measuring {
         ensures lines { self.new.lines ≡ self.old.lines }
         ensures failures { MatchResult result
             (λ _. HasNotFailed output.old output.new)
-            (λ fault. HasFailedIf (is_of_writer fault) output.old output.new) }
+            (λ fault. HasFailedIf (is_write fault) output.old output.new) }
     {
         let mut listener = Listener::new(watched);
         self.reports
@@ -591,10 +533,10 @@ impl Summary {
 }
 
 /// Writes what stands above all measurements.
-fn write_head<W: Write>(form: Form, output: &mut Counted<W>) -> Result<(), MeasureFault>
+fn write_head<W: Write>(form: Form, output: &mut Counted<W>) -> Result<(), LineFault>
     ensures written { MatchResult result
         (λ _. Appends (W.contents (device_of output.old)) (W.contents (device_of output.new)) (head_text form))
-        (λ fault. (form ≡ Form.Table) × (fault ≡ MeasureFault.Write)) }
+        (λ fault. (form ≡ Form.Table) × (fault ≡ LineFault.Write)) }
     ensures failures { MatchResult result
         (λ _. HasNotFailed output.old output.new)
         (λ _. HasFailed output.old output.new) }
@@ -612,7 +554,7 @@ pub fn measure<R: Read, W: Write>(
     form: Form,
     input: &mut Counted<R>,
     output: &mut Counted<W>,
-) -> (Result<u64, Stopped<Cause<MeasureFault>>>, Summary)
+) -> (Result<u64, Stopped<Cause<LineFault>>>, Summary)
     ensures measured { MeasuresAnswer form wanted.now R.remaining W.contents result.0
         input.old input.new output.old output.new }
     // Of any reader only so much is read, whatever the writer is.

@@ -12,12 +12,12 @@ use Rattle.clap.specs.declared.error.kind.ErrorKind.{ErrorKind}
 use Rattle.clap.specs.declared.error.kind.ErrorKind.TheVariants as kind
 use Rattle.clap.specs.declared.parser.matches.ArgMatches.{ArgMatches}
 use Rattle.clap.proofs.OnLiterals.{clap_on_literals}
-use Rattle.command_line.specs.Arguments.{Asks, HasHelpFlag, MayAskHelp, Names, chosen_of, faults_in, named_in}
+use Rattle.command_line.specs.Arguments.{Asks, HasHelpFlag, MayAskHelp, Names, faults_in, named_in}
 use Rattle.command_line.specs.Inner.Shown.{Chooses, ShowsKind}
-use Rattle.command_line.specs.Program.{program}
+use Rattle.command_line.specs.Commands.{chosen_of, program}
 use Rattle.command_line.specs.declared.arguments.Invocation.{Invocation}
 use Rattle.command_line.specs.declared.arguments.Invocation.TheVariants.{Run, Help, Mistake}
-use Rattle.command_line.specs.declared.arguments.Subcommand.{Subcommand}
+use Rattle.command_line.specs.declared.commands.Subcommand.{Subcommand}
 
 pub is_simple_program : is_simple program ≡ true
 unfolding clap_on_literals

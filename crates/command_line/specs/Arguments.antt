@@ -1,32 +1,13 @@
 -- What the arguments of `ptpx` ask for, as clap reads them.
-use Rattle.std.specs.Prelude.{◌≡◌, List, [], ◌∷◌, Option, Some, None, ℕ, codes, if◌then◌else◌}
-use Rattle.std.specs.Prelude.{option_and_then, option_map}
-use Rattle.std.specs.Str.{bytes_eq}
+use Rattle.std.specs.Prelude.{◌≡◌, List, [], ◌∷◌, Option, Some, ℕ}
 use Rattle.clap.specs.Faults.{fault_of}
 use Rattle.clap.specs.Kinds.{IsAmong, Kinds}
 use Rattle.clap.specs.Simple.{subcommand_of}
-use Rattle.clap.specs.Walk.{Row, Text}
 use Rattle.clap.specs.declared.error.kind.ErrorKind.TheVariants.{DisplayHelp}
 use Rattle.command_line.specs.declared.arguments.Invocation.{Invocation}
 use Rattle.command_line.specs.declared.arguments.Invocation.TheVariants.{Run, Help, Mistake}
-use Rattle.command_line.specs.declared.arguments.Subcommand.{Subcommand}
-use Rattle.command_line.specs.declared.arguments.Subcommand.TheVariants.{Show, Replay, Check, Measure, Explain}
-use Rattle.command_line.specs.Options.{explain_options_of, measure_options_of}
-use Rattle.command_line.specs.Program.{program}
-
--- the subcommand of a name, with the options that its rows say
-abbrev pub chosen : Text → List Row → Option Subcommand
-chosen name rows =
-    if bytes_eq name (codes "show") then Some Show
-    else if bytes_eq name (codes "replay") then Some Replay
-    else if bytes_eq name (codes "check") then Some Check
-    else if bytes_eq name (codes "measure") then option_map (λ options. Measure options) (measure_options_of rows)
-    else if bytes_eq name (codes "explain") then Some (Explain (explain_options_of rows))
-    else None
-
--- the subcommand that was met under its name, with its rows
-abbrev pub chosen_of : Option (Text × List Row) → Option Subcommand
-chosen_of met = option_and_then (λ m. chosen m.0 m.1) met
+use Rattle.command_line.specs.declared.commands.Subcommand.{Subcommand}
+use Rattle.command_line.specs.Commands.{chosen_of, program}
 
 -- the kinds of error of which clap answers one to these words; none where it takes them
 unfoldable pub faults_in : List (List ℕ) → Kinds

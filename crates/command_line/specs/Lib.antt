@@ -2,5 +2,6 @@ pub mod Number
 pub mod PortText
 pub mod Options
 pub mod Program
+pub mod Commands
 pub mod Arguments
 pub mod Inner

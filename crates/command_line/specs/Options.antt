@@ -1,11 +1,7 @@
 -- What the options of a subcommand say, by the rows that clap's matches have of them.
-use Rattle.std.specs.Prelude.{Bool, false, List, Option, Some, None, ℕ, codes, option_and_then, option_map}
+use Rattle.std.specs.Prelude.{Bool, false, List, Option, Some, None, ℕ, codes, option_map}
 use Rattle.std.specs.Str.{bytes_eq}
 use Rattle.clap.specs.Walk.{Row, first_of}
-use Rattle.command_line.specs.Number.{domain_of}
-use Rattle.command_line.specs.PortText.{port_identity_of}
-use Rattle.command_line.specs.declared.explain.ExplainOptions.{ExplainOptions}
-use Rattle.command_line.specs.declared.measure.MeasureOptions.{MeasureOptions}
 
 -- whether this text says that an option without a value is used: clap gives it `true`, and else `false`
 abbrev pub is_text_used : Option (List ℕ) → Bool
@@ -24,15 +20,3 @@ said_by read (Some text) = option_map (λ said. Some said) (read text)
 -- what an option says that has a value
 abbrev pub said : {X : Type 0} → (List ℕ → Option X) → List ℕ → List Row → Option (Option X)
 said read name rows = said_by read (first_of name rows)
-
--- the options of `measure`, where each value is one
-abbrev pub measure_options_of : List Row → Option MeasureOptions
-measure_options_of rows = option_and_then (λ slave. option_and_then (λ master. option_map (λ domain.
-    record { slave = slave; master = master; domain = domain; csv = is_used (codes "csv") rows })
-    (said domain_of (codes "domain") rows))
-    (said port_identity_of (codes "master") rows))
-    (said port_identity_of (codes "slave") rows)
-
--- the options of `explain`
-abbrev pub explain_options_of : List Row → ExplainOptions
-explain_options_of rows = record { first = is_used (codes "first") rows; json = is_used (codes "json") rows }

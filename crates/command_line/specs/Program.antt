@@ -1,5 +1,5 @@
--- `ptpx` as clap's specifications have a program: the subcommands of a table, with their options.
-use Rattle.std.specs.Prelude.{Bool, true, List, [], ◌∷◌, Some, is_some, codes, fold, if◌then◌else◌, map}
+-- A program of subcommands, each with its options, as clap's specifications have one.
+use Rattle.std.specs.Prelude.{true, List, Some, is_some, codes, fold, if◌then◌else◌, map}
 use Rattle.clap.specs.Simple.{App, Shape, new_app, new_rule, new_shape, on_top, with_subcommand}
 use Rattle.clap.specs.Walk.{Rule, Text}
 use Rattle.clap.specs.declared.builder.action.ArgAction.TheVariants.{SetTrue}
@@ -17,19 +17,6 @@ flag name = record (new_rule name) { long = Some name; action = Some SetTrue }
 -- a subcommand's name and its options
 abbrev pub Row : Type 0
 Row = Text × List Rule
-
--- the subcommands of `ptpx`, in the order of the help
-abbrev pub subcommands : List Row
-subcommands =
-    (codes "show", [])
-    ∷ (codes "replay", [])
-    ∷ (codes "check", [])
-    ∷ (
-      codes "measure",
-      with_value (codes "slave") ∷ with_value (codes "master") ∷ with_value (codes "domain") ∷ flag (codes "csv") ∷ [],
-    )
-    ∷ (codes "explain", flag (codes "first") ∷ flag (codes "json") ∷ [])
-    ∷ []
 
 -- a row of the code's table
 abbrev pub rule_for : OptionRow → Rule
@@ -49,7 +36,3 @@ bare_program = on_top (λ top. record top { subcommand_required = true }) (new_a
 -- the program with these subcommands
 abbrev pub program_of : List Row → App
 program_of rows = fold (λ app row. with_subcommand app (shape_for row)) bare_program rows
-
--- `ptpx`
-abbrev pub program : App
-program = program_of subcommands

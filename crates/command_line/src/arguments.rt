@@ -5,33 +5,18 @@ ghost use Rattle.clap.specs.Simple.{app_of, shape_of, subcommand_rows_of};
 ghost use Rattle.clap.specs.Values.{kind_of};
 ghost use Rattle.clap.specs.Walk.{rule_of};
 ghost use Rattle.clap.specs.declared.error.kind.ErrorKind.TheVariants.{ValueValidation};
-ghost use Rattle.command_line.specs.Arguments.{Asks, chosen_of};
+ghost use Rattle.command_line.specs.Arguments.{Asks};
+ghost use Rattle.command_line.specs.Commands.{chosen_of};
 ghost use Rattle.command_line.specs.Inner.Shown.{Chooses, ShowsKind};
 ghost use Rattle.command_line.specs.Program.{bare_program, program_of, row_of, rule_for, shape_for};
 
-use crate::explain::{ExplainOptions, explain_options};
+use crate::commands::{Subcommand, chosen, subcommands};
 use crate::help;
-use crate::measure::{MeasureOptions, measure_options};
 use crate::options::WrongValue;
-use crate::table::{OptionRow, SubcommandRow, subcommands};
+use crate::table::{OptionRow, SubcommandRow};
 use clap::error::ErrorKind;
 use clap::{Arg, ArgAction, ArgMatches, Command, Error};
 use std::alloc::{AllocError, Global};
-
-/// A subcommand of `ptpx`.
-#[derive(Clone, Copy, Debug, PartialEq, Eq)]
-pub enum Subcommand {
-    /// Print the datagrams that standard input gives in hexadecimal.
-    Show,
-    /// Print what comes of the schedule that standard input gives.
-    Replay,
-    /// Print the verdict on the transcript that standard input gives.
-    Check,
-    /// Print what the datagrams that standard input gives, recorded at a slave, say of its clock.
-    Measure(MeasureOptions),
-    /// Print what is wrong with the transcript or the schedule that standard input gives.
-    Explain(ExplainOptions),
-}
 
 /// What the arguments ask for.
 #[derive(Debug, Drop)]
@@ -98,31 +83,28 @@ pub fn parse(alloc: Global, words: &[String]) -> Result<Invocation, AllocError>
     ensures asked { IfOk result (Asks (map string_bytes words.now)) }
 {
     match program(alloc, subcommands())?.try_get_matches_from(words) {
-        Ok(matches) => chosen(alloc, &matches),
+        Ok(matches) => read_matches(alloc, &matches),
         Err(error) => refusal(alloc, error),
     }
 }
 
-/// The subcommand that was met, or the mistake in its options. `clap` takes no words in which it meets none of the table.
-fn chosen(alloc: Global, matches: &ArgMatches<'_>) -> Result<Invocation, AllocError>
+/// What `clap`'s matches ask for.
+fn read_matches(alloc: Global, matches: &ArgMatches<'_>) -> Result<Invocation, AllocError>
     ensures { IfOk result (Chooses (chosen_of (subcommand_rows_of matches.now))) }
 {
-    let subcommand = match matches.subcommand() {
-        Some(("show", _)) => Subcommand::Show,
-        Some(("replay", _)) => Subcommand::Replay,
-        Some(("check", _)) => Subcommand::Check,
-        Some(("measure", options)) => match measure_options(options) {
-            Ok(options) => Subcommand::Measure(options),
-            Err(wrong) => return refusal(alloc, mistake(alloc, "measure", wrong)?),
-        },
-        Some(("explain", options)) => Subcommand::Explain(explain_options(options)),
-        _ => return Ok(Invocation::Mistake(String::new(alloc))),
-    };
-    Ok(Invocation::Run(subcommand))
+    match chosen(matches) {
+        Ok(Some(subcommand)) => Ok(Invocation::Run(subcommand)),
+        Ok(None) => Ok(Invocation::Mistake(String::new(alloc))),
+        Err(wrong) => refusal(alloc, mistake(alloc, matches, wrong)?),
+    }
 }
 
-/// The mistake of a value, with the usage of the subcommand.
-fn mistake(alloc: Global, subcommand_name: &str, wrong: WrongValue<'_>) -> Result<Error, AllocError>
+/// The mistake of a value, with the usage of the subcommand that was met.
+fn mistake(
+    alloc: Global,
+    matches: &ArgMatches<'_>,
+    wrong: WrongValue<'_>,
+) -> Result<Error, AllocError>
     ensures kind { IfOk result (λ e. kind_of e ≡ ValueValidation) }
 {
     let WrongValue {
@@ -131,6 +113,7 @@ fn mistake(alloc: Global, subcommand_name: &str, wrong: WrongValue<'_>) -> Resul
         name,
         wanted,
     } = wrong;
+    let subcommand_name = matches.subcommand_name().unwrap_or("");
     let message = format!(in alloc;
         "invalid value '{value}' for '--{option} <{name}>': wanted is {wanted}"
     )?;

@@ -2,15 +2,13 @@
 #![tactic(auto)]
 
 mod arguments;
-mod explain;
+pub mod commands;
 mod help;
-mod measure;
 mod number;
 mod options;
 mod port_identity;
 mod table;
 
-pub use arguments::{Invocation, Subcommand, parse};
-pub use explain::ExplainOptions;
-pub use measure::MeasureOptions;
-pub use table::{OptionRow, SubcommandRow, subcommands};
+pub use arguments::{Invocation, parse};
+pub use commands::{Subcommand, subcommands};
+pub use table::{OptionRow, SubcommandRow};

@@ -2,6 +2,8 @@
 #![tactic(auto)]
 
 pub mod laws;
+mod showing;
 mod shown;
 
+pub use showing::show_lines;
 pub use shown::{Identity, push_datagram};

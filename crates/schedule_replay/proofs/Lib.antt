@@ -1,13 +1,1 @@
-pub mod Entries
-pub mod NodeLines
-pub mod EventLines
-pub mod StageLines
-pub mod WorkedSchedule
-pub mod Transcribed
-pub mod OneTranscript
-pub mod Replayed
-pub mod ReplayedRanges
-pub mod OneText
-pub mod OneLine
-pub mod OneRow
 pub mod OneAnswer

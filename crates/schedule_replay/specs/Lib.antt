@@ -1,9 +1,3 @@
-pub mod Fault
-pub mod Answer
 pub mod Show
-pub mod Replay
 pub mod Program
-pub mod CheckText
-pub mod Accepted
-pub mod OneAnswer
 pub mod Inner

@@ -3,14 +3,14 @@ use Rattle.std.specs.Prelude.{◌≡◌, ◌⊎◌, ℕ, Bool, true, false, List
 use Rattle.std.specs.Io.KnownBytes.{Appends}
 use Rattle.text_lines.specs.declared.counted.Counted.{Counted}
 use Rattle.text_lines.specs.Counted.{device_of, HasFailed, HasNotFailed}
-use Rattle.schedule_replay.specs.Fault.{FailedWith}
-use Rattle.schedule_replay.specs.declared.fault.Fault.{Fault}
+use Rattle.transcript_text.specs.Fault.{FailedWith}
+use Rattle.transcript_text.specs.declared.fault.Fault.{Fault}
 use Rattle.trace_model.specs.declared.verdict.Verdict.{Verdict}
 use Rattle.trace_model.specs.declared.verdict.Verdict.TheVariants.{Accepted, Refused}
-use Rattle.command_line.specs.declared.arguments.Subcommand.{Subcommand}
-use Rattle.command_line.specs.declared.arguments.Subcommand.TheVariants.{Show, Replay, Check, Measure, Explain}
-use Rattle.command_line.specs.declared.measure.MeasureOptions.{MeasureOptions}
-use Rattle.command_line.specs.declared.explain.ExplainOptions.{ExplainOptions}
+use Rattle.command_line.specs.declared.commands.Subcommand.{Subcommand}
+use Rattle.command_line.specs.declared.commands.Subcommand.TheVariants.{Show, Replay, Check, Measure, Explain}
+use Rattle.command_line.specs.declared.commands.measure.MeasureOptions.{MeasureOptions}
+use Rattle.command_line.specs.declared.commands.explain.ExplainOptions.{ExplainOptions}
 use Rattle.exchange_explain.specs.declared.explaining.Explained.{Explained}
 use Rattle.exchange_explain.specs.declared.explaining.Explained.TheVariants.{Whole, Flawed}
 use Rattle.exchange_explain.specs.declared.input.Found.{Found}
@@ -22,13 +22,13 @@ use Rattle.text_lines.specs.declared.fault.Cause.{Cause}
 use Rattle.text_lines.specs.declared.fault.Stopped.{Stopped}
 use Rattle.capture_measure.specs.declared.measuring.Form.{Form}
 use Rattle.capture_measure.specs.declared.measuring.Form.TheVariants.{Json, Table}
-use Rattle.capture_measure.specs.declared.measuring.MeasureFault.{MeasureFault}
+use Rattle.text_lines.specs.declared.line_fault.LineFault.{LineFault}
 use Rattle.capture_measure.specs.declared.watch.Wanted.{Wanted}
 use Rattle.text_lines.specs.Task.{FailedAt}
 use Rattle.capture_measure.specs.Measure.{MeasuresAnswer, measure_rules}
 use Rattle.schedule_replay.specs.Show.{ShowsAnswer}
-use Rattle.schedule_replay.specs.Replay.{ReplaysAnswer}
-use Rattle.schedule_replay.specs.CheckText.{ChecksAnswer}
+use Rattle.transcript_text.specs.Replay.{ReplaysAnswer}
+use Rattle.transcript_text.specs.CheckText.{ChecksAnswer}
 
 -- the exit status of a subcommand that ended in this answer
 abbrev pub status_of : {F : Type 0} → Result ℕ F → ℕ
@@ -50,7 +50,7 @@ abbrev pub form_of : MeasureOptions → Form
 form_of options = if options.csv then Table else Json
 
 -- which of the two devices failed at this answer of `measure`
-abbrev pub MeasureFailedWith : {R W : Type 0} → Result ℕ (Stopped (Cause MeasureFault))
+abbrev pub MeasureFailedWith : {R W : Type 0} → Result ℕ (Stopped (Cause LineFault))
     → (input input' : Counted R) (output output' : Counted W) → Type 0
 MeasureFailedWith answer input input' output output' = MatchResult answer
     (λ _. HasNotFailed input input' × HasNotFailed output output')
@@ -60,7 +60,7 @@ MeasureFailedWith answer input input' output output' = MatchResult answer
 abbrev pub RunsMeasure : {R W : Type 0} → (R → Option (List ℕ)) → (W → Option (List ℕ)) → MeasureOptions → ℕ
     → (input input' : Counted R) (output output' : Counted W) → Type 0
 RunsMeasure remaining contents options status input input' output output' =
-    (answer : Result ℕ (Stopped (Cause MeasureFault))) × (status ≡ status_of answer)
+    (answer : Result ℕ (Stopped (Cause LineFault))) × (status ≡ status_of answer)
     × MeasureFailedWith answer input input' output output'
     × MeasuresAnswer (form_of options) (wanted_of options) remaining contents answer input input' output output'
 

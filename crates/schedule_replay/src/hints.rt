@@ -1,7 +1,7 @@
 //! What a person is told after a fault.
 
-use crate::fault::FaultKind;
 use command_line::Subcommand;
+use transcript_text::FaultKind;
 
 /// Whose faults are followed by a hint.
 #[derive(Clone, Copy)]

@@ -1,48 +1,19 @@
-//! What follows from the definitions alone, for any octets and for what is written of any run.
-ghost use Rattle.schedule_replay.specs.Fault.{FaultsHaveOneNumber};
-ghost use Rattle.network_model.specs.Premises.{exact_limits, IsFreshAndTicked, IsWithinTurn};
-ghost use Rattle.schedule_replay.specs.Accepted.{EachRunIsTranscribed, EachRunIsAccepted, EachRunIsChecked};
-ghost use Rattle.schedule_replay.specs.Accepted.{EachReplayIsAccepted};
-ghost use Rattle.schedule_replay.specs.Show.{Shows};
-ghost use Rattle.schedule_replay.specs.Replay.{Replays};
-ghost use Rattle.schedule_replay.specs.CheckText.{Checks};
+//! What follows from the definitions alone, for any octets.
 ghost use Rattle.capture_measure.specs.declared.measuring.Form.{Form};
 ghost use Rattle.capture_measure.specs.declared.watch.Wanted.{Wanted};
 ghost use Rattle.capture_measure.specs.Measure.{Measures};
-ghost use Rattle.schedule_replay.specs.Fault.{kind_at, measuring_kind};
-ghost use Rattle.schedule_replay.specs.OneAnswer.{HasOneAnswer};
+ghost use Rattle.schedule_replay.specs.Show.{Shows};
+ghost use Rattle.transcript_text.specs.CheckText.{Checks};
+ghost use Rattle.transcript_text.specs.Fault.{kind_at, line_kind};
+ghost use Rattle.transcript_text.specs.OneAnswer.{HasOneAnswer};
+ghost use Rattle.transcript_text.specs.Replay.{Replays};
 
 pub use datagram_text::laws::{shown_by_one_text, shown_by_some_text};
 pub use schedule_lines::laws::told_lines_are_recorded;
-
-/// What is written of nodes and of a fresh and ticked run of them is a transcript that tells the run,
-/// where all values are within their ranges and there are no more lines than are allowed. So each
-/// line is within 4,096 octets and is read as it was written. The same within one turn of the
-/// sequence numbers.
-pub fn replayed_runs_are_transcripts()
-    ensures fresh_and_ticked { EachRunIsTranscribed (IsFreshAndTicked exact_limits) }
-    ensures within_turn { EachRunIsTranscribed IsWithinTurn }
-{}
-
-/// Whatever verdict `check_text` answers over what `replay` writes of nodes and of a fresh and ticked
-/// run of them, it accepts it, with the number of the run's reports. Where it answers a fault, a
-/// device failed or memory was refused: none of 803 to 807 is answered. The same within one turn of
-/// the sequence numbers.
-pub fn replayed_runs_are_accepted()
-    ensures accepted { EachRunIsAccepted (IsFreshAndTicked exact_limits) }
-    ensures accepted_within_turn { EachRunIsAccepted IsWithinTurn }
-    ensures checked { EachRunIsChecked (IsFreshAndTicked exact_limits) }
-    ensures checked_within_turn { EachRunIsChecked IsWithinTurn }
-{}
-
-/// On Ok `replay` has written what `check_text` accepts: whatever octets the schedule was, if its run
-/// is fresh and ticked, then over what was written `check_text` answers that it accepts, with the
-/// number of the run's reports, unless a device failed or memory was refused. The same within one
-/// turn of the sequence numbers.
-pub fn replays_are_accepted()
-    ensures fresh_and_ticked { EachReplayIsAccepted (IsFreshAndTicked exact_limits) }
-    ensures within_turn { EachReplayIsAccepted IsWithinTurn }
-{}
+pub use transcript_text::laws::{
+    faults_have_one_number, replayed_runs_are_accepted, replayed_runs_are_transcripts,
+    replays_are_accepted,
+};
 
 /// Octets have one answer: two answers over the same octets, of which neither is a fault of a device
 /// or of memory, are the same answer, leave the same octets unread and have written the same. A fault
@@ -51,10 +22,5 @@ pub fn octets_have_one_answer()
     ensures show { HasOneAnswer kind_at Shows }
     ensures replay { HasOneAnswer kind_at Replays }
     ensures check_text { HasOneAnswer kind_at Checks }
-    ensures measure { (form : Form) (wanted : Wanted) → HasOneAnswer measuring_kind (Measures form wanted) }
-{}
-
-/// A fault has one number, whoever tells it: a kind of fault has that of what stopped the lines.
-pub fn faults_have_one_number()
-    ensures { FaultsHaveOneNumber }
+    ensures measure { (form : Form) (wanted : Wanted) → HasOneAnswer line_kind (Measures form wanted) }
 {}

@@ -1,6 +1,6 @@
 ghost use Rattle.std.specs.Prelude.{◌≡◌, ◌≢◌, ◌⊎◌, map, string_bytes};
-ghost use Rattle.command_line.specs.declared.measure.MeasureOptions.{MeasureOptions};
-ghost use Rattle.command_line.specs.declared.arguments.Subcommand.TheVariants.{Measure};
+ghost use Rattle.command_line.specs.declared.commands.measure.MeasureOptions.{MeasureOptions};
+ghost use Rattle.command_line.specs.declared.commands.Subcommand.TheVariants.{Measure};
 ghost use Rattle.schedule_replay.specs.Program.{EndsBefore, EndsUnread, Runs, RunsMeasure, RunsExplain};
 ghost use Rattle.schedule_replay.specs.Program.{check_status, found_status, status_of};
 ghost use Rattle.command_line.specs.Arguments.{AsksNothing, HasHelpFlag, Names, NamesNothing};
@@ -8,18 +8,18 @@ ghost use Rattle.capture_measure.specs.Measure.{measure_rules};
 ghost use Rattle.schedule_replay.specs.Inner.Allowed.{lines_allowed};
 ghost use Rattle.text_lines.specs.Lines.{input_limit, lines_limit, GivesWithin};
 
-use crate::checking::check_text;
-use crate::fault::{Fault, FaultKind};
 use crate::hints::Hints;
-use crate::replaying::replay;
 use crate::showing::show;
 use capture_measure::{Form, Wanted, measure};
-use command_line::{ExplainOptions, Invocation, MeasureOptions, Subcommand, parse};
+use command_line::commands::explain::ExplainOptions;
+use command_line::commands::measure::MeasureOptions;
+use command_line::{Invocation, Subcommand, parse};
 use exchange_check::Verdict;
 use exchange_explain::{Explained, Found, explain, write_judgements};
 use std::alloc::Global;
 use std::io::{Read, Write};
 use text_lines::{Counted, Numbered, Stopped};
+use transcript_text::{Fault, FaultKind, check_text, replay};
 
 /// The whole program over its arguments, of which the first is its own name: runs the subcommand that
 /// they name, and answers the exit status. Status 0: done or accepted, or help was asked for, which

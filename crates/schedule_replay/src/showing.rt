@@ -1,69 +1,13 @@
-ghost use Rattle.std.specs.Prelude.{◌≡◌, ◌≤◌, length, MatchResult, ◌⊎◌, ⊤};
-ghost use Rattle.std.specs.String.{string_bytes};
-ghost use Rattle.schedule_replay.specs.Fault.{FailedWith};
-ghost use Rattle.schedule_replay.specs.Show.{IsAnswer, ShowsAnswer, StopsShowing, show_rules};
-ghost use Rattle.text_lines.specs.Lines.{input_limit, line_limit, lines_limit, GivesWithin};
+//! `show`, with its faults told by their kinds.
+ghost use Rattle.schedule_replay.specs.Show.{ShowsAnswer};
+ghost use Rattle.text_lines.specs.Lines.{input_limit, lines_limit, GivesWithin};
+ghost use Rattle.transcript_text.specs.Fault.{FailedWith};
 
-use crate::fault::Fault;
-use datagram_text::push_datagram;
-use schedule_reading::TaskFault;
+use datagram_text::show_lines;
 use std::alloc::Global;
 use std::io::{Read, Write};
-use text_lines::{Counted, LINE_LIMIT, LINES_LIMIT, LineTask, answer_lines, write_text};
-
-/// The most octets of a datagram, which is written in two digits each.
-const DATAGRAM_LIMIT: usize = LINE_LIMIT / 2;
-
-/// Shows each line as a datagram, by a text that all lines share.
-#[derive(Drop)]
-struct Showing {
-    text: String,
-}
-
-impl LineTask for Showing {
-    type Answer = u64;
-
-    type Fault = TaskFault;
-
-    ghost State = { ⊤ };
-
-    ghost rules = { show_rules };
-
-    ghost is_at = { λ _ _. ⊤ };
-
-    fn lines_limit() -> u64 {
-        LINES_LIMIT
-    }
-
-    /// Answers one line, in one write.
-    fn take<W: Write>(&mut self, digits: &[u8], output: &mut Counted<W>) -> Result<(), TaskFault> {
-        make_answer(&mut self.text, digits)?;
-        write_text(self.text.as_str(), output)
-    }
-
-    /// How many lines there were.
-    fn finish<W: Write>(&mut self, lines: u64, _output: &mut Counted<W>) -> Result<u64, TaskFault> {
-        Ok(lines)
-    }
-}
-
-/// Puts the answer to a line in place of what `text` holds.
-fn make_answer(text: &mut String, digits: &[u8]) -> Result<(), TaskFault>
-    requires { length digits.now ≤ line_limit }
-    ensures { MatchResult result
-        (λ _. IsAnswer digits.now (string_bytes text.new))
-        (λ fault. ((fault ≡ TaskFault.Field) ⊎ (fault ≡ TaskFault.Memory)) × StopsShowing digits.now fault) }
-{
-    let mut room = [0; DATAGRAM_LIMIT];
-    let datagram = &mut room[..digits.len() / 2];
-    if hex::decode_to_slice(digits, datagram).is_err() {
-        return Err(TaskFault::Field);
-    }
-    text.clear();
-    push_datagram(text, datagram)?;
-    text.push('\n')?;
-    Ok(())
-}
+use text_lines::Counted;
+use transcript_text::Fault;
 
 /// Shows one datagram for each line of the input, in hexadecimal digits of either case: for each a
 /// line with the fields of the message that it begins with, or with the number of the refusal.
@@ -81,8 +25,5 @@ pub fn show<R: Read, W: Write>(
     ensures bounded { GivesWithin R.remaining (input_limit lines_limit) input.old input.new }
     ensures failures { FailedWith result input.old input.new output.old output.new }
 {
-    let mut task = Showing {
-        text: String::new(alloc),
-    };
-    Ok(answer_lines(&mut task, input, output)?)
+    Ok(show_lines(alloc, input, output)?)
 }

@@ -1,13 +1,14 @@
 -- Octets have one answer by the rules of a task, where a line has, and the end.
 use Rattle.std.proofs.Common.{◌≡◌, ◌∙◌, inl, inr, ℕ, zero, suc, ◌+◌, ◌<◌, ◌≤◌, List, [], ◌∷◌, ◌++◌, Bool, true, false, length, take, Option, Some, None, Result, Ok, Err, refl, sym, ap, subst, arith, take_all, le_refl}
-use Rattle.std.specs.Prelude.{slice_get}
+use Rattle.std.specs.Prelude.{slice_get, MatchResult, ⊤}
 use Rattle.std.specs.Io.KnownBytes.{Appends}
 use Rattle.text_lines.specs.declared.fault.Cause.{Cause}
 use Rattle.text_lines.specs.declared.fault.Cause.TheVariants.{Reading, Task}
+use Rattle.text_lines.specs.declared.fault.Stopped.{Stopped}
 use Rattle.text_lines.specs.declared.fault.ReadingFault.{ReadingFault}
 use Rattle.text_lines.specs.declared.fault.ReadingFault.TheVariants.{Read, LineTooLong, TooManyLines}
 use Rattle.text_lines.specs.Lines.{lines_of, after_lines, without_cr, reading_fault, LeavesUnread}
-use Rattle.text_lines.specs.Task.{Rules, TakesLines, WentOut, FaultsInReading, StopsBefore, is_of_writer, AnswersAll, AnswersUntil}
+use Rattle.text_lines.specs.Task.{Rules, TakesLines, WentOut, FaultsInReading, StopsBefore, is_of_writer, AnswersAll, AnswersUntil, Answers}
 
 -- a fault of a device or of memory, by which of the task's faults are
 abbrev pub IsOfDevice : {F : Type 0} → (F → Type 0) → Cause F → Type 0
@@ -321,3 +322,35 @@ course_until rules start Device one octets left before after line what sure unti
   ends = (sure, until.stops);
   output = known_output rules Device one what _ sure until.output;
 }
+
+-- an answer that isn't a fault of a device or of memory
+abbrev pub IsSure : {A F : Type 0} → (F → Type 0) → Result A (Stopped (Cause F)) → Type 0
+IsSure Device answer = MatchResult answer (λ _. ⊤) (λ stop. IsOfDevice Device stop.what → ⊥)
+
+pub answers_one : {S A F : Type 0} (rules : Rules S A F) (start : S) (Device : F → Type 0) → HasOneCourse rules Device → (octets : List ℕ) (left before after left' before' after' : Option (List ℕ))
+    (answer answer' : Result A (Stopped (Cause F))) → Answers rules start octets left before after answer → Answers rules start octets left' before' after' answer'
+    → IsSure Device answer → IsSure Device answer' → (answer' ≡ answer) × (left' ≡ left) × ((text : List ℕ) × Appends before after text × Appends before' after' text)
+answers_one rules start Device sole octets left before after left' before' after' (Ok answer) (Ok answer') one other sure sure' =
+    let same = one_answer rules start Device sole octets left before after left' before' after' (Ok answer) (Ok answer')
+    (course_of_all rules start Device octets left before after answer one) (course_of_all rules start Device octets left' before' after' answer' other) in
+    let ends = same.end_is in
+    let answers : answer' ≡ answer = cc in
+    (ap Ok answers, same.left_is, (same.text, same.output, same.output'))
+answers_one rules start Device sole octets left before after left' before' after' (Ok answer) (Err stop) one until sure sure' =
+    let same = one_answer rules start Device sole octets left before after left' before' after' (Ok answer) (Err stop.what)
+    (course_of_all rules start Device octets left before after answer one) (course_until rules start Device sole octets left' before' after' stop.line stop.what sure' until) in
+    let ends = same.end_is in
+    absurd cc
+answers_one rules start Device sole octets left before after left' before' after' (Err stop) (Ok answer) until other sure sure' =
+    let same = one_answer rules start Device sole octets left before after left' before' after' (Err stop.what) (Ok answer)
+    (course_until rules start Device sole octets left before after stop.line stop.what sure until) (course_of_all rules start Device octets left' before' after' answer other) in
+    let ends = same.end_is in
+    absurd cc
+answers_one rules start Device sole octets left before after left' before' after' (Err stop) (Err stop') until until' sure sure' =
+    let same = one_answer rules start Device sole octets left before after left' before' after' (Err stop.what) (Err stop'.what)
+    (course_until rules start Device sole octets left before after stop.line stop.what sure until)
+    (course_until rules start Device sole octets left' before' after' stop'.line stop'.what sure' until') in
+    let ends = same.end_is in
+    let causes : stop'.what ≡ stop.what = cc in
+    let lines : stop'.line ≡ stop.line = until'.number ∙ ap (λ (n : ℕ). n + 1) same.place_is ∙ sym until.number in
+    (ap Err (λ i. record { line = lines i; what = causes i }), same.left_is, (same.text, same.output, same.output'))

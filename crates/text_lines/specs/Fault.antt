@@ -1,15 +1,28 @@
 -- The numbers of faults.
-use Rattle.std.specs.Prelude.{ℕ, Option, None}
+use Rattle.std.specs.Prelude.{ℕ, Bool, true, false, Option, None}
 use Rattle.text_lines.specs.declared.fault.Cause.{Cause}
 use Rattle.text_lines.specs.declared.fault.Cause.TheVariants.{Reading, Task}
 use Rattle.text_lines.specs.declared.fault.ReadingFault.{ReadingFault}
 use Rattle.text_lines.specs.declared.fault.ReadingFault.TheVariants.{Read, LineTooLong, TooManyLines}
+use Rattle.text_lines.specs.declared.line_fault.LineFault.{LineFault}
+use Rattle.text_lines.specs.declared.line_fault.LineFault.TheVariants.{Write, Field, Memory}
 
 -- the number of a fault in reading
 abbrev pub reading_number : ReadingFault → ℕ
 reading_number Read = 801
 reading_number LineTooLong = 803
 reading_number TooManyLines = 804
+
+-- the number of a fault of a line
+abbrev pub line_number : LineFault → ℕ
+line_number Write = 802
+line_number Field = 806
+line_number Memory = 808
+
+-- whether this fault says that the writer failed
+abbrev pub is_write : LineFault → Bool
+is_write Write = true
+is_write fault = false
 
 -- of a fault that is about no refusal
 abbrev pub no_refusal : {F : Type 0} → F → Option ℕ

@@ -4,6 +4,7 @@
 
 mod counted;
 mod fault;
+mod line_fault;
 mod lines;
 mod numbered;
 mod octet_reader;
@@ -12,6 +13,7 @@ mod writing;
 
 pub use counted::Counted;
 pub use fault::{Cause, ReadingFault, Stopped};
+pub use line_fault::LineFault;
 pub use lines::{LINE_LIMIT, LINES_LIMIT};
 pub use numbered::Numbered;
 pub use octet_reader::OctetReader;

@@ -15,15 +15,16 @@ use Rattle.capture_lines.specs.declared.timed.Timed.{Timed}
 use Rattle.capture_model.specs.declared.watched.Watched.{Watched}
 use Rattle.capture_model.specs.Listening.{after_all}
 use Rattle.capture_measure.specs.declared.measuring.Line.{Line}
-use Rattle.capture_measure.specs.declared.measuring.MeasureFault.{MeasureFault}
-use Rattle.capture_measure.specs.declared.measuring.MeasureFault.TheVariants.{Write, Field, Memory}
+use Rattle.text_lines.specs.declared.line_fault.LineFault.{LineFault}
+use Rattle.text_lines.specs.declared.line_fault.LineFault.TheVariants.{Write, Field, Memory}
 use Rattle.capture_measure.specs.declared.measuring.Measuring.{Measuring}
 use Rattle.capture_measure.specs.declared.measuring.Stage.{Stage}
 use Rattle.capture_measure.specs.declared.measuring.Stage.TheVariants.{Kept, Passed, Hearing}
 use Rattle.capture_measure.specs.declared.watch.Wanted.{Wanted}
 use Rattle.capture_measure.specs.Watch.{watched_in}
 use Rattle.capture_measure.specs.Row.{Row, datagrams, kept_most, heard, IsRow}
-use Rattle.capture_measure.specs.Measure.{Recording, is_of_writer}
+use Rattle.text_lines.specs.Fault.{is_write}
+use Rattle.capture_measure.specs.Measure.{Recording}
 use Rattle.capture_measure.specs.Inner.Listener.{IsListener}
 use Rattle.capture_measure.specs.Inner.Watching.{IsWatch}
 
@@ -68,31 +69,31 @@ abbrev pub NoRow : List ℕ → Type 0
 NoRow line = (number : ℕ) → (row : Row) → IsRow number line row → ⊥
 
 -- why a line of this number isn't read
-abbrev pub IsUnread : MeasureFault → (number : ℕ) → List ℕ → Type 0
+abbrev pub IsUnread : LineFault → (number : ℕ) → List ℕ → Type 0
 IsUnread Write number line = ⊥
 IsUnread Field number line = NoRow line
 IsUnread Memory number line = HasRow number line
 
 -- a fault of what is written, not of a line
-abbrev pub IsOfOutput : MeasureFault → Type 0
+abbrev pub IsOfOutput : LineFault → Type 0
 IsOfOutput Write = ⊤
 IsOfOutput Field = ⊥
 IsOfOutput Memory = ⊤
 
 -- a part of a text went out before this fault
-abbrev pub GoesUntil : MeasureFault → List ℕ → (before after : Option (List ℕ)) → Type 0
+abbrev pub GoesUntil : LineFault → List ℕ → (before after : Option (List ℕ)) → Type 0
 GoesUntil fault text before after =
     IsOfOutput fault × (out : List ℕ) × (rest : List ℕ) × (text ≡ out ++ rest)
-    × WentOut (is_of_writer fault) (Appends before after out)
+    × WentOut (is_write fault) (Appends before after out)
 
 -- why a port stops at the line of this number: where it is none of a recording nothing goes out
-abbrev pub StopsAt : MeasureFault → (number : ℕ) → List ℕ → (before after : Option (List ℕ)) → Type 0
+abbrev pub StopsAt : LineFault → (number : ℕ) → List ℕ → (before after : Option (List ℕ)) → Type 0
 StopsAt Write number line before after = HasRow number line
 StopsAt Field number line before after = NoRow line × Appends before after []
 StopsAt Memory number line before after = HasRow number line
 
 -- a text went out, or a part of it before a fault
-abbrev pub Goes : {T : Type 0} → Result T MeasureFault → List ℕ → (before after : Option (List ℕ)) → Type 0
+abbrev pub Goes : {T : Type 0} → Result T LineFault → List ℕ → (before after : Option (List ℕ)) → Type 0
 Goes result text before after =
     MatchResult result (λ _. Appends before after text) (λ fault. GoesUntil fault text before after)
 

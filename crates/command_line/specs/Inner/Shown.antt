@@ -4,7 +4,7 @@ use Rattle.clap.specs.declared.error.kind.ErrorKind.{ErrorKind}
 use Rattle.clap.specs.declared.error.kind.ErrorKind.TheVariants.{DisplayHelp, OutOfMemory}
 use Rattle.command_line.specs.declared.arguments.Invocation.{Invocation}
 use Rattle.command_line.specs.declared.arguments.Invocation.TheVariants.{Run, Help, Mistake}
-use Rattle.command_line.specs.declared.arguments.Subcommand.{Subcommand}
+use Rattle.command_line.specs.declared.commands.Subcommand.{Subcommand}
 
 -- the text of an error of this kind goes to the stream that it asks for; want of memory has none
 abbrev pub ShowsKind : ErrorKind → Invocation → Type 0

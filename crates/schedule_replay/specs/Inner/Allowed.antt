@@ -1,7 +1,7 @@
 -- How many lines each subcommand allows.
 use Rattle.std.specs.Prelude.{ℕ}
-use Rattle.command_line.specs.declared.arguments.Subcommand.{Subcommand}
-use Rattle.command_line.specs.declared.arguments.Subcommand.TheVariants.{Measure}
+use Rattle.command_line.specs.declared.commands.Subcommand.{Subcommand}
+use Rattle.command_line.specs.declared.commands.Subcommand.TheVariants.{Measure}
 use Rattle.capture_measure.specs.Measure.{measure_rules}
 use Rattle.text_lines.specs.Lines.{lines_limit}
 

@@ -9,7 +9,7 @@ returns-in-Ok c =
     let is = c.in_ok-program.ensures.app ∙ ap program_of c.subcommands.ensures.table in
     record {
       asked = asked_from _ is (map string_bytes c.args.words.now) c.in-Ok.matches
-          c.in-Ok.ensures.kinds c.in-Ok.ensures.matches c.chosen.result c.chosen.ensures;
+          c.in-Ok.ensures.kinds c.in-Ok.ensures.matches c.read_matches.result c.read_matches.ensures;
     }
 
 pub returns-in-Err : goal.returns-in-Err

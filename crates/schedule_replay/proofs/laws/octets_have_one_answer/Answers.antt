@@ -1,4 +1,5 @@
-use Rattle.schedule_replay.proofs.OneAnswer.{shows_one, replays_one, checks_one, measures_one}
+use Rattle.transcript_text.proofs.OneAnswer.{replays_one, checks_one}
+use Rattle.schedule_replay.proofs.OneAnswer.{shows_one, measures_one}
 use Rattle.schedule_replay.proofs.laws.octets_have_one_answer.Goals as goal
 
 pub returns : goal.returns

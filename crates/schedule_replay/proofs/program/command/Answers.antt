@@ -1,10 +1,10 @@
 use Rattle.std.proofs.Common.{◌≡◌, ℕ, List, map, inl, refl, subst}
 use Rattle.std.specs.Prelude.{string_bytes}
-use Rattle.command_line.specs.declared.arguments.Subcommand.{Subcommand}
+use Rattle.command_line.specs.declared.commands.Subcommand.{Subcommand}
 use Rattle.command_line.proofs.Invocations.{flag_asks_help, named_asks_no_help, names_one}
 use Rattle.command_line.specs.Arguments.{Names}
-use Rattle.command_line.specs.declared.arguments.Subcommand.TheVariants.{Show, Replay, Check, Measure, Explain}
-use Rattle.command_line.specs.declared.measure.MeasureOptions.{MeasureOptions}
+use Rattle.command_line.specs.declared.commands.Subcommand.TheVariants.{Measure}
+use Rattle.command_line.specs.declared.commands.measure.MeasureOptions.{MeasureOptions}
 use Rattle.text_lines.specs.Lines.{input_limit, lines_limit, GivesWithin}
 use Rattle.schedule_replay.specs.Inner.Allowed.{lines_allowed}
 use Rattle.schedule_replay.specs.Program.{Runs}
@@ -29,11 +29,8 @@ returns-in-Ok-Help-clause-runs g c = λ s named.
 
 -- arguments that don't name `measure` name a subcommand with the usual limit of lines
 allowed : (words : List (List ℕ)) (s : Subcommand) → Names words s → ((options : MeasureOptions) → Names words (Measure options) → ⊥) → lines_allowed s ≡ lines_limit
-allowed words Show named none = refl
-allowed words Replay named none = refl
-allowed words Check named none = refl
 allowed words (Measure options) named none = absurd (none options named)
-allowed words (Explain options) named none = refl
+allowed words s named none = refl
 
 pub returns-in-Ok-Run-clause-bounded : goal.returns-in-Ok-Run-clause-bounded
 returns-in-Ok-Run-clause-bounded g c = λ none.

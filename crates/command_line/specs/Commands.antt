@@ -1,0 +1,57 @@
+-- The subcommands of `ptpx`: their names and options, and what is asked for by the rows that clap's matches have of these.
+use Rattle.std.specs.Prelude.{List, [], ◌∷◌, Option, Some, None, codes, if◌then◌else◌, option_and_then, option_map}
+use Rattle.std.specs.Str.{bytes_eq}
+use Rattle.clap.specs.Simple.{App}
+use Rattle.clap.specs.Walk as matches
+use Rattle.clap.specs.Walk.{Text}
+use Rattle.command_line.specs.declared.commands.Subcommand.{Subcommand}
+use Rattle.command_line.specs.declared.commands.Subcommand.TheVariants.{Show, Replay, Check, Measure, Explain}
+use Rattle.command_line.specs.declared.commands.explain.ExplainOptions.{ExplainOptions}
+use Rattle.command_line.specs.declared.commands.measure.MeasureOptions.{MeasureOptions}
+use Rattle.command_line.specs.Number.{domain_of}
+use Rattle.command_line.specs.Options.{is_used, said}
+use Rattle.command_line.specs.PortText.{port_identity_of}
+use Rattle.command_line.specs.Program.{Row, flag, program_of, with_value}
+
+-- the subcommands of `ptpx`, in the order of the help
+abbrev pub subcommands : List Row
+subcommands =
+    (codes "show", [])
+    ∷ (codes "replay", [])
+    ∷ (codes "check", [])
+    ∷ (
+      codes "measure",
+      with_value (codes "slave") ∷ with_value (codes "master") ∷ with_value (codes "domain") ∷ flag (codes "csv") ∷ [],
+    )
+    ∷ (codes "explain", flag (codes "first") ∷ flag (codes "json") ∷ [])
+    ∷ []
+
+-- the options of `measure`, where each value is one
+abbrev pub measure_options_of : List matches.Row → Option MeasureOptions
+measure_options_of rows = option_and_then (λ slave. option_and_then (λ master. option_map (λ domain.
+    record { slave = slave; master = master; domain = domain; csv = is_used (codes "csv") rows })
+    (said domain_of (codes "domain") rows))
+    (said port_identity_of (codes "master") rows))
+    (said port_identity_of (codes "slave") rows)
+
+-- the options of `explain`
+abbrev pub explain_options_of : List matches.Row → ExplainOptions
+explain_options_of rows = record { first = is_used (codes "first") rows; json = is_used (codes "json") rows }
+
+-- the subcommand of a name, with the options that its rows say
+abbrev pub chosen : Text → List matches.Row → Option Subcommand
+chosen name rows =
+    if bytes_eq name (codes "show") then Some Show
+    else if bytes_eq name (codes "replay") then Some Replay
+    else if bytes_eq name (codes "check") then Some Check
+    else if bytes_eq name (codes "measure") then option_map (λ options. Measure options) (measure_options_of rows)
+    else if bytes_eq name (codes "explain") then Some (Explain (explain_options_of rows))
+    else None
+
+-- the subcommand that was met under its name, with its rows
+abbrev pub chosen_of : Option (Text × List matches.Row) → Option Subcommand
+chosen_of met = option_and_then (λ m. chosen m.0 m.1) met
+
+-- `ptpx`
+abbrev pub program : App
+program = program_of subcommands

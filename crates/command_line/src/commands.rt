@@ -1,0 +1,65 @@
+//! The subcommands of `ptpx`, in the order of the help: a further one is a file with its row, a line of the table, a
+//! variant, and an arm of `chosen`; and the same in `specs/Commands.antt`.
+ghost use Rattle.std.specs.Prelude.{◌≡◌, map, MatchResult, None};
+ghost use Rattle.clap.specs.Simple.{subcommand_rows_of};
+ghost use Rattle.command_line.specs.Commands.{chosen_of, subcommands};
+ghost use Rattle.command_line.specs.Program.{row_of};
+
+mod check;
+pub mod explain;
+pub mod measure;
+mod replay;
+mod show;
+
+use crate::commands::explain::{ExplainOptions, explain_options};
+use crate::commands::measure::{MeasureOptions, measure_options};
+use crate::options::WrongValue;
+use crate::table::SubcommandRow;
+use clap::ArgMatches;
+
+static SUBCOMMANDS: [SubcommandRow; 5] = [
+    show::ROW,
+    replay::ROW,
+    check::ROW,
+    measure::ROW,
+    explain::ROW,
+];
+
+/// A subcommand of `ptpx`.
+#[derive(Clone, Copy, Debug, PartialEq, Eq)]
+pub enum Subcommand {
+    /// Print the datagrams that standard input gives in hexadecimal.
+    Show,
+    /// Print what comes of the schedule that standard input gives.
+    Replay,
+    /// Print the verdict on the transcript that standard input gives.
+    Check,
+    /// Print what the datagrams that standard input gives, recorded at a slave, say of its clock.
+    Measure(MeasureOptions),
+    /// Print what is wrong with the transcript or the schedule that standard input gives.
+    Explain(ExplainOptions),
+}
+
+/// The subcommands.
+pub fn subcommands() -> &'static [SubcommandRow]
+    ensures table { map row_of result.now ≡ subcommands }
+{
+    &SUBCOMMANDS
+}
+
+/// The subcommand that was met, or the value that an option of it doesn't take. `clap` takes no words in which it meets none of the
+/// table.
+pub(crate) fn chosen<'a>(matches: &ArgMatches<'a>) -> Result<Option<Subcommand>, WrongValue<'a>>
+    ensures { let wanted = chosen_of (subcommand_rows_of matches.now) in
+        MatchResult result (λ found. found ≡ wanted) (λ _. wanted ≡ None) }
+{
+    let subcommand = match matches.subcommand() {
+        Some(("show", _)) => Subcommand::Show,
+        Some(("replay", _)) => Subcommand::Replay,
+        Some(("check", _)) => Subcommand::Check,
+        Some(("measure", options)) => Subcommand::Measure(measure_options(options)?),
+        Some(("explain", options)) => Subcommand::Explain(explain_options(options)),
+        _ => return Ok(None),
+    };
+    Ok(Some(subcommand))
+}

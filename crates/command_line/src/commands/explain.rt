@@ -1,0 +1,88 @@
+//! `ptpx explain`: its options and its help.
+ghost use Rattle.std.specs.Prelude.{◌≡◌};
+ghost use Rattle.clap.specs.Matches.{found_of};
+ghost use Rattle.clap.specs.Walk.{rows_of};
+ghost use Rattle.command_line.specs.Commands.{explain_options_of};
+
+use crate::options::is_used;
+use crate::table::{OptionRow, SubcommandRow};
+use clap::ArgMatches;
+
+/// The options of `explain`.
+const OPTIONS: [OptionRow; 2] = [
+    OptionRow {
+        name: "first",
+        value: None,
+        about: "Tell only the first report that is refused, in place of each",
+    },
+    OptionRow {
+        name: "json",
+        value: None,
+        about: "Write JSON, a line a report, in place of text",
+    },
+];
+
+/// The row of `explain`.
+pub(crate) const ROW: SubcommandRow = SubcommandRow {
+    name: "explain",
+    about: "Print what is wrong with what standard input gives, where, and by how much",
+    help: HELP,
+    options: &OPTIONS,
+};
+
+/// The options of `explain`.
+#[derive(Clone, Copy, Debug, PartialEq, Eq)]
+pub struct ExplainOptions {
+    /// Whether only the first report that is refused is told, in place of each.
+    pub first: bool,
+    /// Whether the output is JSON, a line a report, in place of text.
+    pub json: bool,
+}
+
+/// The options that were met.
+pub(crate) fn explain_options(matches: &ArgMatches<'_>) -> ExplainOptions
+    ensures { result ≡ explain_options_of (rows_of (found_of matches.now)) }
+{
+    ExplainOptions {
+        first: is_used(matches, "first"),
+        json: is_used(matches, "json"),
+    }
+}
+
+/// What the help of `explain` says below its usage.
+const HELP: &str =
+    r#"Standard input is a transcript, in lines of JSON as 'ptpx replay' writes them, or a schedule, as it reads
+them, whoever wrote these; the lines tell which. Standard output says, as text for a person:
+  of a line that isn't one        what is wrong with it, and what is wanted; of the first 20 of them, and
+                                  how many more there are. No report is judged after the first
+  of input of another kind        which it is, and the command that makes of it what is wanted
+  of a schedule                   which event its network refuses, and why
+  of each report of a transcript  each reason that stands against it, the journeys of its Sync and its
+                                  Delay_Req, and by how much its results differ from those of the readings
+  at the end                      how many reports there are, how many each reason stands against, and the
+                                  verdict of 'ptpx check'
+What is said of a line goes out before the next is read. The line
+  event 13, line 17, slave S: refused, 706: the two results aren't those of the readings
+is of the report with n 13, at line 17 of the input; lines count from 1. With --first, of all reports only
+the first that is refused is told.
+
+With --json standard output has a line for each report, before the next line is read, or with --first for
+that report alone, and nothing else:
+  {"by_readings":{"offset2":"131072000","path2":"131072000"},"event":13,"line":17,"node":"S",
+  "offset2":"131072001","path2":"131072000","reasons":[706]}
+in one line. reasons are all that stand against the report, none where it is sound: 701 alone, or else 704
+alone, or else each that applies of 702, 703, 705, 707, 706 and 708, in this order. by_readings is what
+the results are by the readings, null where 701 or 704 stands. offset2 is twice offsetFromMaster and path2
+twice meanPathDelay, in units of 2^-16 ns.
+
+Reasons and faults are those that 'ptpx check --help' lists, and of a schedule those of 'ptpx replay --help'.
+The first fault goes as 'ptpx: fault 806 at line 3' to standard error.
+
+Exit statuses:
+  0  each report of the transcript is sound, or each event of the schedule can happen
+  1  a report is refused
+  2  the arguments aren't a command
+  3  a fault
+
+Limits: a line has 4096 octets before its LF at the most, and an input has 1048576 lines. Of a line
+that ends in CR this one CR isn't read. The last line may lack its LF."#;

@@ -1,0 +1,117 @@
+//! `ptpx measure`: its options and its help.
+ghost use Rattle.std.specs.Prelude.{◌≡◌};
+ghost use Rattle.std.specs.Result.{result_ok};
+ghost use Rattle.clap.specs.Matches.{found_of};
+ghost use Rattle.clap.specs.Walk.{rows_of};
+ghost use Rattle.command_line.specs.Commands.{measure_options_of};
+
+use crate::options::{WrongValue, domain_option, is_used, port_option};
+use crate::table::{OptionRow, SubcommandRow};
+use clap::ArgMatches;
+use event_codec::PortIdentity;
+
+/// The options of `measure`.
+const OPTIONS: [OptionRow; 4] = [
+    OptionRow {
+        name: "slave",
+        value: Some("PORT"),
+        about: "The slave's port; else the source of the first Delay_Req of the domain",
+    },
+    OptionRow {
+        name: "master",
+        value: Some("PORT"),
+        about: "The master's port; else the source of the first Sync of the domain",
+    },
+    OptionRow {
+        name: "domain",
+        value: Some("NUMBER"),
+        about: "domainNumber; else that of the first Sync, of the master where that is given",
+    },
+    OptionRow {
+        name: "csv",
+        value: None,
+        about: "Write CSV, in place of JSON",
+    },
+];
+
+/// The row of `measure`.
+pub(crate) const ROW: SubcommandRow = SubcommandRow {
+    name: "measure",
+    about: "Print the offsets and delays in a recording of the datagrams at a slave",
+    help: HELP,
+    options: &OPTIONS,
+};
+
+/// The options of `measure`.
+#[derive(Clone, Copy, Debug, PartialEq, Eq)]
+pub struct MeasureOptions {
+    /// The port of the slave; without it, the source of the first Delay_Req of the domain.
+    pub slave: Option<PortIdentity>,
+    /// The port of the master; without it, the source of the first Sync of the domain.
+    pub master: Option<PortIdentity>,
+    /// domainNumber; without it, that of the first Sync, of the master where that is given.
+    pub domain: Option<u8>,
+    /// Whether the output is CSV, in place of JSON.
+    pub csv: bool,
+}
+
+/// The options that were met.
+pub(crate) fn measure_options<'a>(
+    matches: &ArgMatches<'a>,
+) -> Result<MeasureOptions, WrongValue<'a>>
+    ensures { result_ok result ≡ measure_options_of (rows_of (found_of matches.now)) }
+{
+    Ok(MeasureOptions {
+        slave: port_option(matches, "slave")?,
+        master: port_option(matches, "master")?,
+        domain: domain_option(matches, "domain")?,
+        csv: is_used(matches, "csv"),
+    })
+}
+
+/// What the help of `measure` says below its usage.
+const HELP: &str =
+    r#"Standard input is what was recorded at a slave, one datagram a line: the time at which its port sent
+or received it, a blank, and its octets in hexadecimal digits of either case. The time is seconds, then
+nothing, or a point and 1 to 9 digits. Standard output has a line for each report of the slave, before
+the next line is read. It is
+  {"by":"sync","line":17,"offset":"-12.5","offset2":"-1638400","path":"1000","path2":"131072000",
+  "tags":[12,13,9,11],"time":"1795328934.357259633"}
+in one line, or with --csv, below the head time,offset_ns,path_ns,by,line,
+  1795328934.357259633,-12.5,1000,sync,17
+offset is offsetFromMaster and path meanPathDelay, in nanoseconds; offset2 and path2 are twice these, in
+units of 2^-16 ns. All four are exact. by says which half completed the report, sync or response, line which
+line did, and time is the time of that line. tags are the lines of Sync, Follow_Up, Delay_Req and
+Delay_Resp; that of Follow_Up is null where the Sync is a one-step one. Lines count from 1.
+
+A PORT is a portIdentity: 16 hexadecimal digits, '/' and the number, as 'ptpx show' writes it, or as pmc
+of linuxptp does, 00aabb.fffe.ccddee-1. Number and domain may have zeros in front.
+
+Unless they are asked for, the domain is that of the first Sync, of the master that is asked for if one
+is; the master sent the first Sync of the domain, and the slave its first Delay_Req. Up to 1024 lines are
+kept until all three are known.
+
+The results are exact for the times in the lines. A capture on the slave's own host stamps what the slave
+sends before it leaves, so that the offset comes out too low and the path too high by half of that: use
+hardware stamps or a tap. Taken at the master's host, both come near 0. A capture in UTC of a master
+in TAI gives an offset of -37 s. A Sync takes the last delay, however old, up to two ticks, of which there
+is one after each 4096 Syncs.
+
+At the end standard error tells the domain, the master and the slave, how many reports there are, and
+which datagrams gave none, and why.
+
+Faults, each of which ends the run with 'ptpx: fault 806 at line 3' on standard error. Lines count
+from 1, and what was written for those before stands. Line 0 is before all lines.
+  801  the input can't be read
+  802  the output can't be written
+  803  the line has more than 4096 octets
+  806  the line isn't a time, a blank and pairs of hexadecimal digits
+  808  memory was refused
+
+Exit statuses:
+  0  each line was read
+  2  the arguments aren't a command
+  3  a fault
+
+Limits: a line has 4096 octets before its LF at the most, and there may be any number of lines. Of a line
+that ends in CR this one CR isn't read. The last line may lack its LF."#;

@@ -1,0 +1,11 @@
+pub mod Entries
+pub mod NodeLines
+pub mod EventLines
+pub mod StageLines
+pub mod WorkedSchedule
+pub mod Transcribed
+pub mod OneTranscript
+pub mod Replayed
+pub mod ReplayedRanges
+pub mod OneLine
+pub mod OneAnswer
