@@ -11,16 +11,14 @@ ghost use Rattle.exchange_explain.specs.Explained.{ExplainsAnswer, ExplainFailed
 ghost use Rattle.exchange_explain.specs.Input.{lines_in};
 ghost use Rattle.exchange_explain.specs.Inner.Explaining.{IsExplaining, IsSeenAlike, fault_kept};
 
-use crate::case::Case;
 use crate::flaws::{Flaws, push_foreign};
+use crate::found::push_found;
 use crate::input::{Found, Input};
-use crate::record::Record;
-use crate::refusal::{Before, push_clash};
-use crate::report::{is_sound, push_sound};
-use crate::tally::{Tally, push_found};
+use exchange_story::{Before, Reported, Story, push_clash};
 use line_flaws::Foreign;
 use network_model::WorldRefusal;
-use schedule_reading::{Judged, TaskFault, Transcript};
+use schedule_lines::TranscriptLine;
+use schedule_reading::{Judged, TaskFault, Transcript, read_recorded};
 use std::alloc::{AllocError, Global};
 use std::io::{Read, Write};
 use text_lines::{
@@ -50,9 +48,8 @@ struct Explaining {
     flaws: Option<Flaws>,
     /// Whether only the first report that is refused is told.
     first: bool,
-    tally: Tally,
-    /// The nodes, and what was recorded of events.
-    record: Record,
+    /// What was recorded of the lines, and what came of the reports.
+    story: Story,
     /// What is told of the last line, in the one text that all share.
     text: String,
     /// The kind of another input that the line begins with which can't be read.
@@ -148,43 +145,46 @@ impl Explaining {
     fn tell_taken(&mut self, line: &[u8], judged: Option<Judged>) -> Result<(), AllocError>
         ensures { IsSeenAlike self.old self.new }
     {
-        self.record.take(self.alloc, line, &self.input)?;
+        self.keep(line)?;
         match judged {
-            Some(judged) => self.tell_report(&judged),
+            Some(judged) => self.tell_report(&reported(judged)),
             None => Ok(()),
         }
     }
 
-    /// Tells what a report is judged to be, and where it is refused its exchange.
-    fn tell_report(&mut self, judged: &Judged) -> Result<(), AllocError>
-        ensures { IsSeenAlike self.old self.new }
-    {
-        self.tally.count(&judged.judgement.reasons);
-        if self.first && !self.input.is_first_refused(judged.event) {
-            return Ok(());
-        }
-        if is_sound(judged) {
-            return push_sound(&mut self.text, judged);
-        }
-        self.tell_refused(judged)
-    }
-
-    /// Tells what the reasons against a report met.
-    fn tell_refused(&mut self, judged: &Judged) -> Result<(), AllocError>
+    /// Keeps what was recorded of a line that a transcript took.
+    fn keep(&mut self, line: &[u8]) -> Result<(), AllocError>
         ensures { IsSeenAlike self.old self.new }
     {
         let Input::Transcript(transcript) = &self.input else {
             return Ok(());
         };
-        let exchange = transcript.exchange(&judged.report);
-        let case = Case {
-            alloc: self.alloc,
-            transcript,
-            record: &self.record,
-            judged,
-            exchange: &exchange,
+        match read_recorded(self.alloc, line) {
+            Ok(TranscriptLine::Node(node)) => self.story.push_node(node),
+            Ok(TranscriptLine::Event { line, .. }) => match transcript.checker() {
+                Some(checker) => self.story.push_event(line, checker),
+                None => Ok(()),
+            },
+            Err(TaskFault::Memory) => Err(AllocError),
+            Err(_) => Ok(()),
+        }
+    }
+
+    /// Tells what a report is judged to be, and where it is refused its exchange.
+    fn tell_report(&mut self, reported: &Reported) -> Result<(), AllocError>
+        ensures { IsSeenAlike self.old self.new }
+    {
+        self.story.count(&reported.judgement.reasons);
+        if self.first && !self.input.is_first_refused(reported.event) {
+            return Ok(());
+        }
+        let Input::Transcript(transcript) = &self.input else {
+            return Ok(());
         };
-        case.push(&mut self.text)
+        match transcript.checker() {
+            Some(checker) => self.story.push_report(&mut self.text, checker, reported),
+            None => Ok(()),
+        }
     }
 
     /// Tells the first fault, which is at this line.
@@ -196,7 +196,7 @@ impl Explaining {
     {
         let mut flaws = Flaws::new(self.input.next_line()?, fault, &self.input);
         let before = Before {
-            nodes: self.record.nodes(),
+            nodes: self.story.nodes(),
             events: self.input.events(),
         };
         flaws.begin(self.alloc, before, line, &mut self.text)?;
@@ -220,7 +220,7 @@ impl Explaining {
         match self.input.found() {
             Ok(found) => {
                 if let Found::Transcript(_) = found {
-                    self.push_tally()?;
+                    self.story.push_tally(&mut self.text)?;
                 }
                 push_found(&mut self.text, found)?;
                 Ok(Explained::Whole(found))
@@ -230,17 +230,6 @@ impl Explaining {
         }
     }
 
-    /// Appends how many reports there are, and where octets stand against one, how many messages have other ones.
-    fn push_tally(&mut self) -> Result<(), AllocError>
-        ensures { IsSeenAlike self.old self.new }
-    {
-        self.tally.push(&mut self.text)?;
-        if self.tally.has_octets() {
-            self.record.push_differing(&mut self.text)?;
-        }
-        Ok(())
-    }
-
     /// Tells why the nodes, after which there is no event, are no network.
     fn tell_no_network(&mut self, why: WorldRefusal) -> Result<Explained, TaskFault>
         ensures { MatchResult result
@@ -248,7 +237,7 @@ impl Explaining {
             (λ fault. fault ≡ TaskFault.Memory) }
     {
         let line = self.input.next_line()?;
-        push_clash(self.alloc, &mut self.text, self.record.nodes(), why)?;
+        push_clash(self.alloc, &mut self.text, self.story.nodes(), why)?;
         Ok(Explained::Flawed {
             line,
             what: TaskFault::World(why),
@@ -274,6 +263,17 @@ impl Explaining {
             (1, ReadingFault::LineTooLong, Some(kind)) => push_foreign(&mut self.text, kind),
             _ => push_unread(&mut self.text, line, what),
         }
+    }
+}
+
+/// A report, for its story.
+fn reported(judged: Judged) -> Reported {
+    Reported {
+        line: judged.line,
+        event: judged.event,
+        node: judged.node,
+        report: judged.report,
+        judgement: judged.judgement,
     }
 }
 
@@ -316,8 +316,7 @@ pub fn explain<R: Read, W: Write>(
         input: Input::Transcript(Transcript::new(alloc)),
         flaws: None,
         first,
-        tally: Tally::new(),
-        record: Record::new(alloc),
+        story: Story::new(alloc),
         text: String::new(alloc),
         begins: None,
     };

@@ -2,7 +2,7 @@
 ghost use Rattle.std.specs.Prelude.{◌≡◌};
 
 use crate::input::Input;
-use crate::refusal::{Before, push_clash, push_refused};
+use exchange_story::{Before, push_clash, push_refused};
 use line_flaws::{Flaw, FlawAt, Foreign, Form, schedule_flaw, transcript_flaw};
 use network_model::WorldRefusal;
 use schedule_lines::Line;

@@ -2,27 +2,13 @@
 //! programs, a line a report.
 #![tactic(auto)]
 
-mod case;
-mod differing;
 mod explaining;
-mod field;
 mod flaws;
-mod happening;
+mod found;
 mod input;
-mod journey;
 mod json;
 mod judgements;
-mod moments;
-mod naming;
-mod numbering;
-mod octets;
-mod readings;
-mod record;
-mod refusal;
-mod report;
 mod schedule;
-mod story;
-mod tally;
 
 pub use explaining::{Explained, explain};
 pub use input::Found;

@@ -1,9 +1,6 @@
 //! A transcript, read and judged line by line.
-ghost use Rattle.std.specs.Prelude.{◌≡◌, ◌≢◌, ◌+◌, [], length, MatchOption, MatchResult, None, option_map};
+ghost use Rattle.std.specs.Prelude.{◌≡◌, ◌≢◌, ◌+◌, [], length, reverse, MatchOption, MatchResult, None};
 ghost use Rattle.network_model.specs.Clash.{first_clash};
-ghost use Rattle.event_codec.specs.Profile.{contents_of};
-ghost use Rattle.exchange_check.specs.Exchange.{last_exchange};
-ghost use Rattle.exchange_check.specs.Message.{message_at};
 ghost use Rattle.trace_model.specs.Verdict.{verdict};
 ghost use Rattle.schedule_lines.specs.declared.reading.transcript.TranscriptLine.TheVariants as recorded;
 ghost use Rattle.schedule_reading.specs.Transcript.{FaultsInTranscript, HasNoChecker, Takes};
@@ -12,8 +9,7 @@ ghost use Rattle.schedule_reading.specs.Inner.Transcript.{Judges, StopsAt, Takes
 use crate::fault::TaskFault;
 use crate::reader::LineReader;
 use crate::stage::Stage;
-use event_codec::PortMessage;
-use exchange_check::{Checker, Exchange, Judgement, Verdict};
+use exchange_check::{Checker, Judgement, Verdict};
 use network_model::{Name, NodeSpec, Nodes, Report};
 use schedule_lines::TranscriptLine;
 use std::alloc::Global;
@@ -167,24 +163,15 @@ impl Transcript {
         }
     }
 
-    /// The lines that a report of the last event is of, where they are there and their journeys can be followed.
-    pub fn exchange(&self, report: &Report) -> Option<Exchange>
-        ensures { result ≡ last_exchange self.now.nodes self.now.lines report.now }
+    /// The checker that the events were fed to; none where there was no event yet.
+    pub fn checker(&self) -> Option<&Checker>
+        ensures { MatchOption result
+            (self.now.lines ≡ [])
+            (λ checker. (checker.now.network ≡ self.now.nodes) × (reverse checker.now.lines ≡ self.now.lines)) }
     {
         match &self.stage {
             Stage::Nodes(_) => None,
-            Stage::Events(checker) => checker.exchange(report),
-        }
-    }
-
-    /// The message that the event of this number makes, by the standard and by what its line says that the clock read;
-    /// none where it makes none or its line doesn't count.
-    pub fn message_at(&self, number: u64) -> Option<PortMessage>
-        ensures { option_map contents_of result ≡ message_at self.now.nodes self.now.lines number }
-    {
-        match &self.stage {
-            Stage::Nodes(_) => None,
-            Stage::Events(checker) => checker.message_at(number),
+            Stage::Events(checker) => Some(checker),
         }
     }
 

@@ -1,10 +1,25 @@
 //! What a report is judged to be, for a person.
 
-use exchange_check::Why;
-use schedule_reading::Judged;
+use exchange_check::{Judgement, Why};
+use network_model::{Name, Report};
 use std::alloc::AllocError;
 use std::fmt;
 use std::fmt::{Display, Formatter};
+
+/// A report of a transcript, and what it is judged to be.
+#[derive(Debug, Drop)]
+pub struct Reported {
+    /// The line of the input, counted from 1.
+    pub line: u64,
+    /// The event's place among the events, from 0.
+    pub event: u64,
+    /// The slave.
+    pub node: Name,
+    /// Its report.
+    pub report: Report,
+    /// What the report is judged to be.
+    pub judgement: Judgement,
+}
 
 /// A reason by its number and in words.
 #[derive(Clone, Copy)]
@@ -47,24 +62,24 @@ impl Display for Difference {
 }
 
 /// Whether no reason stands against a report.
-pub(crate) fn is_sound(judged: &Judged) -> bool {
-    judged.judgement.reasons.as_slice().is_empty()
+pub(crate) fn is_sound(reported: &Reported) -> bool {
+    reported.judgement.reasons.as_slice().is_empty()
 }
 
 /// Appends the beginning of a report's first line.
-pub(crate) fn push_begin(text: &mut String, judged: &Judged) -> Result<(), AllocError> {
-    let Judged {
+pub(crate) fn push_begin(text: &mut String, reported: &Reported) -> Result<(), AllocError> {
+    let Reported {
         line,
         event,
         node,
         ..
-    } = judged;
+    } = reported;
     write!(text, "event {event}, line {line}, slave {}: ", node.text())
 }
 
 /// Appends the line of a sound report.
-pub(crate) fn push_sound(text: &mut String, judged: &Judged) -> Result<(), AllocError> {
-    push_begin(text, judged)?;
+pub(crate) fn push_sound(text: &mut String, reported: &Reported) -> Result<(), AllocError> {
+    push_begin(text, reported)?;
     text.push_str("sound\n")
 }
 
@@ -75,13 +90,13 @@ pub(crate) fn push_reason(text: &mut String, index: usize, why: Why) -> Result<(
 }
 
 /// Appends the two results, as they are reported and by the readings; nothing where no readings are found.
-pub(crate) fn push_results(text: &mut String, judged: &Judged) -> Result<(), AllocError> {
-    let Some(results) = judged.judgement.by_readings else {
+pub(crate) fn push_results(text: &mut String, reported: &Reported) -> Result<(), AllocError> {
+    let Some(results) = reported.judgement.by_readings else {
         return Ok(());
     };
     let rows = [
-        ("offset2", judged.report.offset2, results.offset2),
-        ("path2  ", judged.report.path2, results.path2),
+        ("offset2", reported.report.offset2, results.offset2),
+        ("path2  ", reported.report.path2, results.path2),
     ];
     for (name, reported, by_readings) in rows {
         write!(

@@ -42,7 +42,7 @@ impl Case<'_> {
     ) -> Result<(), AllocError> {
         self.push_followed(text, exchange)?;
         let arrived = exchange.request.departed.number;
-        let named = self.judged.report.request_tag;
+        let named = self.reported.report.request_tag;
         if arrived == named {
             return Ok(());
         }
@@ -103,7 +103,7 @@ impl Case<'_> {
 
     /// Appends by which event the slave was told which master.
     fn push_told(&self, text: &mut String) -> Result<(), AllocError> {
-        let slave = self.judged.node;
+        let slave = self.reported.node;
         let domain = Domain(self.domain_of(&slave));
         let name = slave.text();
         let told = self.record.master_told(&slave);
@@ -123,10 +123,10 @@ impl Case<'_> {
 
     /// Appends which tags of the report aren't later than what told the slave its master.
     fn push_early(&self, text: &mut String) -> Result<(), AllocError> {
-        let Some(told) = self.record.master_told(&self.judged.node) else {
+        let Some(told) = self.record.master_told(&self.reported.node) else {
             return Ok(());
         };
-        let report = &self.judged.report;
+        let report = &self.reported.report;
         let tags = [
             ("Sync", Some(report.sync_tag)),
             ("Follow_Up", report.follow_tag),

@@ -1,12 +1,10 @@
 //! What was recorded of the events of a transcript, for what is asked of it when a report is refused.
 
 use crate::differing::Differing;
-use crate::input::Input;
 use crate::octets::difference_at;
+use exchange_check::Checker;
 use network_model::{Event, Name, NodeKind, NodeSpec, Nodes, WorldRefusal};
 use ptp_units::Seq;
-use schedule_lines::TranscriptLine;
-use schedule_reading::{TaskFault, read_recorded};
 use std::alloc::{AllocError, Global};
 use std::collections::BTreeMap;
 use std::fmt;
@@ -120,38 +118,30 @@ impl Record {
         }
     }
 
-    /// Takes one more line, which the input has taken.
-    pub(crate) fn take(
-        &mut self,
-        alloc: Global,
-        line: &[u8],
-        input: &Input,
-    ) -> Result<(), AllocError> {
-        let Input::Transcript(transcript) = input else {
-            return Ok(());
-        };
-        match read_recorded(alloc, line) {
-            Ok(TranscriptLine::Node(node)) => self.push_node(node),
-            Ok(TranscriptLine::Event { number, line }) => {
-                self.find_nodes(alloc)?;
-                self.push_event(line)?;
-                let found = difference_at(transcript, self, number);
-                self.differing.count(found);
-                Ok(())
-            }
-            Err(TaskFault::Memory) => Err(AllocError),
-            Err(_) => Ok(()),
-        }
-    }
-
-    fn push_node(&mut self, node: NodeSpec) -> Result<(), AllocError> {
+    /// Takes one more node, before the first event.
+    pub(crate) fn push_node(&mut self, node: NodeSpec) -> Result<(), AllocError> {
         let kind = node.kind;
         self.nodes.push(node)?;
         self.sites.push(Site::new(kind))?;
         Ok(())
     }
 
-    /// At the first event, finds the nodes by their names. They are a network, since the input has taken the event.
+    /// Takes what was recorded of one more event, the last that this checker was fed.
+    pub(crate) fn push_event(
+        &mut self,
+        alloc: Global,
+        line: TraceLine,
+        checker: &Checker,
+    ) -> Result<(), AllocError> {
+        let number = self.events.len() as u64;
+        self.find_nodes(alloc)?;
+        self.push_recorded(number, line)?;
+        let found = difference_at(checker, self, number);
+        self.differing.count(found);
+        Ok(())
+    }
+
+    /// At the first event, finds the nodes by their names. They are a network, since the checker was fed the event.
     fn find_nodes(&mut self, alloc: Global) -> Result<(), AllocError> {
         if self.network.is_some() {
             return Ok(());
@@ -172,8 +162,7 @@ impl Record {
         self.sites.get(place)
     }
 
-    fn push_event(&mut self, line: TraceLine) -> Result<(), AllocError> {
-        let number = self.events.len() as u64;
+    fn push_recorded(&mut self, number: u64, line: TraceLine) -> Result<(), AllocError> {
         let event = line.event;
         let counts = self.counts(&line);
         let site = self.site(&event.node()).copied();

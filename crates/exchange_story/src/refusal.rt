@@ -14,13 +14,15 @@ const NAMES_MOST: usize = 16;
 
 /// The nodes and the events before the one that is refused.
 #[derive(Clone, Copy)]
-pub(crate) struct Before<'a> {
-    pub(crate) nodes: &'a [NodeSpec],
-    pub(crate) events: &'a [Event],
+pub struct Before<'a> {
+    /// The nodes, in their order.
+    pub nodes: &'a [NodeSpec],
+    /// The events, the oldest first.
+    pub events: &'a [Event],
 }
 
 /// Appends why an event, which this line has, can't happen.
-pub(crate) fn push_refused(
+pub fn push_refused(
     text: &mut String,
     line: u64,
     before: Before<'_>,
@@ -353,7 +355,7 @@ fn first_clash(alloc: Global, nodes: &[NodeSpec]) -> Result<Option<Clash<'_>>, A
 }
 
 /// Appends which two nodes clash.
-pub(crate) fn push_clash(
+pub fn push_clash(
     alloc: Global,
     text: &mut String,
     nodes: &[NodeSpec],

@@ -79,7 +79,7 @@ impl Case<'_> {
     /// What the tag of a message names, where it names what it is to name.
     fn tagged(&self, message: Tagged, tag: u64) -> Option<&Recorded> {
         let recorded = self.record.counting(tag)?;
-        if message.is(&recorded.line.event) && recorded.line.event.node() == self.judged.node {
+        if message.is(&recorded.line.event) && recorded.line.event.node() == self.reported.node {
             Some(recorded)
         } else {
             None
@@ -97,13 +97,13 @@ impl Case<'_> {
 
     /// The arrival of the Delay_Req, where the report's Delay_Resp is of one, and the copy that arrived.
     fn request_arrival(&self) -> Option<(u64, u64)> {
-        let (number, arrival) = self.sender(self.judged.report.response_tag)?;
+        let (number, arrival) = self.sender(self.reported.report.response_tag)?;
         Some((number, arrival.line.event.heard_copy()?))
     }
 
     /// Appends which tag names what in place of what.
     pub(crate) fn push_tags(&self, text: &mut String) -> Result<(), AllocError> {
-        let report = &self.judged.report;
+        let report = &self.reported.report;
         self.push_reporting(text)?;
         self.push_sync(text)?;
         if let Some(hearing) = report.follow_tag {
@@ -134,14 +134,14 @@ impl Case<'_> {
             text,
             "; wanted is {} at {}\n",
             message.wanted(),
-            self.judged.node.text()
+            self.reported.node.text()
         )
     }
 
     /// Appends whether the event itself can report, and is of the report.
     fn push_reporting(&self, text: &mut String) -> Result<(), AllocError> {
-        let number = self.judged.event;
-        let report = &self.judged.report;
+        let number = self.reported.event;
+        let report = &self.reported.report;
         if self.record.counting(number).is_none() {
             text.push_str("    ")?;
             push_event(text, self.record, number)?;
@@ -162,7 +162,7 @@ impl Case<'_> {
 
     /// Appends what the tag of the Sync names, where that is something else.
     fn push_sync(&self, text: &mut String) -> Result<(), AllocError> {
-        let report = &self.judged.report;
+        let report = &self.reported.report;
         match self.tagged(Tagged::Sync, report.sync_tag) {
             None => self.push_tag(text, Tagged::Sync, report.sync_tag),
             Some(sync) if report.follow_tag.is_none() && !completes(&sync.line.out) => write!(
@@ -200,7 +200,7 @@ impl Case<'_> {
 
     /// Appends what the tag of the Delay_Resp names, or what that is of, where it is something else.
     fn push_response(&self, text: &mut String) -> Result<(), AllocError> {
-        let tag = self.judged.report.response_tag;
+        let tag = self.reported.report.response_tag;
         match self.tagged(Tagged::Response, tag) {
             Some(hearing) if !completes(&hearing.line.out) => write!(
                 text,
@@ -213,7 +213,7 @@ impl Case<'_> {
 
     /// Appends when the slave learned the departure of the Delay_Req, where that isn't between it and the Delay_Resp.
     fn push_stamp(&self, text: &mut String) -> Result<(), AllocError> {
-        let report = &self.judged.report;
+        let report = &self.reported.report;
         let Some(request) = self.tagged(Tagged::Request, report.request_tag) else {
             return Ok(());
         };
@@ -235,7 +235,7 @@ impl Case<'_> {
 
     /// Appends where the journeys of the Sync and of the Delay_Req stop.
     pub(crate) fn push_broken(&self, text: &mut String) -> Result<(), AllocError> {
-        let sync = self.judged.report.sync_tag;
+        let sync = self.reported.report.sync_tag;
         let copy = self
             .record
             .at(sync)

@@ -1,19 +1,18 @@
 //! A report that is refused, with what each reason against it met.
 
+use crate::exchange::push_exchange;
 use crate::record::Record;
-use crate::report::{push_begin, push_reason, push_results};
-use crate::story::push_exchange;
-use exchange_check::{Exchange, Why};
-use schedule_reading::{Judged, Transcript};
+use crate::report::{Reported, push_begin, push_reason, push_results};
+use exchange_check::{Checker, Exchange, Why};
 use std::alloc::{AllocError, Global};
 
 /// A report that is refused, and the transcript up to it.
 #[derive(Clone, Copy)]
 pub(crate) struct Case<'a> {
     pub(crate) alloc: Global,
-    pub(crate) transcript: &'a Transcript,
+    pub(crate) checker: &'a Checker,
     pub(crate) record: &'a Record,
-    pub(crate) judged: &'a Judged,
+    pub(crate) reported: &'a Reported,
     /// Its lines; none where 701 or 704 stands.
     pub(crate) exchange: &'a Option<Exchange>,
 }
@@ -21,15 +20,15 @@ pub(crate) struct Case<'a> {
 impl Case<'_> {
     /// Appends the reasons against the report, each with what it met, and then the report's lines and results.
     pub(crate) fn push(&self, text: &mut String) -> Result<(), AllocError> {
-        push_begin(text, self.judged)?;
-        for (index, why) in self.judged.judgement.reasons.as_slice().iter().enumerate() {
+        push_begin(text, self.reported)?;
+        for (index, why) in self.reported.judgement.reasons.as_slice().iter().enumerate() {
             push_reason(text, index, *why)?;
             self.push_met(text, *why)?;
         }
         if let Some(exchange) = self.exchange {
             push_exchange(text, self.record.nodes().len() as u64, exchange)?;
         }
-        push_results(text, self.judged)
+        push_results(text, self.reported)
     }
 
     /// Appends what a reason met.

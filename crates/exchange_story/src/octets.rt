@@ -6,8 +6,7 @@ use crate::journey::{Message, push_event};
 use crate::readings::Told;
 use crate::record::{Record, Recorded};
 use event_codec::{Body, PortMessage, encode};
-use exchange_check::Exchange;
-use schedule_reading::Transcript;
+use exchange_check::{Checker, Exchange};
 use std::alloc::AllocError;
 use std::fmt;
 use std::fmt::{Display, Formatter};
@@ -142,12 +141,12 @@ pub(crate) struct Compared {
 
 /// How the octets that an event made differ from those of the message that is written; none where it makes none.
 pub(crate) fn difference_at(
-    transcript: &Transcript,
+    checker: &Checker,
     record: &Record,
     number: u64,
 ) -> Option<Compared> {
     let found = octets_made(record.at(number)?)?;
-    let message = transcript.message_at(number)?;
+    let message = checker.message_at(number)?;
     let mut room = [0; 54];
     let length = encode(&message.message(), &mut room).ok()?;
     let wanted = room.get(..length)?;
@@ -191,7 +190,7 @@ impl Case<'_> {
         told: &mut Told,
         number: u64,
     ) -> Result<(), AllocError> {
-        let Some(compared) = difference_at(self.transcript, self.record, number) else {
+        let Some(compared) = difference_at(self.checker, self.record, number) else {
             return self.push_unsent(text, told, number);
         };
         let Some(difference) = compared.difference else {

@@ -1,0 +1,34 @@
+//! What a whole input is found to be, for a person.
+ghost use Rattle.std.specs.Prelude.{OnOk, string_bytes};
+ghost use Rattle.exchange_explain.specs.Explained.{IsLastText};
+
+use crate::input::Found;
+use schedule_reading::push_verdict;
+use std::alloc::AllocError;
+
+/// Appends what an input is found to be; of a transcript its verdict.
+pub(crate) fn push_found(text: &mut String, found: Found) -> Result<(), AllocError>
+    ensures { OnOk result (IsLastText found (string_bytes text.new)) }
+{
+    match found {
+        Found::Transcript(verdict) => {
+            text.push_str("verdict: ")?;
+            push_verdict(text, verdict)
+        }
+        Found::Schedule(count) => push_happening(text, count),
+    }
+}
+
+/// Appends that a schedule's events happen, and what tells more.
+fn push_happening(text: &mut String, count: u64) -> Result<(), AllocError> {
+    match count {
+        1 => text.push_str(
+            "a schedule of 1 event, which happens; 'ptpx replay' makes a transcript of it, which 'ptpx check' judges\n",
+        ),
+        _ => write!(
+            text,
+            "a schedule of {count} events, which all happen; 'ptpx replay' makes a transcript of it, which 'ptpx check' \
+             judges\n"
+        ),
+    }
+}

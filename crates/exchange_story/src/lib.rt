@@ -1,0 +1,23 @@
+//! What is wrong with the reports of a transcript, and what stands in the way of a schedule's event, told in sentences.
+#![tactic(auto)]
+
+mod case;
+mod differing;
+mod exchange;
+mod field;
+mod happening;
+mod journey;
+mod moments;
+mod naming;
+mod numbering;
+mod octets;
+mod readings;
+mod record;
+mod refusal;
+mod report;
+mod story;
+mod tally;
+
+pub use refusal::{Before, push_clash, push_refused};
+pub use report::Reported;
+pub use story::Story;

@@ -1,0 +1,80 @@
+//! What is told of a transcript's reports.
+
+use crate::case::Case;
+use crate::record::Record;
+use crate::report::{Reported, is_sound, push_sound};
+use crate::tally::Tally;
+use exchange_check::{Checker, Reasons, TraceLine};
+use network_model::NodeSpec;
+use std::alloc::{AllocError, Global};
+
+/// What was recorded of a transcript so far, and how many of its reports are sound; of a schedule its nodes alone.
+#[derive(Drop)]
+pub struct Story {
+    alloc: Global,
+    record: Record,
+    tally: Tally,
+}
+
+impl Story {
+    /// Nothing was recorded yet.
+    pub fn new(alloc: Global) -> Story {
+        Story {
+            alloc,
+            record: Record::new(alloc),
+            tally: Tally::new(),
+        }
+    }
+
+    /// Takes one more node, before the first event.
+    pub fn push_node(&mut self, node: NodeSpec) -> Result<(), AllocError> {
+        self.record.push_node(node)
+    }
+
+    /// Takes what was recorded of one more event, the last that this checker was fed.
+    pub fn push_event(&mut self, line: TraceLine, checker: &Checker) -> Result<(), AllocError> {
+        self.record.push_event(self.alloc, line, checker)
+    }
+
+    /// Counts one more report, which these reasons stand against.
+    pub fn count(&mut self, reasons: &Reasons) {
+        self.tally.count(reasons);
+    }
+
+    /// The nodes, in their order.
+    pub fn nodes(&self) -> &[NodeSpec] {
+        self.record.nodes()
+    }
+
+    /// Appends what the report of the last event is judged to be; where it is refused, what the reasons
+    /// against it met, and its exchange.
+    pub fn push_report<'a>(
+        &'a self,
+        text: &mut String,
+        checker: &'a Checker,
+        reported: &'a Reported,
+    ) -> Result<(), AllocError> {
+        if is_sound(reported) {
+            return push_sound(text, reported);
+        }
+        let exchange = checker.exchange(&reported.report);
+        let case = Case {
+            alloc: self.alloc,
+            checker,
+            record: &self.record,
+            reported,
+            exchange: &exchange,
+        };
+        case.push(text)
+    }
+
+    /// Appends how many reports there are, how many fail which conditions, and where octets stand against one, how
+    /// many messages have other ones.
+    pub fn push_tally(&self, text: &mut String) -> Result<(), AllocError> {
+        self.tally.push(text)?;
+        if self.tally.has_octets() {
+            self.record.push_differing(text)?;
+        }
+        Ok(())
+    }
+}
