@@ -1,5 +1,5 @@
 ghost use Rattle.std.specs.Prelude.{◌≡◌, ◌≤◌, ◌<◌, ◌∷◌, ◌++◌, [], length, option_map, vec_len, vec_capacity};
-ghost use Rattle.std.specs.Prelude.{IsSome, IsTrue, IfSome, IfErr, OnOk};
+ghost use Rattle.std.specs.Prelude.{IsSome, IsTrue, ◌↔◌, IfSome, IfErr, OnOk, OnErr};
 ghost use Rattle.network_model.specs.Kinds.{entered_copy};
 ghost use Rattle.world_model.specs.Inner.Stands.{listed, octets_at, stay_in, stay_at, left_stay};
 ghost use Rattle.world_model.specs.Inner.Acts.{copy_inside, entries_after};
@@ -61,6 +61,7 @@ pub(crate) struct Events {
 /// Takes the room for one more, where memory gives it.
 fn reserve_one<T>(list: &mut Vec<T>)
     ensures items { list.new.items ≡ list.old.items }
+    ensures room { vec_len list.old < vec_capacity list.old → vec_len list.new < vec_capacity list.new }
 {
     // Whether it was given, `Events::room` says.
     let _ = list.reserve(1);
@@ -68,7 +69,7 @@ fn reserve_one<T>(list: &mut Vec<T>)
 
 /// Whether there is room for one more.
 fn has_room<T>(list: &Vec<T>) -> bool
-    ensures { IsTrue result → vec_len list.now < vec_capacity list.now }
+    ensures { IsTrue result ↔ (vec_len list.now < vec_capacity list.now) }
 {
     list.len() < list.capacity()
 }
@@ -111,7 +112,8 @@ impl Stores {
 
     /// Takes the room for what one more event leaves, where memory gives it.
     fn reserve(&mut self)
-        ensures { lists self.new ≡ lists self.old }
+        ensures lists { lists self.new ≡ lists self.old }
+        ensures room { HasPlace self.old → HasPlace self.new }
     {
         reserve_one(&mut self.short);
         reserve_one(&mut self.long);
@@ -120,7 +122,7 @@ impl Stores {
 
     /// Whether there is room for what one more event leaves.
     fn has_place(&self) -> bool
-        ensures { IsTrue result → HasPlace self.now }
+        ensures { IsTrue result ↔ HasPlace self.now }
     {
         has_room(&self.short) && has_room(&self.long) && has_room(&self.stays)
     }
@@ -244,6 +246,7 @@ impl Events {
     pub(crate) fn reserve(&mut self)
         ensures kept { self.new.kept.items ≡ self.old.kept.items }
         ensures lists { lists self.new.stores ≡ lists self.old.stores }
+        ensures room { HasRoom self.old → HasRoom self.new }
     {
         reserve_one(&mut self.kept);
         self.stores.reserve();
@@ -253,6 +256,7 @@ impl Events {
     pub(crate) fn room(&self) -> Result<(), WorldRefusal>
         ensures room { OnOk result (HasRoom self.now) }
         ensures refused { IfErr result (λ why. why ≡ WorldRefusal.Memory) }
+        ensures full { OnErr result (¬ (HasRoom self.now)) }
     {
         if has_room(&self.kept) && self.stores.has_place() {
             Ok(())

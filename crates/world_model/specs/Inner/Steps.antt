@@ -6,10 +6,10 @@ use Rattle.network_model.specs.declared.stepped.Stepped.{Stepped}
 use Rattle.network_model.specs.Network.{Network}
 use Rattle.network_model.specs.Run.{Run}
 use Rattle.network_model.specs.Outcome.{IsStepped}
-use Rattle.world_model.specs.State.{IsRefused}
+use Rattle.world_model.specs.Inner.Acts.{Refuses}
 
--- the event comes in front of the run, or it is refused and the run stays
-abbrev pub Steps : Network → Run → Event → Result Stepped WorldRefusal → Run → Type 0
-Steps network run event result new = MatchResult result
+-- the event comes in front of the run, or it is refused, for memory only where there is no room, and the run stays
+abbrev pub Steps : Network → Run → Event → (HasRoom : Type 0) → Result Stepped WorldRefusal → Run → Type 0
+Steps network run event HasRoom result new = MatchResult result
     (λ stepped. IsStepped network run event stepped × (new ≡ event ∷ run))
-    (λ why. IsRefused (record { network = network; run = run }) event why × (new ≡ run))
+    (λ why. Refuses network run event HasRoom why × (new ≡ run))
