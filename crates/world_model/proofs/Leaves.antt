@@ -33,7 +33,7 @@ use Rattle.world_model.specs.declared.entry.Left.TheVariants.{Copy, Nothing}
 use Rattle.world_model.specs.declared.station.Port.TheVariants as ports
 use Rattle.world_model.specs.declared.station.Station.{Station}
 use Rattle.world_model.specs.Inner.Stands.{listed, octets_in, event_at, octets_at, stay_at, entering, open_stay, Keeps, PortStands, Stands}
-use Rattle.world_model.specs.Inner.Acts.{Answers, IsSent, Gives, Departs, copy_taken, copy_inside}
+use Rattle.world_model.specs.Inner.Acts.{Answers, Refuses, IsSent, Gives, Departs, copy_taken, copy_inside}
 use Rattle.event_codec.proofs.Lengths.{length-Packet}
 use Rattle.world_model.proofs.Readings.{packet_read}
 use Rattle.world_model.proofs.Own.{difference-stays, reading_of-read, reading-read}
@@ -195,10 +195,10 @@ module _ (network : Network) (run : Run) (entries : List Entry) (clock : NodeNam
         goes_on (Ok t) ok = refl
         goes_on (Err other) ok = absurd (cc)
 
-        refused : (shown ≡ Err why) ⊎ ((why ≡ Memory) × IsOk shown)
-            → (outcome_of network run (Leave clock transit at) ≡ Err why) ⊎ ((why ≡ Memory) × IsOk (outcome_of network run (Leave clock transit at)))
+        refused : (shown ≡ Err why) ⊎ ((why ≡ Memory) × (¬ HasRoom) × IsOk shown)
+            → Refuses network run (Leave clock transit at) HasRoom why
         refused (inl not_shown) = inl (leave-outcome ∙ ap (leaves in_clock.m (reading in_clock.entered)) (sym shows ∙ not_shown))
-        refused (inr no_room) = inr (no_room.0, subst IsOk (sym leave-outcome) (goes_on (reads (Leave clock transit at) run) (subst IsOk shows no_room.1)))
+        refused (inr no_room) = inr (no_room.0, no_room.1, subst IsOk (sym leave-outcome) (goes_on (reads (Leave clock transit at) run) (subst IsOk shows no_room.2)))
 
 -- a message that leaves this clock
 pub leaving : (network : Network) (run : Run) (entries : List Entry) (clock : NodeName) (transit copy at : ℕ) (kind : NodeKind) (station : Station)

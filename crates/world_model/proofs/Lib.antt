@@ -10,6 +10,7 @@ mod Arrivals
 mod LeftStays
 mod Leaves
 mod Happening
+mod Acting
 mod InTurn
 mod KeptEvents
 mod NodePlaces

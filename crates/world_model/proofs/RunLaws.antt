@@ -1,8 +1,8 @@
 -- What a world answers is what the laws over runs say. An answer of `step` is the run's, so its report is one of the run, and
 -- the headline holds of it. A world has the premises that its nodes are a network and that its events were accepted.
-use Rattle.std.proofs.Common.{◌∙◌, List, [], ◌∷◌, ap, is_ok, Ok, Err}
+use Rattle.std.proofs.Common.{◌∙◌, List, [], ◌∷◌, ap, is_ok, Ok, Err, inl, inr}
 use Rattle.std.specs.Prelude.{Result}
-use Rattle.std.specs.Result.{IfOk}
+use Rattle.std.specs.Result.{IfOk, IfErr}
 use Rattle.slave_port.specs.declared.heard.Report.{Report}
 use Rattle.network_model.specs.declared.event.Event.{Event}
 use Rattle.network_model.specs.declared.refusal.WorldRefusal.{WorldRefusal}
@@ -19,7 +19,8 @@ use Rattle.network_model.proofs.Pairs.{no_pair_is_missed}
 use Rattle.network_model.proofs.Agreement.{tells_true_time}
 use Rattle.network_model.proofs.Order.{reports_dont_go_back}
 use Rattle.network_model.proofs.Evidence.{shows_evidence}
-use Rattle.world_model.specs.State.{State, after}
+use Rattle.world_model.specs.State.{State, after, IsRefused}
+use Rattle.world_model.specs.Inner.Acts.{Refuses}
 use Rattle.world_model.specs.Inner.Steps.{Steps}
 use Rattle.world_model.specs.Turns.{AnswersInTurn}
 use Rattle.world_model.specs.Exact.{IsTimely, IsExactAnswer, AreExactAnswers, RunsKeepLaws}
@@ -77,10 +78,10 @@ module _ (asked premise : SlavePremise) (gives : Gives asked premise) (each : Ea
     exact_answers (after event world) later others (one_more world event stepped sound answered.0) answered.1,
   )
 
-  exact_step : (world : State) (event : Event) (result : Result Stepped WorldRefusal) (new : Run) → IsAcceptedRun world.network world.run
-      → Steps world.network world.run event result new → IfOk result (IsExactAnswer asked world event)
-  exact_step world event (Ok stepped) new sound steps = exact_answer world event stepped sound steps.0
-  exact_step world event (Err why) new sound steps = tt
+  exact_step : (world : State) (event : Event) (HasRoom : Type 0) (result : Result Stepped WorldRefusal) (new : Run) → IsAcceptedRun world.network world.run
+      → Steps world.network world.run event HasRoom result new → IfOk result (IsExactAnswer asked world event)
+  exact_step world event HasRoom (Ok stepped) new sound steps = exact_answer world event stepped sound steps.0
+  exact_step world event HasRoom (Err why) new sound steps = tt
 
 timely : Gives (IsTimely exact_limits) (IsFreshAndTickedFor exact_limits)
 timely network slave run sound is = record { apart = sound.apart; accepted = sound.accepted; fresh = is.fresh; ticked = is.ticked }
@@ -88,13 +89,23 @@ timely network slave run sound is = record { apart = sound.apart; accepted = sou
 one_turn : Gives (λ network slave run. IsWithinOneTurn run) (whichever IsWithinTurn)
 one_turn network slave run sound is = record { apart = sound.apart; accepted = sound.accepted; one_turn = is }
 
-pub step_exact : (world : State) (event : Event) (result : Result Stepped WorldRefusal) (new : Run) → IsAcceptedRun world.network world.run
-    → Steps world.network world.run event result new → IfOk result (IsExactAnswer (IsTimely exact_limits) world event)
+pub step_exact : (world : State) (event : Event) (HasRoom : Type 0) (result : Result Stepped WorldRefusal) (new : Run) → IsAcceptedRun world.network world.run
+    → Steps world.network world.run event HasRoom result new → IfOk result (IsExactAnswer (IsTimely exact_limits) world event)
 step_exact = exact_step (IsTimely exact_limits) (IsFreshAndTickedFor exact_limits) timely fresh_and_ticked
 
-pub step_exact-one_turn : (world : State) (event : Event) (result : Result Stepped WorldRefusal) (new : Run) → IsAcceptedRun world.network world.run
-    → Steps world.network world.run event result new → IfOk result (IsExactAnswer (λ network slave run. IsWithinOneTurn run) world event)
+pub step_exact-one_turn : (world : State) (event : Event) (HasRoom : Type 0) (result : Result Stepped WorldRefusal) (new : Run) → IsAcceptedRun world.network world.run
+    → Steps world.network world.run event HasRoom result new → IfOk result (IsExactAnswer (λ network slave run. IsWithinOneTurn run) world event)
 step_exact-one_turn = exact_step (λ network slave run. IsWithinOneTurn run) (whichever IsWithinTurn) one_turn within_turn
+
+-- a step refuses what the run does
+pub step_refused : (world : State) (event : Event) (HasRoom : Type 0) (result : Result Stepped WorldRefusal) (new : Run)
+    → Steps world.network world.run event HasRoom result new → IfErr result (IsRefused world event)
+step_refused world event HasRoom (Ok stepped) new steps = tt
+step_refused world event HasRoom (Err why) new steps = of_run steps.0
+  where
+    of_run : Refuses world.network world.run event HasRoom why → IsRefused world event why
+    of_run (inl first) = inl first
+    of_run (inr full) = inr (full.0, full.2)
 
 pub answers_exact : (world : State) (events : List Event) (answers : List Stepped) → IsAcceptedRun world.network world.run
     → AnswersInTurn world events answers → AreExactAnswers (IsTimely exact_limits) world events answers

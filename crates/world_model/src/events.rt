@@ -1,12 +1,14 @@
 ghost use Rattle.std.specs.Prelude.{◌≡◌, ◌≤◌, ◌<◌, ◌∷◌, ◌++◌, [], length, option_map, vec_len, vec_capacity};
-ghost use Rattle.std.specs.Prelude.{IsSome, IsTrue, IfSome, IfErr, OnOk};
+ghost use Rattle.std.specs.Prelude.{IsSome, IsTrue, ◌↔◌, IfSome, IfOk, IfErr, OnOk, OnErr};
 ghost use Rattle.network_model.specs.Kinds.{entered_copy};
 ghost use Rattle.world_model.specs.Inner.Stands.{listed, octets_at, stay_in, stay_at, left_stay};
 ghost use Rattle.world_model.specs.Inner.Acts.{copy_inside, entries_after};
 ghost use Rattle.world_model.specs.Inner.Kept.{lists, slot_at, left_in, entries_of, IsStored, AllStored, Extends, HasPlace, HasRoom};
+ghost use Rattle.world_model.specs.Inner.Steps.{MayKeep, IsFinished};
 
 use crate::entry::{Left, Octets};
-use network_model::{Event, Name, WorldRefusal};
+use crate::station::Answer;
+use network_model::{Event, Name, Stepped, WorldRefusal};
 use ptp_units::ScaledTime;
 use std::alloc::Global;
 use std::snapshot::Snapshot;
@@ -61,6 +63,7 @@ pub(crate) struct Events {
 /// Takes the room for one more, where memory gives it.
 fn reserve_one<T>(list: &mut Vec<T>)
     ensures items { list.new.items ≡ list.old.items }
+    ensures room { vec_len list.old < vec_capacity list.old → vec_len list.new < vec_capacity list.new }
 {
     // Whether it was given, `Events::room` says.
     let _ = list.reserve(1);
@@ -68,13 +71,14 @@ fn reserve_one<T>(list: &mut Vec<T>)
 
 /// Whether there is room for one more.
 fn has_room<T>(list: &Vec<T>) -> bool
-    ensures { IsTrue result → vec_len list.now < vec_capacity list.now }
+    ensures { IsTrue result ↔ (vec_len list.now < vec_capacity list.now) }
 {
     list.len() < list.capacity()
 }
 
 impl Stores {
     /// Keeps what an event leaves. There is room for it.
+    #[inline(always)]
     fn put(&mut self, event: &Event, left: &Left) -> Slot
         requires room { HasPlace self.old }
         requires entered { IsSome (stay_in left.now) → IsSome (entered_copy event.now) }
@@ -111,7 +115,8 @@ impl Stores {
 
     /// Takes the room for what one more event leaves, where memory gives it.
     fn reserve(&mut self)
-        ensures { lists self.new ≡ lists self.old }
+        ensures lists { lists self.new ≡ lists self.old }
+        ensures room { HasPlace self.old → HasPlace self.new }
     {
         reserve_one(&mut self.short);
         reserve_one(&mut self.long);
@@ -120,7 +125,7 @@ impl Stores {
 
     /// Whether there is room for what one more event leaves.
     fn has_place(&self) -> bool
-        ensures { IsTrue result → HasPlace self.now }
+        ensures { IsTrue result ↔ HasPlace self.now }
     {
         has_room(&self.short) && has_room(&self.long) && has_room(&self.stays)
     }
@@ -244,6 +249,7 @@ impl Events {
     pub(crate) fn reserve(&mut self)
         ensures kept { self.new.kept.items ≡ self.old.kept.items }
         ensures lists { lists self.new.stores ≡ lists self.old.stores }
+        ensures room { HasRoom self.old → HasRoom self.new }
     {
         reserve_one(&mut self.kept);
         self.stores.reserve();
@@ -253,6 +259,7 @@ impl Events {
     pub(crate) fn room(&self) -> Result<(), WorldRefusal>
         ensures room { OnOk result (HasRoom self.now) }
         ensures refused { IfErr result (λ why. why ≡ WorldRefusal.Memory) }
+        ensures full { OnErr result (¬ (HasRoom self.now)) }
     {
         if has_room(&self.kept) && self.stores.has_place() {
             Ok(())
@@ -262,6 +269,7 @@ impl Events {
     }
 
     /// Ends the stay that an event leaves.
+    #[inline(always)]
     fn end_stay(&mut self, event: &Event)
         ensures entries { entries_of self.new ≡ entries_after event.now (entries_of self.old) }
         ensures stored { AllStored (lists self.old.stores) self.old.kept.items
@@ -274,6 +282,7 @@ impl Events {
     }
 
     /// Puts an event after the others, with what it leaves, for which there is room.
+    #[inline(always)]
     fn push(&mut self, event: &Event, left: &Left)
         requires room { HasRoom self.old }
         requires entered { IsSome (stay_in left.now) → IsSome (entered_copy event.now) }
@@ -291,6 +300,7 @@ impl Events {
 
     /// Keeps an event that happened, with what it leaves, for which there is room. The stay that it
     /// leaves itself ends.
+    #[inline(always)]
     pub(crate) fn keep(&mut self, event: &Event, left: &Left)
         requires room { HasRoom self.old }
         requires entered { IsSome (stay_in left.now) → IsSome (entered_copy event.now) }
@@ -301,5 +311,24 @@ impl Events {
     {
         self.end_stay(event);
         self.push(event, left);
+    }
+
+    /// Keeps an event that happened, and tells of it. A refusal changes nothing. In each place that
+    /// calls it, what happened is known in part, and the rest of it is never moved.
+    #[inline(always)]
+    pub(crate) fn finish(&mut self, event: &Event, answer: Answer) -> Result<Stepped, WorldRefusal>
+        requires kept { IfOk answer (MayKeep self.old event.now) }
+        requires stored { AllStored (lists self.old.stores) self.old.kept.items }
+        ensures finished { IsFinished event.now answer self.old self.new result }
+        ensures stored { AllStored (lists self.new.stores) self.new.kept.items }
+    {
+        let happened = answer?;
+        let tag = self.len();
+        self.keep(event, &happened.left);
+        Ok(Stepped {
+            tag,
+            reading: happened.reading,
+            outcome: happened.outcome,
+        })
     }
 }

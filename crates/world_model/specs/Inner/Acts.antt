@@ -19,7 +19,6 @@ use Rattle.network_model.specs.Clock.{reading, reading_of}
 use Rattle.network_model.specs.Truth.{master_at, slave_at}
 use Rattle.network_model.specs.Truth.{TellsTruth, copy_of, copy_made}
 use Rattle.network_model.specs.Outcome.{outcome_of, reads, left_outcome}
-use Rattle.world_model.specs.State.{IsRefused}
 use Rattle.world_model.specs.Inner.Stands.{Entry}
 use Rattle.world_model.specs.declared.entry.Happened.{Happened}
 use Rattle.world_model.specs.declared.station.Master.{Master}
@@ -42,11 +41,17 @@ pub record Brings (network : Network) (run : Run) (event : Event) (After : Type 
   pub copy : TellsTruth (copy_made network event run (copy_of network run)) (octets_in happened.left)
   pub stay : stay_in happened.left ≡ option_map reading (entering (place event run))
 
+-- why an event isn't accepted: the first refusal that applies, or there is no room for one that would be accepted
+abbrev pub Refuses : Network → Run → Event → (HasRoom : Type 0) → WorldRefusal → Type 0
+Refuses network run event HasRoom why =
+    (outcome_of network run event ≡ Err why)
+    ⊎ ((why ≡ Memory) × (¬ HasRoom) × IsOk (outcome_of network run event))
+
 -- an event is accepted, for which there is room, or it is refused and its node is as it was
 abbrev pub Answers : Network → Run → Event → (HasRoom After Same : Type 0) → Result Happened WorldRefusal → Type 0
 Answers network run event HasRoom After Same result =
     MatchResult result (λ happened. HasRoom × Brings network run event After happened)
-    (λ why. Same × IsRefused (record { network = network; run = run }) event why)
+    (λ why. Same × Refuses network run event HasRoom why)
 
 -- an event at a node whose station was old and is new, in one network, for every run that this station and these
 -- entries keep
@@ -117,7 +122,7 @@ Departs m entered shown HasRoom result = MatchResult result
     (λ happened. HasRoom × ((now : ℕ) × (shown ≡ Ok now)
     × Gives (Some now) (left_outcome (forwarded (Ok m) entered now))
     (result_ok (forwarded (Ok m) entered now)) happened))
-    (λ why. (shown ≡ Err why) ⊎ ((why ≡ Memory) × IsOk shown))
+    (λ why. (shown ≡ Err why) ⊎ ((why ≡ Memory) × (¬ HasRoom) × IsOk shown))
 
 -- the copy that an entry's event took into this clock
 abbrev pub copy_taken : NodeName → Event → Option ℕ
