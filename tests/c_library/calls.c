@@ -33,9 +33,9 @@ static void sizes(void)
     CHECK(sizeof(struct ptpx_identity) == 10 && sizeof(struct ptpx_config) == 12 && sizeof(struct ptpx_stay) == 24);
     CHECK(sizeof(struct ptpx_message) == 72 && sizeof(struct ptpx_master) == 18 && sizeof(struct ptpx_heard) == 72);
     CHECK(sizeof(struct ptpx_exchange) == 112);
-    CHECK(sizeof(struct ptpx_slave) == 8 && PTPX_SLAVE_SIZE == 2944 && PTPX_SLAVE_ALIGNMENT == 16);
+    CHECK(sizeof(struct ptpx_slave) == 8 && PTPX_SLAVE_SIZE == 2992 && PTPX_SLAVE_ALIGNMENT == 16);
     CHECK(ptpx_raw_slave_size() == PTPX_SLAVE_SIZE && ptpx_raw_slave_alignment() == PTPX_SLAVE_ALIGNMENT);
-    CHECK(sizeof(struct ptpx_wide_slave) == 8 && PTPX_WIDE_SLAVE_SIZE == 42304);
+    CHECK(sizeof(struct ptpx_wide_slave) == 8 && PTPX_WIDE_SLAVE_SIZE == 42352);
     CHECK(ptpx_raw_wide_slave_size() == PTPX_WIDE_SLAVE_SIZE);
     CHECK(ptpx_raw_wide_slave_alignment() == PTPX_SLAVE_ALIGNMENT);
     CHECK(sizeof(struct ptpx_slave_memory) == PTPX_SLAVE_SIZE);

@@ -224,8 +224,8 @@ struct ptpx_wide_slave {
  * What the memory of a slave port takes, what that of a wide one takes, and what their addresses are a multiple of.
  * ptpx_raw_slave_size, ptpx_raw_slave_alignment and those of a wide slave tell the archive's.
  */
-#define PTPX_SLAVE_SIZE 2944
-#define PTPX_WIDE_SLAVE_SIZE 42304
+#define PTPX_SLAVE_SIZE 2992
+#define PTPX_WIDE_SLAVE_SIZE 42352
 #define PTPX_SLAVE_ALIGNMENT 16
 
 /* Memory for a slave port, aligned by C11, C++11 and GNU C. With another compiler see to it, or 907 is answered. */

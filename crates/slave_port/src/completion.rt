@@ -14,13 +14,13 @@ use std::marker::Model;
 /// A Sync that is completed, by its Follow_Up where it is two-step.
 #[derive(Clone, Copy)]
 pub(crate) struct SyncCompletion {
-    number: Seq,
     t2: ScaledTime,
     origin: Timestamp,
     follow_correction: i64,
     sync_correction: i64,
     sync_tag: u64,
     follow_tag: Option<u64>,
+    number: Seq,
 }
 
 impl Model for SyncCompletion {
@@ -52,12 +52,12 @@ impl Model for SyncCompletion {
 /// A Delay_Resp with its request.
 #[derive(Clone, Copy)]
 pub(crate) struct DelayCompletion {
-    number: Seq,
     t3: ScaledTime,
     receive: Timestamp,
     correction: i64,
     request_tag: u64,
     response_tag: u64,
+    number: Seq,
 }
 
 impl Model for DelayCompletion {
