@@ -32,9 +32,10 @@ static void sizes(void)
     CHECK(sizeof(struct ptpx_time) == 16 && sizeof(struct ptpx_signed) == 16 && sizeof(struct ptpx_timestamp) == 16);
     CHECK(sizeof(struct ptpx_identity) == 10 && sizeof(struct ptpx_config) == 12 && sizeof(struct ptpx_stay) == 24);
     CHECK(sizeof(struct ptpx_message) == 72 && sizeof(struct ptpx_master) == 18 && sizeof(struct ptpx_heard) == 72);
-    CHECK(sizeof(struct ptpx_slave) == 8 && PTPX_SLAVE_SIZE == 2944 && PTPX_SLAVE_ALIGNMENT == 16);
+    CHECK(sizeof(struct ptpx_exchange) == 112);
+    CHECK(sizeof(struct ptpx_slave) == 8 && PTPX_SLAVE_SIZE == 2992 && PTPX_SLAVE_ALIGNMENT == 16);
     CHECK(ptpx_raw_slave_size() == PTPX_SLAVE_SIZE && ptpx_raw_slave_alignment() == PTPX_SLAVE_ALIGNMENT);
-    CHECK(sizeof(struct ptpx_wide_slave) == 8 && PTPX_WIDE_SLAVE_SIZE == 42304);
+    CHECK(sizeof(struct ptpx_wide_slave) == 8 && PTPX_WIDE_SLAVE_SIZE == 42352);
     CHECK(ptpx_raw_wide_slave_size() == PTPX_WIDE_SLAVE_SIZE);
     CHECK(ptpx_raw_wide_slave_alignment() == PTPX_SLAVE_ALIGNMENT);
     CHECK(sizeof(struct ptpx_slave_memory) == PTPX_SLAVE_SIZE);
@@ -99,6 +100,20 @@ static void places_in_answers(void)
     LIES(ptpx_heard, follow_tag, 48, 56);
     LIES(ptpx_heard, request_tag, 56, 64);
     LIES(ptpx_heard, response_tag, 64, 72);
+}
+
+static void places_in_exchanges(void)
+{
+    LIES(ptpx_exchange, t1, 0, 16);
+    LIES(ptpx_exchange, t2, 16, 32);
+    LIES(ptpx_exchange, t3, 32, 48);
+    LIES(ptpx_exchange, t4, 48, 64);
+    LIES(ptpx_exchange, age, 64, 80);
+    LIES(ptpx_exchange, sync_correction, 80, 88);
+    LIES(ptpx_exchange, follow_correction, 88, 96);
+    LIES(ptpx_exchange, response_correction, 96, 104);
+    LIES(ptpx_exchange, sync_number, 104, 106);
+    LIES(ptpx_exchange, request_number, 106, 108);
 }
 
 static void numbers(void)
@@ -321,6 +336,7 @@ int main(void)
     places();
     places_in_messages();
     places_in_answers();
+    places_in_exchanges();
     numbers();
     times();
     brackets();

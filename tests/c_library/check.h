@@ -22,6 +22,8 @@ static unsigned long checks_made;
 static const struct ptpx_config config_of_master = {{{0x00, 0x11, 0x22, 0xff, 0xfe, 0x33, 0x44, 0x55}, 0x0107}, 5, -3};
 static const struct ptpx_config config_of_slave = {{{0x00, 0xaa, 0xbb, 0xff, 0xfe, 0xcc, 0xdd, 0xee}, 0x0209}, 5, 4};
 
+static const struct ptpx_exchange no_exchange = {{0, 0}, {0, 0}, {0, 0}, {0, 0}, {0, 0}, 0, 0, 0, 0, 0};
+
 /* 2^48 s, which is no moment. */
 static const struct ptpx_time no_moment = {1000000000u, 0};
 
@@ -47,6 +49,25 @@ static inline bool is_all(const void *memory, uint8_t octet, size_t length)
         if (octets[i] != octet)
             return false;
     return true;
+}
+
+static inline bool is_signed(struct ptpx_signed value, struct ptpx_signed wanted)
+{
+    return value.high == wanted.high && value.low == wanted.low;
+}
+
+/* That a report's results are those of what it was made of. */
+static inline void check_results(const struct ptpx_exchange *last, const struct ptpx_heard *heard)
+{
+    struct ptpx_timestamp departure = {0, 0}, arrival = {0, 0};
+    struct ptpx_signed a = {0, 0}, b = {0, 0}, offset2 = {0, 0}, path2 = {0, 0};
+    uint16_t fraction = 1;
+    CHECK(ptpx_time_split(last->t1, &departure, &fraction) == PTPX_DONE && fraction == 0);
+    CHECK(ptpx_time_split(last->t4, &arrival, &fraction) == PTPX_DONE && fraction == 0);
+    CHECK(ptpx_sync_bracket(last->t2, departure, last->follow_correction, last->sync_correction, &a) == PTPX_DONE);
+    CHECK(ptpx_delay_bracket(arrival, last->response_correction, last->t3, &b) == PTPX_DONE);
+    CHECK(ptpx_offset2(a, b, &offset2) == PTPX_DONE && ptpx_path2(a, b, &path2) == PTPX_DONE);
+    CHECK(is_signed(offset2, heard->offset2) && is_signed(path2, heard->path2));
 }
 
 #endif

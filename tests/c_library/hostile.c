@@ -95,6 +95,16 @@ static void call_slave(struct ptpx_slave *slave, uint64_t round)
     }
 }
 
+/* What a report was made of gives its results. */
+static void try_last(struct ptpx_slave *slave, const struct ptpx_heard *heard)
+{
+    struct ptpx_exchange last = no_exchange;
+    if (heard->kind == PTPX_REPORT) {
+        CHECK(ptpx_slave_last(slave, &last) == PTPX_DONE);
+        check_results(&last, heard);
+    }
+}
+
 static uint16_t hear(struct ptpx_slave *slave, const uint8_t *octets, size_t length, uint64_t tag)
 {
     struct ptpx_heard heard = {0, 0, false, {0, 0}, {0, 0}, 0, 0, 0, 0};
@@ -103,6 +113,7 @@ static uint16_t hear(struct ptpx_slave *slave, const uint8_t *octets, size_t len
     else
         CHECK(ptpx_slave_general(slave, octets, length, tag, &heard) == PTPX_DONE);
     CHECK(heard.kind <= PTPX_IGNORED && (heard.kind == PTPX_IGNORED) == (heard.reason != 0));
+    try_last(slave, &heard);
     return heard.kind;
 }
 

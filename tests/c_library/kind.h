@@ -13,6 +13,7 @@
 #define ptpx_slave_request_left ptpx_wide_slave_request_left
 #define ptpx_slave_sync ptpx_wide_slave_sync
 #define ptpx_slave_general ptpx_wide_slave_general
+#define ptpx_slave_last ptpx_wide_slave_last
 #define KIND "wide slave"
 #define HOLDS 256
 #define STACK_OF_INIT 204800

@@ -1,6 +1,6 @@
 /*
- * Slave ports of ptpx.h, or with WIDE the wide ones: each answer and each reason, what ticks drop, how much is held,
- * the refusals, and that no call writes past its memory.
+ * Slave ports of ptpx.h, or with WIDE the wide ones: each answer and each reason, what a report was made of, what ticks
+ * drop, how much is held, the refusals, and that no call writes past its memory.
  */
 #include "check.h"
 #include "kind.h"
@@ -114,6 +114,73 @@ static void one_step_reports(void)
     CHECK(on_event(&pair, sync, 44, at(31, 0, 0), 7) == PTPX_REPORT);
     CHECK(pair.heard.one_step && pair.heard.sync_tag == 7 && pair.heard.follow_tag == 0);
     CHECK(narrow(pair.heard.offset2) == -9 * (int64_t)65536 * 1000000000);
+}
+
+static bool is_time(struct ptpx_time time, struct ptpx_time wanted)
+{
+    return time.high == wanted.high && time.low == wanted.low;
+}
+
+/* That there is no last exchange, and nothing is written. */
+static void check_no_last(struct pair *pair)
+{
+    struct ptpx_exchange last = no_exchange;
+    last.request_number = 7;
+    CHECK(ptpx_slave_last(&pair->slave, &last) == PTPX_NO_EXCHANGE);
+    CHECK(is_all(&last, 0, offsetof(struct ptpx_exchange, request_number)) && last.request_number == 7);
+}
+
+/* A master that reads its clock to 2^-16 ns, and a clock on the way of each message. */
+static void last_exchange(void)
+{
+    struct pair pair = new_pair();
+    struct ptpx_exchange last = no_exchange;
+    uint8_t sync[44] = {0}, follow[44] = {0}, request[44] = {0}, response[54] = {0};
+    uint16_t number = 0;
+    check_no_last(&pair);
+    CHECK(ptpx_master_next_sync(&pair.master, sync, &number) == PTPX_DONE && number == 10);
+    CHECK(ptpx_patch_correction(sync, 44, 500) == PTPX_DONE);
+    CHECK(ptpx_master_sync_left(&pair.master, number, at(100, 1, 40000), follow) == PTPX_DONE);
+    CHECK(on_event(&pair, sync, 44, at(109, 2, 3), 1) == PTPX_HELD);
+    CHECK(on_general(&pair, follow, 44, 2) == PTPX_COMPLETED);
+    check_no_last(&pair);
+    CHECK(ptpx_slave_next_request(&pair.slave, 3, request, &number) == PTPX_DONE && number == 20);
+    CHECK(ptpx_slave_request_left(&pair.slave, number, at(110, 2, 65535)) == PTPX_DONE);
+    CHECK(ptpx_patch_correction(request, 44, 700) == PTPX_DONE);
+    CHECK(ptpx_master_delay_req(&pair.master, request, 44, at(113, 4, 200), response) == PTPX_DONE);
+    CHECK(on_general(&pair, response, 54, 4) == PTPX_REPORT);
+    CHECK(ptpx_slave_last(&pair.slave, &last) == PTPX_DONE);
+    CHECK(is_time(last.t1, at(100, 1, 0)) && is_time(last.t2, at(109, 2, 3)));
+    CHECK(is_time(last.t3, at(110, 2, 65535)) && is_time(last.t4, at(113, 4, 0)));
+    CHECK(last.sync_correction == 500 && last.follow_correction == 40000 && last.response_correction == 500);
+    CHECK(last.sync_number == 10 && last.request_number == 20);
+    CHECK(narrow(last.age) == (int64_t)65536 * 1000000000 + 65532);
+    check_results(&last, &pair.heard);
+    check_guards();
+}
+
+/* The newest halves count, whichever is older, and the exchange stays until one of its halves is dropped. */
+static void last_exchange_stays(void)
+{
+    struct pair pair = new_pair();
+    struct ptpx_exchange last = no_exchange;
+    CHECK(sync_half(&pair, 100, 109) == PTPX_COMPLETED && delay_half(&pair, 110, 113) == PTPX_REPORT);
+    CHECK(sync_half(&pair, 200, 208) == PTPX_REPORT);
+    CHECK(ptpx_slave_last(&pair.slave, &last) == PTPX_DONE);
+    CHECK(is_time(last.t2, at(208, 0, 0)) && is_time(last.t3, at(110, 0, 0)) && last.sync_number == 11);
+    CHECK(narrow(last.age) == 98 * (int64_t)65536 * 1000000000 && last.request_number == 20);
+    check_results(&last, &pair.heard);
+    CHECK(ptpx_slave_tick(&pair.slave) == PTPX_DONE && ptpx_slave_last(&pair.slave, &last) == PTPX_DONE);
+    CHECK(is_time(last.t1, at(200, 0, 0)) && is_time(last.t4, at(113, 0, 0)));
+    CHECK(ptpx_slave_tick(&pair.slave) == PTPX_DONE);
+    check_no_last(&pair);
+    CHECK(sync_half(&pair, 300, 308) == PTPX_COMPLETED && delay_half(&pair, 310, 313) == PTPX_REPORT);
+    CHECK(ptpx_slave_last(&pair.slave, &last) == PTPX_DONE && last.request_number == 21);
+    CHECK(ptpx_slave_set_master(&pair.slave, &config_of_master.identity) == PTPX_DONE);
+    check_no_last(&pair);
+    CHECK(sync_half(&pair, 400, 408) == PTPX_COMPLETED && delay_half(&pair, 410, 413) == PTPX_REPORT);
+    CHECK(ptpx_slave_last(&pair.slave, &last) == PTPX_DONE && ptpx_slave_restart(&pair.slave, 0) == PTPX_DONE);
+    check_no_last(&pair);
 }
 
 static void reasons_of_syncs(void)
@@ -245,6 +312,7 @@ static void refused_pointers(void)
 {
     struct pair pair = new_pair();
     struct ptpx_slave *slave = &pair.slave, none = {NULL};
+    struct ptpx_exchange last = no_exchange;
     uint8_t octets[44] = {0};
     uint16_t number = 0;
     const size_t wide = (size_t)PTRDIFF_MAX + 1;
@@ -263,13 +331,16 @@ static void refused_pointers(void)
     CHECK(ptpx_slave_general(slave, octets, 44, 0, NULL) == PTPX_NULL);
     CHECK(ptpx_slave_general(&none, octets, 44, 0, &pair.heard) == PTPX_NULL);
     CHECK(ptpx_slave_general(slave, octets, wide, 0, &pair.heard) == PTPX_TOO_LONG);
+    CHECK(ptpx_slave_last(slave, NULL) == PTPX_NULL && ptpx_slave_last(&none, &last) == PTPX_NULL);
 }
 
 static void refused_slaves(void)
 {
     struct ptpx_heard heard = {0, 0, false, {0, 0}, {0, 0}, 0, 0, 0, 0};
+    struct ptpx_exchange last = no_exchange;
     uint8_t octets[44] = {0};
     uint16_t number = 0;
+    CHECK(ptpx_slave_last(NULL, &last) == PTPX_NULL && is_all(&last, 0, sizeof last));
     CHECK(ptpx_slave_restart(NULL, 0) == PTPX_NULL && ptpx_slave_tick(NULL) == PTPX_NULL);
     CHECK(ptpx_slave_set_master(NULL, &config_of_master.identity) == PTPX_NULL);
     CHECK(ptpx_slave_next_request(NULL, 0, octets, &number) == PTPX_NULL);
@@ -284,6 +355,8 @@ int main(void)
     reports();
     departures();
     one_step_reports();
+    last_exchange();
+    last_exchange_stays();
     reasons_of_syncs();
     reasons_of_responses();
     ticks();

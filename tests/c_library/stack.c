@@ -39,8 +39,10 @@ static void slave_init(void)
 static void port_calls(void)
 {
     struct ptpx_heard heard = {0, 0, false, {0, 0}, {0, 0}, 0, 0, 0, 0};
+    struct ptpx_exchange last;
     const struct ptpx_time second = {0, (uint64_t)65536 * 1000000000};
     uint16_t number = 0;
+    memset(&last, 0, sizeof last);
     CHECK(ptpx_master_init(&master, &config_of_master, 0) == PTPX_DONE);
     CHECK(ptpx_slave_set_master(&slave, &config_of_master.identity) == PTPX_DONE);
     CHECK(ptpx_master_next_sync(&master, octets, &number) == PTPX_DONE);
@@ -53,6 +55,7 @@ static void port_calls(void)
     CHECK(ptpx_slave_general(&slave, response, 54, 4, &heard) == PTPX_DONE && heard.kind == PTPX_REPORT);
     CHECK(ptpx_master_one_step_sync(&master, second, octets, &number) == PTPX_DONE);
     CHECK(ptpx_slave_sync(&slave, octets, 44, second, 5, &heard) == PTPX_DONE && heard.kind == PTPX_REPORT);
+    CHECK(ptpx_slave_last(&slave, &last) == PTPX_DONE && last.sync_number == 1);
     CHECK(ptpx_slave_tick(&slave) == PTPX_DONE && ptpx_slave_restart(&slave, 0) == PTPX_DONE);
 }
 

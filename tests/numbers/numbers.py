@@ -24,7 +24,7 @@ OWN = {806, 807}
 # What the inline functions of the header answer.
 OF_HEADER = {901, 902, 906, 907}
 # What calls of the crates answer, and no subcommand.
-OF_CALLS = {101, 102, 103, 104, 211, 212, 301, 302, 305, 401, 501, 609, 709} | set(range(901, 910))
+OF_CALLS = {101, 102, 103, 104, 211, 212, 301, 302, 305, 401, 501, 609, 709} | set(range(901, 911))
 
 
 def texts_of_code():

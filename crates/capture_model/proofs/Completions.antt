@@ -9,7 +9,7 @@ use Rattle.event_codec.specs.declared.message.Body.TheVariants as bodies
 use Rattle.event_codec.specs.Packet.{Contents}
 use Rattle.pairing.specs.Marked.{Entry}
 use Rattle.slave_port.specs.Values.{SyncValue, FollowValue}
-use Rattle.slave_port.specs.Completion.{SyncCompletion, DelayCompletion, pair, alone}
+use Rattle.slave_port.specs.Completion.{SyncCompletion, DelayCompletion, pair, alone, bracket_of_sync, bracket_of_delay}
 use Rattle.network_model.specs.declared.event.Event.{Event}
 use Rattle.network_model.specs.declared.event.Event.TheVariants.{Follow, Arrive, Hear}
 use Rattle.network_model.specs.Network.{Network, NodeName, PortSetup}
@@ -58,7 +58,7 @@ pub record IsOneSync (lines : Lines) (slave master : NodeName) (c : SyncCompleti
   pub event : arrival.event ≡ Arrive slave copy moment
   pub journey_is : journey_of arrival.earlier copy ≡ Some journey
   pub learnt : IsLearnt lines slave master c.follow_tag journey.origin
-  pub bracket : IsBracketOf arrival journey c.bracket
+  pub bracket : IsBracketOf arrival journey (bracket_of_sync c)
 
 -- a completion is of one Delay_Req to the master
 pub record IsOneRequest (lines : Lines) (slave master : NodeName) (c : DelayCompletion) : Type 0 where
@@ -75,7 +75,7 @@ pub record IsOneRequest (lines : Lines) (slave master : NodeName) (c : DelayComp
   pub made_by : place_at hearing.earlier copy ≡ Some arrival
   pub arrives : arrival.event ≡ Arrive master asked moment
   pub journey_is : journey_of arrival.earlier asked ≡ Some journey
-  pub bracket : IsBracketOf arrival journey c.bracket
+  pub bracket : IsBracketOf arrival journey (bracket_of_delay c)
 
 module _ (lines more : Lines) (slave master : NodeName) (extends : Extends lines more) where
   learnt-later : (tag : Option ℕ) (origin : Place) → IsLearnt lines slave master tag origin
@@ -187,7 +187,7 @@ module _ (network : Network) (slave master : NodeName) (other : PortSetup) (line
           drawn = sync.of_master;
         };
         bracket = bracket_of sync.arrival sync.drawn.journey sync.copy sync.moment
-            (pair number e.value f.value).bracket there sync.event origin_there drawn
+            (bracket_of_sync (pair number e.value f.value)) there sync.event origin_there drawn
             (of_parts e.value.t2 (reading sync.arrival) f.value.precise follow.precise f.value.correction
             follow.m.header.correction.0
             e.value.correction sync.m.header.correction.0 sync.t2 follow.precise_is follow.correction sync.correction
@@ -222,12 +222,12 @@ module _ (network : Network) (slave master : NodeName) (other : PortSetup) (line
         journey_is = drawn.made;
         learnt = of_master;
         bracket = bracket_of arrival drawn.journey copy moment
-            (alone m.header.sequence.0 (record {
+            (bracket_of_sync (alone m.header.sequence.0 (record {
               t2 = t2;
               origin = stamp;
               correction = m.header.correction.0;
               tag = tag;
-            })).bracket there event
+            }))) there event
             (IsIn-within run arrival origin there drawn.there) (one_step_draws master origin.event of_master)
             (of_parts t2 (reading arrival) stamp (stamp_of t1) (pos 0) (pos 0) m.header.correction.0
             (with_residence (pos (fraction_of t1)) (residence drawn.journey)) t2_is

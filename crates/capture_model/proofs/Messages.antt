@@ -5,7 +5,6 @@ use Rattle.std.proofs.Common.{option_and_then}
 use Rattle.std.specs.Prelude.{count_by}
 use Rattle.std.specs.List.{All}
 use Rattle.std.proofs.lemmas.List.Elements.{All-take}
-use Rattle.ptp_units.specs.Exchange.{delay_bracket}
 use Rattle.ptp_units.specs.Sequence.{of_count}
 use Rattle.event_codec.specs.declared.message.Header.{Header}
 use Rattle.event_codec.specs.declared.port.PortIdentity.{PortIdentity}
@@ -17,12 +16,12 @@ use Rattle.slave_port.specs.Window.{all}
 use Rattle.slave_port.specs.Values.{SyncValue, FollowValue, RequestValue}
 use Rattle.slave_port.specs.Usable.{is_two_step}
 use Rattle.slave_port.specs.Requests.{requests}
-use Rattle.slave_port.specs.Completion.{SyncCompletion, DelayCompletion, pair}
+use Rattle.slave_port.specs.Completion.{SyncCompletion, DelayCompletion, pair, responded}
 use Rattle.slave_port.specs.Kept.{kept, criteria, held_syncs, held_follows, delay_completion}
 use Rattle.slave_port.specs.Answer.{answer, used}
 use Rattle.slave_port.proofs.Uses.{Passes, HeardSync, HeardFollowUp, two_step_value, follow_value, two_step_entry}
 use Rattle.slave_port.proofs.Uses.{follow_entry, IsSyncCompletion, BySync, Alone, ByFollowUp, sync_completion_of}
-use Rattle.slave_port.proofs.Uses.{delay_completion_of}
+use Rattle.slave_port.proofs.Uses.{response_value, delay_completion_of}
 use Rattle.network_model.specs.declared.event.Event.{Event}
 use Rattle.network_model.specs.declared.event.Event.TheVariants.{Arrive, Hear}
 use Rattle.network_model.specs.Network.{Network, NodeName, PortSetup, IsNetwork}
@@ -315,8 +314,5 @@ module _ (network : Network) (slave master : NodeName) (w : Watched) (apart : Is
             (omega arith) found.4 (place event earlier) copy done.h.tag done.h.m done.h.receive
             (subst (λ (l : ℕ). lines l ≡ Some (place event earlier)) parts.1 told) event_is reply from.0 refl
             done.h.passes.small (omega arith) c
-            (done.is ∙ ap (λ (v : RequestValue). record {
-              bracket = delay_bracket done.h.receive done.h.m.header.correction.0 done.t3;
-              request_tag = v.tag;
-              response_tag = done.h.tag;
-            }) (sym found.5))
+            (done.is ∙ ap (λ (v : RequestValue). responded done.h.m.header.sequence.0 (response_value done.h) v done.t3)
+            (sym found.5))

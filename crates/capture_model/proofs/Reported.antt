@@ -4,7 +4,7 @@ use Rattle.std.proofs.Common.{◌≡◌, ℕ, List, ◌∷◌, Option, Some, Non
 use Rattle.slave_port.specs.declared.heard.Report.{Report}
 use Rattle.slave_port.specs.declared.heard.Heard.TheVariants as answers
 use Rattle.slave_port.specs.History.{Call, Setup}
-use Rattle.slave_port.specs.Completion.{SyncCompletion, DelayCompletion}
+use Rattle.slave_port.specs.Completion.{SyncCompletion, DelayCompletion, bracket_of_sync, bracket_of_delay}
 use Rattle.slave_port.specs.Kept.{kept, delay_completions}
 use Rattle.slave_port.specs.Answer.{answer, report_of}
 use Rattle.slave_port.proofs.Uses.{report_parts}
@@ -149,8 +149,8 @@ module _ (network : Network) (slave master : NodeName) {run : Run} {ds : List Re
           };
         };
         exact = record {
-          a = made.sync.bracket;
-          b = made.delay.bracket;
+          a = bracket_of_sync made.sync;
+          b = bracket_of_delay made.delay;
           of_sync = sync.bracket;
           of_request = request.bracket;
           offset = refl;

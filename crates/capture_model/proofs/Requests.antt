@@ -14,7 +14,7 @@ use Rattle.slave_port.specs.History as calls
 use Rattle.slave_port.specs.History.{Call, Setup, requests_drawn, next_number}
 use Rattle.slave_port.specs.Values.{RequestValue}
 use Rattle.slave_port.specs.Requests.{requests, stamped}
-use Rattle.slave_port.specs.Completion.{DelayCompletion}
+use Rattle.slave_port.specs.Completion.{DelayCompletion, responded}
 use Rattle.network_model.specs.declared.event.Event.{Event}
 use Rattle.network_model.specs.declared.event.Event.TheVariants.{Arrive, Hear}
 use Rattle.network_model.specs.Network.{Network, NodeName, PortSetup}
@@ -112,11 +112,8 @@ module _ (slave : NodeName) (own : PortSetup) where
       → int_lt m.header.correction.0 too_big ≡ true
       → count_by (is_at is_request slave) run < count_by (is_at is_request slave) answer.journey.origin.earlier + 1
       + 65536
-      → (c : DelayCompletion) → c ≡ record {
-        bracket = delay_bracket receive m.header.correction.0 t3;
-        request_tag = e.value.tag;
-        response_tag = tag;
-      }
+      → (c : DelayCompletion)
+      → c ≡ responded number (record { receive = receive; correction = m.header.correction.0; tag = tag }) e.value t3
       → IsOneRequest lines slave master c
   answered network master lines run accepted within last number t3 e request near same p copy tag m receive told event
       answer of_master number_is small near_too c c_is =

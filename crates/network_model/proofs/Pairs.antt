@@ -5,7 +5,6 @@ use Rattle.std.specs.Prelude.{count_by, nat_eq, find, IsSome, Any, ◌↔◌, �
 use Rattle.std.specs.List.{All}
 use Rattle.std.proofs.lemmas.Bool.{eqb-true, eqb-false}
 use Rattle.std.proofs.lemmas.List.Elements.{All-head, All-tail, All-get_or}
-use Rattle.ptp_units.specs.Exchange.{delay_bracket}
 use Rattle.ptp_units.specs.Sequence.{of_count}
 use Rattle.event_codec.specs.declared.message.Body.TheVariants as bodies
 use Rattle.event_codec.specs.Packet.{Contents}
@@ -14,7 +13,7 @@ use Rattle.slave_port.specs.History as calls
 use Rattle.slave_port.specs.History.{Call, Setup}
 use Rattle.slave_port.specs.Values.{SyncValue, FollowValue, ResponseValue, RequestValue}
 use Rattle.slave_port.specs.Requests.{requests, held_requests}
-use Rattle.slave_port.specs.Completion.{SyncCompletion, DelayCompletion, pair, answered}
+use Rattle.slave_port.specs.Completion.{SyncCompletion, DelayCompletion, pair, responded, answered}
 use Rattle.slave_port.specs.Kept.{criteria, usable_two_step_sync, usable_follow_up, usable_delay_resp, held_syncs, held_follows}
 use Rattle.slave_port.specs.Answer.{answer, used}
 use Rattle.slave_port.proofs.Options.{some_image}
@@ -371,15 +370,11 @@ module _ (reach : ℕ) (fits : reach ≤ 65536) (network : Network) (p : Place) 
             ∙ sym answer.number_is in
             let found = newest_is port slave p.earlier number (count_by (is_at is_request slave) p.earlier) (take table_capacity es) any.0 any.1 taken.0 (omega arith) any.2 any.3 number_is in
             let t3 = some_value any.1.value.t3 any.4.1 in
-            let completion : ℕ → DelayCompletion = λ t3. record {
-              bracket = delay_bracket response.h.receive response.h.m.header.correction.0 t3;
-              request_tag = any.1.value.tag;
-              response_tag = response.h.tag;
-            } in
+            let completion : ℕ → DelayCompletion = responded number (response_value response.h) any.1.value in
             is_some_of (completion t3.0)
-            (ap (option_and_then (λ (response : Entry ResponseValue). option_and_then (answered response.value) (first_value response.number (held_requests (slave_setup port) history)))) e.1
-            ∙ ap (λ (response : Entry ResponseValue). option_and_then (answered response.value) (first_value response.number (held_requests (slave_setup port) history))) response.is
-            ∙ ap (option_and_then (answered (response_value response.h))) found
+            (ap (option_and_then (λ (response : Entry ResponseValue). option_and_then (answered response.number response.value) (first_value response.number (held_requests (slave_setup port) history)))) e.1
+            ∙ ap (λ (response : Entry ResponseValue). option_and_then (answered response.number response.value) (first_value response.number (held_requests (slave_setup port) history))) response.is
+            ∙ ap (option_and_then (answered number (response_value response.h))) found
             ∙ ap (option_map completion) t3.1),
       ) in
       record {

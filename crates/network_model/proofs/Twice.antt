@@ -14,7 +14,7 @@ use Rattle.slave_port.specs.History.{Call}
 use Rattle.slave_port.specs.Usable.{is_two_step}
 use Rattle.slave_port.specs.Values.{SyncValue, FollowValue, RequestValue}
 use Rattle.slave_port.specs.Requests.{requests}
-use Rattle.slave_port.specs.Completion.{SyncCompletion, DelayCompletion, pair, alone}
+use Rattle.slave_port.specs.Completion.{SyncCompletion, DelayCompletion, pair, alone, bracket_of_sync, bracket_of_delay}
 use Rattle.slave_port.specs.Kept.{criteria, sync_completion, delay_completion, held_syncs, held_follows}
 use Rattle.slave_port.specs.Answer.{answer, used}
 use Rattle.slave_port.proofs.Uses.{HeardSync, HeardFollowUp, two_step_value, one_step_value, follow_value, IsSyncCompletion, BySync, Alone, ByFollowUp, sync_completion_of, delay_completion_of}
@@ -89,7 +89,7 @@ pub record IsTimedSync (run : Run) (slave : NodeName) (c : SyncCompletion) : Typ
   pub timed : is_some (true_moment arrival.event) ≡ true
   pub arrives : Arrives run c.sync_tag slave arrival journey
   pub departs : TakesDeparture run slave c.follow_tag journey.origin t1
-  pub is : c.bracket ≡ (pos (reading arrival) -ℤ pos t1) -ℤ pos (residence journey)
+  pub is : bracket_of_sync c ≡ (pos (reading arrival) -ℤ pos t1) -ℤ pos (residence journey)
 
 -- what a Follow_Up brings
 follow_parts : {precise other : Stamp} → ◌≡◌ {A = Body} (bodies.FollowUp precise) (bodies.FollowUp other) → precise ≡ other
@@ -243,7 +243,7 @@ pub record IsTimedRequest (run : Run) (slave : NodeName) (c : DelayCompletion) :
   pub journey_is : journey_of arrival.earlier asked ≡ Some journey
   pub requested : place_at run c.request_tag ≡ Some left
   pub hears : HearsOf run c.response_tag slave arrival
-  pub is : c.bracket ≡ (pos (reading arrival) -ℤ pos (reading left)) -ℤ pos (residence journey)
+  pub is : bracket_of_delay c ≡ (pos (reading arrival) -ℤ pos (reading left)) -ℤ pos (residence journey)
 
 timed_request : (network : Network) (port : PortSetup) (slave : NodeName) → slave_at network slave ≡ Some port → (run : Run) → IsAcceptedRun network run
     → (p : Place) → IsIn run p → site_of p.event ≡ slave → (call : Call) → call_made network port p.event p.earlier ≡ Some call
@@ -280,7 +280,7 @@ timed_request network port slave slave_is run premise p there site call made c b
         event = at.event;
         made_by = answer.there;
       };
-      is = ap (λ (c : DelayCompletion). c.bracket) done.is
+      is = ap bracket_of_delay done.is
           ∙ ap (λ (s : Stamp). delay_bracket s done.h.m.header.correction.0 done.t3) answer.receive_is
           ∙ ap (λ (d : ℤ). delay_bracket (stamp_of (reading answer.made)) d done.t3) correction
           ∙ ap (λ (t : ℕ). delay_bracket (stamp_of (reading answer.made)) (less_fraction (with_residence (pos 0) (residence answer.journey)) (fraction_of (reading answer.made))) t) t3
@@ -329,8 +329,8 @@ each_twice network answered report premise reports sync request =
     let left_is : b.left ≡ request.journey.origin = cc in
     let journeys = request_journey run b.arrival request.arrival b.node request.master b.asked b.moment b.journey request.journey answer b.event b.journey_is request.request.arrives in
     record {
-      a = made.sync.bracket;
-      b = made.delay.bracket;
+      a = bracket_of_sync made.sync;
+      b = bracket_of_delay made.delay;
       of_sync = record {
         arrived = pos (reading sync.arrival);
         left = pos (reading sync.journey.origin);

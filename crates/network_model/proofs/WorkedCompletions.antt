@@ -82,7 +82,15 @@ follow_up_completes : Completes small_network hearing
 follow_up_completes = refl
 
 abbrev completion : SyncCompletion
-completion = record { number = 0; bracket = pos 131072000; sync_tag = 5; follow_tag = Some 7 }
+completion = record {
+  number = 0;
+  t2 = at 1 4000 0;
+  origin = stamp 1 0;
+  follow_correction = pos 0;
+  sync_correction = pos 131072000;
+  sync_tag = 5;
+  follow_tag = Some 7;
+}
 
 completed : sync_completed small_network hearing follow_up_heard ≡ Some completion
 completed = refl

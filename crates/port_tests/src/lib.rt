@@ -7,6 +7,8 @@ mod clock;
 #[cfg(test)]
 mod codec;
 #[cfg(test)]
+mod last_exchange;
+#[cfg(test)]
 mod master;
 #[cfg(test)]
 mod slave;

@@ -116,7 +116,8 @@ enum ptpx_refusal {
     PTPX_SMALL_MEMORY = 906,        /* the memory is smaller than a slave port */
     PTPX_UNALIGNED_MEMORY = 907,    /* the address of the memory isn't a multiple of 16 */
     PTPX_NO_BRACKET = 908,          /* a bracket isn't strictly between -2^96 and 2^96 */
-    PTPX_WIDE = 909                 /* the number doesn't fit a signed number of 64 bits */
+    PTPX_WIDE = 909,                /* the number doesn't fit a signed number of 64 bits */
+    PTPX_NO_EXCHANGE = 910 /* there is no last exchange: none was reported, or a half of it was dropped since */
 };
 
 /* Why a slave ignores a message, in the order in which it is tested. */
@@ -223,8 +224,8 @@ struct ptpx_wide_slave {
  * What the memory of a slave port takes, what that of a wide one takes, and what their addresses are a multiple of.
  * ptpx_raw_slave_size, ptpx_raw_slave_alignment and those of a wide slave tell the archive's.
  */
-#define PTPX_SLAVE_SIZE 2944
-#define PTPX_WIDE_SLAVE_SIZE 42304
+#define PTPX_SLAVE_SIZE 2992
+#define PTPX_WIDE_SLAVE_SIZE 42352
 #define PTPX_SLAVE_ALIGNMENT 16
 
 /* Memory for a slave port, aligned by C11, C++11 and GNU C. With another compiler see to it, or 907 is answered. */
@@ -259,6 +260,24 @@ struct ptpx_heard {
     uint64_t response_tag;      /* the tag of its Delay_Resp */
 };
 
+/*
+ * What a report was made of. Its results are offset2 = a - b and path2 = a + b of the brackets
+ * a = t2 - (t1 + follow_correction) - sync_correction and b = t4 - response_correction - t3. Corrections and age are in
+ * 2^-16 ns. A fraction of a nanosecond of t1 or t4 is part of the correction that its message brought.
+ */
+struct ptpx_exchange {
+    struct ptpx_time t1;         /* when the Sync left, by the master's clock, in whole nanoseconds */
+    struct ptpx_time t2;         /* when it arrived, by the slave's clock */
+    struct ptpx_time t3;         /* when the Delay_Req left, by the slave's clock */
+    struct ptpx_time t4;         /* when it arrived, by the master's clock, in whole nanoseconds */
+    struct ptpx_signed age;      /* how much older the older half is than the newer one: the time between t2 and t3 */
+    int64_t sync_correction;     /* the correction of the Sync */
+    int64_t follow_correction;   /* that of its Follow_Up, 0 where the Sync is one-step */
+    int64_t response_correction; /* that of the Delay_Resp */
+    uint16_t sync_number;        /* sequenceId of the Sync */
+    uint16_t request_number;     /* sequenceId of the Delay_Req */
+};
+
 /* Where the archive takes the fields to lie, which a struct that is packed by a flag or a pragma has elsewhere. */
 #define PTPX_LIES(type, field, octet) (offsetof(struct type, field) == (octet))
 PTPX_HOLDS(layout_of_pointers, sizeof(void *) == 8 && sizeof(size_t) == 8 && sizeof(bool) == 1);
@@ -286,6 +305,12 @@ PTPX_HOLDS(layout_of_heard, sizeof(struct ptpx_heard) == 72 && PTPX_LIES(ptpx_he
                                 && PTPX_LIES(ptpx_heard, path2, 24) && PTPX_LIES(ptpx_heard, sync_tag, 40)
                                 && PTPX_LIES(ptpx_heard, follow_tag, 48) && PTPX_LIES(ptpx_heard, request_tag, 56)
                                 && PTPX_LIES(ptpx_heard, response_tag, 64));
+PTPX_HOLDS(layout_of_exchange,
+           sizeof(struct ptpx_exchange) == 112 && PTPX_LIES(ptpx_exchange, t2, 16) && PTPX_LIES(ptpx_exchange, t3, 32)
+               && PTPX_LIES(ptpx_exchange, t4, 48) && PTPX_LIES(ptpx_exchange, age, 64)
+               && PTPX_LIES(ptpx_exchange, sync_correction, 80) && PTPX_LIES(ptpx_exchange, follow_correction, 88)
+               && PTPX_LIES(ptpx_exchange, response_correction, 96) && PTPX_LIES(ptpx_exchange, sync_number, 104)
+               && PTPX_LIES(ptpx_exchange, request_number, 106));
 #undef PTPX_LIES
 #undef PTPX_HOLDS
 
@@ -325,6 +350,7 @@ uint16_t ptpx_raw_slave_sync(struct ptpx_slave *slave, const uint8_t *octets, si
                              uint64_t tag, struct ptpx_heard *heard);
 void ptpx_raw_slave_general(struct ptpx_slave *slave, const uint8_t *octets, size_t length, uint64_t tag,
                             struct ptpx_heard *heard);
+uint16_t ptpx_raw_slave_last(struct ptpx_slave *slave, struct ptpx_exchange *exchange);
 size_t ptpx_raw_wide_slave_size(void);
 size_t ptpx_raw_wide_slave_alignment(void);
 void ptpx_raw_wide_slave_init(struct ptpx_wide_slave *slave, const struct ptpx_config *config, uint16_t first);
@@ -337,6 +363,7 @@ uint16_t ptpx_raw_wide_slave_sync(struct ptpx_wide_slave *slave, const uint8_t *
                                   struct ptpx_time t2, uint64_t tag, struct ptpx_heard *heard);
 void ptpx_raw_wide_slave_general(struct ptpx_wide_slave *slave, const uint8_t *octets, size_t length, uint64_t tag,
                                  struct ptpx_heard *heard);
+uint16_t ptpx_raw_wide_slave_last(struct ptpx_wide_slave *slave, struct ptpx_exchange *exchange);
 
 /* ---- numbers ---- */
 
@@ -703,6 +730,20 @@ static inline uint16_t ptpx_slave_general(struct ptpx_slave *slave, const uint8_
     return PTPX_DONE;
 }
 
+/*
+ * What the last report was made of: to be called when a report was answered. The slave keeps it as long as it keeps
+ * both halves, so ptpx_slave_set_master, ptpx_slave_restart and the second ptpx_slave_tick after a half completed drop
+ * it, and there is none until the next report. Its age says how far apart the two halves were by the slave's clock,
+ * for which offset and path delay take both clocks to run alike. The slave stays as it is. 910.
+ */
+PTPX_LOOK_AT_IT
+static inline uint16_t ptpx_slave_last(struct ptpx_slave *slave, struct ptpx_exchange *exchange)
+{
+    if (slave == NULL || slave->memory == NULL || exchange == NULL)
+        return PTPX_NULL;
+    return ptpx_raw_slave_last(slave, exchange);
+}
+
 /* ---- a wide slave port ---- */
 
 /*
@@ -789,6 +830,14 @@ static inline uint16_t ptpx_wide_slave_general(struct ptpx_wide_slave *slave, co
         return PTPX_TOO_LONG;
     ptpx_raw_wide_slave_general(slave, octets, length, tag, heard);
     return PTPX_DONE;
+}
+
+PTPX_LOOK_AT_IT
+static inline uint16_t ptpx_wide_slave_last(struct ptpx_wide_slave *slave, struct ptpx_exchange *exchange)
+{
+    if (slave == NULL || slave->memory == NULL || exchange == NULL)
+        return PTPX_NULL;
+    return ptpx_raw_wide_slave_last(slave, exchange);
 }
 
 #ifdef __cplusplus

@@ -1,21 +1,25 @@
 -- What a slave port answers, by way of its handle.
-use Rattle.std.proofs.Common.{◌≡◌, ℕ, Bool, true, false, refl, sym, ap, subst}
+use Rattle.std.proofs.Common.{◌≡◌, ℕ, Bool, true, false, List, refl, sym, ap, subst}
 use Rattle.std.specs.Prelude.{Option, Some, if◌then◌else◌}
+use Rattle.slave_port.specs.declared.exchange.Exchange.{Exchange}
 use Rattle.slave_port.specs.declared.heard.Heard.{Heard}
 use Rattle.slave_port.specs.declared.heard.Heard.TheVariants as answers
 use Rattle.slave_port.specs.declared.reason.Reason.{Reason}
 use Rattle.slave_port.specs.declared.reason.SlaveRefusal.{SlaveRefusal}
 use Rattle.slave_port.specs.declared.reason.SlaveRefusal.TheVariants.{NotHeld}
-use Rattle.slave_port.specs.History.{Call}
+use Rattle.slave_port.specs.History.{Call, Setup}
 use Rattle.slave_port.specs.Refusal.{code_of}
-use Rattle.slave_port.specs.StandsFor.{Port, StandsAfter, IsAnswer}
+use Rattle.slave_port.specs.Exchange.{last_exchange}
+use Rattle.slave_port.specs.StandsFor.{Port, StandsFor, StandsAfter, IsAnswer}
+use Rattle.ptpx_c.specs.declared.exchange.RawExchange.{RawExchange}
 use Rattle.ptpx_c.specs.declared.handle.RawSlave.{RawSlave}
 use Rattle.ptpx_c.specs.declared.heard.RawHeard.{RawHeard}
 use Rattle.ptpx_c.specs.declared.ring.RingSlave.{RingSlave}
 use Rattle.ptpx_c.specs.declared.ring.WideRingSlave.{WideRingSlave}
 use Rattle.ptpx_c.specs.declared.wide_handle.RawWideSlave.{RawWideSlave}
 use Rattle.ptpx_c.specs.Answers.{Says}
-use Rattle.ptpx_c.specs.Slaves.{Kind, with_port, with_wide_port, IsHeard}
+use Rattle.ptpx_c.specs.Exchanges.{IsPut}
+use Rattle.ptpx_c.specs.Slaves.{Kind, with_port, with_wide_port, IsHeard, IsLast}
 
 -- the memory holds one port
 pub one_port : {Slave : Type 0} (o : Option Slave) (a b : Slave) → o ≡ Some a → o ≡ Some b → a ≡ b
@@ -46,3 +50,13 @@ heard_by_handle kind call handle ring after said answer lies says is stands igno
     let P : kind.Slave → Type 0 = λ r. (x : kind.Slave) × (y : Heard) × ((kind.with_port handle after ≡ kind.with_port handle x) × Says said y
     × IsAnswer call (kind.kept r) y × StandsAfter call (kind.kept r) (kind.kept x) × ((reason : Reason) → y ≡ answers.Ignored reason → kind.kept x ≡ kind.kept r)) in
     subst P (one_port (kind.held handle) ring before lies there) (after, answer, (refl, says, is, stands, ignored))
+
+-- the exchange that a port has is the one by way of its handle
+pub last_by_handle : (kind : Kind) (handle : kind.Handle) (ring : kind.Slave) (last : Option Exchange) (code : ℕ) (old new : RawExchange)
+    → kind.held handle ≡ Some ring → IsPut last code old new
+    → ((setup : Setup) (history : List Call) → StandsFor setup (kind.kept ring) history → last ≡ last_exchange setup history)
+    → IsLast kind handle code old new
+last_by_handle kind handle ring last code old new lies put is = λ before there setup history stands.
+    let Stands : kind.Slave → Type 0 = λ r. StandsFor setup (kind.kept r) history in
+    let same = one_port (kind.held handle) before ring there lies in
+    subst (λ x. IsPut x code old new) (is setup history (subst Stands same stands)) put

@@ -5,6 +5,7 @@ pub mod Messages
 pub mod Stays
 pub mod Masters
 pub mod Answers
+pub mod Exchanges
 pub mod Memory
 pub mod Slaves
 pub mod Inner

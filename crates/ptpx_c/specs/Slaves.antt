@@ -8,13 +8,16 @@ use Rattle.slave_port.specs.declared.reason.Reason.{Reason}
 use Rattle.slave_port.specs.History.{Setup, Call, setup_of, next_number}
 use Rattle.slave_port.specs.Requests.{is_held}
 use Rattle.slave_port.specs.StandsFor.{Port, StandsFor, StandsAfter, IsAnswer}
+use Rattle.slave_port.specs.Exchange.{last_exchange}
 use Rattle.slave_port.specs.Written.{delay_req}
+use Rattle.ptpx_c.specs.declared.exchange.RawExchange.{RawExchange}
 use Rattle.ptpx_c.specs.declared.handle.RawSlave.{RawSlave}
 use Rattle.ptpx_c.specs.declared.heard.RawHeard.{RawHeard}
 use Rattle.ptpx_c.specs.declared.ring.RingSlave.{RingSlave}
 use Rattle.ptpx_c.specs.declared.ring.WideRingSlave.{WideRingSlave}
 use Rattle.ptpx_c.specs.declared.wide_handle.RawWideSlave.{RawWideSlave}
 use Rattle.ptpx_c.specs.Answers.{Says}
+use Rattle.ptpx_c.specs.Exchanges.{IsPut}
 
 -- slave ports as C keeps them: the handles and the ports, how many Syncs, Follow_Ups and requests each holds at most,
 -- what it keeps, the port in a handle's memory, once there is one, and the handle with another there
@@ -85,6 +88,12 @@ module _ (kind : Kind) where
       → (after : kind.Slave) × (answer : Heard) × ((new ≡ kind.with_port old after) × Says said answer
       × IsAnswer call (kind.kept before) answer × StandsAfter call (kind.kept before) (kind.kept after)
       × ((reason : Reason) → answer ≡ answers.Ignored reason → kind.kept after ≡ kind.kept before))
+
+  -- the exchange of the last report is put there, or there is none: 910, and what was there stays
+  abbrev pub IsLast : kind.Handle → (code : ℕ) → (old new : RawExchange) → Type 0
+  IsLast handle code old new = (before : kind.Slave) → kind.held handle ≡ Some before
+      → (setup : Setup) (history : List Call) → StandsFor setup (kind.kept before) history
+      → IsPut (last_exchange setup history) code old new
 
 -- whatever setup a port stood for, it is as new with another first number
 abbrev pub IsRestarted : (first : ℕ) → (old new : Port) → Type 0

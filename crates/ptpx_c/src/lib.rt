@@ -4,6 +4,7 @@
 //! Each call answers 0, or the number of the refusal that applies.
 #![tactic(auto)]
 
+mod exchange;
 mod handle;
 mod heard;
 mod master;
@@ -17,6 +18,7 @@ mod wide_handle;
 mod wide_slave;
 mod words;
 
+pub use exchange::RawExchange;
 pub use handle::RawSlave;
 pub use heard::RawHeard;
 pub use master::{RawMaster, RawPortConfig};
@@ -50,3 +52,5 @@ const _: () = prove!(size_of::<RawSlave>() == 8);
 const _: () = prove!(size_of::<RawWideSlave>() == 8);
 
 const _: () = prove!(size_of::<RawHeard>() == 72);
+
+const _: () = prove!(size_of::<RawExchange>() == 112);

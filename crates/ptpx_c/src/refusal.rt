@@ -2,7 +2,7 @@ ghost use Rattle.std.specs.Prelude.{◌≡◌};
 
 use thiserror::Error;
 
-/// Why a call refuses what C passes. 901, 902, 906 and 907 are those of the header.
+/// Why a call refuses what C passes or asks for. 901, 902, 906 and 907 are those of the header.
 #[derive(Clone, Copy, Debug, PartialEq, Eq, Error)]
 pub enum InputRefusal {
     /// The type of a message that is to be written isn't one of the four.
@@ -20,6 +20,9 @@ pub enum InputRefusal {
     /// It is below -2^63, or 2^63 or more.
     #[error("the number doesn't fit a signed number of 64 bits")]
     Wide,
+    /// No report was made, or a half of it was dropped since.
+    #[error("there is no last exchange: none was reported, or a half of it was dropped since")]
+    NoExchange,
 }
 
 impl InputRefusal {
@@ -35,6 +38,7 @@ impl InputRefusal {
             InputRefusal::LeftAlready => 905,
             InputRefusal::NoBracket => 908,
             InputRefusal::Wide => 909,
+            InputRefusal::NoExchange => 910,
         }
     }
 }

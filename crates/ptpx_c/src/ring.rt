@@ -34,7 +34,7 @@ pub struct WideRingSlave {
 /// How many octets the memory of a port takes.
 #[unsafe(no_mangle)]
 pub extern "C" fn ptpx_raw_slave_size() -> usize
-    ensures { result ≡ 2944 }
+    ensures { result ≡ 2992 }
 {
     size_of::<RingSlave>()
 }
@@ -50,7 +50,7 @@ pub extern "C" fn ptpx_raw_slave_alignment() -> usize
 /// How many octets the memory of a wide port takes.
 #[unsafe(no_mangle)]
 pub extern "C" fn ptpx_raw_wide_slave_size() -> usize
-    ensures { result ≡ 42304 }
+    ensures { result ≡ 42352 }
 {
     size_of::<WideRingSlave>()
 }

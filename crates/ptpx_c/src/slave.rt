@@ -6,8 +6,9 @@ ghost use Rattle.slave_port.specs.StandsFor.{StandsAfter};
 ghost use Rattle.ptpx_c.specs.Words.{units_of};
 ghost use Rattle.ptpx_c.specs.Messages.{identity_of};
 ghost use Rattle.ptpx_c.specs.Masters.{config_of};
-ghost use Rattle.ptpx_c.specs.Slaves.{slaves, IsMade, Becomes, IsRestarted, IsRequested, IsNoted, IsHeard};
+ghost use Rattle.ptpx_c.specs.Slaves.{slaves, IsMade, Becomes, IsRestarted, IsRequested, IsNoted, IsHeard, IsLast};
 
+use crate::exchange::{RawExchange, put_last};
 use crate::handle::RawSlave;
 use crate::heard::RawHeard;
 use crate::master::RawPortConfig;
@@ -136,4 +137,16 @@ pub extern "C" fn ptpx_raw_slave_general(
 {
     let ring = slave.port();
     *heard = RawHeard::of(ring.port.general(octets, tag));
+}
+
+/// The exchange of the last report. Refused with 910 where no report was made yet, or a half of it was dropped since;
+/// `exchange` stays then.
+#[unsafe(no_mangle)]
+pub extern "C" fn ptpx_raw_slave_last(slave: &mut RawSlave, exchange: &mut RawExchange) -> u16
+    requires { IsSome slave.old.port }
+    ensures last { IsLast slaves slave.old result exchange.old exchange.new }
+    ensures kept { slave.new ≡ slave.old }
+{
+    let ring = slave.port();
+    put_last(ring.port.last_exchange(), exchange)
 }

@@ -9,12 +9,14 @@ use Rattle.event_codec.specs.declared.port.PortIdentity.{PortIdentity}
 use Rattle.event_codec.specs.declared.refusal.DecodeRefusal.TheVariants.{Version}
 use Rattle.event_codec.specs.Packet.{Contents}
 use Rattle.event_codec.specs.Profile.{header_of}
+use Rattle.slave_port.specs.declared.exchange.Exchange.{Exchange}
 use Rattle.slave_port.specs.declared.heard.Heard.{Heard}
 use Rattle.slave_port.specs.declared.heard.Heard.TheVariants.{Held, Completed, Report, Ignored}
 use Rattle.slave_port.specs.declared.reason.Reason.TheVariants.{Decode, WrongType, NoMaster, OtherMaster, TooBig, NotNewer, OtherRequester, UnknownRequest, EgressUnknown}
 use Rattle.slave_port.specs.History.{Setup, Call, SetMaster, Tick, NextRequest, RequestLeft, Event, General, setup_of}
 use Rattle.slave_port.specs.Requests.{is_held}
 use Rattle.slave_port.specs.Answer.{answer}
+use Rattle.slave_port.specs.Exchange.{age, last_exchange, last_report}
 
 abbrev clock : ℕ → PortIdentity
 clock last = record { clock = 0 ∷ 17 ∷ 34 ∷ 255 ∷ 254 ∷ 51 ∷ 68 ∷ last ∷ []; port = 1 }
@@ -73,6 +75,57 @@ exchange_reports : answers (response (clock 2) (pos 229376000) 0 13 ∷ response
     ∷ Report (record { offset2 = pos 85196800; path2 = pos 176947200; sync_tag = 5; follow_tag = Some 7; request_tag = 8; response_tag = 17 })
     ∷ []
 exchange_reports = refl
+
+-- what that was made of; the Sync arrived 0.999997 s before the Delay_Req left
+abbrev of_exchange : Exchange
+of_exchange = record {
+  t1 = at 1 0;
+  t2 = at 1 4000;
+  t3 = at 2 1000;
+  t4 = at 2 4500;
+  sync_correction = pos 131072000;
+  follow_correction = pos 0;
+  response_correction = pos 229376000;
+  sync_number = record { 0 = 0 };
+  request_number = record { 0 = 0 };
+}
+
+abbrev reported : List Call
+reported = response (clock 2) (pos 229376000) 0 13 ∷ exchange
+
+exchange_is_last : last_exchange slave reported ≡ Some of_exchange
+exchange_is_last = refl
+
+exchange_is_of_its_age : age of_exchange ≡ at 0 999997000
+exchange_is_of_its_age = refl
+
+none_before : last_exchange slave exchange ≡ None
+none_before = refl
+
+-- what is ignored, and one tick, leave it; a second tick drops it, and a change of master, but not what was reported
+over_a_tick : last_exchange slave (Tick ∷ follow 1 40000 14 ∷ reported) ≡ Some of_exchange
+over_a_tick = refl
+
+none_after_two_ticks : last_exchange slave (Tick ∷ Tick ∷ reported) ≡ None
+none_after_two_ticks = refl
+
+none_of_a_new_master : last_exchange slave (SetMaster (clock 1) ∷ reported) ≡ None
+none_of_a_new_master = refl
+
+report_of_the_old_master : last_report slave (SetMaster (clock 1) ∷ reported)
+    ≡ Some (record { offset2 = pos 131072000; path2 = pos 131072000; sync_tag = 5; follow_tag = Some 7; request_tag = 8; response_tag = 13 })
+report_of_the_old_master = refl
+
+-- a new Sync half of a one-step Sync takes the place of the old one
+one_step_is_last : last_exchange slave (one_step (pos 16384) 1 (at 3 0) 14 ∷ reported)
+    ≡ Some (record of_exchange { t2 = at 3 0; sync_correction = pos 16384; sync_number = record { 0 = 1 } })
+one_step_is_last = refl
+
+-- the Follow_Up's correction is that of the one that completed the Sync
+follow_up_corrects : last_exchange slave
+    (General (Ok (message (clock 1) (0 ∷ 0 ∷ []) (pos 65535) 0 (FollowUp (stamp 1 7)))) 14 ∷ reported)
+    ≡ Some (record of_exchange { t1 = at 1 7; follow_correction = pos 65535 })
+follow_up_corrects = refl
 
 -- a one-step master's Sync left a quarter of a nanosecond after a second
 one_step_reports : answers (response (clock 2) (pos 229376000) 0 11 ∷ [])

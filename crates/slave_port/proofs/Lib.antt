@@ -6,3 +6,4 @@ mod Received
 mod Messages
 mod Examples
 pub mod Uses
+mod Reported

@@ -39,25 +39,25 @@ module _ (port : Port) where
 
   -- what a Delay_Resp does, by the request of its number
   responding : (number : ℕ) (response : ResponseValue) (request : Option RequestValue)
-      → with_response_to response request port
+      → with_response_to (entry number response) request port
       ≡ unless (request_reason request)
-      (received (Some (entry number (DelayResp response))) None (option_and_then (answered response) request) port) port
+      (received (Some (entry number (DelayResp response))) None (option_and_then (answered number response) request) port) port
   responding number response None = refl
   responding number response (Some request) = at request.t3
     where
       left_at : Option ℕ → Option RequestValue
       left_at t3 = Some (record { t3 = t3; tag = request.tag })
 
-      at : (t3 : Option ℕ) → with_response_to response (left_at t3) port
+      at : (t3 : Option ℕ) → with_response_to (entry number response) (left_at t3) port
           ≡ unless (request_reason (left_at t3))
-          (received (Some (entry number (DelayResp response))) None (option_and_then (answered response) (left_at t3)) port) port
+          (received (Some (entry number (DelayResp response))) None (option_and_then (answered number response) (left_at t3)) port) port
       at None = refl
       at (Some t3) = refl
 
   -- nothing changes where no request is completed
   not_responding : (number : ℕ) (response : ResponseValue) (request : Option RequestValue) (reason : Reason)
       → request_reason request ≡ Some reason
-      → (received (Some (entry number (DelayResp response))) None (option_and_then (answered response) request) port).0 ≡ port
+      → (received (Some (entry number (DelayResp response))) None (option_and_then (answered number response) request) port).0 ≡ port
   not_responding number response None reason why = refl
   not_responding number response (Some request) reason why = at request.t3 why
     where
@@ -65,7 +65,7 @@ module _ (port : Port) where
       left_at t3 = Some (record { t3 = t3; tag = request.tag })
 
       at : (t3 : Option ℕ) → request_reason (left_at t3) ≡ Some reason
-          → (received (Some (entry number (DelayResp response))) None (option_and_then (answered response) (left_at t3)) port).0 ≡ port
+          → (received (Some (entry number (DelayResp response))) None (option_and_then (answered number response) (left_at t3)) port).0 ≡ port
       at None why = refl
       at (Some t3) why = cc
 
@@ -86,7 +86,7 @@ module _ (setup : Setup) (history : List Call) (port : Port) (stands : StandsFor
       (ap (newest number) stands.syncs.latest)
       ∙ followed port number follow (option_map completes (newest number (held_syncs setup history)))
   taken-received number (DelayResp response) =
-      ap (λ request. with_response_to response request port) (ap (newest number) stands.requests)
+      ap (λ request. with_response_to (entry number response) request port) (ap (newest number) stands.requests)
       ∙ responding port number response (newest number (held_requests setup history))
 
   taken-ignored : (number : ℕ) (used : Used) (reason : Reason)
@@ -187,7 +187,7 @@ module _ (port : Port) (reason : Reason) where
       (record port { follows = push port.capacities.follows (entry number follow) port.follows })
   taken-kept number (DelayResp response) =
       let request = find number port.requests in
-      let delay = renewed (option_and_then (answered response) request) port.last_delay in
+      let delay = renewed (option_and_then (answered number response) request) port.last_delay in
       unless-kept (request_reason request) (and_completed (record port { last_delay = delay }))
       (completed-kept (record port { last_delay = delay }) port.last_sync delay)
 

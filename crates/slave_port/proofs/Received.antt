@@ -52,7 +52,7 @@ pub record IsAnswered (setup : Setup) (history : List Call) (call : Call) (outco
 -- the request that is completed by what is used
 abbrev delayed_by : Setup → List Call → Option (Entry Used) → Option DelayCompletion
 delayed_by setup history used = option_and_then
-    (λ response. option_and_then (answered response.value) (newest response.number (held_requests setup history)))
+    (λ response. option_and_then (answered response.number response.value) (newest response.number (held_requests setup history)))
     (option_and_then (part delay_resp) used)
 
 -- why what is used completes no request

@@ -7,7 +7,6 @@ use Rattle.std.specs.Result.{result_ok, result_err}
 use Rattle.std.specs.Str.{bytes_eq}
 use Rattle.std.proofs.lemmas.Bool.{and_parts, not-false, eqb-true}
 use Rattle.std.proofs.lemmas.Slice.Eq.{bytes_eq-Decides}
-use Rattle.ptp_units.specs.Exchange.{delay_bracket}
 use Rattle.ptp_units.specs.Interval.{too_big}
 use Rattle.ptp_units.specs.Moment.{Stamp}
 use Rattle.event_codec.specs.declared.message.Header.{Header}
@@ -29,7 +28,7 @@ use Rattle.slave_port.specs.Values.{SyncValue, OneStepValue, FollowValue, Respon
 use Rattle.slave_port.specs.Used.{part, two_step_sync, follow_up, delay_resp}
 use Rattle.slave_port.specs.Usable.{Criteria, Test, first_reason, common_tests, is_other, is_too_big, is_not_newer, is_two_step, sync_reason, response_reason, sync_use, used_unless, event_use, general_use, judged, usable_in, unusable_in}
 use Rattle.slave_port.specs.Requests.{held_requests}
-use Rattle.slave_port.specs.Completion.{SyncCompletion, DelayCompletion, pair, alone, answered, completed_by}
+use Rattle.slave_port.specs.Completion.{SyncCompletion, DelayCompletion, pair, alone, responded, answered, completed_by}
 use Rattle.slave_port.specs.Kept.{criteria, usable, usable_two_step_sync, usable_follow_up, usable_delay_resp, held_syncs, held_follows, sync_completion, delay_completion, last_sync_completion, last_delay_completion}
 use Rattle.slave_port.specs.Answer.{request_reason, unanswerable, ignored, report_of, completed, used, unless_ignored, answer}
 use Rattle.slave_port.proofs.Options.{some_step, some_image}
@@ -250,15 +249,11 @@ answerable setup earlier call chosen is other =
 completes_answerable : (setup : Setup) (earlier : List Call) (call : Call) (c : DelayCompletion) → delay_completion setup earlier call ≡ Some c
     → unanswerable setup earlier call ≡ None
 completes_answerable setup earlier call c is =
-    let response = some_step (λ (response : Entry ResponseValue). option_and_then (answered response.value) (first_value response.number (held_requests setup earlier)))
+    let response = some_step (λ (response : Entry ResponseValue). option_and_then (answered response.number response.value) (first_value response.number (held_requests setup earlier)))
     (usable_delay_resp setup earlier call) is in
-    let request = some_step (answered response.0.value) (first_value response.0.number (held_requests setup earlier)) response.2 in
+    let request = some_step (answered response.0.number response.0.value) (first_value response.0.number (held_requests setup earlier)) response.2 in
     ap (option_and_then (λ (response : Entry ResponseValue). request_reason (first_value response.number (held_requests setup earlier)))) response.1
-    ∙ ap request_reason request.1 ∙ left (λ t3. record {
-      bracket = delay_bracket response.0.value.receive response.0.value.correction t3;
-      request_tag = request.0.tag;
-      response_tag = response.0.value.tag;
-    }) request.0.t3 request.2
+    ∙ ap request_reason request.1 ∙ left (responded response.0.number response.0.value request.0) request.0.t3 request.2
   where
     left : (f : ℕ → DelayCompletion) (t3 : Option ℕ) → option_map f t3 ≡ Some c → (if is_none t3 then Some reasons.EgressUnknown else None) ≡ None
     left f None is = cc
@@ -392,37 +387,25 @@ pub record IsDelayCompletion (setup : Setup) (earlier : List Call) (call : Call)
   pub t3 : ℕ
   pub found : first_value h.m.header.sequence.0 (held_requests setup earlier) ≡ Some request
   pub left : request.t3 ≡ Some t3
-  pub is : c ≡ record {
-    bracket = delay_bracket h.receive h.m.header.correction.0 t3;
-    request_tag = request.tag;
-    response_tag = h.tag;
-  }
+  pub is : c ≡ responded h.m.header.sequence.0 (response_value h) request t3
   pub used : answer setup earlier call ≡ used setup earlier call
 
 pub delay_completion_of : (setup : Setup) (earlier : List Call) (call : Call) (c : DelayCompletion) → delay_completion setup earlier call ≡ Some c
     → IsDelayCompletion setup earlier call c
 delay_completion_of setup earlier call c is =
-    let response = some_step (λ (response : Entry ResponseValue). option_and_then (answered response.value) (first_value response.number (held_requests setup earlier)))
+    let response = some_step (λ (response : Entry ResponseValue). option_and_then (answered response.number response.value) (first_value response.number (held_requests setup earlier)))
     (usable_delay_resp setup earlier call) is in
     let chosen = some_step (part delay_resp) (usable setup earlier call) response.1 in
     let use_is = response_entry setup earlier call response.0 response.1 in
-    let request = some_step (answered response.0.value) (first_value response.0.number (held_requests setup earlier)) response.2 in
-    let t3 = some_image (λ t3. record {
-      bracket = delay_bracket response.0.value.receive response.0.value.correction t3;
-      request_tag = request.0.tag;
-      response_tag = response.0.value.tag;
-    }) request.0.t3 request.2 in
+    let request = some_step (answered response.0.number response.0.value) (first_value response.0.number (held_requests setup earlier)) response.2 in
+    let t3 = some_image (responded response.0.number response.0.value request.0) request.0.t3 request.2 in
     record {
       h = use_is.h;
       request = request.0;
       t3 = t3.0;
       found = subst (λ (e : Entry ResponseValue). first_value e.number (held_requests setup earlier) ≡ Some request.0) use_is.is request.1;
       left = t3.1;
-      is = subst (λ (e : Entry ResponseValue). c ≡ record {
-        bracket = delay_bracket e.value.receive e.value.correction t3.0;
-        request_tag = request.0.tag;
-        response_tag = e.value.tag;
-      }) use_is.is (sym t3.2);
+      is = subst (λ (e : Entry ResponseValue). c ≡ responded e.number e.value request.0 t3.0) use_is.is (sym t3.2);
       used = answer-used setup earlier call chosen.0 chosen.1 (completes_answerable setup earlier call c is);
     }
 

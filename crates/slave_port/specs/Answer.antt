@@ -11,7 +11,7 @@ use Rattle.slave_port.specs.declared.reason.Reason.TheVariants.{UnknownRequest, 
 use Rattle.slave_port.specs.History.{Setup, Call}
 use Rattle.slave_port.specs.Values.{RequestValue}
 use Rattle.slave_port.specs.Requests.{held_requests}
-use Rattle.slave_port.specs.Completion.{SyncCompletion, DelayCompletion}
+use Rattle.slave_port.specs.Completion.{SyncCompletion, DelayCompletion, bracket_of_sync, bracket_of_delay}
 use Rattle.slave_port.specs.Kept.{unusable, usable_delay_resp, sync_completion, delay_completion, last_sync_completion}
 use Rattle.slave_port.specs.Kept.{last_delay_completion}
 
@@ -33,8 +33,8 @@ ignored setup earlier call = option_or (unusable setup earlier call) (unanswerab
 -- the report of a completion of each kind
 abbrev pub report_of : SyncCompletion → DelayCompletion → Report
 report_of sync delay = record {
-  offset2 = offset2 sync.bracket delay.bracket;
-  path2 = path2 sync.bracket delay.bracket;
+  offset2 = offset2 (bracket_of_sync sync) (bracket_of_delay delay);
+  path2 = path2 (bracket_of_sync sync) (bracket_of_delay delay);
   sync_tag = sync.sync_tag;
   follow_tag = sync.follow_tag;
   request_tag = delay.request_tag;

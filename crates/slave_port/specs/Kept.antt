@@ -90,7 +90,9 @@ sync_completion setup earlier call = completion_in setup.capacities (kept setup 
 -- the completion of a request that a call brings: a Delay_Resp and the newest request held under its number
 abbrev pub delay_completion : Setup → List Call → Call → Option DelayCompletion
 delay_completion setup earlier call = option_and_then
-    (λ response. option_and_then (answered response.value) (newest response.number (held_requests setup earlier)))
+    (λ response. option_and_then
+    (answered response.number response.value)
+    (newest response.number (held_requests setup earlier)))
     (usable_delay_resp setup earlier call)
 
 -- the completions of requests in the window

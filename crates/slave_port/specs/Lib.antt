@@ -7,6 +7,7 @@ pub mod Requests
 pub mod Completion
 pub mod Kept
 pub mod Answer
+pub mod Exchange
 pub mod Written
 pub mod StandsFor
 pub mod Refusal

@@ -1,40 +1,49 @@
-ghost use Rattle.std.specs.Prelude.{◌≡◌};
-ghost use Rattle.slave_port.specs.Completion.{pair, alone, answered};
+ghost use Rattle.std.specs.Prelude.{◌≡◌, option_map};
+ghost use Rattle.slave_port.specs.Completion.{pair, alone, answered, bracket_of_sync, bracket_of_delay};
 ghost use Rattle.slave_port.specs.Answer.{report_of};
+ghost use Rattle.slave_port.specs.Exchange.{exchange_of, exchanged};
+ghost use Rattle.ptp_units.specs.Exchange.{IsBracket};
 
+use crate::exchange::Exchange;
 use crate::heard::Report;
 use crate::held::{HeldFollow, HeldRequest, HeldSync};
 use crate::used::{OneStepSync, Response};
-use ptp_units::{Seq, delay_bracket, offset2, path2, sync_bracket};
+use ptp_units::{ScaledTime, Seq, Timestamp, delay_bracket, offset2, path2, sync_bracket};
 use std::marker::Model;
 
 /// A Sync that is completed, by its Follow_Up where it is two-step.
 #[derive(Clone, Copy)]
 pub(crate) struct SyncCompletion {
-    number: Seq,
-    bracket: i128,
+    t2: ScaledTime,
+    origin: Timestamp,
+    follow_correction: i64,
+    sync_correction: i64,
     sync_tag: u64,
     follow_tag: Option<u64>,
+    number: Seq,
 }
 
 impl Model for SyncCompletion {
-    ghost use Rattle.ptp_units.specs.Exchange.{IsBracket};
     ghost use Rattle.slave_port.specs.Completion.{SyncCompletion};
 
     ghost Value = { SyncCompletion };
 
     ghost view = { λ c. record {
       number = c.number.0;
-      bracket = c.bracket;
+      t2 = c.t2;
+      origin = c.origin;
+      follow_correction = c.follow_correction;
+      sync_correction = c.sync_correction;
       sync_tag = c.sync_tag;
       follow_tag = c.follow_tag;
     } };
 
-    ghost invariant = { λ c. IsBracket c.bracket };
-
     ghost inverse = { λ c. record {
       number = record { 0 = c.number };
-      bracket = c.bracket;
+      t2 = c.t2;
+      origin = c.origin;
+      follow_correction = c.follow_correction;
+      sync_correction = c.sync_correction;
       sync_tag = c.sync_tag;
       follow_tag = c.follow_tag;
     } };
@@ -43,22 +52,36 @@ impl Model for SyncCompletion {
 /// A Delay_Resp with its request.
 #[derive(Clone, Copy)]
 pub(crate) struct DelayCompletion {
-    bracket: i128,
+    t3: ScaledTime,
+    receive: Timestamp,
+    correction: i64,
     request_tag: u64,
     response_tag: u64,
+    number: Seq,
 }
 
 impl Model for DelayCompletion {
-    ghost use Rattle.ptp_units.specs.Exchange.{IsBracket};
     ghost use Rattle.slave_port.specs.Completion.{DelayCompletion};
 
     ghost Value = { DelayCompletion };
 
-    ghost view = { λ c. record { bracket = c.bracket; request_tag = c.request_tag; response_tag = c.response_tag } };
+    ghost view = { λ c. record {
+      number = c.number.0;
+      t3 = c.t3;
+      receive = c.receive;
+      correction = c.correction;
+      request_tag = c.request_tag;
+      response_tag = c.response_tag;
+    } };
 
-    ghost invariant = { λ c. IsBracket c.bracket };
-
-    ghost inverse = { λ c. record { bracket = c.bracket; request_tag = c.request_tag; response_tag = c.response_tag } };
+    ghost inverse = { λ c. record {
+      number = record { 0 = c.number };
+      t3 = c.t3;
+      receive = c.receive;
+      correction = c.correction;
+      request_tag = c.request_tag;
+      response_tag = c.response_tag;
+    } };
 }
 
 /// The last completion of a kind, and whether a tick came since.
@@ -116,6 +139,29 @@ impl SyncCompletion {
     {
         self.number
     }
+
+    /// Its half of a report: `a`.
+    fn bracket(self) -> i128
+        ensures value { result ≡ bracket_of_sync self }
+        ensures within { IsBracket result }
+    {
+        sync_bracket(
+            self.t2,
+            self.origin,
+            self.follow_correction,
+            self.sync_correction,
+        )
+    }
+}
+
+impl DelayCompletion {
+    /// Its half of a report: `b`.
+    fn bracket(self) -> i128
+        ensures value { result ≡ bracket_of_delay self }
+        ensures within { IsBracket result }
+    {
+        delay_bracket(self.receive, self.correction, self.t3)
+    }
 }
 
 /// The completion of a two-step Sync by a Follow_Up of its number.
@@ -124,7 +170,10 @@ pub(crate) fn pair(number: Seq, sync: HeldSync, follow: HeldFollow) -> SyncCompl
 {
     SyncCompletion {
         number,
-        bracket: sync_bracket(sync.t2, follow.precise, follow.correction, sync.correction),
+        t2: sync.t2,
+        origin: follow.precise,
+        follow_correction: follow.correction,
+        sync_correction: sync.correction,
         sync_tag: sync.tag,
         follow_tag: Some(follow.tag),
     }
@@ -134,21 +183,37 @@ pub(crate) fn pair(number: Seq, sync: HeldSync, follow: HeldFollow) -> SyncCompl
 pub(crate) fn alone(number: Seq, sync: OneStepSync) -> SyncCompletion
     ensures { result ≡ alone number.0 sync }
 {
+    let OneStepSync {
+        t2,
+        origin,
+        correction,
+        tag,
+    } = sync;
     SyncCompletion {
         number,
-        bracket: sync_bracket(sync.t2, sync.origin, 0, sync.correction),
-        sync_tag: sync.tag,
+        t2,
+        origin,
+        follow_correction: 0,
+        sync_correction: correction,
+        sync_tag: tag,
         follow_tag: None,
     }
 }
 
 /// The completion of a request by a Delay_Resp of its number, or None where it isn't known when the request left.
-pub(crate) fn answered(response: Response, request: HeldRequest) -> Option<DelayCompletion>
-    ensures { result ≡ answered response request }
+pub(crate) fn answered(
+    number: Seq,
+    response: Response,
+    request: HeldRequest,
+) -> Option<DelayCompletion>
+    ensures { result ≡ answered number.0 response request }
 {
     let t3 = request.t3?;
     Some(DelayCompletion {
-        bracket: delay_bracket(response.receive, response.correction, t3),
+        number,
+        t3,
+        receive: response.receive,
+        correction: response.correction,
         request_tag: request.tag,
         response_tag: response.tag,
     })
@@ -158,12 +223,42 @@ pub(crate) fn answered(response: Response, request: HeldRequest) -> Option<Delay
 pub(crate) fn report_of(sync: SyncCompletion, delay: DelayCompletion) -> Report
     ensures { result ≡ report_of sync delay }
 {
+    let (a, b) = (sync.bracket(), delay.bracket());
     Report {
-        offset2: offset2(sync.bracket, delay.bracket),
-        path2: path2(sync.bracket, delay.bracket),
+        offset2: offset2(a, b),
+        path2: path2(a, b),
         sync_tag: sync.sync_tag,
         follow_tag: sync.follow_tag,
         request_tag: delay.request_tag,
         response_tag: delay.response_tag,
     }
+}
+
+/// The exchange of these two completions.
+fn exchange_of(sync: SyncCompletion, delay: DelayCompletion) -> Exchange
+    ensures { result ≡ exchange_of sync delay }
+{
+    Exchange {
+        t1: ScaledTime::join(sync.origin, 0),
+        t2: sync.t2,
+        t3: delay.t3,
+        t4: ScaledTime::join(delay.receive, 0),
+        sync_correction: sync.sync_correction,
+        follow_correction: sync.follow_correction,
+        response_correction: delay.correction,
+        sync_number: sync.number,
+        request_number: delay.number,
+    }
+}
+
+/// The exchange of the last completions, where both are there.
+pub(crate) fn exchanged(
+    sync: Option<Last<SyncCompletion>>,
+    delay: Option<Last<DelayCompletion>>,
+) -> Option<Exchange>
+    ensures { result ≡ exchanged
+        (option_map (λ last. last.completion) sync)
+        (option_map (λ last. last.completion) delay) }
+{
+    Some(exchange_of(sync?.completion(), delay?.completion()))
 }

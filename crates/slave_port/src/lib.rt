@@ -5,6 +5,7 @@
 #![tactic(auto)]
 
 mod completion;
+mod exchange;
 mod heard;
 mod held;
 mod reason;
@@ -13,6 +14,7 @@ mod usable;
 mod used;
 mod written;
 
+pub use exchange::Exchange;
 pub use heard::{Heard, Report};
 pub use held::{HeldFollow, HeldRequest, HeldSync};
 pub use reason::{Reason, SlaveRefusal};

@@ -1,17 +1,24 @@
-ghost use Rattle.std.specs.Prelude.{◌≡◌, ◌≤◌, List, [], is_ok, OnErr, Some, None};
+ghost use Rattle.std.specs.Prelude.{◌≡◌, ◌≤◌, List, [], ◌∷◌, is_ok, OnErr, Some, None, IfSome, IsSome};
 ghost use Rattle.event_codec.specs.Packet.{Packet, contents};
 ghost use Rattle.event_codec.specs.Reading.{Reading, IsReading};
 ghost use Rattle.pairing.specs.Marked.{empty, entry};
+ghost use Rattle.slave_port.specs.declared.heard.Report.{Report};
 ghost use Rattle.slave_port.specs.declared.reason.Reason.{Reason};
 ghost use Rattle.slave_port.specs.History.{Setup, Call, setup_of, next_number, SetMaster, Tick, NextRequest};
 ghost use Rattle.slave_port.specs.History.{RequestLeft, Event, General};
 ghost use Rattle.slave_port.specs.Requests.{is_held};
 ghost use Rattle.slave_port.specs.Written.{delay_req};
+ghost use Rattle.slave_port.specs.Answer.{answer};
+ghost use Rattle.slave_port.specs.Exchange.{last_exchange, IsOfLastReport};
 ghost use Rattle.slave_port.specs.StandsFor.{StandsFor, StandsAfter, IsAnswer};
 ghost use Rattle.slave_port.specs.Inner.Changes.{criteria_of, with_sync, with_follow, with_sync_completion};
-ghost use Rattle.slave_port.specs.Inner.Changes.{with_response, and_completed, taken, sync_heard, general_heard};
+ghost use Rattle.slave_port.specs.Inner.Changes.{with_response, and_completed, exchange_in, taken, sync_heard};
+ghost use Rattle.slave_port.specs.Inner.Changes.{general_heard};
 
-use crate::completion::{DelayCompletion, Last, SyncCompletion, alone, answered, pair, report_of};
+use crate::completion::{
+    DelayCompletion, Last, SyncCompletion, alone, answered, exchanged, pair, report_of,
+};
+use crate::exchange::Exchange;
 use crate::heard::Heard;
 use crate::held::{HeldFollow, HeldRequest, HeldSync};
 use crate::reason::{Reason, SlaveRefusal};
@@ -215,6 +222,29 @@ where
         }
     }
 
+    /// The exchange of the last report: what its two results were made of. None before the first report,
+    /// and after [`restart`](Self::restart), [`set_master`](Self::set_master) or a second
+    /// [`tick`](Self::tick) dropped a half of it, until the next report. So it is there when a report was
+    /// answered, whatever came before.
+    pub fn last_exchange(&self) -> Option<Exchange>
+        ensures exchange { (setup : Setup) (history : List Call) → StandsFor setup self.now history
+            → result ≡ last_exchange setup history }
+        ensures reported { (setup : Setup) (history : List Call) → StandsFor setup self.now history
+            → IfSome result (IsOfLastReport setup history) }
+        ensures at_report { (setup : Setup) (call : Call) (earlier : List Call) (report : Report)
+            → StandsFor setup self.now (call ∷ earlier) → answer setup earlier call ≡ Heard.Report report
+            → IsSome result }
+    {
+        self.exchange()
+    }
+
+    /// The exchange of the last completions, where both are there.
+    fn exchange(&self) -> Option<Exchange>
+        ensures { result ≡ exchange_in self.now }
+    {
+        exchanged(self.last_sync, self.last_delay)
+    }
+
     /// By what this port judges the next message.
     fn criteria(&self) -> Criteria
         ensures { result ≡ criteria_of self.now }
@@ -289,7 +319,7 @@ where
         let Some(request) = self.requests.find(number).copied() else {
             return Heard::Ignored(Reason::UnknownRequest);
         };
-        let Some(completion) = answered(response, request) else {
+        let Some(completion) = answered(number, response, request) else {
             return Heard::Ignored(Reason::EgressUnknown);
         };
         self.last_delay = Some(Last::new(completion));

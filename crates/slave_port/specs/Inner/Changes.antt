@@ -5,6 +5,7 @@ use Rattle.std.specs.Prelude.{Ok, Err}
 use Rattle.ptp_units.specs.Sequence.{next}
 use Rattle.event_codec.specs.Packet.{Contents}
 use Rattle.pairing.specs.Marked.{Entry, entry, push, find, set, tick}
+use Rattle.slave_port.specs.declared.exchange.Exchange.{Exchange}
 use Rattle.slave_port.specs.declared.heard.Heard.{Heard}
 use Rattle.slave_port.specs.declared.heard.Heard.TheVariants as answers
 use Rattle.slave_port.specs.declared.reason.Reason.{Reason}
@@ -14,6 +15,7 @@ use Rattle.slave_port.specs.Values.{SyncValue, FollowValue, RequestValue, Respon
 use Rattle.slave_port.specs.Usable.{Criteria, event_use, general_use}
 use Rattle.slave_port.specs.Completion.{SyncCompletion, pair, alone, answered}
 use Rattle.slave_port.specs.Answer.{request_reason, completed}
+use Rattle.slave_port.specs.Exchange.{exchanged}
 use Rattle.slave_port.specs.StandsFor.{Last, Port}
 
 -- the last completion, where another one came or none
@@ -66,6 +68,12 @@ and_completed port = (
       (option_map (λ last. last.completion) port.last_delay),
 )
 
+-- the exchange of the last completions, where both are there
+abbrev pub exchange_in : Port → Option Exchange
+exchange_in port = exchanged
+    (option_map (λ last. last.completion) port.last_sync)
+    (option_map (λ last. last.completion) port.last_delay)
+
 -- a Sync is completed, if it is
 abbrev pub with_sync_completion : Option SyncCompletion → Port → Port × Heard
 with_sync_completion None port = (port, answers.Held)
@@ -90,15 +98,17 @@ unless None used port = used
 unless (Some reason) used port = (port, answers.Ignored reason)
 
 -- a Delay_Resp completes this request, if there is one that can be completed
-abbrev pub with_response_to : ResponseValue → Option RequestValue → Port → Port × Heard
+abbrev pub with_response_to : Entry ResponseValue → Option RequestValue → Port → Port × Heard
 with_response_to response request port = unless
     (request_reason request)
-    (and_completed (record port { last_delay = renewed (option_and_then (answered response) request) port.last_delay }))
+    (and_completed (record port {
+      last_delay = renewed (option_and_then (answered response.number response.value) request) port.last_delay;
+    }))
     port
 
 -- a Delay_Resp completes with the newest request of its number
 abbrev pub with_response : Entry ResponseValue → Port → Port × Heard
-with_response response port = with_response_to response.value (find response.number port.requests) port
+with_response response port = with_response_to response (find response.number port.requests) port
 
 -- a message is used
 abbrev pub taken : (number : ℕ) → Used → Port → Port × Heard
