@@ -12,7 +12,6 @@ use Rattle.world_model.specs.declared.entry.Happened.{Happened}
 use Rattle.world_model.specs.declared.station.Station.{Station}
 use Rattle.world_model.specs.Inner.Stands.{run_of, Keeps, Stands, AllStand, IsWorld}
 use Rattle.world_model.specs.Inner.Acts.{Brings, Answers, ActsIn, entries_after}
-use Rattle.world_model.specs.Inner.Steps.{IsAt}
 use Rattle.network_model.proofs.Networks.{named_so}
 use Rattle.world_model.proofs.Stations.{AllStand-after}
 use Rattle.world_model.proofs.Entries.{run_of-after, Keeps-after}
@@ -54,14 +53,6 @@ module _ (network : Network) (event : Event) (stations : List Station) (entries 
   stood : Stands network (run_of entries) (site_of event) here.node.kind old
   stood = subst (λ (n : NodeName). Stands network (run_of entries) n here.node.kind old) named_here
       (world.nodes.each index here.node old here.at (reads_at stations index old less is_old))
-
-  pub site : IsAt network event entries old
-  site = record {
-    kind = here.node.kind;
-    is_kind = ap (option_map (λ (n : NodeSpec). n.kind)) (ap (node_of network) (sym is_site) ∙ here.is);
-    stands = stood;
-    keeps = world.events;
-  }
 
   -- what comes of the event
   pub answered : (result : Result Happened WorldRefusal) → ActsIn network event entries old new HasRoom result

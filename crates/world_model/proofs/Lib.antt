@@ -10,7 +10,6 @@ mod Arrivals
 mod LeftStays
 mod Leaves
 mod Happening
-mod Acting
 mod InTurn
 mod KeptEvents
 mod NodePlaces

@@ -1,14 +1,12 @@
 ghost use Rattle.std.specs.Prelude.{◌≡◌, ◌≤◌, ◌<◌, ◌∷◌, ◌++◌, [], length, option_map, vec_len, vec_capacity};
-ghost use Rattle.std.specs.Prelude.{IsSome, IsTrue, ◌↔◌, IfSome, IfOk, IfErr, OnOk, OnErr};
+ghost use Rattle.std.specs.Prelude.{IsSome, IsTrue, ◌↔◌, IfSome, IfErr, OnOk, OnErr};
 ghost use Rattle.network_model.specs.Kinds.{entered_copy};
 ghost use Rattle.world_model.specs.Inner.Stands.{listed, octets_at, stay_in, stay_at, left_stay};
 ghost use Rattle.world_model.specs.Inner.Acts.{copy_inside, entries_after};
 ghost use Rattle.world_model.specs.Inner.Kept.{lists, slot_at, left_in, entries_of, IsStored, AllStored, Extends, HasPlace, HasRoom};
-ghost use Rattle.world_model.specs.Inner.Steps.{MayKeep, IsFinished};
 
 use crate::entry::{Left, Octets};
-use crate::station::Answer;
-use network_model::{Event, Name, Stepped, WorldRefusal};
+use network_model::{Event, Name, WorldRefusal};
 use ptp_units::ScaledTime;
 use std::alloc::Global;
 use std::snapshot::Snapshot;
@@ -78,7 +76,6 @@ fn has_room<T>(list: &Vec<T>) -> bool
 
 impl Stores {
     /// Keeps what an event leaves. There is room for it.
-    #[inline(always)]
     fn put(&mut self, event: &Event, left: &Left) -> Slot
         requires room { HasPlace self.old }
         requires entered { IsSome (stay_in left.now) → IsSome (entered_copy event.now) }
@@ -269,7 +266,6 @@ impl Events {
     }
 
     /// Ends the stay that an event leaves.
-    #[inline(always)]
     fn end_stay(&mut self, event: &Event)
         ensures entries { entries_of self.new ≡ entries_after event.now (entries_of self.old) }
         ensures stored { AllStored (lists self.old.stores) self.old.kept.items
@@ -282,7 +278,6 @@ impl Events {
     }
 
     /// Puts an event after the others, with what it leaves, for which there is room.
-    #[inline(always)]
     fn push(&mut self, event: &Event, left: &Left)
         requires room { HasRoom self.old }
         requires entered { IsSome (stay_in left.now) → IsSome (entered_copy event.now) }
@@ -300,7 +295,6 @@ impl Events {
 
     /// Keeps an event that happened, with what it leaves, for which there is room. The stay that it
     /// leaves itself ends.
-    #[inline(always)]
     pub(crate) fn keep(&mut self, event: &Event, left: &Left)
         requires room { HasRoom self.old }
         requires entered { IsSome (stay_in left.now) → IsSome (entered_copy event.now) }
@@ -311,24 +305,5 @@ impl Events {
     {
         self.end_stay(event);
         self.push(event, left);
-    }
-
-    /// Keeps an event that happened, and tells of it. A refusal changes nothing. In each place that
-    /// calls it, what happened is known in part, and the rest of it is never moved.
-    #[inline(always)]
-    pub(crate) fn finish(&mut self, event: &Event, answer: Answer) -> Result<Stepped, WorldRefusal>
-        requires kept { IfOk answer (MayKeep self.old event.now) }
-        requires stored { AllStored (lists self.old.stores) self.old.kept.items }
-        ensures finished { IsFinished event.now answer self.old self.new result }
-        ensures stored { AllStored (lists self.new.stores) self.new.kept.items }
-    {
-        let happened = answer?;
-        let tag = self.len();
-        self.keep(event, &happened.left);
-        Ok(Stepped {
-            tag,
-            reading: happened.reading,
-            outcome: happened.outcome,
-        })
     }
 }

@@ -3,13 +3,12 @@ ghost use Rattle.network_model.specs.Network.{Network, NodeName, IsNetwork};
 ghost use Rattle.world_model.specs.Inner.Stands.{Entry, Stands, AllStand, left_stay};
 ghost use Rattle.world_model.specs.Inner.Acts.{Acts, ActsIn, shown_at};
 ghost use Rattle.world_model.specs.Inner.Kept.{lists, entries_of, AllStored, HasRoom};
-ghost use Rattle.world_model.specs.Inner.Steps.{IsAt, HasActed};
 
 use crate::clock::depart;
 use crate::entry::{Happened, Left};
 use crate::events::Events;
 use master_port::MasterPort;
-use network_model::{Event, Name, NodeKind, Nodes, Outcome, Stepped, WorldRefusal};
+use network_model::{Event, Name, NodeKind, Nodes, Outcome, WorldRefusal};
 use pairing::RingTable;
 use ptp_units::{BOUND, ScaledTime, Seq};
 use slave_port::{HeldFollow, HeldRequest, HeldSync, SlavePort};
@@ -92,68 +91,25 @@ impl Station {
         }
     }
 
-    /// An event happens at its node, whose station this is, and is kept with what it leaves. Where it
-    /// isn't accepted, or there is no room for it, the station and the events stay as they were.
-    pub(crate) fn act(
-        &mut self,
-        nodes: &Nodes,
-        events: &mut Events,
-        event: &Event,
-    ) -> Result<Stepped, WorldRefusal>
-        requires station { IsAt nodes.now event.now (entries_of events.old) self.old }
-        requires stored { AllStored (lists events.old.stores) events.old.kept.items }
-        ensures acted { HasActed nodes.now event.now events.old events.new self.old self.new result }
-        ensures stored { AllStored (lists events.new.stores) events.new.kept.items }
+    /// What an event does at its node, whose station this is. Where it isn't accepted, or there is
+    /// no room for it among the events, the station stays as it was.
+    pub(crate) fn act(&mut self, nodes: &Nodes, events: &Events, event: &Event) -> Answer
+        requires { AllStored (lists events.now.stores) events.now.kept.items }
+        ensures { ActsIn nodes.now event.now (entries_of events.now) self.old self.new (HasRoom events.now) result }
     {
         match event {
-            Event::Sync { at, .. } => {
-                let answer = self.sync(*at, events);
-                events.finish(event, answer)
-            }
-            Event::SyncOne { at, .. } => {
-                let answer = self.one_step_sync(*at, events);
-                events.finish(event, answer)
-            }
-            Event::Follow { .. } => {
-                let answer = self.follow(events);
-                events.finish(event, answer)
-            }
-            Event::Enter { copy, at, .. } => {
-                let answer = self.enter(*copy, *at, events);
-                events.finish(event, answer)
-            }
-            Event::Leave { node, transit, at } => {
-                let answer = self.leave(node, *transit, *at, events);
-                events.finish(event, answer)
-            }
-            Event::Arrive { copy, at, .. } => {
-                let answer = self.arrive(*copy, *at, events);
-                events.finish(event, answer)
-            }
-            Event::Hear { copy, .. } => {
-                let answer = self.hear(*copy, events);
-                events.finish(event, answer)
-            }
-            Event::Request { at, .. } => {
-                let answer = self.request(*at, events);
-                events.finish(event, answer)
-            }
-            Event::Stamped { .. } => {
-                let answer = self.stamped(events);
-                events.finish(event, answer)
-            }
-            Event::Tick { .. } => {
-                let answer = self.tick(events);
-                events.finish(event, answer)
-            }
-            Event::SetMaster { master, .. } => {
-                let answer = self.set_master(nodes, master, events);
-                events.finish(event, answer)
-            }
-            Event::StepClock { diff, .. } => {
-                let answer = self.step_clock(diff, events);
-                events.finish(event, answer)
-            }
+            Event::Sync { at, .. } => self.sync(*at, events),
+            Event::SyncOne { at, .. } => self.one_step_sync(*at, events),
+            Event::Follow { .. } => self.follow(events),
+            Event::Enter { copy, at, .. } => self.enter(*copy, *at, events),
+            Event::Leave { node, transit, at } => self.leave(node, *transit, *at, events),
+            Event::Arrive { copy, at, .. } => self.arrive(*copy, *at, events),
+            Event::Hear { copy, .. } => self.hear(*copy, events),
+            Event::Request { at, .. } => self.request(*at, events),
+            Event::Stamped { .. } => self.stamped(events),
+            Event::Tick { .. } => self.tick(events),
+            Event::SetMaster { master, .. } => self.set_master(nodes, master, events),
+            Event::StepClock { diff, .. } => self.step_clock(diff, events),
         }
     }
 

@@ -26,5 +26,16 @@ pub(crate) fn step(
     let Some(index) = place_of(nodes, recent, site(event)) else {
         return Err(WorldRefusal::NoNode);
     };
-    stations[index].act(nodes, events, event)
+    match stations[index].act(nodes, events, event) {
+        Ok(happened) => {
+            let tag = events.len();
+            events.keep(event, &happened.left);
+            Ok(Stepped {
+                tag,
+                reading: happened.reading,
+                outcome: happened.outcome,
+            })
+        }
+        Err(why) => Err(why),
+    }
 }
