@@ -21,7 +21,8 @@ impl Case<'_> {
     /// Appends the reasons against the report, each with what it met, and then the report's lines and results.
     pub(crate) fn push(&self, text: &mut String) -> Result<(), AllocError> {
         push_begin(text, self.reported)?;
-        for (index, why) in self.reported.judgement.reasons.as_slice().iter().enumerate() {
+        let reasons = self.reported.judgement.reasons.as_slice();
+        for (index, why) in reasons.iter().enumerate() {
             push_reason(text, index, *why)?;
             self.push_met(text, *why)?;
         }

@@ -140,11 +140,7 @@ pub(crate) struct Compared {
 }
 
 /// How the octets that an event made differ from those of the message that is written; none where it makes none.
-pub(crate) fn difference_at(
-    checker: &Checker,
-    record: &Record,
-    number: u64,
-) -> Option<Compared> {
+pub(crate) fn difference_at(checker: &Checker, record: &Record, number: u64) -> Option<Compared> {
     let found = octets_made(record.at(number)?)?;
     let message = checker.message_at(number)?;
     let mut room = [0; 54];
