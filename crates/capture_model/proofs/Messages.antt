@@ -266,7 +266,7 @@ module _ (network : Network) (slave master : NodeName) (w : Watched) (apart : Is
         subst (IsHeldFollow network slave master watches.other lines syncs (reach.late + slack)) (sym brought.is)
         (follow_of brought.h brought.used))
         (λ c is. let done = sync_completion_of setup history call c is in completes c done.0 done.1)
-        (λ c is. responded c is)
+        (λ c is. request_of c is)
       where
         call : Call
         call = calls.General (Ok m) line
@@ -291,9 +291,9 @@ module _ (network : Network) (slave master : NodeName) (w : Watched) (apart : Is
         completes c (BySync h follow flag found same) uses = let other = h.call_is in cc
         completes c (Alone h flag same) uses = let other = h.call_is in cc
 
-        responded : (c : DelayCompletion) → delay_completion setup history call ≡ Some c
+        request_of : (c : DelayCompletion) → delay_completion setup history call ≡ Some c
             → IsOneRequest lines slave master c
-        responded c is =
+        request_of c is =
             let done = delay_completion_of setup history call c is in
             let parts = same_general done.h.call_is in
             let reply = answer_to_slave network watches.own slave earlier copy done.h.m done.h.receive
