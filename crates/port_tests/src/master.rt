@@ -4,6 +4,7 @@ use crate::values::{moment, with_correction};
 use event_codec::{DecodeRefusal, PortConfig, PortIdentity};
 use master_port::{MasterPort, MasterRefusal};
 use ptp_units::Seq;
+use std::process::Abort;
 use std::test::Fail;
 
 /// The messages of an exchange between the master 001122fffe334455/1 and the slave
@@ -117,46 +118,102 @@ fn a_one_step_sync_carries_its_departure(rt: HostRuntime) -> Result<(), Fail> {
     Ok(())
 }
 
-#[test]
-fn all_syncs_are_of_one_pool(rt: HostRuntime) -> Result<(), Fail> {
-    let mut port = MasterPort::new(MASTER, Seq(0));
-    let departure = moment(1, 0, 16_384)?;
-    let second = changed(ONE_STEP_SYNC, &[(31, 0x01)]);
-    assert_eq!(rt; port.next_sync(), (SYNC, Seq(0)));
-    assert_eq!(rt; port.one_step_sync(departure), (second, Seq(1)));
-    // The two-step Sync goes on waiting, and the one-step one never waits.
-    assert_eq!(rt;
-        port.sync_left(Seq(1), departure),
-        Err(MasterRefusal::NotWaiting)
-    );
-    assert_eq!(rt; port.sync_left(Seq(0), moment(1, 0, 0)?), Ok(FOLLOW_UP));
-    assert_eq!(rt; port.next_sync().1, Seq(2));
-    Ok(())
+/// What a port is asked.
+#[derive(Clone, Copy)]
+enum Step {
+    Sync,
+    /// A one-step Sync leaves a quarter of a nanosecond after 1 s.
+    OneStepSync,
+    /// The Sync of this number left at 1 s.
+    Left(u16),
+}
+
+/// What it answers. The octets are those of the message above, with its number.
+#[derive(Clone, Copy, Debug, PartialEq, Eq)]
+enum Answer {
+    /// A Sync of this number.
+    Drawn(u16),
+    FollowUp,
+    /// A refusal of this number.
+    Refused(u16),
+}
+
+/// A title, the first number of a port, and what it answers to each step.
+type Row = (&'static str, u16, &'static [(Step, Answer)]);
+
+const NUMBERS: [Row; 3] = [
+    (
+        "a two-step Sync goes on waiting, and a one-step one of the same pool never waits",
+        0,
+        &[
+            (Step::Sync, Answer::Drawn(0)),
+            (Step::OneStepSync, Answer::Drawn(1)),
+            (Step::Left(1), Answer::Refused(301)),
+            (Step::Left(0), Answer::FollowUp),
+            (Step::Sync, Answer::Drawn(2)),
+        ],
+    ),
+    (
+        "one Sync waits, and gets one Follow_Up",
+        0,
+        &[
+            (Step::Left(0), Answer::Refused(301)),
+            (Step::Sync, Answer::Drawn(0)),
+            (Step::Sync, Answer::Drawn(1)),
+            (Step::Left(0), Answer::Refused(301)),
+            (Step::Left(1), Answer::FollowUp),
+            (Step::Left(1), Answer::Refused(301)),
+        ],
+    ),
+    (
+        "numbers wrap",
+        65_535,
+        &[
+            (Step::Sync, Answer::Drawn(65_535)),
+            (Step::Sync, Answer::Drawn(0)),
+            (Step::Sync, Answer::Drawn(1)),
+        ],
+    ),
+];
+
+/// The octets with this sequenceId.
+fn numbered(octets: [u8; 44], number: Seq) -> [u8; 44] {
+    let [high, low] = number.0.to_be_bytes();
+    changed(octets, &[(30, high), (31, low)])
+}
+
+fn answer_to(rt: &impl Abort, port: &mut MasterPort, step: Step) -> Result<Answer, Fail> {
+    match step {
+        Step::Sync => {
+            let (octets, number) = port.next_sync();
+            assert_eq!(rt; octets, numbered(SYNC, number));
+            Ok(Answer::Drawn(number.0))
+        }
+        Step::OneStepSync => {
+            let (octets, number) = port.one_step_sync(moment(1, 0, 16_384)?);
+            assert_eq!(rt; octets, numbered(ONE_STEP_SYNC, number));
+            Ok(Answer::Drawn(number.0))
+        }
+        Step::Left(number) => match port.sync_left(Seq(number), moment(1, 0, 0)?) {
+            Ok(octets) => {
+                assert_eq!(rt; octets, numbered(FOLLOW_UP, Seq(number)));
+                Ok(Answer::FollowUp)
+            }
+            Err(refusal) => Ok(Answer::Refused(refusal.code())),
+        },
+    }
 }
 
 #[test]
-fn one_sync_waits_and_gets_one_follow_up(rt: HostRuntime) -> Result<(), Fail> {
-    let departure = moment(1, 0, 0)?;
-    let refused = Err(MasterRefusal::NotWaiting);
-    let second = Ok(changed(FOLLOW_UP, &[(31, 0x01)]));
-    let mut port = MasterPort::new(MASTER, Seq(0));
-    assert_eq!(rt; port.sync_left(Seq(0), departure), refused);
-    port.next_sync();
-    port.next_sync();
-    assert_eq!(rt; port.sync_left(Seq(0), departure), refused);
-    assert_eq!(rt; port.sync_left(Seq(1), departure), second);
-    assert_eq!(rt; port.sync_left(Seq(1), departure), refused);
+fn syncs_have_numbers(rt: HostRuntime) -> Result<(), Fail> {
+    for (title, first, steps) in NUMBERS {
+        let mut port = MasterPort::new(MASTER, Seq(first));
+        for (step, expected) in steps {
+            let answer = answer_to(&rt, &mut port, *step)?;
+            assert_eq!(rt; answer, *expected, "{title}");
+        }
+    }
     Ok(())
-}
-
-#[test]
-fn numbers_wrap(rt: HostRuntime) {
-    let mut port = MasterPort::new(MASTER, Seq(65_535));
-    let last = changed(SYNC, &[(30, 0xff), (31, 0xff)]);
-    let next = changed(SYNC, &[(31, 0x01)]);
-    assert_eq!(rt; port.next_sync(), (last, Seq(65_535)));
-    assert_eq!(rt; port.next_sync(), (SYNC, Seq(0)));
-    assert_eq!(rt; port.next_sync(), (next, Seq(1)));
 }
 
 #[test]

@@ -1,11 +1,9 @@
 //! What a slave answers, call by call.
 
 use event_codec::{DecodeRefusal, Header, PortConfig, PortIdentity};
-use pairing::ListTable;
+use pairing::{ListTable, PairTable};
 use ptp_units::{Interval, ScaledTime, Seq, TOO_BIG, Timestamp};
-use slave_port::{
-    Heard, HeldFollow, HeldRequest, HeldSync, Reason, Report, SlavePort, SlaveRefusal,
-};
+use slave_port::{Heard, HeldFollow, HeldRequest, HeldSync, Reason, Report, SlavePort};
 use std::process::Abort;
 
 /// A slave with 16 places of each kind.
@@ -121,377 +119,524 @@ fn plain_delay_resp(number: u16) -> [u8; 54] {
     header(0, number).delay_resp(Timestamp::default(), SLAVE)
 }
 
-fn timestamp(rt: &impl Abort, seconds: u64, nanoseconds: u32) -> Timestamp {
+fn timestamp(rt: &impl Abort, (seconds, nanoseconds): Stamp) -> Timestamp {
     Timestamp::new(seconds, nanoseconds).expect(rt, "a timestamp")
 }
 
-fn moment(rt: &impl Abort, seconds: u64, nanoseconds: u32, fraction: u16) -> ScaledTime {
-    ScaledTime::join(timestamp(rt, seconds, nanoseconds), fraction)
+fn moment(rt: &impl Abort, (seconds, nanoseconds, fraction): Moment) -> ScaledTime {
+    ScaledTime::join(timestamp(rt, (seconds, nanoseconds)), fraction)
 }
 
-/// The number of the reason, where a message was ignored.
-fn code(heard: Heard) -> Option<u16> {
-    match heard {
-        Heard::Ignored(reason) => Some(reason.code()),
-        Heard::Held | Heard::Completed | Heard::Report(_) => None,
-    }
+/// Seconds and nanoseconds.
+type Stamp = (u64, u32);
+
+/// Seconds, nanoseconds and units of 2^-16 ns.
+type Moment = (u64, u32, u16);
+
+const ZERO: Stamp = (0, 0);
+
+const START: Moment = (0, 0, 0);
+
+const SECOND: Moment = (1, 0, 0);
+
+/// A Sync of the master, with its number.
+#[derive(Clone, Copy)]
+enum SyncKind {
+    TwoStep(u16),
+    OneStep(u16),
+    /// These have number 0, and were in a clock.
+    Forwarded,
+    ForwardedOneStep,
 }
 
-#[test]
-fn a_whole_exchange_is_reported(rt: HostRuntime) {
-    let mut slave = slave_of(Some(MASTER));
-    let held = slave.sync(&FORWARDED_SYNC, moment(&rt, 1, 4_000, 0), 5);
-    assert_eq!(rt; held, Heard::Held);
-    let follow_up = header(0, 0).follow_up(timestamp(&rt, 1, 0));
-    assert_eq!(rt; slave.general(&follow_up, 7), Heard::Completed);
-    let (octets, number) = slave.next_request(8);
-    assert_eq!(rt; octets, DELAY_REQ);
-    assert_eq!(rt; number, Seq(0));
-    assert_eq!(rt;
-        slave.request_left(number, moment(&rt, 2, 1_000, 0)),
-        Ok(())
-    );
-    let response = header(229_376_000, 0).delay_resp(timestamp(&rt, 2, 4_500), SLAVE);
-    let report = Report {
-        offset2: 131_072_000,
-        path2: 131_072_000,
-        sync_tag: 5,
-        follow_tag: Some(7),
-        request_tag: 8,
-        response_tag: 13,
-    };
-    assert_eq!(rt; slave.general(&response, 13), Heard::Report(report));
-    // The Delay_Req went twice; its second journey took another time.
-    let response = header(557_056_000, 0).delay_resp(timestamp(&rt, 2, 9_700), SLAVE);
-    let report = Report {
-        offset2: 117_964_800,
-        path2: 144_179_200,
-        response_tag: 17,
-        ..report
-    };
-    assert_eq!(rt; slave.general(&response, 17), Heard::Report(report));
-    // A Follow_Up that comes again completes its Sync again.
-    let report = Report {
-        follow_tag: Some(18),
-        ..report
-    };
-    assert_eq!(rt; slave.general(&follow_up, 18), Heard::Report(report));
-}
-
-#[test]
-fn results_may_be_odd_and_negative(rt: HostRuntime) {
-    let mut slave = slave_of(Some(MASTER));
-    slave.sync(&FORWARDED_SYNC, moment(&rt, 1, 3_000, 0), 5);
-    slave.general(&header(0, 0).follow_up(timestamp(&rt, 1, 0)), 7);
-    let (_, number) = slave.next_request(8);
-    let left = slave.request_left(number, moment(&rt, 1, 999_999_999, 65_535));
-    assert_eq!(rt; left, Ok(()));
-    let response = header(229_376_000, 0).delay_resp(timestamp(&rt, 2, 4_500), SLAVE);
-    let report = Report {
-        offset2: -1,
-        path2: 131_072_001,
-        sync_tag: 5,
-        follow_tag: Some(7),
-        request_tag: 8,
-        response_tag: 13,
-    };
-    assert_eq!(rt; slave.general(&response, 13), Heard::Report(report));
-}
-
-/// What happens to a slave: it hears a message of this number, or its timer ticks.
+/// What happens to a slave.
 #[derive(Clone, Copy)]
 enum Step {
-    TwoStepSync(u16),
-    OneStepSync(u16),
-    FollowUp(u16),
+    /// This is its master from now on.
+    Master(PortIdentity),
+    /// Its timer ticks.
     Tick,
+    /// It draws a Delay_Req.
+    Request,
+    /// The Delay_Req of this number left at this moment.
+    Left(u16, Moment),
+    /// A Sync arrives at this moment.
+    Sync(SyncKind, Moment),
+    /// A Follow_Up comes, of this number, with this correction and this timestamp.
+    FollowUp(u16, i64, Stamp),
+    /// A Delay_Resp comes, of this number, with this correction and this timestamp.
+    DelayResp(u16, i64, Stamp),
 }
 
-/// What a slave of the master answers to each step.
-type Row = (&'static str, &'static [(Step, Answer)]);
-
+/// What it answers.
 #[derive(Clone, Copy, Debug, PartialEq, Eq)]
 enum Answer {
-    /// To a tick.
-    Nothing,
+    /// There is nothing to answer.
+    Done,
+    /// It drew a Delay_Req of this number.
+    Drawn(u16),
+    /// A refusal of this number.
+    Refused(u16),
     Held,
     Completed,
+    Report(Report),
+    /// For the reason of this number.
     Ignored(u16),
 }
 
-fn answer_to(slave: &mut Slave, step: Step) -> Answer {
-    let arrival = ScaledTime::default();
-    let heard = match step {
-        Step::TwoStepSync(number) => slave.sync(&plain_sync(number), arrival, 1),
-        Step::OneStepSync(number) => slave.sync(&one_step_sync(0, number), arrival, 1),
-        Step::FollowUp(number) => slave.general(&plain_follow_up(number), 1),
-        Step::Tick => {
-            slave.tick();
-            return Answer::Nothing;
-        }
-    };
-    match code(heard) {
-        Some(code) => Answer::Ignored(code),
-        None if heard == Heard::Held => Answer::Held,
-        None => Answer::Completed,
+/// A title, and what a slave of the master answers to each step. The tag of a step is its place, from 0.
+type Row = (&'static str, &'static [(Step, Answer)]);
+
+fn answer_of(heard: Heard) -> Answer {
+    match heard {
+        Heard::Held => Answer::Held,
+        Heard::Completed => Answer::Completed,
+        Heard::Report(report) => Answer::Report(report),
+        Heard::Ignored(reason) => Answer::Ignored(reason.code()),
     }
 }
 
-const SYNCS_IN_ANY_ORDER: [Row; 4] = [
+/// The number of a Delay_Req that was drawn. Its octets are those of the first, but for that number.
+fn drawn(rt: &impl Abort, octets: [u8; 44], number: Seq) -> Answer {
+    let mut expected = DELAY_REQ;
+    let [high, low] = number.0.to_be_bytes();
+    expected[30] = high;
+    expected[31] = low;
+    assert_eq!(rt; octets, expected);
+    Answer::Drawn(number.0)
+}
+
+fn octets_of(sync: SyncKind) -> [u8; 44] {
+    match sync {
+        SyncKind::TwoStep(number) => plain_sync(number),
+        SyncKind::OneStep(number) => one_step_sync(0, number),
+        SyncKind::Forwarded => FORWARDED_SYNC,
+        SyncKind::ForwardedOneStep => FORWARDED_ONE_STEP_SYNC,
+    }
+}
+
+/// What a slave answers to a step of this tag.
+fn answer_to<S, F, Q>(
+    rt: &impl Abort,
+    slave: &mut SlavePort<S, F, Q>,
+    step: Step,
+    tag: u64,
+) -> Answer
+where
+    S: PairTable<HeldSync>,
+    F: PairTable<HeldFollow>,
+    Q: PairTable<HeldRequest>,
+{
+    match step {
+        Step::Master(master) => {
+            slave.set_master(master);
+            Answer::Done
+        }
+        Step::Tick => {
+            slave.tick();
+            Answer::Done
+        }
+        Step::Request => {
+            let (octets, number) = slave.next_request(tag);
+            drawn(rt, octets, number)
+        }
+        Step::Left(number, left) => match slave.request_left(Seq(number), moment(rt, left)) {
+            Ok(()) => Answer::Done,
+            Err(refusal) => Answer::Refused(refusal.code()),
+        },
+        Step::Sync(sync, arrival) => {
+            answer_of(slave.sync(&octets_of(sync), moment(rt, arrival), tag))
+        }
+        Step::FollowUp(number, correction, precise) => {
+            let octets = header(correction, number).follow_up(timestamp(rt, precise));
+            answer_of(slave.general(&octets, tag))
+        }
+        Step::DelayResp(number, correction, receive) => {
+            let octets = header(correction, number).delay_resp(timestamp(rt, receive), SLAVE);
+            answer_of(slave.general(&octets, tag))
+        }
+    }
+}
+
+/// The slave of the master answers each step of the row as it says.
+fn assert_answers<S, F, Q>(rt: &impl Abort, slave: &mut SlavePort<S, F, Q>, (title, steps): Row)
+where
+    S: PairTable<HeldSync>,
+    F: PairTable<HeldFollow>,
+    Q: PairTable<HeldRequest>,
+{
+    slave.set_master(MASTER);
+    for (tag, (step, expected)) in steps.iter().enumerate() {
+        let answer = answer_to(rt, slave, *step, tag as u64);
+        assert_eq!(rt; answer, *expected, "{title}: step {tag}");
+    }
+}
+
+const ROWS: [Row; 16] = [
+    // Whole exchanges.
+    (
+        "the Delay_Req went twice, its second journey took another time, and the Follow_Up comes again",
+        &[
+            (Step::Sync(SyncKind::Forwarded, (1, 4_000, 0)), Answer::Held),
+            (Step::FollowUp(0, 0, (1, 0)), Answer::Completed),
+            (Step::Request, Answer::Drawn(0)),
+            (Step::Left(0, (2, 1_000, 0)), Answer::Done),
+            (
+                Step::DelayResp(0, 229_376_000, (2, 4_500)),
+                Answer::Report(Report {
+                    offset2: 131_072_000,
+                    path2: 131_072_000,
+                    sync_tag: 0,
+                    follow_tag: Some(1),
+                    request_tag: 2,
+                    response_tag: 4,
+                }),
+            ),
+            (
+                Step::DelayResp(0, 557_056_000, (2, 9_700)),
+                Answer::Report(Report {
+                    offset2: 117_964_800,
+                    path2: 144_179_200,
+                    sync_tag: 0,
+                    follow_tag: Some(1),
+                    request_tag: 2,
+                    response_tag: 5,
+                }),
+            ),
+            (
+                Step::FollowUp(0, 0, (1, 0)),
+                Answer::Report(Report {
+                    offset2: 117_964_800,
+                    path2: 144_179_200,
+                    sync_tag: 0,
+                    follow_tag: Some(6),
+                    request_tag: 2,
+                    response_tag: 5,
+                }),
+            ),
+        ],
+    ),
+    (
+        "results may be odd and negative",
+        &[
+            (Step::Sync(SyncKind::Forwarded, (1, 3_000, 0)), Answer::Held),
+            (Step::FollowUp(0, 0, (1, 0)), Answer::Completed),
+            (Step::Request, Answer::Drawn(0)),
+            (Step::Left(0, (1, 999_999_999, 65_535)), Answer::Done),
+            (
+                Step::DelayResp(0, 229_376_000, (2, 4_500)),
+                Answer::Report(Report {
+                    offset2: -1,
+                    path2: 131_072_001,
+                    sync_tag: 0,
+                    follow_tag: Some(1),
+                    request_tag: 2,
+                    response_tag: 4,
+                }),
+            ),
+        ],
+    ),
+    (
+        "with a one-step Sync",
+        &[
+            (
+                Step::Sync(SyncKind::ForwardedOneStep, (1, 4_000, 0)),
+                Answer::Completed,
+            ),
+            (Step::Request, Answer::Drawn(0)),
+            (Step::Left(0, (2, 1_000, 0)), Answer::Done),
+            (
+                Step::DelayResp(0, 229_376_000, (2, 4_500)),
+                Answer::Report(Report {
+                    offset2: 131_055_616,
+                    path2: 131_055_616,
+                    sync_tag: 0,
+                    follow_tag: None,
+                    request_tag: 1,
+                    response_tag: 3,
+                }),
+            ),
+        ],
+    ),
+    (
+        "a Delay_Req that left again has the later time",
+        &[
+            (Step::Request, Answer::Drawn(0)),
+            (Step::Left(0, SECOND), Answer::Done),
+            (Step::Left(0, (2, 0, 0)), Answer::Done),
+            (Step::Sync(SyncKind::TwoStep(0), START), Answer::Held),
+            (Step::FollowUp(0, 0, ZERO), Answer::Completed),
+            (
+                Step::DelayResp(0, 0, (2, 1)),
+                Answer::Report(Report {
+                    offset2: -65_536,
+                    path2: 65_536,
+                    sync_tag: 3,
+                    follow_tag: Some(4),
+                    request_tag: 0,
+                    response_tag: 5,
+                }),
+            ),
+        ],
+    ),
+    (
+        "the second tick drops, but no Delay_Req, and a completion one tick later",
+        &[
+            (Step::Request, Answer::Drawn(0)),
+            (Step::Left(0, SECOND), Answer::Done),
+            (Step::Sync(SyncKind::TwoStep(0), SECOND), Answer::Held),
+            (Step::FollowUp(1, 0, ZERO), Answer::Held),
+            (Step::Tick, Answer::Done),
+            (Step::FollowUp(0, 0, ZERO), Answer::Completed),
+            (Step::Tick, Answer::Done),
+            (Step::FollowUp(0, 0, ZERO), Answer::Held),
+            (Step::Sync(SyncKind::TwoStep(1), SECOND), Answer::Held),
+            (
+                Step::DelayResp(0, 0, ZERO),
+                Answer::Report(Report {
+                    offset2: 131_072_000_000_000,
+                    path2: 0,
+                    sync_tag: 2,
+                    follow_tag: Some(5),
+                    request_tag: 0,
+                    response_tag: 9,
+                }),
+            ),
+            (Step::Tick, Answer::Done),
+            (Step::DelayResp(0, 0, ZERO), Answer::Completed),
+        ],
+    ),
+    // Syncs and Follow_Ups in any order.
     (
         "what is older isn't used until the second tick, and what is completed completes again",
         &[
-            (Step::FollowUp(0), Answer::Held),
-            (Step::FollowUp(1), Answer::Held),
-            (Step::TwoStepSync(1), Answer::Completed),
-            (Step::TwoStepSync(0), Answer::Ignored(512)),
-            (Step::TwoStepSync(1), Answer::Completed),
-            (Step::Tick, Answer::Nothing),
-            (Step::Tick, Answer::Nothing),
-            (Step::TwoStepSync(0), Answer::Held),
-            (Step::FollowUp(0), Answer::Completed),
+            (Step::FollowUp(0, 0, ZERO), Answer::Held),
+            (Step::FollowUp(1, 0, ZERO), Answer::Held),
+            (Step::Sync(SyncKind::TwoStep(1), START), Answer::Completed),
+            (
+                Step::Sync(SyncKind::TwoStep(0), START),
+                Answer::Ignored(512),
+            ),
+            (Step::Sync(SyncKind::TwoStep(1), START), Answer::Completed),
+            (Step::Tick, Answer::Done),
+            (Step::Tick, Answer::Done),
+            (Step::Sync(SyncKind::TwoStep(0), START), Answer::Held),
+            (Step::FollowUp(0, 0, ZERO), Answer::Completed),
         ],
     ),
     (
         "in the order sent",
         &[
-            (Step::FollowUp(0), Answer::Held),
-            (Step::FollowUp(1), Answer::Held),
-            (Step::TwoStepSync(0), Answer::Completed),
-            (Step::TwoStepSync(1), Answer::Completed),
+            (Step::FollowUp(0, 0, ZERO), Answer::Held),
+            (Step::FollowUp(1, 0, ZERO), Answer::Held),
+            (Step::Sync(SyncKind::TwoStep(0), START), Answer::Completed),
+            (Step::Sync(SyncKind::TwoStep(1), START), Answer::Completed),
         ],
     ),
     (
         "0 is newer than 65535",
         &[
-            (Step::TwoStepSync(65_535), Answer::Held),
-            (Step::TwoStepSync(0), Answer::Held),
-            (Step::FollowUp(0), Answer::Completed),
-            (Step::FollowUp(65_535), Answer::Ignored(512)),
+            (Step::Sync(SyncKind::TwoStep(65_535), START), Answer::Held),
+            (Step::Sync(SyncKind::TwoStep(0), START), Answer::Held),
+            (Step::FollowUp(0, 0, ZERO), Answer::Completed),
+            (Step::FollowUp(65_535, 0, ZERO), Answer::Ignored(512)),
         ],
     ),
     (
         "over the end of the numbers, in the order sent",
         &[
-            (Step::TwoStepSync(65_535), Answer::Held),
-            (Step::TwoStepSync(0), Answer::Held),
-            (Step::FollowUp(65_535), Answer::Completed),
-            (Step::FollowUp(0), Answer::Completed),
+            (Step::Sync(SyncKind::TwoStep(65_535), START), Answer::Held),
+            (Step::Sync(SyncKind::TwoStep(0), START), Answer::Held),
+            (Step::FollowUp(65_535, 0, ZERO), Answer::Completed),
+            (Step::FollowUp(0, 0, ZERO), Answer::Completed),
         ],
     ),
-];
-
-const ONE_STEP_SYNCS: [Row; 4] = [
+    // One-step Syncs.
     (
         "completes by itself, and what is older isn't used",
         &[
-            (Step::OneStepSync(5), Answer::Completed),
-            (Step::OneStepSync(4), Answer::Ignored(512)),
-            (Step::TwoStepSync(4), Answer::Ignored(512)),
-            (Step::FollowUp(4), Answer::Ignored(512)),
-            (Step::OneStepSync(5), Answer::Completed),
-            (Step::TwoStepSync(5), Answer::Held),
-            (Step::FollowUp(5), Answer::Completed),
+            (Step::Sync(SyncKind::OneStep(5), START), Answer::Completed),
+            (
+                Step::Sync(SyncKind::OneStep(4), START),
+                Answer::Ignored(512),
+            ),
+            (
+                Step::Sync(SyncKind::TwoStep(4), START),
+                Answer::Ignored(512),
+            ),
+            (Step::FollowUp(4, 0, ZERO), Answer::Ignored(512)),
+            (Step::Sync(SyncKind::OneStep(5), START), Answer::Completed),
+            (Step::Sync(SyncKind::TwoStep(5), START), Answer::Held),
+            (Step::FollowUp(5, 0, ZERO), Answer::Completed),
         ],
     ),
     (
         "a Follow_Up plays no part",
         &[
-            (Step::FollowUp(0), Answer::Held),
-            (Step::OneStepSync(0), Answer::Completed),
-            (Step::FollowUp(0), Answer::Held),
-            (Step::TwoStepSync(0), Answer::Completed),
+            (Step::FollowUp(0, 0, ZERO), Answer::Held),
+            (Step::Sync(SyncKind::OneStep(0), START), Answer::Completed),
+            (Step::FollowUp(0, 0, ZERO), Answer::Held),
+            (Step::Sync(SyncKind::TwoStep(0), START), Answer::Completed),
         ],
     ),
     (
         "its number stands until the second tick",
         &[
-            (Step::OneStepSync(5), Answer::Completed),
-            (Step::Tick, Answer::Nothing),
-            (Step::OneStepSync(4), Answer::Ignored(512)),
-            (Step::Tick, Answer::Nothing),
-            (Step::OneStepSync(4), Answer::Completed),
+            (Step::Sync(SyncKind::OneStep(5), START), Answer::Completed),
+            (Step::Tick, Answer::Done),
+            (
+                Step::Sync(SyncKind::OneStep(4), START),
+                Answer::Ignored(512),
+            ),
+            (Step::Tick, Answer::Done),
+            (Step::Sync(SyncKind::OneStep(4), START), Answer::Completed),
         ],
     ),
     (
         "half a turn ahead isn't newer",
         &[
-            (Step::OneStepSync(0), Answer::Completed),
-            (Step::TwoStepSync(32_768), Answer::Ignored(512)),
-            (Step::FollowUp(32_768), Answer::Ignored(512)),
-            (Step::TwoStepSync(32_767), Answer::Held),
-            (Step::OneStepSync(32_767), Answer::Completed),
-            (Step::OneStepSync(65_534), Answer::Completed),
-            (Step::OneStepSync(0), Answer::Completed),
+            (Step::Sync(SyncKind::OneStep(0), START), Answer::Completed),
+            (
+                Step::Sync(SyncKind::TwoStep(32_768), START),
+                Answer::Ignored(512),
+            ),
+            (Step::FollowUp(32_768, 0, ZERO), Answer::Ignored(512)),
+            (Step::Sync(SyncKind::TwoStep(32_767), START), Answer::Held),
+            (
+                Step::Sync(SyncKind::OneStep(32_767), START),
+                Answer::Completed,
+            ),
+            (
+                Step::Sync(SyncKind::OneStep(65_534), START),
+                Answer::Completed,
+            ),
+            (Step::Sync(SyncKind::OneStep(0), START), Answer::Completed),
+        ],
+    ),
+    // Changes of master, and Delay_Reqs.
+    (
+        "a change of master drops what is held, and so does the same master again",
+        &[
+            (Step::Sync(SyncKind::TwoStep(3), SECOND), Answer::Held),
+            (Step::Master(OTHER_MASTER), Answer::Done),
+            (Step::FollowUp(3, 0, ZERO), Answer::Ignored(505)),
+            (Step::Master(MASTER), Answer::Done),
+            (Step::FollowUp(3, 0, ZERO), Answer::Held),
+            (Step::Sync(SyncKind::TwoStep(3), SECOND), Answer::Completed),
+            (Step::Master(MASTER), Answer::Done),
+            (Step::Sync(SyncKind::TwoStep(3), SECOND), Answer::Held),
+        ],
+    ),
+    (
+        "a Delay_Req is answered once it left, and dropped with its master",
+        &[
+            (Step::Left(0, SECOND), Answer::Refused(511)),
+            (Step::Request, Answer::Drawn(0)),
+            (Step::DelayResp(0, 0, ZERO), Answer::Ignored(510)),
+            (Step::Left(0, SECOND), Answer::Done),
+            (Step::DelayResp(0, 0, ZERO), Answer::Completed),
+            (Step::Request, Answer::Drawn(1)),
+            (Step::Master(MASTER), Answer::Done),
+            (Step::Left(1, SECOND), Answer::Refused(511)),
+        ],
+    ),
+    (
+        "too big comes before not newer, and a Delay_Resp has a number of another pool",
+        &[
+            (Step::Sync(SyncKind::OneStep(1), START), Answer::Completed),
+            (Step::FollowUp(0, i64::MAX, ZERO), Answer::Ignored(507)),
+            (Step::FollowUp(0, 0, ZERO), Answer::Ignored(512)),
+            (Step::DelayResp(0, 0, ZERO), Answer::Ignored(509)),
         ],
     ),
 ];
 
+const OVER_THE_END: Row = (
+    "Delay_Reqs are numbered over the end",
+    &[
+        (Step::Request, Answer::Drawn(65_535)),
+        (Step::Request, Answer::Drawn(0)),
+    ],
+);
+
+const FEW_PLACES: Row = (
+    "a one-step Sync pushes no two-step one out",
+    &[
+        (Step::Sync(SyncKind::TwoStep(0), SECOND), Answer::Held),
+        (Step::Sync(SyncKind::TwoStep(1), SECOND), Answer::Held),
+        (Step::FollowUp(0, 0, ZERO), Answer::Held),
+        (Step::Sync(SyncKind::OneStep(0), SECOND), Answer::Completed),
+        (Step::FollowUp(1, 0, ZERO), Answer::Completed),
+        (Step::FollowUp(2, 0, ZERO), Answer::Held),
+        (Step::FollowUp(3, 0, ZERO), Answer::Held),
+        (Step::Sync(SyncKind::TwoStep(1), SECOND), Answer::Held),
+        (Step::Sync(SyncKind::TwoStep(2), SECOND), Answer::Completed),
+        (Step::Request, Answer::Drawn(7)),
+        (Step::Left(7, SECOND), Answer::Done),
+        (Step::Request, Answer::Drawn(8)),
+        (Step::Left(8, SECOND), Answer::Done),
+        (Step::Request, Answer::Drawn(9)),
+        (Step::Left(9, SECOND), Answer::Done),
+        (Step::Request, Answer::Drawn(10)),
+        (Step::Left(10, SECOND), Answer::Done),
+        (Step::DelayResp(7, 0, ZERO), Answer::Ignored(509)),
+        (
+            Step::DelayResp(8, 0, ZERO),
+            Answer::Report(Report {
+                offset2: 131_072_000_000_000,
+                path2: 0,
+                sync_tag: 8,
+                follow_tag: Some(5),
+                request_tag: 11,
+                response_tag: 18,
+            }),
+        ),
+    ],
+);
+
 #[test]
-fn syncs_complete_by_number(rt: HostRuntime) {
-    for (name, steps) in SYNCS_IN_ANY_ORDER.iter().chain(&ONE_STEP_SYNCS) {
-        let mut slave = slave_of(Some(MASTER));
-        for (step, expected) in *steps {
-            assert_eq!(rt; answer_to(&mut slave, *step), *expected, "{name}");
-        }
+fn slaves_answer_each_step(rt: HostRuntime) {
+    for row in &ROWS {
+        assert_answers(&rt, &mut slave_of(None), *row);
     }
 }
 
 #[test]
-fn a_one_step_sync_is_reported(rt: HostRuntime) {
-    let mut slave = slave_of(Some(MASTER));
-    let arrival = moment(&rt, 1, 4_000, 0);
-    let heard = slave.sync(&FORWARDED_ONE_STEP_SYNC, arrival, 5);
-    assert_eq!(rt; heard, Heard::Completed);
-    let (_, number) = slave.next_request(6);
-    let left = slave.request_left(number, moment(&rt, 2, 1_000, 0));
-    assert_eq!(rt; left, Ok(()));
-    let response = header(229_376_000, 0).delay_resp(timestamp(&rt, 2, 4_500), SLAVE);
-    let report = Report {
-        offset2: 131_055_616,
-        path2: 131_055_616,
-        sync_tag: 5,
-        follow_tag: None,
-        request_tag: 6,
-        response_tag: 11,
-    };
-    assert_eq!(rt; slave.general(&response, 11), Heard::Report(report));
+fn first_numbers_and_capacities_may_differ(rt: HostRuntime) {
+    let mut last_number = Slave::new(SLAVE_CONFIG, Seq(65_535));
+    assert_answers(&rt, &mut last_number, OVER_THE_END);
+    let mut small = SmallSlave::new(SLAVE_CONFIG, Seq(7));
+    assert_answers(&rt, &mut small, FEW_PLACES);
 }
 
 #[test]
-fn requests_are_numbered_over_the_end(rt: HostRuntime) {
-    let mut slave = Slave::new(SLAVE_CONFIG, Seq(65_535));
-    assert_eq!(rt; slave.next_request(1).1, Seq(65_535));
-    assert_eq!(rt; slave.next_request(2).1, Seq(0));
-}
-
-#[test]
-fn a_change_of_master_drops_what_is_held(rt: HostRuntime) {
-    let mut slave = slave_of(Some(MASTER));
-    let arrival = moment(&rt, 1, 0, 0);
-    assert_eq!(rt; slave.sync(&plain_sync(3), arrival, 1), Heard::Held);
-    slave.set_master(OTHER_MASTER);
-    assert_eq!(rt; code(slave.general(&plain_follow_up(3), 3)), Some(505));
-    slave.set_master(MASTER);
-    assert_eq!(rt; slave.general(&plain_follow_up(3), 5), Heard::Held);
-    assert_eq!(rt; slave.sync(&plain_sync(3), arrival, 6), Heard::Completed);
-    // The same master again.
-    slave.set_master(MASTER);
-    assert_eq!(rt; slave.sync(&plain_sync(3), arrival, 8), Heard::Held);
-}
-
-#[test]
-fn a_request_is_answered_once_it_left(rt: HostRuntime) {
-    let mut slave = slave_of(Some(MASTER));
-    let left = slave.request_left(Seq(0), moment(&rt, 1, 0, 0));
-    assert_eq!(rt; left, Err(SlaveRefusal::NotHeld));
-    let (_, number) = slave.next_request(1);
-    assert_eq!(rt; code(slave.general(&plain_delay_resp(0), 3)), Some(510));
-    assert_eq!(rt; slave.request_left(number, moment(&rt, 1, 0, 0)), Ok(()));
-    assert_eq!(rt; slave.general(&plain_delay_resp(0), 5), Heard::Completed);
-    let (_, number) = slave.next_request(6);
-    slave.set_master(MASTER);
-    assert_eq!(rt;
-        slave.request_left(number, moment(&rt, 1, 0, 0)),
-        Err(SlaveRefusal::NotHeld)
-    );
-    assert_eq!(rt; SlaveRefusal::NotHeld.code(), 511);
-}
-
-#[test]
-fn a_request_that_left_again_has_the_later_time(rt: HostRuntime) {
-    let mut slave = slave_of(Some(MASTER));
-    let (_, number) = slave.next_request(1);
-    assert_eq!(rt; slave.request_left(number, moment(&rt, 1, 0, 0)), Ok(()));
-    assert_eq!(rt; slave.request_left(number, moment(&rt, 2, 0, 0)), Ok(()));
-    slave.sync(&plain_sync(0), ScaledTime::default(), 2);
-    slave.general(&plain_follow_up(0), 3);
-    let response = header(0, 0).delay_resp(timestamp(&rt, 2, 1), SLAVE);
-    let report = Report {
-        offset2: -65_536,
-        path2: 65_536,
-        sync_tag: 2,
-        follow_tag: Some(3),
-        request_tag: 1,
-        response_tag: 4,
-    };
-    assert_eq!(rt; slave.general(&response, 4), Heard::Report(report));
-}
-
-#[test]
-fn the_last_sixteen_are_held(rt: HostRuntime) {
+fn the_last_sixteen_syncs_are_held(rt: HostRuntime) {
     let mut slave = slave_of(Some(MASTER));
     for number in 0..17 {
-        let heard = slave.sync(&plain_sync(number), moment(&rt, 1, 0, 0), u64::from(number));
-        assert_eq!(rt; heard, Heard::Held);
+        let sync = Step::Sync(SyncKind::TwoStep(number), SECOND);
+        assert_eq!(rt; answer_to(&rt, &mut slave, sync, 1), Answer::Held);
     }
-    assert_eq!(rt; slave.general(&plain_follow_up(0), 20), Heard::Held);
-    assert_eq!(rt; slave.general(&plain_follow_up(1), 21), Heard::Completed);
-    for (later, heard) in [(16, Some(509)), (15, None)] {
-        let mut slave = slave_of(Some(MASTER));
-        let (_, number) = slave.next_request(0);
-        assert_eq!(rt; slave.request_left(number, moment(&rt, 1, 0, 0)), Ok(()));
-        for tag in 0..later {
-            slave.next_request(tag);
-        }
-        assert_eq!(rt; code(slave.general(&plain_delay_resp(0), 30)), heard);
+    for (number, answer) in [(0, Answer::Held), (1, Answer::Completed)] {
+        let follow_up = Step::FollowUp(number, 0, ZERO);
+        assert_eq!(rt; answer_to(&rt, &mut slave, follow_up, 2), answer);
     }
 }
 
-#[test]
-fn capacities_may_differ(rt: HostRuntime) {
-    let arrival = moment(&rt, 1, 0, 0);
-    let mut slave = SmallSlave::new(SLAVE_CONFIG, Seq(7));
-    slave.set_master(MASTER);
-    slave.sync(&plain_sync(0), arrival, 1);
-    slave.sync(&plain_sync(1), arrival, 2);
-    assert_eq!(rt; slave.general(&plain_follow_up(0), 3), Heard::Held);
-    // A one-step Sync pushes no two-step one out.
-    assert_eq!(rt;
-        slave.sync(&one_step_sync(0, 0), arrival, 4),
-        Heard::Completed
-    );
-    assert_eq!(rt; slave.general(&plain_follow_up(1), 5), Heard::Completed);
-    assert_eq!(rt; slave.general(&plain_follow_up(2), 6), Heard::Held);
-    assert_eq!(rt; slave.general(&plain_follow_up(3), 7), Heard::Held);
-    assert_eq!(rt; slave.sync(&plain_sync(1), arrival, 8), Heard::Held);
-    assert_eq!(rt; slave.sync(&plain_sync(2), arrival, 9), Heard::Completed);
-    for tag in 0..4 {
-        let (_, number) = slave.next_request(tag);
-        assert_eq!(rt; slave.request_left(number, arrival), Ok(()));
-    }
-    assert_eq!(rt; code(slave.general(&plain_delay_resp(7), 8)), Some(509));
-    assert_eq!(rt; code(slave.general(&plain_delay_resp(8), 9)), None);
-}
-
-#[test]
-fn the_second_tick_drops(rt: HostRuntime) {
-    let arrival = moment(&rt, 1, 0, 0);
+/// What a slave answers to the Delay_Resp of the first Delay_Req, after so many more.
+fn answer_after(rt: &impl Abort, later: usize) -> Answer {
     let mut slave = slave_of(Some(MASTER));
-    let (_, number) = slave.next_request(1);
-    assert_eq!(rt; slave.request_left(number, arrival), Ok(()));
-    slave.sync(&plain_sync(0), arrival, 2);
-    slave.general(&plain_follow_up(1), 3);
-    slave.tick();
-    assert_eq!(rt; slave.general(&plain_follow_up(0), 4), Heard::Completed);
-    slave.tick();
-    assert_eq!(rt; slave.general(&plain_follow_up(0), 5), Heard::Held);
-    assert_eq!(rt; slave.sync(&plain_sync(1), arrival, 6), Heard::Held);
-    // The completion came after the last tick but one, and the request was never dropped.
-    let report = Report {
-        offset2: 131_072_000_000_000,
-        path2: 0,
-        sync_tag: 2,
-        follow_tag: Some(4),
-        request_tag: 1,
-        response_tag: 7,
-    };
-    assert_eq!(rt;
-        slave.general(&plain_delay_resp(0), 7),
-        Heard::Report(report)
-    );
-    slave.tick();
-    assert_eq!(rt; slave.general(&plain_delay_resp(0), 8), Heard::Completed);
+    answer_to(rt, &mut slave, Step::Request, 1);
+    answer_to(rt, &mut slave, Step::Left(0, SECOND), 2);
+    for _ in 0..later {
+        answer_to(rt, &mut slave, Step::Request, 3);
+    }
+    answer_to(rt, &mut slave, Step::DelayResp(0, 0, ZERO), 4)
+}
+
+#[test]
+fn the_last_sixteen_requests_are_held(rt: HostRuntime) {
+    assert_eq!(rt; answer_after(&rt, 15), Answer::Completed);
+    assert_eq!(rt; answer_after(&rt, 16), Answer::Ignored(509));
 }
 
 #[test]
@@ -511,6 +656,14 @@ fn octets_that_are_no_message_are_ignored(rt: HostRuntime) {
     assert_eq!(rt; heard, other);
     assert_eq!(rt; code(heard), Some(501));
     assert_eq!(rt; slave_of(None).general(&octets, 1), other);
+}
+
+/// The number of the reason, where a message was ignored.
+fn code(heard: Heard) -> Option<u16> {
+    match heard {
+        Heard::Ignored(reason) => Some(reason.code()),
+        Heard::Held | Heard::Completed | Heard::Report(_) => None,
+    }
 }
 
 /// What a slave of this master answers to a message on its event port.
@@ -572,22 +725,4 @@ fn reasons_of_the_general_port_in_order(rt: HostRuntime) {
     assert_eq!(rt; on_general_port(Some(MASTER), &both), Some(507));
     assert_eq!(rt; on_general_port(Some(MASTER), &other_requester), Some(508));
     assert_eq!(rt; on_general_port(Some(MASTER), &unknown), Some(509));
-}
-
-#[test]
-fn too_big_comes_before_not_newer(rt: HostRuntime) {
-    let mut slave = slave_of(Some(MASTER));
-    let arrival = ScaledTime::default();
-    assert_eq!(rt;
-        slave.sync(&one_step_sync(0, 1), arrival, 1),
-        Heard::Completed
-    );
-    let too_big = too_big_header().follow_up(Timestamp::default());
-    assert_eq!(rt; code(slave.general(&too_big, 2)), Some(507));
-    assert_eq!(rt;
-        slave.general(&plain_follow_up(0), 3),
-        Heard::Ignored(Reason::NotNewer)
-    );
-    // A Delay_Resp has a number of another pool.
-    assert_eq!(rt; code(slave.general(&plain_delay_resp(0), 4)), Some(509));
 }

@@ -24,31 +24,184 @@ fn calls_act_on_the_list(rt: HostRuntime) {
     calls_of!(RingTable, &rt);
 }
 
-/// In a table of two, numbers 1, 3 and 5 fall into one bucket.
-#[test]
-fn a_dropped_value_leaves_its_bucket(rt: HostRuntime) {
-    shares_a_bucket::<ListTable<u32, 2>>(&rt);
-    shares_a_bucket::<RingTable<u32, 2>>(&rt);
+/// A number, and how many times the capacity is added to it.
+type Number = (u16, u16);
+
+/// What happens to a table.
+#[derive(Clone, Copy)]
+enum Step {
+    Push(Number, u32),
+    Set(Number, u32),
+    Find(Number),
+    Tick,
+    Clear,
+    /// Each number below the capacity is pushed, with ten times itself as its value.
+    Fill,
 }
 
-fn shares_a_bucket<T: PairTable<u32> + Drop>(rt: &impl Abort)
+/// What it answers.
+#[derive(Clone, Copy, Debug, PartialEq, Eq)]
+enum Answer {
+    Done,
+    Found(u32),
+    /// Where two values fit.
+    FoundOfTwo(u32),
+    Absent,
+}
+
+/// A title, and what a table answers to each step.
+type Row = (&'static str, &'static [(Step, Answer)]);
+
+const ROWS: [Row; 4] = [
+    (
+        "finds the newest",
+        &[
+            (Step::Find((9, 0)), Answer::Absent),
+            (Step::Push((9, 0), 1), Answer::Done),
+            (Step::Push((9, 0), 2), Answer::Done),
+            (Step::Find((9, 0)), Answer::Found(2)),
+            (Step::Push((5, 0), 3), Answer::Done),
+            (Step::Find((9, 0)), Answer::FoundOfTwo(2)),
+            (Step::Set((5, 0), 4), Answer::Done),
+            (Step::Find((5, 0)), Answer::Found(4)),
+            (Step::Find((9, 0)), Answer::FoundOfTwo(2)),
+            (Step::Set((6, 0), 5), Answer::Absent),
+            (Step::Find((6, 0)), Answer::Absent),
+            (Step::Find((5, 0)), Answer::Found(4)),
+        ],
+    ),
+    (
+        "tells numbers apart that differ by a multiple of the capacity",
+        &[
+            (Step::Push((1, 0), 1), Answer::Done),
+            (Step::Push((1, 1), 2), Answer::Done),
+            (Step::Push((1, 0), 3), Answer::Done),
+            (Step::Find((1, 0)), Answer::Found(3)),
+            (Step::Find((1, 1)), Answer::FoundOfTwo(2)),
+            (Step::Find((1, 2)), Answer::Absent),
+            (Step::Tick, Answer::Done),
+            (Step::Push((1, 2), 4), Answer::Done),
+            (Step::Tick, Answer::Done),
+            (Step::Find((1, 0)), Answer::Absent),
+            (Step::Find((1, 1)), Answer::Absent),
+            (Step::Find((1, 2)), Answer::Found(4)),
+        ],
+    ),
+    (
+        "drops the marked",
+        &[
+            (Step::Push((1, 0), 1), Answer::Done),
+            (Step::Tick, Answer::Done),
+            (Step::Find((1, 0)), Answer::Found(1)),
+            (Step::Push((2, 0), 2), Answer::Done),
+            (Step::Tick, Answer::Done),
+            (Step::Find((1, 0)), Answer::Absent),
+            (Step::Find((2, 0)), Answer::Found(2)),
+            (Step::Tick, Answer::Done),
+            (Step::Find((2, 0)), Answer::Absent),
+        ],
+    ),
+    (
+        "clears",
+        &[
+            (Step::Fill, Answer::Done),
+            (Step::Tick, Answer::Done),
+            (Step::Clear, Answer::Done),
+            (Step::Find((0, 0)), Answer::Absent),
+            (Step::Push((3, 0), 3), Answer::Done),
+            (Step::Tick, Answer::Done),
+            (Step::Find((3, 0)), Answer::Found(3)),
+        ],
+    ),
+];
+
+/// In a table of two, numbers 1, 3 and 5 fall into one bucket.
+const ONE_BUCKET: Row = (
+    "a dropped value leaves its bucket",
+    &[
+        (Step::Push((1, 0), 10), Answer::Done),
+        (Step::Push((3, 0), 20), Answer::Done),
+        (Step::Push((1, 0), 30), Answer::Done),
+        (Step::Find((1, 0)), Answer::Found(30)),
+        (Step::Find((3, 0)), Answer::Found(20)),
+        (Step::Find((5, 0)), Answer::Absent),
+        (Step::Tick, Answer::Done),
+        (Step::Push((5, 0), 40), Answer::Done),
+        (Step::Tick, Answer::Done),
+        (Step::Find((1, 0)), Answer::Absent),
+        (Step::Find((3, 0)), Answer::Absent),
+        (Step::Find((5, 0)), Answer::Found(40)),
+    ],
+);
+
+#[test]
+fn a_dropped_value_leaves_its_bucket(rt: HostRuntime) {
+    assert_answers::<ListTable<u32, 2>>(&rt, ONE_BUCKET);
+    assert_answers::<RingTable<u32, 2>>(&rt, ONE_BUCKET);
+}
+
+fn number_of<T: PairTable<u32>>((number, times): Number) -> Seq {
+    let capacity = u16::try_from(T::CAPACITY).unwrap_or(u16::MAX);
+    Seq(number.wrapping_add(times.wrapping_mul(capacity)))
+}
+
+fn fill<T: PairTable<u32>>(table: &mut T) {
+    for number in 0..u16::try_from(T::CAPACITY).unwrap_or(u16::MAX) {
+        table.push(Seq(number), u32::from(number).wrapping_mul(10));
+    }
+}
+
+fn answer_to<T: PairTable<u32>>(table: &mut T, step: Step) -> Answer {
+    match step {
+        Step::Push(number, value) => table.push(number_of::<T>(number), value),
+        Step::Set(number, value) => {
+            if !table.set(number_of::<T>(number), value) {
+                return Answer::Absent;
+            }
+        }
+        Step::Find(number) => {
+            return match table.find(number_of::<T>(number)) {
+                Some(value) => Answer::Found(*value),
+                None => Answer::Absent,
+            };
+        }
+        Step::Tick => table.tick(),
+        Step::Clear => table.clear(),
+        Step::Fill => fill(table),
+    }
+    Answer::Done
+}
+
+/// The answer of a table of one.
+fn of_one(answer: Answer) -> Answer {
+    match answer {
+        Answer::FoundOfTwo(_) => Answer::Absent,
+        other => other,
+    }
+}
+
+/// The answer of a larger table.
+fn of_more(answer: Answer) -> Answer {
+    match answer {
+        Answer::FoundOfTwo(value) => Answer::Found(value),
+        other => other,
+    }
+}
+
+/// A table answers each step of the row as it says.
+fn assert_answers<T: PairTable<u32> + Drop>(rt: &impl Abort, row: Row)
     requires some_fit { 1 ≤ T.CAPACITY }
     requires few_fit { T.CAPACITY ≤ 256 }
 {
+    let (title, steps) = row;
     let mut table = T::empty();
-    table.push(Seq(1), 10);
-    table.push(Seq(3), 20);
-    table.push(Seq(1), 30);
-    finds(rt, &table, [(1, Some(30)), (3, Some(20)), (5, None)]);
-    table.tick();
-    table.push(Seq(5), 40);
-    table.tick();
-    finds(rt, &table, [(1, None), (3, None), (5, Some(40))]);
-}
-
-fn finds<T: PairTable<u32>>(rt: &impl Abort, table: &T, expected: [(u16, Option<u32>); 3]) {
-    for (number, value) in expected {
-        assert_eq!(rt; table.find(Seq(number)).copied(), value, "of {number}");
+    for (step, answer) in steps {
+        let expected = if T::CAPACITY == 1 {
+            of_one(*answer)
+        } else {
+            of_more(*answer)
+        };
+        assert_eq!(rt; answer_to(&mut table, *step), expected, "{title}");
     }
 }
 
@@ -108,11 +261,10 @@ fn calls<T: PairTable<u32> + Drop>(rt: &impl Abort)
     requires some_fit { 1 ≤ T.CAPACITY }
     requires few_fit { T.CAPACITY ≤ 256 }
 {
-    finds_the_newest::<T>(rt);
-    tells_numbers_apart::<T>(rt);
+    for row in &ROWS {
+        assert_answers::<T>(rt, *row);
+    }
     drops_the_oldest::<T>(rt);
-    drops_the_marked::<T>(rt);
-    clears::<T>(rt);
 }
 
 /// A table in which each number below the capacity has ten times itself as its value.
@@ -125,49 +277,6 @@ fn full<T: PairTable<u32>>() -> T
         table.push(Seq(number), 10 * u32::from(number));
     }
     table
-}
-
-fn finds_the_newest<T: PairTable<u32> + Drop>(rt: &impl Abort)
-    requires some_fit { 1 ≤ T.CAPACITY }
-    requires few_fit { T.CAPACITY ≤ 256 }
-{
-    let mut table = T::empty();
-    assert_eq!(rt; table.find(Seq(9)).copied(), None);
-    table.push(Seq(9), 1);
-    table.push(Seq(9), 2);
-    assert_eq!(rt; table.find(Seq(9)).copied(), Some(2));
-    table.push(Seq(5), 3);
-    let earlier = if T::CAPACITY == 1 { None } else { Some(2) };
-    assert_eq!(rt; table.find(Seq(9)).copied(), earlier);
-    assert!(rt; table.set(Seq(5), 4));
-    assert_eq!(rt; table.find(Seq(5)).copied(), Some(4));
-    assert_eq!(rt; table.find(Seq(9)).copied(), earlier);
-    assert!(rt; !table.set(Seq(6), 5));
-    assert_eq!(rt; table.find(Seq(6)).copied(), None);
-    assert_eq!(rt; table.find(Seq(5)).copied(), Some(4));
-}
-
-/// Numbers that differ by a multiple of the capacity are different numbers.
-fn tells_numbers_apart<T: PairTable<u32> + Drop>(rt: &impl Abort)
-    requires some_fit { 1 ≤ T.CAPACITY }
-    requires few_fit { T.CAPACITY ≤ 256 }
-{
-    let capacity = T::CAPACITY as u16;
-    let [first, second, third] = [Seq(1), Seq(1 + capacity), Seq(1 + 2 * capacity)];
-    let mut table = T::empty();
-    table.push(first, 1);
-    table.push(second, 2);
-    table.push(first, 3);
-    let earlier = if capacity == 1 { None } else { Some(2) };
-    assert_eq!(rt; table.find(first).copied(), Some(3));
-    assert_eq!(rt; table.find(second).copied(), earlier);
-    assert_eq!(rt; table.find(third).copied(), None);
-    table.tick();
-    table.push(third, 4);
-    table.tick();
-    assert_eq!(rt; table.find(first).copied(), None);
-    assert_eq!(rt; table.find(second).copied(), None);
-    assert_eq!(rt; table.find(third).copied(), Some(4));
 }
 
 /// All are marked when one more pushes the oldest out, so that the next tick leaves just that one.
@@ -197,33 +306,4 @@ fn drops_the_oldest<T: PairTable<u32> + Drop>(rt: &impl Abort)
         assert_eq!(rt; table.find(Seq(number)).copied(), None);
     }
     assert_eq!(rt; table.find(Seq(capacity)).copied(), Some(7));
-}
-
-fn drops_the_marked<T: PairTable<u32> + Drop>(rt: &impl Abort)
-    requires some_fit { 1 ≤ T.CAPACITY }
-    requires few_fit { T.CAPACITY ≤ 256 }
-{
-    let mut table = T::empty();
-    table.push(Seq(1), 1);
-    table.tick();
-    assert_eq!(rt; table.find(Seq(1)).copied(), Some(1));
-    table.push(Seq(2), 2);
-    table.tick();
-    assert_eq!(rt; table.find(Seq(1)).copied(), None);
-    assert_eq!(rt; table.find(Seq(2)).copied(), Some(2));
-    table.tick();
-    assert_eq!(rt; table.find(Seq(2)).copied(), None);
-}
-
-fn clears<T: PairTable<u32> + Drop>(rt: &impl Abort)
-    requires some_fit { 1 ≤ T.CAPACITY }
-    requires few_fit { T.CAPACITY ≤ 256 }
-{
-    let mut table: T = full();
-    table.tick();
-    table.clear();
-    assert_eq!(rt; table.find(Seq(0)).copied(), None);
-    table.push(Seq(3), 3);
-    table.tick();
-    assert_eq!(rt; table.find(Seq(3)).copied(), Some(3));
 }
