@@ -7,4 +7,5 @@ pub mod Masters
 pub mod Answers
 pub mod Memory
 pub mod Slaves
+pub mod Watches
 pub mod Inner
