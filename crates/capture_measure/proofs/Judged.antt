@@ -9,13 +9,24 @@ use Rattle.pairing.specs.Marked.{entry}
 use Rattle.sync_watch.specs.declared.judgement.Judgement.{Judgement}
 use Rattle.sync_watch.specs.declared.judgement.Judgement.TheVariants.{Newer, Repeated, BeganAnew}
 use Rattle.sync_watch.specs.Told.{Arrival, Sync, FollowUp, Refused, known}
-use Rattle.sync_watch.specs.Judged.{judged_sync, judged_follow_up, judged_refused, is_repeated, after}
+use Rattle.sync_watch.specs.Judged.{judged_sync, judged_refused, is_repeated, after}
 use Rattle.slave_port.specs.History.{Call, Event, General}
 use Rattle.capture_model.specs.declared.watched.Watched.{Watched}
 use Rattle.capture_model.specs.Listening.{Listening, table_capacity, is_of, is_stale, arrival_of, told, answer_in}
 use Rattle.capture_model.specs.Listening.{with_master_anew, ready_refused, ready_newer, ready_judged, ready_sync}
 use Rattle.capture_model.specs.Listening.{ready_followed, ready_follow_up, ready_response, hears_ready}
 use Rattle.capture_measure.specs.Inner.Listener.{with_sync, with_follow_up, with_refused, with_response, told_again}
+
+-- what a number says that came before, or that didn't
+pub says-newer : (again : Bool) (j : Judgement) → j ≡ (if again then Repeated else Newer) → j ≡ Newer → again ≡ false
+says-newer true j is newer = cc
+says-newer false j is newer = refl
+
+pub says-repeated : (again : Bool) (j : Judgement) → j ≡ (if again then Repeated else Newer)
+    → (j ≡ Repeated) ⊎ (j ≡ BeganAnew) → again ≡ true
+says-repeated true j is repeated = refl
+says-repeated false j is (inl repeated) = cc
+says-repeated false j is (inr repeated) = cc
 
 -- it says that the master didn't begin anew
 abbrev pub IsNoBeginning : Judgement → Type 0
@@ -120,23 +131,16 @@ module _ (w : Watched) (line time : ℕ) (m : Contents) (l : Listening) where
       if b then ready_followed (judged_follow_up follow table_capacity l.heard) follow l else Some l) other
 
   -- what is known once its number was judged, and the port that is to hear it
-  record IsFollowed (j : Judgement) : Type 0 where
-    pub ready_is : ready_follow_up w time m l ≡ ready_followed j follow l
-    pub known_is : with_follow_up follow l ≡ record l { heard = after j follow (FollowUp follow) l.heard }
+  record IsFollowed (again : Bool) : Type 0 where
+    pub ready_is : ready_follow_up w time m l ≡ ready_followed (if again then Repeated else Newer) follow l
+    pub known_is : with_follow_up follow l ≡ record l { heard = if again then l.heard else FollowUp follow ∷ l.heard }
 
-  pub follow_up-judged : (j : Judgement) → is_of w w.master m.header ≡ true
-      → judged_follow_up follow table_capacity l.heard ≡ j → IsFollowed j
-  follow_up-judged j of is = record {
-    ready_is = λ i. if of i then ready_followed (is i) follow l else Some l;
-    known_is =
-        by (is_repeated follow table_capacity l.heard)
-        ∙ ap (λ (j : Judgement). record l { heard = after j follow (FollowUp follow) l.heard }) is;
+  pub follow_up-judged : (again : Bool) → is_of w w.master m.header ≡ true
+      → is_repeated follow table_capacity l.heard ≡ again → IsFollowed again
+  follow_up-judged again of is = record {
+    ready_is = λ i. if of i then ready_followed (if is i then Repeated else Newer) follow l else Some l;
+    known_is = ap (λ (b : Bool). record l { heard = if b then l.heard else FollowUp follow ∷ l.heard }) is;
   }
-    where
-      by : (again : Bool) → ◌≡◌ {A = Listening} (record l { heard = if again then l.heard else FollowUp follow ∷ l.heard })
-          (record l { heard = after (if again then Repeated else Newer) follow (FollowUp follow) l.heard })
-      by true = refl
-      by false = refl
 
   -- a Delay_Resp
   module _ (requesting : PortIdentity) where
