@@ -20,6 +20,8 @@
 struct station {
     struct interface net;
     struct ptpx_slave slave;
+    struct ptpx_watch watch;
+    struct ptpx_watch_memory *known; /* where the watch is */
     uint8_t domain;
     bool is_hybrid;
     unsigned long reports;
@@ -54,10 +56,28 @@ static void print(const char *what, const struct ptpx_identity *identity)
     fprintf(stderr, "/%d\n", identity->port);
 }
 
+/* The portIdentity of who sent this. */
+static struct ptpx_identity source_of(const struct arrival *it)
+{
+    struct ptpx_identity source = {{0}, (uint16_t)(it->octets[28] << 8 | it->octets[29])};
+    memcpy(source.clock, it->octets + 20, sizeof source.clock);
+    return source;
+}
+
+/* The time by a clock of this machine, for the watch alone. */
+static struct ptpx_time now(void)
+{
+    const int64_t at = milliseconds();
+    const struct ptpx_timestamp stamp = {(uint64_t)at / 1000, (uint32_t)(at % 1000) * 1000000};
+    struct ptpx_time time = {0, 0};
+    must(ptpx_time_join(stamp, 0, &time));
+    return time;
+}
+
 /*
- * The one place that judges whether the master is there no more, or begins its numbers anew. No call takes a master
- * away: a slave that is restarted has none, until the next Announce. A master that is back before its Announces are
- * missed isn't seen here. Its Syncs are ignored (512) then until their numbers are newer than the last ones.
+ * The one place that judges whether the master is there no more. No call takes a master away: a slave that is restarted
+ * has none, until the next Announce. A master that is back before its Announces are missed may begin its numbers anew:
+ * the watch finds it.
  */
 static void judge_master(struct station *station)
 {
@@ -71,14 +91,14 @@ static void judge_master(struct station *station)
 /* Who announces itself first is followed until it falls silent. Which master is best isn't asked. */
 static void hear_announce(struct station *station, const struct arrival *it)
 {
-    struct ptpx_identity source = {{0}, (uint16_t)(it->octets[28] << 8 | it->octets[29])};
-    memcpy(source.clock, it->octets + 20, sizeof source.clock);
+    const struct ptpx_identity source = source_of(it);
     if (it->length < ANNOUNCE_LENGTH || (it->octets[6] & ALTERNATE_MASTER_FLAG) != 0)
         return;
     judge_master(station); /* this Announce may come too late */
     if (!station->has_master) {
         print("follows", &source);
         must(ptpx_slave_set_master(&station->slave, &source));
+        must(ptpx_watch_init(&station->watch, station->known, sizeof *station->known));
         station->has_master = true;
         station->master = source;
         station->tick_at = milliseconds() + TICK_INTERVAL;
@@ -126,6 +146,30 @@ static void told(struct station *station, const struct ptpx_heard *heard)
     station->reports--;
 }
 
+/* It is the master's. */
+static bool is_of_master(const struct station *station, const struct arrival *it)
+{
+    const struct ptpx_identity source = source_of(it);
+    return station->has_master && it->length >= PTPX_SYNC_LENGTH && is_same(&source, &station->master);
+}
+
+/* What the number of a Sync or a Follow_Up of the master says, or that of a Sync that the slave refused. */
+static uint16_t judge(struct station *station, const struct arrival *it, bool refused)
+{
+    const uint16_t number = (uint16_t)(it->octets[30] << 8 | it->octets[31]);
+    const bool is_unicast = (it->octets[6] & UNICAST_FLAG) != 0;
+    uint16_t judgement = PTPX_NEWER;
+    if ((it->octets[0] & 0x0f) == PTPX_SYNC)
+        must(ptpx_watch_sync(&station->watch, number, is_unicast, now(), refused, &judgement));
+    else
+        must(ptpx_watch_follow_up(&station->watch, number, is_unicast, now(), &judgement));
+    if (judgement == PTPX_BEGAN_ANEW) {
+        print("began its numbers anew:", &station->master);
+        must(ptpx_slave_set_master(&station->slave, &station->master));
+    }
+    return judgement;
+}
+
 static void hear_event(struct station *station, const struct arrival *it)
 {
     struct ptpx_heard heard = {0};
@@ -135,7 +179,12 @@ static void hear_event(struct station *station, const struct arrival *it)
         fprintf(stderr, "a Sync without a time stamp\n");
         return;
     }
+    const bool of_master = is_of_master(station, it);
+    if (of_master && judge(station, it, false) == PTPX_REPEATED)
+        return;
     must(ptpx_slave_sync(&station->slave, it->octets, it->length, it->stamp, station->tag++, &heard));
+    if (of_master && heard.reason == PTPX_REASON_NOT_NEWER && judge(station, it, true) == PTPX_BEGAN_ANEW)
+        must(ptpx_slave_sync(&station->slave, it->octets, it->length, it->stamp, station->tag++, &heard));
     told(station, &heard);
 }
 
@@ -147,6 +196,8 @@ static void hear_general(struct station *station, const struct arrival *it)
         hear_announce(station, it);
         return;
     }
+    if ((it->octets[0] & 0x0f) == PTPX_FOLLOW_UP && is_of_master(station, it) && judge(station, it, false) == PTPX_REPEATED)
+        return;
     must(ptpx_slave_general(&station->slave, it->octets, it->length, station->tag++, &heard));
     told(station, &heard);
     if ((it->octets[0] & 0x0f) == PTPX_DELAY_RESP && heard.kind != PTPX_IGNORED && it->octets[33] != UNICAST_INTERVAL)
@@ -189,7 +240,8 @@ static void run(struct station *station)
 int main(int argc, char **argv)
 {
     static struct ptpx_slave_memory memory;
-    struct station station = {.reports = ULONG_MAX};
+    static struct ptpx_watch_memory known;
+    struct station station = {.known = &known, .reports = ULONG_MAX};
     enum stamps stamps = STAMPS_OF_INTERFACE;
     bool is_ethernet = false;
     for (int option = getopt(argc, argv, "2Sud:n:"); option != -1; option = getopt(argc, argv, "2Sud:n:"))

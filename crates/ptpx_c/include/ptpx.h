@@ -238,6 +238,26 @@ struct ptpx_wide_slave_memory {
     PTPX_ALIGNED uint8_t octets[PTPX_WIDE_SLAVE_SIZE];
 };
 
+/* What is known of the numbers of a master's last 256 Syncs and last 256 Follow_Ups. The field is the library's. */
+struct ptpx_watch {
+    uint8_t *memory;
+};
+
+/* What the memory of a watch takes. Its address is a multiple of what that of a slave port is. */
+#define PTPX_WATCH_SIZE 37072
+
+/* Memory for a watch. */
+struct ptpx_watch_memory {
+    PTPX_ALIGNED uint8_t octets[PTPX_WATCH_SIZE];
+};
+
+/* What the number of a master's Sync or Follow_Up says. */
+enum ptpx_judgement {
+    PTPX_NEWER = 0,     /* nothing: the slave is to hear it */
+    PTPX_REPEATED = 1,  /* it came before: the slave isn't to hear it again */
+    PTPX_BEGAN_ANEW = 2 /* the master began its numbers anew: the slave is to be told it again, and then to hear it */
+};
+
 /* What became of a message. */
 enum ptpx_answer {
     PTPX_HELD = 0,      /* it is held, and waits for the message that it pairs with */
@@ -300,6 +320,7 @@ PTPX_HOLDS(layout_of_master, sizeof(struct ptpx_master) == 18 && PTPX_LIES(ptpx_
 PTPX_HOLDS(layout_of_slave, sizeof(struct ptpx_slave) == 8 && sizeof(struct ptpx_wide_slave) == 8);
 PTPX_HOLDS(layout_of_memory, sizeof(struct ptpx_slave_memory) == PTPX_SLAVE_SIZE
                                  && sizeof(struct ptpx_wide_slave_memory) == PTPX_WIDE_SLAVE_SIZE);
+PTPX_HOLDS(layout_of_watch, sizeof(struct ptpx_watch) == 8 && sizeof(struct ptpx_watch_memory) == PTPX_WATCH_SIZE);
 PTPX_HOLDS(layout_of_heard, sizeof(struct ptpx_heard) == 72 && PTPX_LIES(ptpx_heard, reason, 2)
                                 && PTPX_LIES(ptpx_heard, one_step, 4) && PTPX_LIES(ptpx_heard, offset2, 8)
                                 && PTPX_LIES(ptpx_heard, path2, 24) && PTPX_LIES(ptpx_heard, sync_tag, 40)
@@ -353,6 +374,16 @@ void ptpx_raw_slave_general(struct ptpx_slave *slave, const uint8_t *octets, siz
 uint16_t ptpx_raw_slave_last(struct ptpx_slave *slave, struct ptpx_exchange *exchange);
 size_t ptpx_raw_wide_slave_size(void);
 size_t ptpx_raw_wide_slave_alignment(void);
+void ptpx_raw_watch_init(struct ptpx_watch *watch);
+uint16_t ptpx_raw_watch_sync(struct ptpx_watch *watch, uint16_t number, bool is_unicast, struct ptpx_time time,
+                             uint16_t *judgement);
+uint16_t ptpx_raw_watch_refused(struct ptpx_watch *watch, uint16_t number, bool is_unicast, struct ptpx_time time,
+                                uint16_t *judgement);
+uint16_t ptpx_raw_watch_follow_up(struct ptpx_watch *watch, uint16_t number, bool is_unicast, struct ptpx_time time,
+                                  uint16_t *judgement);
+size_t ptpx_raw_watch_size(void);
+size_t ptpx_raw_watch_alignment(void);
+
 void ptpx_raw_wide_slave_init(struct ptpx_wide_slave *slave, const struct ptpx_config *config, uint16_t first);
 void ptpx_raw_wide_slave_restart(struct ptpx_wide_slave *slave, uint16_t first);
 void ptpx_raw_wide_slave_set_master(struct ptpx_wide_slave *slave, const struct ptpx_identity *master);
@@ -742,6 +773,55 @@ static inline uint16_t ptpx_slave_last(struct ptpx_slave *slave, struct ptpx_exc
     if (slave == NULL || slave->memory == NULL || exchange == NULL)
         return PTPX_NULL;
     return ptpx_raw_slave_last(slave, exchange);
+}
+
+/* ---- a watch, for a slave whose master may begin its numbers anew ---- */
+
+/* Makes a watch in memory of this size, as that of a struct ptpx_watch_memory. It knows of nothing. 906, 907. */
+PTPX_LOOK_AT_IT
+static inline uint16_t ptpx_watch_init(struct ptpx_watch *watch, void *memory, size_t size)
+{
+    if (watch == NULL || memory == NULL)
+        return PTPX_NULL;
+    if (size < PTPX_WATCH_SIZE)
+        return PTPX_SMALL_MEMORY;
+    if (PTPX_ADDRESS_OF(memory) % PTPX_SLAVE_ALIGNMENT != 0)
+        return PTPX_UNALIGNED_MEMORY;
+    watch->memory = PTPX_OCTETS_OF(memory);
+    ptpx_raw_watch_init(watch);
+    return PTPX_DONE;
+}
+
+/*
+ * A Sync of the master has this number and this unicastFlag (4 in octet 6), and came at this time by the slave's clock.
+ * Ask before the slave hears it, with refused false, and once more with refused true where the slave ignored it for
+ * 512. Where its number is that of a Sync that is known, less than a second apart, it is a copy. Where it is that of a
+ * Sync or a Follow_Up that is known, a second or more apart, and where three Syncs in a row with numbers that follow
+ * each other were refused, the master began its numbers anew: call ptpx_slave_set_master for the same master, and
+ * ptpx_slave_sync (of three for the third, again). All else that was known is forgotten then. 101.
+ */
+PTPX_LOOK_AT_IT
+static inline uint16_t ptpx_watch_sync(struct ptpx_watch *watch, uint16_t number, bool is_unicast,
+                                       struct ptpx_time time, bool refused, uint16_t *judgement)
+{
+    if (watch == NULL || watch->memory == NULL || judgement == NULL)
+        return PTPX_NULL;
+    if (refused)
+        return ptpx_raw_watch_refused(watch, number, is_unicast, time, judgement);
+    return ptpx_raw_watch_sync(watch, number, is_unicast, time, judgement);
+}
+
+/*
+ * The same of a Follow_Up of the master, before the slave hears it: where one of its number is known, or the known Sync
+ * of its number is a second or more apart, it came before, and the slave isn't to hear it. 101.
+ */
+PTPX_LOOK_AT_IT
+static inline uint16_t ptpx_watch_follow_up(struct ptpx_watch *watch, uint16_t number, bool is_unicast,
+                                            struct ptpx_time time, uint16_t *judgement)
+{
+    if (watch == NULL || watch->memory == NULL || judgement == NULL)
+        return PTPX_NULL;
+    return ptpx_raw_watch_follow_up(watch, number, is_unicast, time, judgement);
 }
 
 /* ---- a wide slave port ---- */

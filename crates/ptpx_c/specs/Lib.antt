@@ -8,4 +8,5 @@ pub mod Answers
 pub mod Exchanges
 pub mod Memory
 pub mod Slaves
+pub mod Watches
 pub mod Inner

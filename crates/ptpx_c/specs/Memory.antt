@@ -4,8 +4,10 @@ use Rattle.std.specs.Borrow.{Fml, RattleType, full_share}
 use Rattle.std.specs.Ptr.{Ptr, lies_at, room_at}
 use Rattle.ptpx_c.specs.declared.ring.RingSlave.{RingSlave}
 use Rattle.ptpx_c.specs.declared.ring.WideRingSlave.{WideRingSlave}
+use Rattle.ptpx_c.specs.declared.ring_watch.RingWatch.{RingWatch}
 use Rattle.ptpx_c.specs.contracts.ring.RingSlave.{the_row}
 use Rattle.ptpx_c.specs.contracts.ring.WideRingSlave.{the_row as wide_row}
+use Rattle.ptpx_c.specs.contracts.ring_watch.RingWatch.{the_row as watch_row}
 
 -- room for a port, or this port
 abbrev pub memory_of : (R : RattleType) → Ptr → Option R.Denot → Fml
@@ -17,3 +19,6 @@ memory = memory_of the_row
 
 abbrev pub wide_memory : Ptr → Option WideRingSlave → Fml
 wide_memory = memory_of wide_row
+
+abbrev pub watch_memory : Ptr → Option RingWatch → Fml
+watch_memory = memory_of watch_row

@@ -11,9 +11,12 @@ mod master;
 mod message;
 mod refusal;
 mod ring;
+mod ring_watch;
 mod slave;
 mod stay;
 mod time;
+mod watch;
+mod watch_handle;
 mod wide_handle;
 mod wide_slave;
 mod words;
@@ -25,8 +28,10 @@ pub use master::{RawMaster, RawPortConfig};
 pub use message::{RawMessage, RawPortIdentity};
 pub use refusal::InputRefusal;
 pub use ring::{RingSlave, WideRingSlave};
+pub use ring_watch::RingWatch;
 pub use stay::RawStay;
 pub use time::RawTimestamp;
+pub use watch_handle::RawWatch;
 pub use wide_handle::RawWideSlave;
 pub use words::{RawSigned, RawTime};
 
@@ -50,6 +55,8 @@ const _: () = prove!(size_of::<RawMaster>() == 18);
 const _: () = prove!(size_of::<RawSlave>() == 8);
 
 const _: () = prove!(size_of::<RawWideSlave>() == 8);
+
+const _: () = prove!(size_of::<RawWatch>() == 8);
 
 const _: () = prove!(size_of::<RawHeard>() == 72);
 
