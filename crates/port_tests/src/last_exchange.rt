@@ -3,17 +3,11 @@
 use event_codec::{Header, PortConfig, PortIdentity};
 use pairing::ListTable;
 use ptp_units::{Interval, ScaledTime, Seq, Timestamp};
-use slave_port::{
-    Exchange, Heard, HeldFollow, HeldRequest, HeldSync, Report, SlavePort,
-};
+use slave_port::{Exchange, Heard, HeldFollow, HeldRequest, HeldSync, Report, SlavePort};
 use std::process::Abort;
 
 /// A slave with 4 places of each kind.
-type Slave = SlavePort<
-    ListTable<HeldSync, 4>,
-    ListTable<HeldFollow, 4>,
-    ListTable<HeldRequest, 4>,
->;
+type Slave = SlavePort<ListTable<HeldSync, 4>, ListTable<HeldFollow, 4>, ListTable<HeldRequest, 4>>;
 
 const MASTER: PortConfig = PortConfig {
     identity: PortIdentity {
@@ -111,9 +105,23 @@ fn it_has_what_the_report_was_made_of(rt: HostRuntime) {
 #[test]
 fn a_newer_half_takes_the_place_of_the_older(rt: HostRuntime) {
     let mut slave = new_slave();
-    slave.sync(&header(NO_FLAGS, -1, 7).sync(timestamp(&rt, 1, 1)), moment(&rt, 1, 5, 0), 1);
-    request(&rt, &mut slave, moment(&rt, 2, 0, 0), timestamp(&rt, 2, 3), 0);
-    slave.sync(&header(NO_FLAGS, -3, 9).sync(timestamp(&rt, 3, 1)), moment(&rt, 3, 5, 0), 5);
+    slave.sync(
+        &header(NO_FLAGS, -1, 7).sync(timestamp(&rt, 1, 1)),
+        moment(&rt, 1, 5, 0),
+        1,
+    );
+    request(
+        &rt,
+        &mut slave,
+        moment(&rt, 2, 0, 0),
+        timestamp(&rt, 2, 3),
+        0,
+    );
+    slave.sync(
+        &header(NO_FLAGS, -3, 9).sync(timestamp(&rt, 3, 1)),
+        moment(&rt, 3, 5, 0),
+        5,
+    );
     let exchange = Exchange {
         t1: moment(&rt, 3, 1, 0),
         t2: moment(&rt, 3, 5, 0),

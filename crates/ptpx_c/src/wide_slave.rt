@@ -150,7 +150,10 @@ pub extern "C" fn ptpx_raw_wide_slave_general(
 /// The exchange of the last report. Refused with 910 where no report was made yet, or a half of it was dropped since;
 /// `exchange` stays then.
 #[unsafe(no_mangle)]
-pub extern "C" fn ptpx_raw_wide_slave_last(slave: &mut RawWideSlave, exchange: &mut RawExchange) -> u16
+pub extern "C" fn ptpx_raw_wide_slave_last(
+    slave: &mut RawWideSlave,
+    exchange: &mut RawExchange,
+) -> u16
     requires { IsSome slave.old.port }
     ensures last { IsLast wide_slaves slave.old result exchange.old exchange.new }
     ensures kept { slave.new ≡ slave.old }
