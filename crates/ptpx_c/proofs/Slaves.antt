@@ -10,7 +10,7 @@ use Rattle.slave_port.specs.declared.reason.SlaveRefusal.TheVariants.{NotHeld}
 use Rattle.slave_port.specs.History.{Call, Setup}
 use Rattle.slave_port.specs.Refusal.{code_of}
 use Rattle.slave_port.specs.Exchange.{last_exchange}
-use Rattle.slave_port.specs.StandsFor.{Port, StandsFor, StandsAfter, IsAnswer}
+use Rattle.slave_port.specs.StandsFor.{StandsFor, StandsAfter, IsAnswer}
 use Rattle.ptpx_c.specs.declared.exchange.RawExchange.{RawExchange}
 use Rattle.ptpx_c.specs.declared.handle.RawSlave.{RawSlave}
 use Rattle.ptpx_c.specs.declared.heard.RawHeard.{RawHeard}
