@@ -9,7 +9,7 @@ use Rattle.pairing.specs.Marked.{entry}
 use Rattle.sync_watch.specs.declared.judgement.Judgement.{Judgement}
 use Rattle.sync_watch.specs.declared.judgement.Judgement.TheVariants.{Newer, Repeated, BeganAnew}
 use Rattle.sync_watch.specs.Told.{Arrival, Sync, FollowUp, Refused, known}
-use Rattle.sync_watch.specs.Judged.{judged_sync, judged_refused, is_repeated, after}
+use Rattle.sync_watch.specs.Judged.{judged_sync, judged_follow_up, judged_refused, is_repeated, after}
 use Rattle.slave_port.specs.History.{Call, Event, General}
 use Rattle.capture_model.specs.declared.watched.Watched.{Watched}
 use Rattle.capture_model.specs.Listening.{Listening, table_capacity, is_of, is_stale, arrival_of, told, answer_in}
@@ -45,29 +45,29 @@ module _ (w : Watched) (line : ℕ) (call : Call) (a : Arrival) (l : Listening) 
   told-refused : (j : Judgement) → IsNoBeginning j
       → told call (ready_refused j w line call a l)
       ≡ record (told call l) { heard = after j a (Refused a.number) l.heard }
-  told-refused Newer no = refl
-  told-refused Repeated no = refl
+  told-refused Newer started = refl
+  told-refused Repeated started = refl
   told-refused BeganAnew (inl is) = cc
   told-refused BeganAnew (inr is) = cc
 
   answer-refused : (j : Judgement) → IsNoBeginning j
       → answer_in w (ready_refused j w line call a l) call ≡ answer_in w l call
-  answer-refused Newer no = refl
-  answer-refused Repeated no = refl
+  answer-refused Newer started = refl
+  answer-refused Repeated started = refl
   answer-refused BeganAnew (inl is) = cc
   answer-refused BeganAnew (inr is) = cc
 
   -- one that is refused, and no beginning
   pub refused-told : is_stale (answer_in w l call) ≡ true → IsNoBeginning (judged_refused a table_capacity l.heard)
       → with_refused a (told call l) ≡ told call (ready_newer w line call a l)
-  refused-told stale no =
-      sym (told-refused (judged_refused a table_capacity l.heard) no)
+  refused-told stale started =
+      sym (told-refused (judged_refused a table_capacity l.heard) started)
       ∙ ap (told call) (sym (newer-refused (judged_refused a table_capacity l.heard) stale refl))
 
   pub refused-answer : is_stale (answer_in w l call) ≡ true → IsNoBeginning (judged_refused a table_capacity l.heard)
       → answer_in w l call ≡ answer_in w (ready_newer w line call a l) call
-  refused-answer stale no =
-      sym (answer-refused (judged_refused a table_capacity l.heard) no)
+  refused-answer stale started =
+      sym (answer-refused (judged_refused a table_capacity l.heard) started)
       ∙ ap (λ (k : Listening). answer_in w k call)
       (sym (newer-refused (judged_refused a table_capacity l.heard) stale refl))
 
@@ -131,7 +131,7 @@ module _ (w : Watched) (line time : ℕ) (m : Contents) (l : Listening) where
       if b then ready_followed (judged_follow_up follow table_capacity l.heard) follow l else Some l) other
 
   -- what is known once its number was judged, and the port that is to hear it
-  record IsFollowed (again : Bool) : Type 0 where
+  pub record IsFollowed (again : Bool) : Type 0 where
     pub ready_is : ready_follow_up w time m l ≡ ready_followed (if again then Repeated else Newer) follow l
     pub known_is : with_follow_up follow l ≡ record l { heard = if again then l.heard else FollowUp follow ∷ l.heard }
 

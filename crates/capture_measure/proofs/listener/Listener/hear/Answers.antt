@@ -1,0 +1,27 @@
+use Rattle.std.proofs.Common.{sym, ap, subst}
+use Rattle.event_codec.specs.declared.message.Body.{Body}
+use Rattle.event_codec.specs.Packet.{Contents, contents}
+use Rattle.capture_model.specs.Listening.{hears}
+use Rattle.capture_measure.specs.Inner.Listener.{IsListener}
+use Rattle.capture_measure.proofs.listener.Listener.hear.Goals as goal
+
+pub returns-in-DelayReq-clause-listens : goal.returns-in-DelayReq-clause-listens
+returns-in-DelayReq-clause-listens c = λ w l is.
+    let m : Contents = contents c.args.message.now in
+    subst (IsListener w c.hear_request.new.self)
+    (sym (ap (λ (b : Body). hears w c.args.line c.args.time m b l) c.in-DelayReq.is))
+    (c.hear_request.ensures.listens w l is)
+
+pub returns-in-FollowUp-clause-listens : goal.returns-in-FollowUp-clause-listens
+returns-in-FollowUp-clause-listens c = λ w l is.
+    let m : Contents = contents c.args.message.now in
+    subst (IsListener w c.hear_follow_up.new.self)
+    (sym (ap (λ (b : Body). hears w c.args.line c.args.time m b l) c.in-FollowUp.is))
+    (c.hear_follow_up.ensures.listens w l is)
+
+pub returns-in-DelayResp-clause-listens : goal.returns-in-DelayResp-clause-listens
+returns-in-DelayResp-clause-listens c = λ w l is.
+    let m : Contents = contents c.args.message.now in
+    subst (IsListener w c.hear_response.new.self)
+    (sym (ap (λ (b : Body). hears w c.args.line c.args.time m b l) c.in-DelayResp.is))
+    (c.hear_response.ensures.listens w l is)
