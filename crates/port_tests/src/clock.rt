@@ -2,8 +2,9 @@
 
 use crate::values::{moment, with_correction};
 use event_codec::DecodeRefusal;
+use ptp_units::UnitRefusal;
 use std::test::Fail;
-use transparent_clock::{ClockRefusal, enter};
+use transparent_clock::{ClockRefusal, Transit, enter};
 
 const SYNC: [u8; 44] = [
     0x00, 0x12, 0x00, 0x2c, 0x00, 0x00, 0x02, 0x00, 0x00, 0x00, 0x00, 0x00, 0x00, 0x00, 0x00, 0x00,
@@ -47,48 +48,52 @@ fn with_octet<const N: usize>(octets: [u8; N], place: usize, octet: u8) -> [u8; 
     changed
 }
 
+/// Seconds, nanoseconds and units of 2^-16 ns.
+type Moment = (u64, u32, u16);
+
+const FIRST: Moment = (0, 0, 0);
+
+const START: Moment = (1, 0, 0);
+
+/// So many units after the first moment as no correction says.
+const END: Moment = (140_737, 488_355_327, 65_535);
+
+/// A message, its correction, when it enters and leaves, and its correction then.
+type Row = ([u8; 44], i64, Moment, Moment, i64);
+
+const RESIDENCES: [Row; 14] = [
+    (SYNC, 0, (1, 500, 0), (1, 2_500, 0), 131_072_000),
+    (DELAY_REQ, 0, (2, 500, 0), (2, 4_000, 16_384), 229_392_384),
+    (SYNC, 0, START, START, 0),
+    (SYNC, 7, START, START, 7),
+    (SYNC, -5, START, (1, 0, 3), -2),
+    (SYNC, i64::MIN, START, (1, 0, 1), i64::MIN + 1),
+    (SYNC, i64::MAX - 2, START, (1, 0, 1), i64::MAX - 1),
+    (SYNC, i64::MAX - 1, START, START, i64::MAX - 1),
+    (SYNC, i64::MAX - 1, START, (1, 0, 1), i64::MAX),
+    (SYNC, i64::MAX, START, START, i64::MAX),
+    (SYNC, i64::MAX, START, (2, 0, 0), i64::MAX),
+    (SYNC, 0, (0, 0, 1), END, i64::MAX - 1),
+    (SYNC, 0, FIRST, END, i64::MAX),
+    (
+        DELAY_REQ,
+        i64::MIN,
+        FIRST,
+        (281_474_976_710_655, 999_999_999, 65_535),
+        i64::MAX,
+    ),
+];
+
+fn transit((seconds, nanos, fraction): Moment) -> Result<Transit, UnitRefusal> {
+    Ok(enter(moment(seconds, nanos, fraction)?))
+}
+
 #[test]
 fn adds_the_residence(rt: HostRuntime) -> Result<(), Fail> {
-    let first = moment(0, 0, 0)?;
-    let start = moment(1, 0, 0)?;
-    let end = moment(140_737, 488_355_327, 65_535)?;
-    let cases = [
-        (
-            SYNC,
-            0,
-            moment(1, 500, 0)?,
-            moment(1, 2_500, 0)?,
-            131_072_000,
-        ),
-        (
-            DELAY_REQ,
-            0,
-            moment(2, 500, 0)?,
-            moment(2, 4_000, 16_384)?,
-            229_392_384,
-        ),
-        (SYNC, 0, start, start, 0),
-        (SYNC, 7, start, start, 7),
-        (SYNC, -5, start, moment(1, 0, 3)?, -2),
-        (SYNC, i64::MIN, start, moment(1, 0, 1)?, i64::MIN + 1),
-        (SYNC, i64::MAX - 2, start, moment(1, 0, 1)?, i64::MAX - 1),
-        (SYNC, i64::MAX - 1, start, start, i64::MAX - 1),
-        (SYNC, i64::MAX - 1, start, moment(1, 0, 1)?, i64::MAX),
-        (SYNC, i64::MAX, start, start, i64::MAX),
-        (SYNC, i64::MAX, start, moment(2, 0, 0)?, i64::MAX),
-        (SYNC, 0, moment(0, 0, 1)?, end, i64::MAX - 1),
-        (SYNC, 0, first, end, i64::MAX),
-        (
-            DELAY_REQ,
-            i64::MIN,
-            first,
-            moment(281_474_976_710_655, 999_999_999, 65_535)?,
-            i64::MAX,
-        ),
-    ];
-    for (octets, correction, entered, left, sum) in cases {
+    for (octets, correction, entered, (seconds, nanos, fraction), sum) in RESIDENCES {
         let mut forwarded = with_correction(octets, correction);
-        assert_eq!(rt; enter(entered).leave(&mut forwarded, left), Ok(()));
+        let left = moment(seconds, nanos, fraction)?;
+        assert_eq!(rt; transit(entered)?.leave(&mut forwarded, left), Ok(()));
         assert_eq!(rt;
             forwarded,
             with_correction(octets, sum),

@@ -76,9 +76,18 @@ const FORWARDED_ONE_STEP_SYNC: [u8; 44] = [
     0x00, 0x00, 0x00, 0x00, 0x00, 0x00, 0x00, 0x01, 0x00, 0x00, 0x00, 0x00,
 ];
 
+/// A slave whose first Delay_Req has this number.
+fn slave_from(first: u16) -> Slave {
+    Slave::new(SLAVE_CONFIG, Seq(first))
+}
+
+fn small_slave_from(first: u16) -> SmallSlave {
+    SmallSlave::new(SLAVE_CONFIG, Seq(first))
+}
+
 /// A slave of this master, or of none.
 fn slave_of(master: Option<PortIdentity>) -> Slave {
-    let mut slave = Slave::new(SLAVE_CONFIG, Seq(0));
+    let mut slave = slave_from(0);
     if let Some(master) = master {
         slave.set_master(master);
     }
@@ -597,16 +606,14 @@ const FEW_PLACES: Row = (
 #[test]
 fn slaves_answer_each_step(rt: HostRuntime) {
     for row in &ROWS {
-        assert_answers(&rt, &mut slave_of(None), *row);
+        assert_answers(&rt, &mut slave_from(0), *row);
     }
 }
 
 #[test]
 fn first_numbers_and_capacities_may_differ(rt: HostRuntime) {
-    let mut last_number = Slave::new(SLAVE_CONFIG, Seq(65_535));
-    assert_answers(&rt, &mut last_number, OVER_THE_END);
-    let mut small = SmallSlave::new(SLAVE_CONFIG, Seq(7));
-    assert_answers(&rt, &mut small, FEW_PLACES);
+    assert_answers(&rt, &mut slave_from(65_535), OVER_THE_END);
+    assert_answers(&rt, &mut small_slave_from(7), FEW_PLACES);
 }
 
 #[test]

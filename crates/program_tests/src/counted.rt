@@ -1,6 +1,6 @@
 //! Devices that count their failures, the reader that reads ahead, and the numbers of faults.
 
-use crate::devices::{Failing, Full, Pieces, WRITE_FAILURES};
+use crate::devices::{Sink, Source, WRITE_FAILURES};
 use network_model::WorldRefusal;
 use schedule_replay::{Counted, FaultKind, OctetReader};
 use std::io::{ErrorKind, Read, Write};
@@ -10,7 +10,7 @@ use std::test::Fail;
 fn devices_count_their_failures(rt: HostRuntime) -> Result<(), Fail> {
     for kind in [ErrorKind::UnexpectedEof, ErrorKind::Interrupted] {
         let mut octets = [0; 3];
-        let mut reader = Counted::new(Failing::new(b"abc", 2, kind));
+        let mut reader = Counted::new(Source::failing(b"abc", 2, kind));
         assert_eq!(rt; reader.read(&mut octets)?, 2);
         assert_eq!(rt; octets, *b"ab\0");
         assert_eq!(rt; reader.failures(), 0);
@@ -29,7 +29,7 @@ fn devices_count_their_failures(rt: HostRuntime) -> Result<(), Fail> {
 
     // An error, and a write that takes nothing; a flush isn't counted.
     for kind in WRITE_FAILURES {
-        let mut writer = Counted::new(Full::new(Vec::new(rt.alloc()), 1, kind));
+        let mut writer = Counted::new(Sink::full(rt.alloc(), 1, kind));
         assert_eq!(rt; writer.write(b"ab")?, 2);
         assert_eq!(rt; writer.failures(), 0);
         assert_eq!(rt; writer.write(b"cd").is_err(), kind.is_some());
@@ -40,7 +40,7 @@ fn devices_count_their_failures(rt: HostRuntime) -> Result<(), Fail> {
         assert_eq!(rt; writer.failures(), 1);
         assert_eq!(rt; writer.into_inner().text(), b"abef".as_slice());
 
-        let mut writer = Counted::new(Full::new(Vec::new(rt.alloc()), 0, kind));
+        let mut writer = Counted::new(Sink::full(rt.alloc(), 0, kind));
         assert!(rt; writer.write_all(b"ab").is_err());
         assert_eq!(rt; writer.failures(), 1);
         assert_eq!(rt; writer.into_inner().text(), b"".as_slice());
@@ -51,7 +51,7 @@ fn devices_count_their_failures(rt: HostRuntime) -> Result<(), Fail> {
 #[test]
 fn an_octet_reader_fails_as_its_source_and_goes_on(rt: HostRuntime) -> Result<(), Fail> {
     for kind in [ErrorKind::UnexpectedEof, ErrorKind::Interrupted] {
-        let mut source = Counted::new(Failing::new(b"abc", 2, kind));
+        let mut source = Counted::new(Source::failing(b"abc", 2, kind));
         let mut reader = OctetReader::new(&mut source);
         let mut room = [0];
         for octet in *b"ab" {
@@ -74,7 +74,7 @@ fn reads_ahead_and_gives_the_octets_in_order(rt: HostRuntime) -> Result<(), Fail
     }
     // Pieces of up to 8,192 octets, and of 5,000; then the end is asked for, and once more.
     for (most, asked) in [(usize::MAX, 5), (5000, 6)] {
-        let mut pieces = Pieces::new(octets.as_slice(), most);
+        let mut pieces = Source::in_pieces(octets.as_slice(), most);
         let mut reader = OctetReader::new(&mut pieces);
         let mut room = [0; 3];
         assert_eq!(rt; reader.read(&mut [])?, 0);

@@ -5,8 +5,6 @@
 #[cfg(test)]
 mod counted;
 #[cfg(test)]
-mod datagrams;
-#[cfg(test)]
 mod devices;
 #[cfg(test)]
 mod json_lines;

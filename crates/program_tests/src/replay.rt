@@ -1,11 +1,9 @@
 //! `replay` over schedules and devices of all kinds.
 
-use crate::devices::{Endless, Failing, Full, WRITE_FAILURES, lines_in};
-use network_model::WorldRefusal;
+use crate::devices::{Sink, Source, WRITE_FAILURES, lines_in};
 use schedule_replay::{Counted, Fault, FaultKind, OctetReader, replay};
 use std::alloc::Global;
 use std::io::ErrorKind;
-use std::process::Abort;
 use std::test::Fail;
 
 /// One exchange with a slave behind a clock.
@@ -52,10 +50,11 @@ pub(crate) const TRANSCRIPT: [&str; 17] = [
 
 /// What `replay` answers to these octets, what it wrote, and what it left unread.
 fn replayed(alloc: Global, input: &[u8]) -> (Result<u64, Fault>, Vec<u8>, &[u8]) {
-    let mut reader = Counted::new(input);
-    let mut writer = Counted::new(Vec::new(alloc));
+    let mut reader = Counted::new(Source::new(input));
+    let mut writer = Counted::new(Sink::new(alloc));
     let answer = replay(alloc, &mut reader, &mut writer);
-    (answer, writer.into_inner(), reader.into_inner())
+    let written = writer.into_inner().into_text();
+    (answer, written, reader.into_inner().unread())
 }
 
 /// Lines, each with its LF.
@@ -66,23 +65,6 @@ pub(crate) fn joined(alloc: Global, lines: &[&str]) -> Result<String, Fail> {
         text.push('\n')?;
     }
     Ok(text)
-}
-
-/// The schedule gives these lines and this answer.
-fn assert_replayed(
-    rt: &(impl Abort + AllocGlobal),
-    schedule: &[u8],
-    transcript: &[&str],
-    wanted: Result<u64, Fault>,
-) -> Result<(), Fail> {
-    let (answer, written, _) = replayed(rt.alloc(), schedule);
-    assert_eq!(rt; answer, wanted, "{schedule:?}");
-    assert_eq!(rt;
-        written.as_slice(),
-        joined(rt.alloc(), transcript)?.as_bytes(),
-        "{schedule:?}"
-    );
-    Ok(())
 }
 
 /// The first lines of the transcript.
@@ -158,112 +140,14 @@ fn refuses_what_is_no_json(rt: HostRuntime) -> Result<(), Fail> {
     Ok(())
 }
 
+/// Nodes alone are no event, and are written at the end.
 #[test]
-fn refuses_deep_nesting_and_blanks(rt: HostRuntime) -> Result<(), Fail> {
-    let mut line = vec![in rt.alloc(); b'['; 200]?;
-    line.extend_from_slice(vec![in rt.alloc(); b']'; 200]?.as_slice())?;
-    assert_replayed(&rt, line.as_slice(), &[], fault(1, FaultKind::Json))?;
-    assert_replayed(&rt, &[b' '; 4096], &[], fault(1, FaultKind::Json))?;
-    assert_replayed(&rt, &[b' '; 4097], &[], fault(1, FaultKind::LineTooLong))
-}
-
-/// Lines that are neither nodes nor events.
-const ILL_FORMED: [&str; 9] = [
-    "7",
-    "{}",
-    r#"{"ev":"tick"}"#,
-    r#"{"ev":"tock","node":"S"}"#,
-    r#"{"ev":"tick","node":"S","at":[0,0,0]}"#,
-    r#"{"kind":"bridge","node":"B"}"#,
-    r#"{"kind":"clock","node":"no name"}"#,
-    r#"{"at":[1.0,0,0],"ev":"sync","node":"M"}"#,
-    r#"{"copy":18446744073709551616,"ev":"hear","node":"S"}"#,
-];
-
-#[test]
-fn refuses_other_lines(rt: HostRuntime) -> Result<(), Fail> {
-    for line in ILL_FORMED {
-        let before = [SCHEDULE[0], SCHEDULE[0], line];
-        let schedule = joined(rt.alloc(), &before)?;
-        assert_replayed(&rt, schedule.as_bytes(), &[], fault(3, FaultKind::Field))?;
-        let mut lines = SCHEDULE;
-        lines[4] = line;
-        let schedule = joined(rt.alloc(), &lines)?;
-        let wanted = fault(5, FaultKind::Field);
-        assert_replayed(&rt, schedule.as_bytes(), &TRANSCRIPT[..4], wanted)?;
-    }
-    Ok(())
-}
-
-#[test]
-fn nodes_stand_before_events(rt: HostRuntime) -> Result<(), Fail> {
-    let mut lines = SCHEDULE;
-    lines[4] = r#"{"kind":"clock","node":"Z"}"#;
-    let schedule = joined(rt.alloc(), &lines)?;
-    let wanted = fault(5, FaultKind::Field);
-    assert_replayed(&rt, schedule.as_bytes(), &TRANSCRIPT[..4], wanted)
-}
-
-/// One node in other spellings.
-const SPELLINGS: [&str; 4] = [
-    r#"{"node":"T","kind":"clock"}"#,
-    "{\"kind\":\"clock\",\"node\":\"T\"}\r",
-    r#"  { "node" : "\u0054" , "kind" : "cl\u006fck" }  "#,
-    r#"{"kind":"master","node":"no name","node":"T","kind":"clock"}"#,
-];
-
-#[test]
-fn nodes_alone_are_written_at_the_end(rt: HostRuntime) -> Result<(), Fail> {
-    assert_replayed(&rt, b"", &[], Ok(0))?;
-    for line in SPELLINGS {
-        let (clock, wanted) = (TRANSCRIPT[2], Ok(0));
-        assert_replayed(&rt, line.as_bytes(), &[clock], wanted)?;
-        let schedule = joined(rt.alloc(), &[line])?;
-        assert_replayed(&rt, schedule.as_bytes(), &[clock], wanted)?;
-        let twice = joined(rt.alloc(), &[line, line])?;
-        let clash = fault(3, FaultKind::World(WorldRefusal::SameName));
-        assert_replayed(&rt, twice.as_bytes(), &[], clash)?;
-        let clash = fault(3, FaultKind::World(WorldRefusal::SameName));
-        let unended = twice.as_str().trim_end();
-        assert_replayed(&rt, unended.as_bytes(), &[], clash)?;
-    }
-    Ok(())
-}
-
-#[test]
-fn refuses_nodes_at_the_first_event(rt: HostRuntime) -> Result<(), Fail> {
-    let other =
-        r#"{"domain":1,"first":7,"id":"001122FFFE334455","kind":"slave","log":0,"node":"Z","port":1}"#;
-    let cases = [
-        (SCHEDULE[0], WorldRefusal::SameName),
-        (other, WorldRefusal::SameIdentity),
-    ];
-    for (node, why) in cases {
-        let lines = [SCHEDULE[0], node, SCHEDULE[3]];
-        let schedule = joined(rt.alloc(), &lines)?;
-        let wanted = fault(3, FaultKind::World(why));
-        assert_replayed(&rt, schedule.as_bytes(), &[], wanted)?;
-    }
-    Ok(())
-}
-
-/// An event at no node.
-const NOWHERE: &str = r#"{"ev":"tick","node":"Z"}"#;
-
-#[test]
-fn writes_the_nodes_though_the_first_event_is_refused(rt: HostRuntime) -> Result<(), Fail> {
-    let (mut first, mut second, mut last) = (SCHEDULE, SCHEDULE, SCHEDULE);
-    first[3] = NOWHERE;
-    second[4] = NOWHERE;
-    last[16] = NOWHERE;
-    for (lines, line, written) in [
-        (first, 4, &TRANSCRIPT[..3]),
-        (second, 5, &TRANSCRIPT[..4]),
-        (last, 17, &TRANSCRIPT[..16]),
-    ] {
-        let schedule = joined(rt.alloc(), &lines)?;
-        let wanted = fault(line, FaultKind::World(WorldRefusal::NoNode));
-        assert_replayed(&rt, schedule.as_bytes(), written, wanted)?;
+fn counts_no_nodes(rt: HostRuntime) -> Result<(), Fail> {
+    for count in 0..=3 {
+        let nodes = begun(rt.alloc(), count)?;
+        let (answer, written, _) = replayed(rt.alloc(), nodes.as_bytes());
+        assert_eq!(rt; answer, Ok(0), "{count}");
+        assert_eq!(rt; written.as_slice(), nodes.as_bytes(), "{count}");
     }
     Ok(())
 }
@@ -274,13 +158,13 @@ fn ends_at_endless_lines(rt: HostRuntime) -> Result<(), Fail> {
         (b'\n', FaultKind::Json, 1),
         (b'x', FaultKind::LineTooLong, 4097),
     ] {
-        let mut reader = Counted::new(Endless::new(octet));
-        let mut writer = Counted::new(Vec::new(rt.alloc()));
+        let mut reader = Counted::new(Source::endless(octet));
+        let mut writer = Counted::new(Sink::new(rt.alloc()));
         let answer = replay(rt.alloc(), &mut reader, &mut writer);
         assert_eq!(rt; answer, fault(1, what));
         assert_eq!(rt; reader.failures(), 0);
         assert_eq!(rt; reader.into_inner().given(), given);
-        assert_eq!(rt; writer.into_inner().len(), 0);
+        assert_eq!(rt; writer.into_inner().text(), b"".as_slice());
     }
     Ok(())
 }
@@ -292,9 +176,9 @@ fn stops_where_the_reader_fails(rt: HostRuntime) -> Result<(), Fail> {
     for given in 0..=schedule.len() {
         for kind in [ErrorKind::UnexpectedEof, ErrorKind::Interrupted] {
             let ended = lines_in(&schedule[..given]);
-            let mut device = Failing::new(schedule, given, kind);
+            let mut device = Source::failing(schedule, given, kind);
             let mut reader = Counted::new(OctetReader::new(&mut device));
-            let mut writer = Counted::new(Vec::new(rt.alloc()));
+            let mut writer = Counted::new(Sink::new(rt.alloc()));
             let answer = replay(rt.alloc(), &mut reader, &mut writer);
             let wanted = fault((ended as u64).saturating_add(1), FaultKind::Read);
             assert_eq!(rt; answer, wanted, "{given}");
@@ -303,7 +187,7 @@ fn stops_where_the_reader_fails(rt: HostRuntime) -> Result<(), Fail> {
             let lines = if ended > 3 { ended } else { 0 };
             let written = writer.into_inner();
             assert_eq!(rt;
-                written.as_slice(),
+                written.text(),
                 begun(rt.alloc(), lines)?.as_bytes(),
                 "{given}"
             );
@@ -317,8 +201,8 @@ fn stops_where_the_writer_fails(rt: HostRuntime) -> Result<(), Fail> {
     let schedule = joined(rt.alloc(), &SCHEDULE)?;
     for room in 0..=17usize {
         for kind in WRITE_FAILURES {
-            let mut reader = Counted::new(schedule.as_bytes());
-            let mut writer = Counted::new(Full::new(Vec::new(rt.alloc()), room, kind));
+            let mut reader = Counted::new(Source::new(schedule.as_bytes()));
+            let mut writer = Counted::new(Sink::full(rt.alloc(), room, kind));
             let answer = replay(rt.alloc(), &mut reader, &mut writer);
             let wanted = if room < 17 {
                 fault((room as u64).max(3).saturating_add(1), FaultKind::Write)

@@ -1,95 +1,19 @@
 //! `show` over lines and devices of all kinds.
 
-use crate::datagrams::{EXCHANGE, FIELDS, RECORDED, REFUSED};
-use crate::devices::{Endless, Failing, Full, Tally, WRITE_FAILURES, lines_in};
+use crate::devices::{Sink, Source, WRITE_FAILURES, lines_in};
 use schedule_replay::{Counted, Fault, FaultKind, show};
 use std::alloc::Global;
 use std::io::ErrorKind;
-use std::process::Abort;
 use std::test::Fail;
 
 /// What `show` answers to these octets, what it wrote, and what it left unread.
 fn shown(alloc: Global, input: &[u8]) -> (Result<u64, Fault>, Vec<u8>, &[u8]) {
-    let mut reader = Counted::new(input);
-    let mut writer = Counted::new(Vec::new(alloc));
+    let mut reader = Counted::new(Source::new(input));
+    let mut writer = Counted::new(Sink::new(alloc));
     let answer = show(alloc, &mut reader, &mut writer);
-    (answer, writer.into_inner(), reader.into_inner())
+    let written = writer.into_inner().into_text();
+    (answer, written, reader.into_inner().unread())
 }
-
-fn assert_shown(rt: &(impl Abort + AllocGlobal), datagram: &str, text: &str) -> Result<(), Fail> {
-    let line = format!(in rt.alloc(); "{datagram}\n")?;
-    let (answer, written, unread) = shown(rt.alloc(), line.as_bytes());
-    assert_eq!(rt; answer, Ok(1), "{datagram}");
-    assert_eq!(rt;
-        written.as_slice(),
-        format!(in rt.alloc(); "{text}\n")?.as_bytes(),
-        "{datagram}"
-    );
-    assert_eq!(rt; unread.len(), 0, "{datagram}");
-    Ok(())
-}
-
-#[test]
-fn shows_fields(rt: HostRuntime) -> Result<(), Fail> {
-    for (datagram, text) in FIELDS {
-        assert_shown(&rt, datagram, text)?;
-    }
-    Ok(())
-}
-
-#[test]
-fn shows_an_exchange(rt: HostRuntime) -> Result<(), Fail> {
-    for (datagram, text) in EXCHANGE {
-        assert_shown(&rt, datagram, text)?;
-    }
-    Ok(())
-}
-
-#[test]
-fn shows_a_recorded_exchange(rt: HostRuntime) -> Result<(), Fail> {
-    for (datagram, text) in RECORDED {
-        assert_shown(&rt, datagram, text)?;
-    }
-    Ok(())
-}
-
-#[test]
-fn shows_refusals(rt: HostRuntime) -> Result<(), Fail> {
-    for (datagram, text) in REFUSED {
-        assert_shown(&rt, datagram, text)?;
-    }
-    Ok(())
-}
-
-/// An input, how many of its lines are answered, here all by `refused 201`, and its fault.
-const FAULTS: [(&[u8], usize, Option<(u64, FaultKind)>); 20] = [
-    // No line, empty lines, and a lone CR.
-    (b"", 0, None),
-    (b"\n", 1, None),
-    (b"\n\r\n\n", 3, None),
-    (b"\r", 1, None),
-    // Digits with and without a CR, and with no LF at the end.
-    (b"00\n00\r\n00", 3, None),
-    (b"00\n00\r", 2, None),
-    // One digit, an odd number of them, and what is no digit.
-    (b"0\n", 0, Some((1, FaultKind::Field))),
-    (b"00\n012\n00\n", 1, Some((2, FaultKind::Field))),
-    (b"00\n\n0x\n", 2, Some((3, FaultKind::Field))),
-    (b"00 \n", 0, Some((1, FaultKind::Field))),
-    (b"x", 0, Some((1, FaultKind::Field))),
-    (b"0\r", 0, Some((1, FaultKind::Field))),
-    // One CR alone is dropped, and none but at the end.
-    (b"00\r\r\n", 0, Some((1, FaultKind::Field))),
-    (b"\r00\n", 0, Some((1, FaultKind::Field))),
-    // Octets that are no UTF-8, and a letter of two octets.
-    (b"\n\xff\xfe\n", 1, Some((2, FaultKind::Field))),
-    (b"\n\xc3\xa9\n", 1, Some((2, FaultKind::Field))),
-    (b"\x00\x00\n", 0, Some((1, FaultKind::Field))),
-    // The fault is that of the first line that has one.
-    (b"0\n00\n0\n", 0, Some((1, FaultKind::Field))),
-    (b"00\n0\n0\n", 1, Some((2, FaultKind::Field))),
-    (b"00\n00\n00\n0", 3, Some((4, FaultKind::Field))),
-];
 
 fn outcome_of(lines: usize, fault: Option<(u64, FaultKind)>) -> Result<u64, Fault> {
     match fault {
@@ -105,16 +29,6 @@ fn short_answers(alloc: Global, lines: usize) -> Result<Vec<u8>, Fail> {
         text.extend_from_slice(b"refused 201\n")?;
     }
     Ok(text)
-}
-
-#[test]
-fn stops_at_the_first_fault(rt: HostRuntime) -> Result<(), Fail> {
-    for (input, lines, fault) in FAULTS {
-        let (answer, written, _) = shown(rt.alloc(), input);
-        assert_eq!(rt; answer, outcome_of(lines, fault), "{input:?}");
-        assert_eq!(rt; written, short_answers(rt.alloc(), lines)?, "{input:?}");
-    }
-    Ok(())
 }
 
 #[test]
@@ -228,16 +142,16 @@ fn lines_have_at_most_4096_octets(rt: HostRuntime) -> Result<(), Fail> {
 
 #[test]
 fn ends_at_endless_lines(rt: HostRuntime) -> Result<(), Fail> {
-    let mut reader = Counted::new(Endless::new(b'x'));
-    let mut writer = Counted::new(Vec::new(rt.alloc()));
+    let mut reader = Counted::new(Source::endless(b'x'));
+    let mut writer = Counted::new(Sink::new(rt.alloc()));
     let answer = show(rt.alloc(), &mut reader, &mut writer);
     assert_eq!(rt; answer, outcome_of(0, Some((1, FaultKind::LineTooLong))));
     assert_eq!(rt; reader.failures(), 0);
     assert_eq!(rt; reader.into_inner().given(), 4097);
-    assert_eq!(rt; writer.into_inner().len(), 0);
+    assert_eq!(rt; writer.into_inner().text(), b"".as_slice());
 
-    let mut reader = Counted::new(Endless::new(b'\n'));
-    let mut writer = Counted::new(Tally::new(b"refused 201\n"));
+    let mut reader = Counted::new(Source::endless(b'\n'));
+    let mut writer = Counted::new(Sink::counting(rt.alloc(), b"refused 201\n"));
     let answer = show(rt.alloc(), &mut reader, &mut writer);
     assert_eq!(rt;
         answer,
@@ -256,9 +170,8 @@ fn stops_where_the_reader_fails(rt: HostRuntime) -> Result<(), Fail> {
     for given in 0..=SHORT.len() {
         for kind in [ErrorKind::UnexpectedEof, ErrorKind::Interrupted] {
             let ended = lines_in(&SHORT[..given]);
-            let mut device = Failing::new(SHORT, given, kind);
-            let mut reader = Counted::new(&mut device);
-            let mut writer = Counted::new(Vec::new(rt.alloc()));
+            let mut reader = Counted::new(Source::failing(SHORT, given, kind));
+            let mut writer = Counted::new(Sink::new(rt.alloc()));
             let answer = show(rt.alloc(), &mut reader, &mut writer);
             let line = (ended as u64).saturating_add(1);
             assert_eq!(rt;
@@ -267,10 +180,11 @@ fn stops_where_the_reader_fails(rt: HostRuntime) -> Result<(), Fail> {
                 "{given}"
             );
             assert_eq!(rt; reader.failures(), 1, "{given}");
-            assert_eq!(rt; device.left(), SHORT.len().saturating_sub(given));
+            let left = reader.into_inner().left();
+            assert_eq!(rt; left, SHORT.len().saturating_sub(given), "{given}");
             assert_eq!(rt; writer.failures(), 0, "{given}");
             assert_eq!(rt;
-                writer.into_inner(),
+                writer.into_inner().into_text(),
                 short_answers(rt.alloc(), ended)?,
                 "{given}"
             );
@@ -283,8 +197,8 @@ fn stops_where_the_reader_fails(rt: HostRuntime) -> Result<(), Fail> {
 fn stops_where_the_writer_fails(rt: HostRuntime) -> Result<(), Fail> {
     for room in 0..=5 {
         for kind in WRITE_FAILURES {
-            let mut reader = Counted::new(SHORT);
-            let mut writer = Counted::new(Full::new(Vec::new(rt.alloc()), room, kind));
+            let mut reader = Counted::new(Source::new(SHORT));
+            let mut writer = Counted::new(Sink::full(rt.alloc(), room, kind));
             let answer = show(rt.alloc(), &mut reader, &mut writer);
             let fault = (room < 5).then_some(((room as u64).saturating_add(1), FaultKind::Write));
             assert_eq!(rt; answer, outcome_of(5, fault), "{room}");

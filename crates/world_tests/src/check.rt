@@ -1,267 +1,213 @@
 //! What the checker says of worked transcripts, whole and line by line, and of each with one line
 //! changed.
 
-use crate::moments::moment;
-use arrayvec::ArrayVec;
-use event_codec::{PortConfig, PortIdentity};
-use exchange_check::{
-    CheckFault, Checker, Judgement, Results, TraceLine, TraceOut, Verdict, Why, check,
-};
-use network_model::{Event, Name, NodeKind, NodeSpec, Nodes, Report};
-use ptp_units::{ScaledTime, Seq};
+use crate::exchanges::{LINE, ONE_EXCHANGE};
+use crate::memory::specs;
+use crate::script::{nodes_of, read_line};
+use exchange_check::{CheckFault, Checker, Judgement, Results, TraceLine, Verdict, Why, check};
+use network_model::Nodes;
 use std::alloc::Global;
+use std::process::Abort;
 use std::test::Fail;
 
-const MASTER: PortIdentity = PortIdentity {
-    clock: [0x00, 0x11, 0x22, 0xff, 0xfe, 0x33, 0x44, 0x55],
-    port: 1,
-};
+/// The exchange with a one-step Sync, which leaves a quarter of a nanosecond later, but for its report.
+const ONE_STEP: &str = "
+0 stepclock S 65536000 -> done
+1 setmaster S M -> done
+2 syncone M [1,0,16384] reads [1,0,16384] -> made 0012002c00000000000000000000400000000000001122fffe33445500010000000000000000000100000000
+3 enter T 2 [1,500,0] reads [1,500,0] -> entered
+4 leave T 3 [1,2500,0] reads [1,2500,0] -> made 0012002c000000000000000007d0400000000000001122fffe33445500010000000000000000000100000000
+5 arrive S 4 [1,3000,0] reads [1,4000,0] -> completed
+6 request S [2,0,0] reads [2,1000,0] -> made 0112002c0000000000000000000000000000000000aabbfffeccddee00010000017f00000000000000000000
+7 enter T 6 [2,500,0] reads [2,500,0] -> entered
+8 leave T 7 [2,4000,16384] reads [2,4000,16384] -> made 0112002c00000000000000000dac40000000000000aabbfffeccddee00010000017f00000000000000000000
+9 arrive M 8 [2,4500,16384] reads [2,4500,16384] -> made 0912003600000000000000000dac000000000000001122fffe3344550001000003000000000000020000119400aabbfffeccddee0001
+10 stamped S -> done
+";
 
-const SLAVE: PortIdentity = PortIdentity {
-    clock: [0x00, 0xaa, 0xbb, 0xff, 0xfe, 0xcc, 0xdd, 0xee],
-    port: 1,
-};
+/// The exchange, but the master sends another Sync before the Follow_Up, which is of that one then.
+const OTHER_FOLLOW_UP: &str = "
+0 stepclock S 65536000 -> done
+1 setmaster S M -> done
+2 sync M [1,0,0] reads [1,0,0] -> made 0012002c00000200000000000000000000000000001122fffe33445500010000000000000000000000000000
+3 enter T 2 [1,500,0] reads [1,500,0] -> entered
+4 leave T 3 [1,2500,0] reads [1,2500,0] -> made 0012002c000002000000000007d0000000000000001122fffe33445500010000000000000000000000000000
+5 arrive S 4 [1,3000,0] reads [1,4000,0] -> held
+6 sync M [1,0,0] reads [1,0,0] -> made 0012002c00000200000000000000000000000000001122fffe33445500010000000000000000000000000000
+7 follow M -> made 0812002c00000000000000000000000000000000001122fffe33445500010000020000000000000100000000
+8 hear S 7 -> completed
+9 request S [2,0,0] reads [2,1000,0] -> made 0112002c0000000000000000000000000000000000aabbfffeccddee00010000017f00000000000000000000
+10 enter T 9 [2,500,0] reads [2,500,0] -> entered
+11 leave T 10 [2,4000,16384] reads [2,4000,16384] -> made 0112002c00000000000000000dac40000000000000aabbfffeccddee00010000017f00000000000000000000
+12 arrive M 11 [2,4500,16384] reads [2,4500,16384] -> made 0912003600000000000000000dac000000000000001122fffe3344550001000003000000000000020000119400aabbfffeccddee0001
+13 stamped S -> done
+14 hear S 12 -> report 131072000 131072000 [5,8,9,14]
+";
 
-const SYNC: [u8; 44] = [
-    0x00, 0x12, 0x00, 0x2c, 0x00, 0x00, 0x02, 0x00, 0x00, 0x00, 0x00, 0x00, 0x00, 0x00, 0x00, 0x00,
-    0x00, 0x00, 0x00, 0x00, 0x00, 0x11, 0x22, 0xff, 0xfe, 0x33, 0x44, 0x55, 0x00, 0x01, 0x00, 0x00,
-    0x00, 0x00, 0x00, 0x00, 0x00, 0x00, 0x00, 0x00, 0x00, 0x00, 0x00, 0x00,
+/// The Sync leaves the clock twice before the report.
+const LEFT_TWICE: &str = "
+13 leave T 3 [1,2500,0] reads [1,2500,0] -> made 0012002c000002000000000007d0000000000000001122fffe33445500010000000000000000000000000000
+14 hear S 11 -> report 131072000 131072000 [5,7,8,14]
+";
+
+/// The Sync leaves the clock once more after a report, and is reported again.
+const LEFT_AGAIN: &str = "
+14 hear S 11 -> report 131072000 131072000 [5,7,8,14]
+15 leave T 3 [1,2500,0] reads [1,2500,0] -> made 0012002c000002000000000007d0000000000000001122fffe33445500010000000000000000000000000000
+16 hear S 11 -> report 131072000 131072000 [5,7,8,16]
+";
+
+/// The Sync enters the clock once more, and that stay is left twice: no report is of it.
+const OTHER_STAY: &str = "
+14 enter T 2 [1,500,0] reads [1,500,0] -> entered
+15 leave T 14 [1,2500,0] reads [1,2500,0] -> made 0012002c000002000000000007d0000000000000001122fffe33445500010000000000000000000000000000
+16 leave T 14 [1,2500,0] reads [1,2500,0] -> made 0012002c000002000000000007d0000000000000001122fffe33445500010000000000000000000000000000
+17 hear S 11 -> report 131072000 131072000 [5,7,8,17]
+";
+
+/// The Sync is in the clock for as long as no correction says.
+const LATE: &str =
+    "4 leave T 3 [140738,488355827,65535] reads [140738,488355827,65535] -> made 0012002c000002000000000007d0000000000000001122fffe33445500010000000000000000000000000000";
+
+/// Parts of a transcript of a master M, a slave S and a clock T, and how many reports are accepted.
+type Accepted = (&'static [&'static str], u64);
+
+const ACCEPTED: [Accepted; 4] = [
+    (&[], 0),
+    (&[ONE_EXCHANGE], 1),
+    (
+        &[
+            ONE_STEP,
+            "11 hear S 9 -> report 131055616 131055616 [5,null,6,11]",
+        ],
+        1,
+    ),
+    (&[ONE_EXCHANGE, OTHER_STAY], 2),
 ];
 
-/// The Sync after 2,000 ns in the clock.
-const FORWARDED_SYNC: [u8; 44] = [
-    0x00, 0x12, 0x00, 0x2c, 0x00, 0x00, 0x02, 0x00, 0x00, 0x00, 0x00, 0x00, 0x07, 0xd0, 0x00, 0x00,
-    0x00, 0x00, 0x00, 0x00, 0x00, 0x11, 0x22, 0xff, 0xfe, 0x33, 0x44, 0x55, 0x00, 0x01, 0x00, 0x00,
-    0x00, 0x00, 0x00, 0x00, 0x00, 0x00, 0x00, 0x00, 0x00, 0x00, 0x00, 0x00,
+/// Parts of a transcript, the number of the report that isn't sound, and why it isn't.
+type Refused = (&'static [&'static str], u64, Why);
+
+const REFUSED: [Refused; 16] = [
+    // A Follow_Up that is no hearing.
+    (
+        &[
+            ONE_STEP,
+            "11 hear S 9 -> report 131055616 131055616 [5,5,6,11]",
+        ],
+        11,
+        Why::NoSuchLine,
+    ),
+    (&[OTHER_FOLLOW_UP], 14, Why::OtherNumber),
+    (&[ONE_EXCHANGE, LEFT_TWICE], 14, Why::BrokenJourney),
+    (&[ONE_EXCHANGE, LEFT_AGAIN], 16, Why::BrokenJourney),
+    (
+        &[
+            ONE_EXCHANGE,
+            "13 hear S 11 -> report 131072002 131072000 [5,7,8,13]",
+        ],
+        13,
+        Why::WrongValue,
+    ),
+    (
+        &[
+            ONE_EXCHANGE,
+            "13 hear S 11 -> report 131072000 131072000 [2,7,8,13]",
+        ],
+        13,
+        Why::NoSuchLine,
+    ),
+    (
+        &[
+            ONE_EXCHANGE,
+            "13 hear S 11 -> report 131072000 131072000 [5,7,8,18446744073709551615]",
+        ],
+        13,
+        Why::NoSuchLine,
+    ),
+    (
+        &[
+            ONE_EXCHANGE,
+            "13 hear S 11 -> report 131072000 131072000 [5,null,8,13]",
+        ],
+        13,
+        Why::NoSuchLine,
+    ),
+    (
+        &[
+            ONE_EXCHANGE,
+            "3 enter T 4 [1,500,0] reads [1,500,0] -> entered",
+        ],
+        13,
+        Why::BrokenJourney,
+    ),
+    (
+        &[
+            ONE_EXCHANGE,
+            "4 leave T 2 [1,2500,0] reads [1,2500,0] -> made 0012002c000002000000000007d0000000000000001122fffe33445500010000000000000000000000000000",
+        ],
+        13,
+        Why::BrokenJourney,
+    ),
+    (
+        &[
+            ONE_EXCHANGE,
+            "10 leave T 3 [2,4000,16384] reads [2,4000,16384] -> made 0112002c00000000000000000dac40000000000000aabbfffeccddee00010000017f00000000000000000000",
+        ],
+        13,
+        Why::BrokenJourney,
+    ),
+    (
+        &[ONE_EXCHANGE, "1 setmaster S T -> done"],
+        13,
+        Why::OtherMaster,
+    ),
+    (
+        &[
+            ONE_EXCHANGE,
+            "5 arrive S 4 [1,3000,0] reads [1,4001,0] -> held",
+        ],
+        13,
+        Why::WrongReading,
+    ),
+    (
+        &[
+            ONE_EXCHANGE,
+            "4 leave T 3 [1,2500,0] reads [1,2500,0] -> made 0012002c000002000000000007d1000000000000001122fffe33445500010000000000000000000000000000",
+        ],
+        13,
+        Why::Bytes,
+    ),
+    (&[ONE_EXCHANGE, LATE], 13, Why::TooBig),
+    (
+        &[
+            ONE_EXCHANGE,
+            "4 leave T 3 [140738,488355827,65534] reads [140738,488355827,65534] -> made 0012002c000002000000000007d0000000000000001122fffe33445500010000000000000000000000000000",
+        ],
+        13,
+        Why::WrongValue,
+    ),
 ];
 
-/// The forwarded Sync with another digit in its correction.
-const OTHER_SYNC: [u8; 44] = [
-    0x00, 0x12, 0x00, 0x2c, 0x00, 0x00, 0x02, 0x00, 0x00, 0x00, 0x00, 0x00, 0x07, 0xd1, 0x00, 0x00,
-    0x00, 0x00, 0x00, 0x00, 0x00, 0x11, 0x22, 0xff, 0xfe, 0x33, 0x44, 0x55, 0x00, 0x01, 0x00, 0x00,
-    0x00, 0x00, 0x00, 0x00, 0x00, 0x00, 0x00, 0x00, 0x00, 0x00, 0x00, 0x00,
-];
-
-/// A one-step Sync of 1 s and a quarter of a nanosecond.
-const ONE_STEP_SYNC: [u8; 44] = [
-    0x00, 0x12, 0x00, 0x2c, 0x00, 0x00, 0x00, 0x00, 0x00, 0x00, 0x00, 0x00, 0x00, 0x00, 0x40, 0x00,
-    0x00, 0x00, 0x00, 0x00, 0x00, 0x11, 0x22, 0xff, 0xfe, 0x33, 0x44, 0x55, 0x00, 0x01, 0x00, 0x00,
-    0x00, 0x00, 0x00, 0x00, 0x00, 0x00, 0x00, 0x01, 0x00, 0x00, 0x00, 0x00,
-];
-
-/// The same after 2,000 ns in the clock: the fraction stays in its correction.
-const FORWARDED_ONE_STEP_SYNC: [u8; 44] = [
-    0x00, 0x12, 0x00, 0x2c, 0x00, 0x00, 0x00, 0x00, 0x00, 0x00, 0x00, 0x00, 0x07, 0xd0, 0x40, 0x00,
-    0x00, 0x00, 0x00, 0x00, 0x00, 0x11, 0x22, 0xff, 0xfe, 0x33, 0x44, 0x55, 0x00, 0x01, 0x00, 0x00,
-    0x00, 0x00, 0x00, 0x00, 0x00, 0x00, 0x00, 0x01, 0x00, 0x00, 0x00, 0x00,
-];
-
-const FOLLOW_UP: [u8; 44] = [
-    0x08, 0x12, 0x00, 0x2c, 0x00, 0x00, 0x00, 0x00, 0x00, 0x00, 0x00, 0x00, 0x00, 0x00, 0x00, 0x00,
-    0x00, 0x00, 0x00, 0x00, 0x00, 0x11, 0x22, 0xff, 0xfe, 0x33, 0x44, 0x55, 0x00, 0x01, 0x00, 0x00,
-    0x02, 0x00, 0x00, 0x00, 0x00, 0x00, 0x00, 0x01, 0x00, 0x00, 0x00, 0x00,
-];
-
-const DELAY_REQ: [u8; 44] = [
-    0x01, 0x12, 0x00, 0x2c, 0x00, 0x00, 0x00, 0x00, 0x00, 0x00, 0x00, 0x00, 0x00, 0x00, 0x00, 0x00,
-    0x00, 0x00, 0x00, 0x00, 0x00, 0xaa, 0xbb, 0xff, 0xfe, 0xcc, 0xdd, 0xee, 0x00, 0x01, 0x00, 0x00,
-    0x01, 0x7f, 0x00, 0x00, 0x00, 0x00, 0x00, 0x00, 0x00, 0x00, 0x00, 0x00,
-];
-
-/// The Delay_Req after 3,500.25 ns in the clock.
-const FORWARDED_DELAY_REQ: [u8; 44] = [
-    0x01, 0x12, 0x00, 0x2c, 0x00, 0x00, 0x00, 0x00, 0x00, 0x00, 0x00, 0x00, 0x0d, 0xac, 0x40, 0x00,
-    0x00, 0x00, 0x00, 0x00, 0x00, 0xaa, 0xbb, 0xff, 0xfe, 0xcc, 0xdd, 0xee, 0x00, 0x01, 0x00, 0x00,
-    0x01, 0x7f, 0x00, 0x00, 0x00, 0x00, 0x00, 0x00, 0x00, 0x00, 0x00, 0x00,
-];
-
-const DELAY_RESP: [u8; 54] = [
-    0x09, 0x12, 0x00, 0x36, 0x00, 0x00, 0x00, 0x00, 0x00, 0x00, 0x00, 0x00, 0x0d, 0xac, 0x00, 0x00,
-    0x00, 0x00, 0x00, 0x00, 0x00, 0x11, 0x22, 0xff, 0xfe, 0x33, 0x44, 0x55, 0x00, 0x01, 0x00, 0x00,
-    0x03, 0x00, 0x00, 0x00, 0x00, 0x00, 0x00, 0x02, 0x00, 0x00, 0x11, 0x94, 0x00, 0xaa, 0xbb, 0xff,
-    0xfe, 0xcc, 0xdd, 0xee, 0x00, 0x01,
-];
-
-fn name(text: &str) -> Result<Name, Fail> {
-    Ok(Name::new(text).ok_or("no name")?)
-}
-
-fn config(identity: PortIdentity) -> PortConfig {
-    PortConfig {
-        identity,
-        domain: 0,
-        log: 0,
-    }
-}
-
-/// The master M, the slave S and the clock T.
-fn specs() -> Result<[NodeSpec; 3], Fail> {
-    Ok([
-        NodeSpec {
-            name: name("M")?,
-            kind: NodeKind::Master {
-                config: config(MASTER),
-                first: Seq(0),
-            },
-        },
-        NodeSpec {
-            name: name("S")?,
-            kind: NodeKind::Slave {
-                config: config(SLAVE),
-                first: Seq(0),
-            },
-        },
-        NodeSpec {
-            name: name("T")?,
-            kind: NodeKind::Clock,
-        },
-    ])
-}
-
-/// The network of these.
+/// The network of a master M, a slave S and a clock T.
 fn nodes(alloc: Global) -> Result<Nodes, Fail> {
-    Ok(Nodes::new(alloc, &specs()?)?)
+    let specs = nodes_of(alloc, LINE)?;
+    Ok(Nodes::new(alloc, specs.as_slice())?)
 }
 
-fn line(event: Event, reading: Option<ScaledTime>, out: TraceOut) -> TraceLine {
-    TraceLine {
-        event,
-        reading,
-        out,
+/// The lines of a transcript. One that has the number of a line before it stands in its place.
+fn lines_of(alloc: Global, parts: &[&str]) -> Result<Vec<TraceLine>, Fail> {
+    let mut lines = Vec::new(alloc);
+    for part in parts {
+        for text in part.lines().filter(|text| !text.is_empty()) {
+            let (number, line) = read_line(text)?;
+            match lines.get_mut(number) {
+                Some(place) => *place = line,
+                None => lines.push(line)?,
+            }
+        }
     }
-}
-
-fn made(octets: &[u8]) -> Result<TraceOut, Fail> {
-    Ok(TraceOut::Made(ArrayVec::try_from(octets)?))
-}
-
-fn reported(path2: i128, offset2: i128, tags: (u64, Option<u64>, u64, u64)) -> TraceOut {
-    let (sync_tag, follow_tag, request_tag, response_tag) = tags;
-    TraceOut::Report(Report {
-        offset2,
-        path2,
-        sync_tag,
-        follow_tag,
-        request_tag,
-        response_tag,
-    })
-}
-
-fn step_clock(diff: i128) -> Result<TraceLine, Fail> {
-    let node = name("S")?;
-    Ok(line(Event::StepClock { node, diff }, None, TraceOut::Done))
-}
-
-fn set_master(master: &str) -> Result<TraceLine, Fail> {
-    let event = Event::SetMaster {
-        node: name("S")?,
-        master: name(master)?,
-    };
-    Ok(line(event, None, TraceOut::Done))
-}
-
-fn sync() -> Result<TraceLine, Fail> {
-    let at = moment(1, 0, 0)?;
-    let node = name("M")?;
-    Ok(line(Event::Sync { node, at }, Some(at), made(&SYNC)?))
-}
-
-fn enter(copy: u64, at: ScaledTime) -> Result<TraceLine, Fail> {
-    let node = name("T")?;
-    Ok(line(Event::Enter { node, copy, at }, Some(at), TraceOut::Entered))
-}
-
-fn leave(transit: u64, at: ScaledTime, octets: &[u8]) -> Result<TraceLine, Fail> {
-    let node = name("T")?;
-    Ok(line(Event::Leave { node, transit, at }, Some(at), made(octets)?))
-}
-
-fn sync_arrives(reading: ScaledTime, out: TraceOut) -> Result<TraceLine, Fail> {
-    let event = Event::Arrive {
-        node: name("S")?,
-        copy: 4,
-        at: moment(1, 3_000, 0)?,
-    };
-    Ok(line(event, Some(reading), out))
-}
-
-fn hear(copy: u64, out: TraceOut) -> Result<TraceLine, Fail> {
-    let node = name("S")?;
-    Ok(line(Event::Hear { node, copy }, None, out))
-}
-
-fn request() -> Result<TraceLine, Fail> {
-    let event = Event::Request {
-        node: name("S")?,
-        at: moment(2, 0, 0)?,
-    };
-    Ok(line(event, Some(moment(2, 1_000, 0)?), made(&DELAY_REQ)?))
-}
-
-fn follow() -> Result<TraceLine, Fail> {
-    let node = name("M")?;
-    Ok(line(Event::Follow { node }, None, made(&FOLLOW_UP)?))
-}
-
-fn request_arrives(copy: u64) -> Result<TraceLine, Fail> {
-    let at = moment(2, 4_500, 16_384)?;
-    let node = name("M")?;
-    Ok(line(
-        Event::Arrive { node, copy, at },
-        Some(at),
-        made(&DELAY_RESP)?,
-    ))
-}
-
-fn stamped() -> Result<TraceLine, Fail> {
-    let node = name("S")?;
-    Ok(line(Event::Stamped { node }, None, TraceOut::Done))
-}
-
-/// The report at the last line of the exchange.
-fn report(offset2: i128, tags: (u64, Option<u64>, u64, u64)) -> Result<TraceLine, Fail> {
-    hear(11, reported(131_072_000, offset2, tags))
-}
-
-/// The exchange through a clock: S is 1,000 ns ahead, each cable takes 500 ns, the Sync is 2,000 ns
-/// in the clock and the Delay_Req 3,500.25 ns.
-fn exchange() -> Result<[TraceLine; 14], Fail> {
-    Ok([
-        step_clock(65_536_000)?,
-        set_master("M")?,
-        sync()?,
-        enter(2, moment(1, 500, 0)?)?,
-        leave(3, moment(1, 2_500, 0)?, &FORWARDED_SYNC)?,
-        sync_arrives(moment(1, 4_000, 0)?, TraceOut::Held)?,
-        follow()?,
-        hear(6, TraceOut::Completed)?,
-        request()?,
-        enter(8, moment(2, 500, 0)?)?,
-        leave(9, moment(2, 4_000, 16_384)?, &FORWARDED_DELAY_REQ)?,
-        request_arrives(10)?,
-        stamped()?,
-        report(131_072_000, (5, Some(7), 8, 13))?,
-    ])
-}
-
-/// The same with a one-step Sync, which leaves a quarter of a nanosecond later.
-fn one_step_exchange(tags: (u64, Option<u64>, u64, u64)) -> Result<[TraceLine; 12], Fail> {
-    let at = moment(1, 0, 16_384)?;
-    let node = name("M")?;
-    Ok([
-        step_clock(65_536_000)?,
-        set_master("M")?,
-        line(Event::SyncOne { node, at }, Some(at), made(&ONE_STEP_SYNC)?),
-        enter(2, moment(1, 500, 0)?)?,
-        leave(3, moment(1, 2_500, 0)?, &FORWARDED_ONE_STEP_SYNC)?,
-        sync_arrives(moment(1, 4_000, 0)?, TraceOut::Completed)?,
-        request()?,
-        enter(6, moment(2, 500, 0)?)?,
-        leave(7, moment(2, 4_000, 16_384)?, &FORWARDED_DELAY_REQ)?,
-        request_arrives(8)?,
-        stamped()?,
-        hear(9, reported(131_055_616, 131_055_616, tags))?,
-    ])
+    Ok(lines)
 }
 
 /// The verdict on lines at once, and that on the same fed one by one.
@@ -274,181 +220,27 @@ fn verdicts(alloc: Global, lines: Vec<TraceLine>) -> Result<(Verdict, Verdict), 
     Ok((whole, checker.verdict()))
 }
 
-#[test]
-fn a_sound_exchange(rt: HostRuntime) -> Result<(), Fail> {
-    let lines = Vec::from_array(rt.alloc(), exchange()?)?;
-    let accepted = Verdict::Accepted(1);
-    assert_eq!(rt; verdicts(rt.alloc(), lines)?, (accepted, accepted));
-    Ok(())
-}
-
-#[test]
-fn a_sound_one_step_exchange(rt: HostRuntime) -> Result<(), Fail> {
-    let lines = Vec::from_array(rt.alloc(), one_step_exchange((5, None, 6, 11))?)?;
-    let accepted = Verdict::Accepted(1);
-    assert_eq!(rt; verdicts(rt.alloc(), lines)?, (accepted, accepted));
-    Ok(())
-}
-
-#[test]
-fn a_follow_up_that_is_no_hearing(rt: HostRuntime) -> Result<(), Fail> {
-    let lines = Vec::from_array(rt.alloc(), one_step_exchange((5, Some(5), 6, 11))?)?;
-    let refused = Verdict::Refused {
-        line: 11,
-        why: Why::NoSuchLine,
-    };
-    assert_eq!(rt; verdicts(rt.alloc(), lines)?, (refused, refused));
-    Ok(())
-}
-
-#[test]
-fn no_lines(rt: HostRuntime) -> Result<(), Fail> {
-    let accepted = Verdict::Accepted(0);
+fn assert_verdict(
+    rt: &(impl Abort + AllocGlobal),
+    parts: &[&str],
+    expected: Verdict,
+) -> Result<(), Fail> {
+    let lines = lines_of(rt.alloc(), parts)?;
     assert_eq!(rt;
-        verdicts(rt.alloc(), Vec::new(rt.alloc()))?,
-        (accepted, accepted)
+        verdicts(rt.alloc(), lines)?,
+        (expected, expected),
+        "{parts:?}"
     );
     Ok(())
 }
 
-/// The exchange, but the master sends another Sync before the Follow_Up, which is of that one then.
 #[test]
-fn a_follow_up_of_another_sync(rt: HostRuntime) -> Result<(), Fail> {
-    let lines = [
-        step_clock(65_536_000)?,
-        set_master("M")?,
-        sync()?,
-        enter(2, moment(1, 500, 0)?)?,
-        leave(3, moment(1, 2_500, 0)?, &FORWARDED_SYNC)?,
-        sync_arrives(moment(1, 4_000, 0)?, TraceOut::Held)?,
-        sync()?,
-        follow()?,
-        hear(7, TraceOut::Completed)?,
-        request()?,
-        enter(9, moment(2, 500, 0)?)?,
-        leave(10, moment(2, 4_000, 16_384)?, &FORWARDED_DELAY_REQ)?,
-        request_arrives(11)?,
-        stamped()?,
-        hear(12, reported(131_072_000, 131_072_000, (5, Some(8), 9, 14)))?,
-    ];
-    let refused = Verdict::Refused {
-        line: 14,
-        why: Why::OtherNumber,
-    };
-    let lines = Vec::from_array(rt.alloc(), lines)?;
-    assert_eq!(rt; verdicts(rt.alloc(), lines)?, (refused, refused));
-    Ok(())
-}
-
-/// The exchange but for its report.
-fn before_the_report(alloc: Global) -> Result<Vec<TraceLine>, Fail> {
-    let mut lines = Vec::from_array(alloc, exchange()?)?;
-    lines.pop();
-    Ok(lines)
-}
-
-/// The Sync leaves the clock once more.
-fn leave_again() -> Result<TraceLine, Fail> {
-    leave(3, moment(1, 2_500, 0)?, &FORWARDED_SYNC)
-}
-
-#[test]
-fn a_stay_that_is_left_twice(rt: HostRuntime) -> Result<(), Fail> {
-    let mut lines = before_the_report(rt.alloc())?;
-    lines.push(leave_again()?)?;
-    lines.push(report(131_072_000, (5, Some(7), 8, 14))?)?;
-    let refused = Verdict::Refused {
-        line: 14,
-        why: Why::BrokenJourney,
-    };
-    assert_eq!(rt; verdicts(rt.alloc(), lines)?, (refused, refused));
-    Ok(())
-}
-
-#[test]
-fn a_stay_that_is_left_again_after_a_report(rt: HostRuntime) -> Result<(), Fail> {
-    let mut lines = Vec::from_array(rt.alloc(), exchange()?)?;
-    lines.push(report(131_072_000, (5, Some(7), 8, 14))?)?;
-    lines.push(leave_again()?)?;
-    lines.push(report(131_072_000, (5, Some(7), 8, 16))?)?;
-    let refused = Verdict::Refused {
-        line: 16,
-        why: Why::BrokenJourney,
-    };
-    assert_eq!(rt; verdicts(rt.alloc(), lines)?, (refused, refused));
-    Ok(())
-}
-
-/// The Sync enters the clock once more, and that stay is left twice: no report is of it.
-#[test]
-fn another_stay_that_is_left_twice(rt: HostRuntime) -> Result<(), Fail> {
-    let mut lines = Vec::from_array(rt.alloc(), exchange()?)?;
-    lines.push(enter(2, moment(1, 500, 0)?)?)?;
-    for _ in 0..2 {
-        lines.push(leave(14, moment(1, 2_500, 0)?, &FORWARDED_SYNC)?)?;
+fn transcripts_are_judged(rt: HostRuntime) -> Result<(), Fail> {
+    for (parts, count) in ACCEPTED {
+        assert_verdict(&rt, parts, Verdict::Accepted(count))?;
     }
-    lines.push(report(131_072_000, (5, Some(7), 8, 17))?)?;
-    let accepted = Verdict::Accepted(2);
-    assert_eq!(rt; verdicts(rt.alloc(), lines)?, (accepted, accepted));
-    Ok(())
-}
-
-/// The number of a line, what stands there instead, and why the report isn't sound then.
-type Change = (usize, TraceLine, Why);
-
-fn changes() -> Result<[Change; 12], Fail> {
-    let late = moment(140_738, 488_355_827, 65_535)?;
-    let just_in_time = moment(140_738, 488_355_827, 65_534)?;
-    let tags = (5, Some(7), 8, 13);
-    Ok([
-        (13, report(131_072_002, tags)?, Why::WrongValue),
-        (
-            13,
-            report(131_072_000, (2, Some(7), 8, 13))?,
-            Why::NoSuchLine,
-        ),
-        (
-            13,
-            report(131_072_000, (5, Some(7), 8, u64::MAX))?,
-            Why::NoSuchLine,
-        ),
-        (13, report(131_072_000, (5, None, 8, 13))?, Why::NoSuchLine),
-        (3, enter(4, moment(1, 500, 0)?)?, Why::BrokenJourney),
-        (
-            4,
-            leave(2, moment(1, 2_500, 0)?, &FORWARDED_SYNC)?,
-            Why::BrokenJourney,
-        ),
-        (
-            10,
-            leave(3, moment(2, 4_000, 16_384)?, &FORWARDED_DELAY_REQ)?,
-            Why::BrokenJourney,
-        ),
-        (1, set_master("T")?, Why::OtherMaster),
-        (
-            5,
-            sync_arrives(moment(1, 4_001, 0)?, TraceOut::Held)?,
-            Why::WrongReading,
-        ),
-        (4, leave(3, moment(1, 2_500, 0)?, &OTHER_SYNC)?, Why::Bytes),
-        (4, leave(3, late, &FORWARDED_SYNC)?, Why::TooBig),
-        (4, leave(3, just_in_time, &FORWARDED_SYNC)?, Why::WrongValue),
-    ])
-}
-
-#[test]
-fn one_line_changed(rt: HostRuntime) -> Result<(), Fail> {
-    for (number, changed, why) in changes()? {
-        let mut lines = Vec::from_array(rt.alloc(), exchange()?)?;
-        if let Some(place) = lines.get_mut(number) {
-            *place = changed;
-        }
-        let refused = Verdict::Refused { line: 13, why };
-        assert_eq!(rt;
-            verdicts(rt.alloc(), lines)?,
-            (refused, refused),
-            "{number}"
-        );
+    for (parts, line, why) in REFUSED {
+        assert_verdict(&rt, parts, Verdict::Refused { line, why })?;
     }
     Ok(())
 }
@@ -467,14 +259,10 @@ fn judgements(alloc: Global, lines: Vec<TraceLine>) -> Result<(usize, Option<Jud
     Ok((judged, told))
 }
 
-/// The Sync is in the clock for as long as no correction says: the result and the octets are wrong as well.
+/// Where the Sync is too long in the clock, the result and the octets are wrong as well.
 #[test]
 fn each_reason_is_told(rt: HostRuntime) -> Result<(), Fail> {
-    let mut lines = Vec::from_array(rt.alloc(), exchange()?)?;
-    let late = moment(140_738, 488_355_827, 65_535)?;
-    if let Some(place) = lines.get_mut(4) {
-        *place = leave(3, late, &FORWARDED_SYNC)?;
-    }
+    let lines = lines_of(rt.alloc(), &[ONE_EXCHANGE, LATE])?;
     let (judged, told) = judgements(rt.alloc(), lines)?;
     assert_eq!(rt; judged, 0);
     let told = told.ok_or("a report is judged")?;
@@ -492,10 +280,8 @@ fn each_reason_is_told(rt: HostRuntime) -> Result<(), Fail> {
 /// Where the lines of a report aren't there, nothing else is told.
 #[test]
 fn a_missing_line_is_told_alone(rt: HostRuntime) -> Result<(), Fail> {
-    let mut lines = Vec::from_array(rt.alloc(), exchange()?)?;
-    if let Some(place) = lines.get_mut(13) {
-        *place = report(131_072_002, (2, Some(7), 8, 13))?;
-    }
+    let report = "13 hear S 11 -> report 131072002 131072000 [2,7,8,13]";
+    let lines = lines_of(rt.alloc(), &[ONE_EXCHANGE, report])?;
     let told = judgements(rt.alloc(), lines)?
         .1
         .ok_or("a report is judged")?;
@@ -511,7 +297,12 @@ fn checks_whatever_memory_there_is(rt: HostRuntime) -> Result<(), Fail> {
     let Ok(nodes) = Nodes::new(rt.alloc(), &specs()?) else {
         return Ok(());
     };
-    let lines = exchange()?;
+    let Ok(mut lines) = Vec::with_capacity(rt.alloc(), 14) else {
+        return Ok(());
+    };
+    for text in ONE_EXCHANGE.lines().filter(|text| !text.is_empty()) {
+        lines.push(read_line(text)?.1)?;
+    }
     let verdict = match check(rt.alloc(), &nodes, &lines) {
         Ok(verdict) => verdict,
         Err(fault) => {
@@ -536,12 +327,12 @@ fn is_fed_whatever_memory_there_is(rt: HostRuntime) -> Result<(), Fail> {
             return Ok(());
         }
     };
-    for (line, again) in exchange()?.into_iter().zip(exchange()?) {
+    for text in ONE_EXCHANGE.lines().filter(|text| !text.is_empty()) {
         let before = checker.verdict();
-        if let Err(fault) = checker.feed(line) {
+        if let Err(fault) = checker.feed(read_line(text)?.1) {
             assert_eq!(rt; fault, CheckFault::Memory);
             assert_eq!(rt; checker.verdict(), before);
-            checker.feed(again)?;
+            checker.feed(read_line(text)?.1)?;
         }
     }
     assert_eq!(rt; checker.verdict(), Verdict::Accepted(1));

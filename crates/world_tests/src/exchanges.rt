@@ -2,6 +2,8 @@
 //! formulas. `report 131072000 131072000 [5,7,8,13]` has twice the offset, twice the mean path delay,
 //! and the tags by which Sync, Follow_Up, Delay_Req and Delay_Resp came.
 
+use exchange_check::Why;
+
 /// What happens among some nodes.
 #[derive(Clone, Copy)]
 pub(crate) struct Exchange {
@@ -364,7 +366,7 @@ const STOPPED: &str = "
 ";
 
 /// One exchange that lacks its Follow_Up.
-pub(crate) const TURN_BEGINS: &str = "
+const TURN_BEGINS: &str = "
 0 setmaster S M -> done
 1 request S [1,0,0] -> made
 2 arrive M 1 [1,100,0] -> made
@@ -375,46 +377,52 @@ pub(crate) const TURN_BEGINS: &str = "
 ";
 
 /// 65,535 Syncs later: the Follow_Up of a Sync that has the number of the first.
-pub(crate) const TURN_ENDS: &str = "
+const TURN_ENDS: &str = "
 65542 sync M [3,0,0] -> made
 65543 follow M -> made
 65544 hear S 65543 -> report -65536000000000 -65535986892800 [6,65544,1,4]
 ";
 
 /// Two ticks.
-pub(crate) const TWO_TICKS: &str = "
+const TWO_TICKS: &str = "
 7 tick S -> done
 8 tick S -> done
 ";
 
 /// The same, two ticks later.
-pub(crate) const TURN_ENDS_AFTER_TICKS: &str = "
+const TURN_ENDS_AFTER_TICKS: &str = "
 65544 sync M [3,0,0] -> made
 65545 follow M -> made
 65546 hear S 65545 -> held
 ";
 
-/// What comes after each quarter of all numbers, of 16,384 Syncs. The first Sync arrives after half
-/// of them, and the Follow_Up of the last Sync is heard.
-pub(crate) const QUARTERS: [&str; 4] = [
-    "
+/// Before the quarters of all numbers, of 16,384 Syncs each.
+const MASTER_IS_SET: &str = "
+0 setmaster S M -> done
+";
+
+const FIRST_QUARTER: &str = "
 16385 tick S -> done
-",
-    "
+";
+
+/// The first Sync arrives after half of all numbers.
+const SECOND_QUARTER: &str = "
 32770 tick S -> done
 32771 arrive S 1 [4,0,0] -> held
-",
-    "
+";
+
+const THIRD_QUARTER: &str = "
 49156 tick S -> done
-",
-    "
+";
+
+/// The Follow_Up of the last Sync is heard.
+const LAST_QUARTER: &str = "
 65541 follow M -> made
 65542 hear S 65541 -> held
-",
-];
+";
 
 /// A tick, and the Follow_Up of a Sync that has the number of the first.
-pub(crate) const TICKED_IN_TIME: &str = "
+const TICKED_IN_TIME: &str = "
 65543 tick S -> done
 65544 sync M [5,0,0] -> made
 65545 follow M -> made
@@ -422,11 +430,84 @@ pub(crate) const TICKED_IN_TIME: &str = "
 ";
 
 /// The same Follow_Up, without the tick.
-pub(crate) const TICKED_TOO_SELDOM: &str = "
+const TICKED_TOO_SELDOM: &str = "
 65543 sync M [5,0,0] -> made
 65544 follow M -> made
 65545 hear S 65544 -> completed
 ";
+
+/// A part of what happens in a network.
+#[derive(Clone, Copy)]
+pub(crate) enum Part {
+    /// The events of a script.
+    Script(&'static str),
+    /// The master draws so many Syncs, at 2 s.
+    Syncs(u32),
+}
+
+/// A run that is too long for a script, of a master and a slave.
+#[derive(Clone, Copy)]
+pub(crate) struct LongRun {
+    /// Its parts, one after the other.
+    pub(crate) parts: &'static [Part],
+    /// The first line of its transcript whose report isn't sound, if there is one, and why it isn't.
+    pub(crate) refused: Option<(u64, Why)>,
+}
+
+/// Runs in which all numbers of Syncs are drawn.
+pub(crate) const LONG_RUNS: [LongRun; 4] = [
+    LongRun {
+        // The numbers came round, and pair wrongly.
+        parts: &[
+            Part::Script(TURN_BEGINS),
+            Part::Syncs(65_535),
+            Part::Script(TURN_ENDS),
+        ],
+        refused: Some((65_544, Why::OtherNumber)),
+    },
+    LongRun {
+        // Ticks drop numbers that came round.
+        parts: &[
+            Part::Script(TURN_BEGINS),
+            Part::Script(TWO_TICKS),
+            Part::Syncs(65_535),
+            Part::Script(TURN_ENDS_AFTER_TICKS),
+        ],
+        refused: None,
+    },
+    LongRun {
+        // A late Sync is dropped where ticks come in time.
+        parts: &[
+            Part::Script(MASTER_IS_SET),
+            Part::Syncs(16_384),
+            Part::Script(FIRST_QUARTER),
+            Part::Syncs(16_384),
+            Part::Script(SECOND_QUARTER),
+            Part::Syncs(16_384),
+            Part::Script(THIRD_QUARTER),
+            Part::Syncs(16_384),
+            Part::Script(LAST_QUARTER),
+            Part::Script(TICKED_IN_TIME),
+        ],
+        refused: None,
+    },
+    LongRun {
+        // A late Sync pairs wrongly where ticks come too seldom.
+        parts: &[
+            Part::Script(MASTER_IS_SET),
+            Part::Syncs(16_384),
+            Part::Script(FIRST_QUARTER),
+            Part::Syncs(16_384),
+            Part::Script(SECOND_QUARTER),
+            Part::Syncs(16_384),
+            Part::Script(THIRD_QUARTER),
+            Part::Syncs(16_384),
+            Part::Script(LAST_QUARTER),
+            Part::Script(TICKED_TOO_SELDOM),
+        ],
+        refused: None,
+    },
+];
 
 /// The worked exchanges.
 pub(crate) const EXCHANGES: [Exchange; 19] = [

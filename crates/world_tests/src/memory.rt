@@ -37,7 +37,7 @@ fn world(alloc: Global, specs: &[NodeSpec]) -> Result<World, WorldRefusal> {
 }
 
 /// A master, a slave and a transparent clock.
-fn specs() -> Result<[NodeSpec; 3], Fail> {
+pub(crate) fn specs() -> Result<[NodeSpec; 3], Fail> {
     let first = Seq(0);
     Ok([
         NodeSpec {

@@ -1,5 +1,7 @@
 //! The nodes of a network: worked networks, and that a call succeeds where memory is there, which no contract says.
 
+use crate::exchanges::LINE;
+use crate::script::nodes_of;
 use event_codec::{PortConfig, PortIdentity};
 use network_model::{Name, NodeKind, NodeSpec, Nodes, WorldRefusal};
 use ptp_units::Seq;
@@ -109,68 +111,56 @@ fn size(alloc: Global, nodes: &[NodeSpec]) -> Result<usize, WorldRefusal> {
     Ok(Nodes::new(alloc, nodes)?.len())
 }
 
+/// The nodes of a script, and how many a network has of them, or why there is none.
+const NETWORKS: [(&str, Result<usize, WorldRefusal>); 10] = [
+    ("", Ok(0)),
+    (LINE, Ok(3)),
+    ("clock T\nclock U\nclock V", Ok(3)),
+    ("clock port\nclock porT\nclock por", Ok(3)),
+    (
+        "master M 001122fffe334455 0\nmaster M 001122fffe334455 0",
+        Err(WorldRefusal::SameName),
+    ),
+    (
+        "master M 001122fffe334455 0\nslave S 00aabbfffeccddee 0\nslave S 001122fffe334455 0",
+        Err(WorldRefusal::SameName),
+    ),
+    (
+        "clock T\nmaster M 001122fffe334455 0\nclock T\nslave S 001122fffe334455 0",
+        Err(WorldRefusal::SameName),
+    ),
+    (
+        "master M 001122fffe334455 0\nmaster N 001122fffe334455 0",
+        Err(WorldRefusal::SameIdentity),
+    ),
+    (
+        "master M 001122fffe334455 0\nclock T\nslave S 001122fffe334455 0 255",
+        Err(WorldRefusal::SameIdentity),
+    ),
+    (
+        "slave S 00aabbfffeccddee 0 7\nslave Z 00aabbfffeccddee 0 8\nslave S 001122fffe334455 0",
+        Err(WorldRefusal::SameIdentity),
+    ),
+];
+
 #[test]
 fn networks(rt: HostRuntime) -> Result<(), Fail> {
-    let m = master("M", MASTER, 0)?;
-    let s = slave("S", SLAVE, 0)?;
-    let t = clock("T")?;
-    assert_eq!(rt; size(rt.alloc(), &[]), Ok(0));
-    assert_eq!(rt; size(rt.alloc(), &[m, s, t]), Ok(3));
-    assert_eq!(rt; size(rt.alloc(), &[t, clock("U")?, clock("V")?]), Ok(3));
-    assert_eq!(rt;
-        size(rt.alloc(), &[clock("port")?, clock("porT")?, clock("por")?]),
-        Ok(3)
-    );
+    for (script, expected) in NETWORKS {
+        let nodes = nodes_of(rt.alloc(), script)?;
+        assert_eq!(rt; size(rt.alloc(), &nodes), expected, "{script}");
+    }
     Ok(())
 }
 
-#[test]
-fn names_that_clash(rt: HostRuntime) -> Result<(), Fail> {
-    let nodes = [master("M", MASTER, 0)?, master("M", MASTER, 0)?];
-    assert_eq!(rt; size(rt.alloc(), &nodes), Err(WorldRefusal::SameName));
-    let nodes = [
-        master("M", MASTER, 0)?,
-        slave("S", SLAVE, 0)?,
-        slave("S", MASTER, 0)?,
-    ];
-    assert_eq!(rt; size(rt.alloc(), &nodes), Err(WorldRefusal::SameName));
-    let nodes = [
-        clock("T")?,
-        master("M", MASTER, 0)?,
-        clock("T")?,
-        slave("S", MASTER, 0)?,
-    ];
-    assert_eq!(rt; size(rt.alloc(), &nodes), Err(WorldRefusal::SameName));
-    Ok(())
-}
-
-#[test]
-fn identities_that_clash(rt: HostRuntime) -> Result<(), Fail> {
-    let nodes = [master("M", MASTER, 0)?, master("N", MASTER, 0)?];
-    assert_eq!(rt; size(rt.alloc(), &nodes), Err(WorldRefusal::SameIdentity));
-    let nodes = [
-        master("M", MASTER, 0)?,
-        clock("T")?,
-        slave("S", MASTER, 255)?,
-    ];
-    assert_eq!(rt; size(rt.alloc(), &nodes), Err(WorldRefusal::SameIdentity));
-    let nodes = [
-        slave("S", SLAVE, 7)?,
-        slave("Z", SLAVE, 8)?,
-        slave("S", MASTER, 0)?,
-    ];
-    assert_eq!(rt; size(rt.alloc(), &nodes), Err(WorldRefusal::SameIdentity));
-    Ok(())
-}
+/// Names that differ in the last of sixteen octets, and a slave of domain 3.
+const NAMED: &str = "clock sixteen-octets-x\nslave S 00aabbfffeccddee 0 3\nclock sixteen-octets-y";
 
 #[test]
 fn nodes_by_name(rt: HostRuntime) -> Result<(), Fail> {
-    let x = clock("sixteen-octets-x")?;
-    let y = clock("sixteen-octets-y")?;
-    let s = slave("S", SLAVE, 3)?;
-    let network = Nodes::new(rt.alloc(), &[x, s, y])?;
-    for node in [x, s, y] {
-        assert_eq!(rt; network.get(&node.name).copied(), Some(node));
+    let nodes = nodes_of(rt.alloc(), NAMED)?;
+    let network = Nodes::new(rt.alloc(), &nodes)?;
+    for node in nodes.iter() {
+        assert_eq!(rt; network.get(&node.name).copied(), Some(*node));
     }
     for text in ["sixteen-octets-", "sixteen-octets-z", "s", "M"] {
         assert_eq!(rt; network.get(&name(text)?).copied(), None, "{text}");

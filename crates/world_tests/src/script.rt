@@ -1,14 +1,16 @@
 //! Scripts of what happens in a network, one line each: the nodes first, then the events.
 //!
-//! A node is `master M 001122fffe334455 0` or `slave S 00aabbfffeccddee 0`, with its clock identity
-//! and its first number, at port 1 of domain 0, or `clock T`. An event is its tag, its kind, its
+//! A node is `master M 001122fffe334455 0` or `slave S 00aabbfffeccddee 0 3`, with its clock identity,
+//! its first number and its domain, which is 0 where none is said, at port 1; or it is `clock T`. An event is its tag, its kind, its
 //! node, what else it has and, after an arrow, what comes of it: `5 arrive S 4 [1,3000,0] -> held`,
 //! where `[1,3000,0]` is 1 s, 3,000 ns and no unit of 2^-16 ns. Before the arrow `reads [1,4000,0]`
 //! may say what the node's clock shows. An event that a world refuses has `-` for a tag, and the
 //! number of the refusal after the arrow.
 
+use arrayvec::ArrayVec;
 use event_codec::{PortConfig, PortIdentity};
-use network_model::{Event, Name, NodeKind, NodeSpec};
+use exchange_check::{TraceLine, TraceOut};
+use network_model::{Event, Name, NodeKind, NodeSpec, Report};
 use ptp_units::{ScaledTime, Seq, Timestamp};
 use std::alloc::Global;
 use std::str::{FromStr, SplitWhitespace};
@@ -43,29 +45,30 @@ pub(crate) fn nodes_of(alloc: Global, script: &str) -> Result<Vec<NodeSpec>, Fai
 fn node(kind: &str, mut words: Words<'_>) -> Result<NodeSpec, Fail> {
     let name = name(&mut words)?;
     let kind = match kind {
-        "master" => NodeKind::Master {
-            config: config(&mut words)?,
-            first: Seq(number(&mut words)?),
-        },
-        "slave" => NodeKind::Slave {
-            config: config(&mut words)?,
-            first: Seq(number(&mut words)?),
-        },
+        "master" | "slave" => port(kind, &mut words)?,
         "clock" => NodeKind::Clock,
         other => return Err(Fail::new(format_args!("no kind of node: {other}"))),
     };
     Ok(NodeSpec { name, kind })
 }
 
-fn config(words: &mut Words<'_>) -> Result<PortConfig, Fail> {
+fn port(kind: &str, words: &mut Words<'_>) -> Result<NodeKind, Fail> {
     let mut clock = [0; 8];
     hex::decode_to_slice(word(words)?, &mut clock)?;
-    let identity = PortIdentity { clock, port: 1 };
-    Ok(PortConfig {
-        identity,
-        domain: 0,
+    let first = Seq(number(words)?);
+    let domain = match words.next() {
+        Some(text) => text.parse::<u8>()?,
+        None => 0,
+    };
+    let config = PortConfig {
+        identity: PortIdentity { clock, port: 1 },
+        domain,
         log: 0,
-    })
+    };
+    match kind {
+        "master" => Ok(NodeKind::Master { config, first }),
+        _ => Ok(NodeKind::Slave { config, first }),
+    }
 }
 
 /// What a line says before the arrow.
@@ -86,6 +89,72 @@ pub(crate) fn read_row(happens: &str) -> Result<Row, Fail> {
         event,
         reading,
     })
+}
+
+/// The number of an event, and the line of a transcript that tells it as this one does.
+pub(crate) fn read_line(line: &str) -> Result<(usize, TraceLine), Fail> {
+    let (happens, outcome) = line.split_once(" -> ").ok_or("no arrow")?;
+    let Row {
+        tag,
+        event,
+        reading,
+    } = read_row(happens)?;
+    let number = usize::try_from(tag.ok_or("a refused event has no line")?)?;
+    let out = out(&mut outcome.split_whitespace())?;
+    Ok((
+        number,
+        TraceLine {
+            event,
+            reading,
+            out,
+        },
+    ))
+}
+
+/// What comes of an event.
+fn out(words: &mut Words<'_>) -> Result<TraceOut, Fail> {
+    match word(words)? {
+        "done" => Ok(TraceOut::Done),
+        "made" => made(word(words)?),
+        "entered" => Ok(TraceOut::Entered),
+        "held" => Ok(TraceOut::Held),
+        "completed" => Ok(TraceOut::Completed),
+        "report" => Ok(TraceOut::Report(report(words)?)),
+        other => Err(Fail::new(format_args!("no outcome: {other}"))),
+    }
+}
+
+/// A message of these octets, in hexadecimal.
+fn made(text: &str) -> Result<TraceOut, Fail> {
+    let mut octets = [0; 54];
+    let room = octets.get_mut(..text.len() / 2).ok_or("too many octets")?;
+    hex::decode_to_slice(text, room)?;
+    Ok(TraceOut::Made(ArrayVec::try_from(&*room)?))
+}
+
+/// Twice the offset, twice the mean path delay, and the tags of Sync, Follow_Up, Delay_Req and Delay_Resp.
+fn report(words: &mut Words<'_>) -> Result<Report, Fail> {
+    let (offset2, path2) = (number(words)?, number(words)?);
+    let tags = word(words)?
+        .strip_prefix('[')
+        .and_then(|rest| rest.strip_suffix(']'));
+    let mut tags = tags.ok_or("no tags")?.split(',');
+    Ok(Report {
+        offset2,
+        path2,
+        sync_tag: tag(tags.next())?.ok_or("no Sync")?,
+        follow_tag: tag(tags.next())?,
+        request_tag: tag(tags.next())?.ok_or("no Delay_Req")?,
+        response_tag: tag(tags.next())?.ok_or("no Delay_Resp")?,
+    })
+}
+
+/// A tag, or `null`.
+fn tag(text: Option<&str>) -> Result<Option<u64>, Fail> {
+    match text.ok_or("a tag is missing")? {
+        "null" => Ok(None),
+        text => Ok(Some(text.parse::<u64>()?)),
+    }
 }
 
 fn event(words: &mut Words<'_>) -> Result<Event, Fail> {

@@ -1,10 +1,7 @@
 //! The worked exchanges as lines of text: what `replay` writes of each is what its script says, and
 //! `check_text` accepts that with the number of its reports.
 
-use crate::exchanges::{
-    EXCHANGES, LINE, PAIR, QUARTERS, REFUSED, TICKED_IN_TIME, TICKED_TOO_SELDOM, TURN_BEGINS,
-    TURN_ENDS, TURN_ENDS_AFTER_TICKS, TWO_TICKS,
-};
+use crate::exchanges::{EXCHANGES, LINE, LONG_RUNS, LongRun, PAIR, Part, REFUSED};
 use crate::script::word;
 use schedule_replay::{Counted, Fault, FaultKind, check_text, replay};
 use std::alloc::Global;
@@ -233,36 +230,35 @@ fn exchanges_are_replayed_and_judged(rt: HostRuntime) -> Result<(), Fail> {
     Schedule::new(rt.alloc(), LINE)?.tell(&rt, REFUSED)
 }
 
-/// What happens before all numbers but one are drawn, and after; and the verdict, if it is a refusal.
-const TURNS: [(&str, &str, Option<&str>); 2] = [
-    ("", TURN_ENDS, Some("refused event 65544: 702\n")),
-    (TWO_TICKS, TURN_ENDS_AFTER_TICKS, None),
-];
+fn assert_long_run(rt: &(impl Abort + AllocGlobal), run: &LongRun) -> Result<(), Fail> {
+    let mut schedule = Schedule::new(rt.alloc(), PAIR)?;
+    for part in run.parts {
+        match part {
+            Part::Script(script) => schedule.tell(rt, *script)?,
+            Part::Syncs(count) => schedule.draw_syncs(*count)?,
+        }
+    }
+    match run.refused {
+        Some((line, why)) => {
+            let verdict = format!(in rt.alloc(); "refused event {line}: {}\n", why.code())?;
+            schedule.assert_judged(rt, Some(&verdict))
+        }
+        None => schedule.assert_judged(rt, None),
+    }
+}
 
 #[test]
 fn numbers_that_came_round_are_judged(rt: HostRuntime) -> Result<(), Fail> {
-    for (before, after, verdict) in TURNS {
-        let mut schedule = Schedule::new(rt.alloc(), PAIR)?;
-        schedule.tell(&rt, TURN_BEGINS)?;
-        schedule.tell(&rt, before)?;
-        schedule.draw_syncs(65_535)?;
-        schedule.tell(&rt, after)?;
-        schedule.assert_judged(&rt, verdict)?;
+    for run in &LONG_RUNS[..2] {
+        assert_long_run(&rt, run)?;
     }
     Ok(())
 }
 
 #[test]
 fn ticks_between_quarters_of_all_numbers_are_judged(rt: HostRuntime) -> Result<(), Fail> {
-    for after in [TICKED_IN_TIME, TICKED_TOO_SELDOM] {
-        let mut schedule = Schedule::new(rt.alloc(), PAIR)?;
-        schedule.tell(&rt, "0 setmaster S M -> done")?;
-        for script in QUARTERS {
-            schedule.draw_syncs(16_384)?;
-            schedule.tell(&rt, script)?;
-        }
-        schedule.tell(&rt, after)?;
-        schedule.assert_judged(&rt, None)?;
+    for run in &LONG_RUNS[2..] {
+        assert_long_run(&rt, run)?;
     }
     Ok(())
 }

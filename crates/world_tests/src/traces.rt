@@ -1,9 +1,9 @@
 //! What happens in worlds, told as lines: the checker accepts them, with the number of their reports,
 //! and finds out numbers that came round.
 
-use crate::exchanges::{EXCHANGES, Exchange, PAIR, TURN_BEGINS, TURN_ENDS};
+use crate::exchanges::{EXCHANGES, Exchange, LONG_RUNS, LongRun, PAIR, Part};
 use crate::script::{nodes_of, read_row};
-use exchange_check::{Checker, TraceLine, Verdict, Why, check};
+use exchange_check::{Checker, TraceLine, Verdict, check};
 use network_model::{Event, Nodes};
 use std::alloc::Global;
 use std::process::Abort;
@@ -82,17 +82,28 @@ fn worked_exchanges_are_accepted(rt: HostRuntime) -> Result<(), Fail> {
     Ok(())
 }
 
+fn assert_long_run(rt: &(impl Abort + AllocGlobal), run: &LongRun) -> Result<(), Fail> {
+    let mut world = World::new(rt.alloc(), network(rt.alloc(), PAIR)?)?;
+    let mut lines = Vec::new(rt.alloc());
+    let mut reports: u64 = 0;
+    for part in run.parts {
+        match part {
+            Part::Script(script) => {
+                let told = tell_script(&mut world, *script, &mut lines)?;
+                reports = reports.wrapping_add(told);
+            }
+            Part::Syncs(count) => tell_syncs(&mut world, *count, &mut lines)?,
+        }
+    }
+    let verdict = match run.refused {
+        Some((line, why)) => Verdict::Refused { line, why },
+        None => Verdict::Accepted(reports),
+    };
+    assert_verdict(rt, PAIR, lines, verdict)
+}
+
 /// The slave pairs a Sync with a Follow_Up that came 65,536 numbers later.
 #[test]
 fn numbers_that_came_round_are_refused(rt: HostRuntime) -> Result<(), Fail> {
-    let mut world = World::new(rt.alloc(), network(rt.alloc(), PAIR)?)?;
-    let mut lines = Vec::new(rt.alloc());
-    tell_script(&mut world, TURN_BEGINS, &mut lines)?;
-    tell_syncs(&mut world, 65_535, &mut lines)?;
-    tell_script(&mut world, TURN_ENDS, &mut lines)?;
-    let refused = Verdict::Refused {
-        line: 65_544,
-        why: Why::OtherNumber,
-    };
-    assert_verdict(&rt, PAIR, lines, refused)
+    assert_long_run(&rt, &LONG_RUNS[0])
 }

@@ -1,9 +1,8 @@
 //! Worked exchanges in a world, and runs that are too long for a script.
 
 use crate::exchanges::{
-    EXCHANGES, Exchange, LINE, ONE_EXCHANGE, PAIR, QUARTERS, REFUSED, SECOND_ANSWER, SLAVES_AGREE,
-    TICKED_IN_TIME, TICKED_TOO_SELDOM, TURN_BEGINS, TURN_ENDS, TURN_ENDS_AFTER_TICKS, TWO_SLAVES,
-    TWO_TICKS,
+    EXCHANGES, Exchange, LINE, LONG_RUNS, LongRun, ONE_EXCHANGE, PAIR, Part, REFUSED,
+    SECOND_ANSWER, SLAVES_AGREE, TWO_SLAVES,
 };
 use crate::moments::moment;
 use crate::script::{nodes_of, read_row};
@@ -203,44 +202,23 @@ fn draw_syncs(rt: &(impl Abort + AllocGlobal), world: &mut World, count: u32) ->
     Ok(())
 }
 
-#[test]
-fn numbers_that_came_round_pair_wrongly(rt: HostRuntime) -> Result<(), Fail> {
+fn assert_long_run(rt: &(impl Abort + AllocGlobal), run: &LongRun) -> Result<(), Fail> {
     let mut world = world_of(rt.alloc(), PAIR)?;
-    assert_script(&rt, &mut world, TURN_BEGINS)?;
-    draw_syncs(&rt, &mut world, 65_535)?;
-    assert_script(&rt, &mut world, TURN_ENDS)
-}
-
-#[test]
-fn ticks_drop_numbers_that_came_round(rt: HostRuntime) -> Result<(), Fail> {
-    let mut world = world_of(rt.alloc(), PAIR)?;
-    assert_script(&rt, &mut world, TURN_BEGINS)?;
-    assert_script(&rt, &mut world, TWO_TICKS)?;
-    draw_syncs(&rt, &mut world, 65_535)?;
-    assert_script(&rt, &mut world, TURN_ENDS_AFTER_TICKS)
-}
-
-/// A world in which all numbers were drawn once, with a tick between the quarters.
-fn quartered_world(rt: &(impl Abort + AllocGlobal)) -> Result<World, Fail> {
-    let mut world = world_of(rt.alloc(), PAIR)?;
-    assert_script(rt, &mut world, "0 setmaster S M -> done")?;
-    for script in QUARTERS {
-        draw_syncs(rt, &mut world, 16_384)?;
-        assert_script(rt, &mut world, script)?;
+    for part in run.parts {
+        match part {
+            Part::Script(script) => assert_script(rt, &mut world, *script)?,
+            Part::Syncs(count) => draw_syncs(rt, &mut world, *count)?,
+        }
     }
-    Ok(world)
+    Ok(())
 }
 
 #[test]
-fn a_late_sync_is_dropped_where_ticks_come_in_time(rt: HostRuntime) -> Result<(), Fail> {
-    let mut world = quartered_world(&rt)?;
-    assert_script(&rt, &mut world, TICKED_IN_TIME)
-}
-
-#[test]
-fn a_late_sync_pairs_wrongly_where_ticks_come_too_seldom(rt: HostRuntime) -> Result<(), Fail> {
-    let mut world = quartered_world(&rt)?;
-    assert_script(&rt, &mut world, TICKED_TOO_SELDOM)
+fn long_runs_come_out_as_worked(rt: HostRuntime) -> Result<(), Fail> {
+    for run in &LONG_RUNS {
+        assert_long_run(&rt, run)?;
+    }
+    Ok(())
 }
 
 /// Twice a reading, less what its slave reported, is twice the true time: 6 s.

@@ -1,0 +1,79 @@
+"""What `ptpx` answers to arguments and an input is what a row says, of each row in the files `*.rows`.
+
+A row has, with tabs between them, the arguments, of which the first is the program's own name, the input, the output, what is said on
+standard error, and the status. In a field
+
+- `%` and two hexadecimal digits stand for an octet that can't be seen, and for `%`, `*` and `@`; `%{4096 x}` for so many of one;
+- a star in what is wanted stands for any text;
+- `@exchange.schedule.jsonl` stands for that file of examples/, or with `..4` behind it for its first four lines; with `5 => TEXT` for the
+  file with this text as its line 5, and with `5 OLD => NEW` for the file with one text in the place of another in that line."""
+import os
+import re
+import subprocess
+import sys
+from pathlib import Path
+
+HERE = Path(__file__).resolve().parent
+TOP = HERE.parents[1]
+PROGRAM = os.environ.get('PTPX', TOP / 'crates/ptpx/out/ptpx')
+
+ESCAPE = re.compile(r'%\{(\d+) (.)\}|%([0-9a-f]{2})')
+EXAMPLE = re.compile(r'@(\S+)(?: \.\.(\d+)| (\d+) (?:(.+) )?=> (.*))?')
+
+
+def octets(text):
+    """The octets that a text of a row stands for."""
+    return ESCAPE.sub(lambda it: int(it[1]) * it[2] if it[1] else chr(int(it[3], 16)), text).encode('latin-1')
+
+
+def example(name, first, place, old, new):
+    """An example, or its first lines, or the example with another text in one line."""
+    lines = (TOP / 'examples' / name).read_bytes().splitlines(True)[:int(first) if first else None]
+    if place:
+        line = lines[int(place) - 1]
+        if old and octets(old) not in line:
+            raise ValueError(f'{old} does not stand in line {place} of {name}')
+        lines[int(place) - 1] = line.replace(octets(old), octets(new)) if old else octets(new) + b'\n'
+    return b''.join(lines)
+
+
+def given(field):
+    """What a field stands for."""
+    it = EXAMPLE.fullmatch(field)
+    return example(*it.groups()) if it else octets(field)
+
+
+def is_wanted(field, written):
+    """Whether a text is what a field wants."""
+    if field.startswith('@'):
+        return written == given(field)
+    return re.fullmatch(b'.*'.join(re.escape(octets(part)) for part in field.split('*')), written, re.DOTALL) is not None
+
+
+def differences(row):
+    """What comes of a row that it doesn't want."""
+    arguments, sent, *wanted, status = row.split('\t')
+    ended = subprocess.run(arguments.split(' '), executable=PROGRAM, input=given(sent), capture_output=True, timeout=60)
+    for what, field, written in zip(('output', 'errors'), wanted, (ended.stdout, ended.stderr), strict=True):
+        if not is_wanted(field, written):
+            yield f'{what} {written!r}'
+    if ended.returncode != int(status):
+        yield f'status {ended.returncode}'
+
+
+def main():
+    count, failed = 0, 0
+    for file in sorted(HERE.glob('*.rows')):
+        for number, row in enumerate(file.read_text().splitlines(), 1):
+            if not row or row.startswith('#'):
+                continue
+            count += 1
+            for difference in differences(row):
+                failed += 1
+                print(f'answers: {file.name}:{number}: {difference}, for {row}', file=sys.stderr)
+    if failed or not count:
+        sys.exit(1)
+    print(f'answers: {count} rows')
+
+
+main()
