@@ -421,7 +421,7 @@ impl Measuring {
         ensures kept { (w : Wanted) (rows : List Row) (row : Row) → IsRow (length rows + 1) line.now row
             → watched_in w (datagrams (row ∷ rows)) ≡ None → read.now.number ≡ length rows + 1
             → IsStage w rows self.old.stage → OnOk result (IsStage w (row ∷ rows) self.new.stage) }
-        ensures memory { MatchResult result (λ _. ⊤) (λ fault. fault ≡ Memory) }
+        ensures memory { MatchResult result (λ _. ⊤) (λ fault. fault ≡ LineFault.Memory) }
         ensures watch { self.new.watch ≡ self.old.watch }
         ensures lines { self.new.lines ≡ self.old.lines }
         ensures form { self.new.reports.form ≡ self.old.reports.form }
