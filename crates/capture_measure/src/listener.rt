@@ -315,8 +315,7 @@ impl Listener {
         ensures judgement { Says (λ l. judged_sync (arrival_of header.now time) table_capacity l.heard)
             self.old result }
     {
-        self.heard
-            .sync(header.sequence, is_unicast(header), time)
+        self.heard.sync(header.sequence, is_unicast(header), time)
     }
 
     /// What it says that the last Sync of the master was refused.

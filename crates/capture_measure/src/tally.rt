@@ -291,7 +291,10 @@ impl Tally {
         let _ = match self.master_anew {
             0 => Ok(()),
             1 => writeln!(errors, "ptpx: the master began its numbers anew once"),
-            count => writeln!(errors, "ptpx: the master began its numbers anew {count} times"),
+            count => writeln!(
+                errors,
+                "ptpx: the master began its numbers anew {count} times"
+            ),
         };
         if self.whole == Some(true) {
             let _ = writeln!(errors, "ptpx: all times are of whole microseconds");

@@ -198,19 +198,19 @@ module _ (network : Network) (slave master : NodeName) (w : Watched) (apart : Is
         → IsStep more event earlier missing slack ds d
     message_step body counts call None body_is no_request asks_none no_asking draws_none heard_is answer_is is_ready
         hears tells = record {
-      known = known;
-      counted = still_counted no_asking asks_none;
-      stands = subst (λ (after : Listening). Stands network slave master w watches within more
-          (syncs_in (event ∷ earlier)) known (since_tick (ticks_in (after_all w ds)) slack after) after)
-          (sym heard_is)
-          (subst (λ (s : ℕ). Stands network slave master w watches within more (syncs_in (event ∷ earlier)) known s
-          (after_all w ds)) (sym (since-no_tick (ticks_in (after_all w ds)) slack (after_all w ds) refl))
-          (lifted draws_none));
-      last = still_last body body_is no_request (after_all w ds) refl heard_is;
-      reported = λ report is.
-          let none : report_at w ds d ≡ None = ap (option_and_then report_in) answer_is in
-          let same : Some report ≡ None = sym is ∙ none in cc;
-    }
+          known = known;
+          counted = still_counted no_asking asks_none;
+          stands = subst (λ (after : Listening). Stands network slave master w watches within more
+              (syncs_in (event ∷ earlier)) known (since_tick (ticks_in (after_all w ds)) slack after) after)
+              (sym heard_is)
+              (subst (λ (s : ℕ). Stands network slave master w watches within more (syncs_in (event ∷ earlier)) known s
+              (after_all w ds)) (sym (since-no_tick (ticks_in (after_all w ds)) slack (after_all w ds) refl))
+              (lifted draws_none));
+          last = still_last body body_is no_request (after_all w ds) refl heard_is;
+          reported = λ report is.
+              let none : report_at w ds d ≡ None = ap (option_and_then report_in) answer_is in
+              let same : Some report ≡ None = sym is ∙ none in cc;
+        }
     message_step body counts call (Some ready) body_is no_request asks_none no_asking draws_none heard_is answer_is
         is_ready hears tells =
         let l : Listening = after_all w ds in

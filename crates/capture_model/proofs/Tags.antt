@@ -140,69 +140,69 @@ module _ (P : ℕ → Type 0) where
     module _ (call : Call) (tag : ℕ) (of : P tag)
         (sync_tag : (h : HeardSync (criteria setup history) call) → h.tag ≡ tag) (follow_tag : (h : HeardFollowUp (criteria setup history) call) → h.tag ≡ tag)
         (response_tag : (c : DelayCompletion) → delay_completion setup history call ≡ Some c → c.response_tag ≡ tag)
-        where
-      brought_sync : (e : Entry SyncValue) → usable_two_step_sync setup history call ≡ Some e → P e.value.tag
-      brought_sync e is =
-          let one = two_step_entry setup history call e is in
-          subst P (sym (ap (λ (e : Entry SyncValue). e.value.tag) one.is ∙ sync_tag one.h)) of
+      where
+        brought_sync : (e : Entry SyncValue) → usable_two_step_sync setup history call ≡ Some e → P e.value.tag
+        brought_sync e is =
+            let one = two_step_entry setup history call e is in
+            subst P (sym (ap (λ (e : Entry SyncValue). e.value.tag) one.is ∙ sync_tag one.h)) of
 
-      brought_follow : (e : Entry FollowValue) → usable_follow_up setup history call ≡ Some e → P e.value.tag
-      brought_follow e is =
-          let one = follow_entry setup history call e is in
-          subst P (sym (ap (λ (e : Entry FollowValue). e.value.tag) one.is ∙ follow_tag one.h)) of
+        brought_follow : (e : Entry FollowValue) → usable_follow_up setup history call ≡ Some e → P e.value.tag
+        brought_follow e is =
+            let one = follow_entry setup history call e is in
+            subst P (sym (ap (λ (e : Entry FollowValue). e.value.tag) one.is ∙ follow_tag one.h)) of
 
-      brought_completion : (c : SyncCompletion) → sync_completion setup history call ≡ Some c → OfSync c
-      brought_completion c is = by (sync_completion_of setup history call c is).0
-        where
-          by : IsSyncCompletion setup history call c → OfSync c
-          by (BySync h follow flag found same) = subst OfSync (sym same) (
-            subst P (sym (sync_tag h)) of,
-            one-tag follow.tag (follow_held h.m.header.sequence.0 follow found),
-          )
-          by (Alone h flag same) = subst OfSync (sym same) (subst P (sym (sync_tag h)) of, All-nil P)
-          by (ByFollowUp h sync found same) = subst OfSync (sym same) (
-            sync_held h.m.header.sequence.0 sync found,
-            one-tag h.tag (subst P (sym (follow_tag h)) of),
-          )
+        brought_completion : (c : SyncCompletion) → sync_completion setup history call ≡ Some c → OfSync c
+        brought_completion c is = by (sync_completion_of setup history call c is).0
+          where
+            by : IsSyncCompletion setup history call c → OfSync c
+            by (BySync h follow flag found same) = subst OfSync (sym same) (
+              subst P (sym (sync_tag h)) of,
+              one-tag follow.tag (follow_held h.m.header.sequence.0 follow found),
+            )
+            by (Alone h flag same) = subst OfSync (sym same) (subst P (sym (sync_tag h)) of, All-nil P)
+            by (ByFollowUp h sync found same) = subst OfSync (sym same) (
+              sync_held h.m.header.sequence.0 sync found,
+              one-tag h.tag (subst P (sym (follow_tag h)) of),
+            )
 
-      brought_delay : (c : DelayCompletion) → delay_completion setup history call ≡ Some c → OfDelay c
-      brought_delay c is =
-          let one = delay_completion_of setup history call c is in (
-            subst P (sym (ap (λ (c : DelayCompletion). c.request_tag) one.is))
-                (request_held one.h.m.header.sequence.0 one.request one.found),
-            subst P (sym (response_tag c is)) of,
-          )
+        brought_delay : (c : DelayCompletion) → delay_completion setup history call ≡ Some c → OfDelay c
+        brought_delay c is =
+            let one = delay_completion_of setup history call c is in (
+              subst P (sym (ap (λ (c : DelayCompletion). c.request_tag) one.is))
+                  (request_held one.h.m.header.sequence.0 one.request one.found),
+              subst P (sym (response_tag c is)) of,
+            )
 
-      -- all that is held with what it brings
-      with_syncs : AllIn (λ (e : Entry SyncValue). P e.value.tag)
-          (with_brought (usable_two_step_sync setup history call) (kept setup history).syncs)
-      with_syncs = (
-        All-brought (λ (e : Entry SyncValue). P e.value.tag) (usable_two_step_sync setup history call)
-            (kept setup history).syncs.since brought_sync are.syncs.0,
-        are.syncs.1,
-      )
+        -- all that is held with what it brings
+        with_syncs : AllIn (λ (e : Entry SyncValue). P e.value.tag)
+            (with_brought (usable_two_step_sync setup history call) (kept setup history).syncs)
+        with_syncs = (
+          All-brought (λ (e : Entry SyncValue). P e.value.tag) (usable_two_step_sync setup history call)
+              (kept setup history).syncs.since brought_sync are.syncs.0,
+          are.syncs.1,
+        )
 
-      with_follows : AllIn (λ (e : Entry FollowValue). P e.value.tag)
-          (with_brought (usable_follow_up setup history call) (kept setup history).follows)
-      with_follows = (
-        All-brought (λ (e : Entry FollowValue). P e.value.tag) (usable_follow_up setup history call)
-            (kept setup history).follows.since brought_follow are.follows.0,
-        are.follows.1,
-      )
+        with_follows : AllIn (λ (e : Entry FollowValue). P e.value.tag)
+            (with_brought (usable_follow_up setup history call) (kept setup history).follows)
+        with_follows = (
+          All-brought (λ (e : Entry FollowValue). P e.value.tag) (usable_follow_up setup history call)
+              (kept setup history).follows.since brought_follow are.follows.0,
+          are.follows.1,
+        )
 
-      with_completions : AllIn OfSync (with_brought (sync_completion setup history call) (kept setup history).completions)
-      with_completions = (
-        All-brought OfSync (sync_completion setup history call) (kept setup history).completions.since
-            brought_completion are.completions.0,
-        are.completions.1,
-      )
+        with_completions : AllIn OfSync (with_brought (sync_completion setup history call) (kept setup history).completions)
+        with_completions = (
+          All-brought OfSync (sync_completion setup history call) (kept setup history).completions.since
+              brought_completion are.completions.0,
+          are.completions.1,
+        )
 
-      with_delays : AllIn OfDelay (with_brought (delay_completion setup history call) (delay_completions setup history))
-      with_delays = (
-        All-brought OfDelay (delay_completion setup history call) (delay_completions setup history).since brought_delay
-            are.delays.0,
-        are.delays.1,
-      )
+        with_delays : AllIn OfDelay (with_brought (delay_completion setup history call) (delay_completions setup history))
+        with_delays = (
+          All-brought OfDelay (delay_completion setup history call) (delay_completions setup history).since brought_delay
+              are.delays.0,
+          are.delays.1,
+        )
 
     pub tagged-event : (heard : Reading) (t2 tag : ℕ) → P tag → AreTagged setup (calls.Event heard t2 tag ∷ history)
     tagged-event heard t2 tag of =

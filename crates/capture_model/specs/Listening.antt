@@ -228,10 +228,6 @@ hearing line time m (bodies.DelayReq origin) = None
 hearing line time m (bodies.FollowUp precise) = Some (calls.General (Ok m) line)
 hearing line time m (bodies.DelayResp receive requesting) = Some (calls.General (Ok m) line)
 
--- the same of any datagram
-abbrev pub hearing_of : Recorded → Option Call
-hearing_of d = option_and_then (λ m. hearing d.line d.time m m.body) (result_ok d.said)
-
 -- the report that an answer is
 abbrev pub report_in : Heard → Option Report
 report_in (answers.Report report) = Some report

@@ -64,11 +64,7 @@ fn sync_judgement(
 }
 
 /// Whether a Follow_Up at this time is a repeat, where a Sync and a Follow_Up of its number are known by these.
-fn is_repeat(
-    time: ScaledTime,
-    sync: Option<ScaledTime>,
-    follow_up: Option<ScaledTime>,
-) -> bool
+fn is_repeat(time: ScaledTime, sync: Option<ScaledTime>, follow_up: Option<ScaledTime>) -> bool
     ensures { result ≡ is_repeat time sync follow_up }
 {
     follow_up.is_some() || sync.is_some_and(|sync| is_apart(time, sync))

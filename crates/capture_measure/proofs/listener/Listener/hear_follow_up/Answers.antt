@@ -70,25 +70,25 @@ returns-in-Newer-clause-answered c = λ w l is.
 pub returns-in-Repeated : goal.returns-in-Repeated
 returns-in-Repeated c = record {
   listens = λ w l is.
-        let m : Contents = contents c.args.message.now in
-        let call : Call = General (Ok m) c.args.line in
-        let of : is_of w w.master m.header ≡ true =
-        subst (λ (v : Watched). is_of v v.master m.header ≡ true) is.watched (sym c.is_of.ensures ∙ c.if-not-is_of.false) in
-        let says = c.judge_follow_up.ensures.judgement w l is in
-        let a : Arrival = arrival_of m.header c.args.time in
-        let again = says-repeated (is_repeated a table_capacity l.heard) c.judge_follow_up.result says c.in-Repeated.is in
-        let one = follow_up-judged w c.args.line c.args.time m l true of again in
-        subst (λ (r : Option Listening). IsListener w c.judge_follow_up.new.self (hears_ready false call r l))
-        (sym one.ready_is)
-        (subst (IsListener w c.judge_follow_up.new.self) one.known_is (c.judge_follow_up.ensures.listens w l is));
+      let m : Contents = contents c.args.message.now in
+      let call : Call = General (Ok m) c.args.line in
+      let of : is_of w w.master m.header ≡ true =
+      subst (λ (v : Watched). is_of v v.master m.header ≡ true) is.watched (sym c.is_of.ensures ∙ c.if-not-is_of.false) in
+      let says = c.judge_follow_up.ensures.judgement w l is in
+      let a : Arrival = arrival_of m.header c.args.time in
+      let again = says-repeated (is_repeated a table_capacity l.heard) c.judge_follow_up.result says c.in-Repeated.is in
+      let one = follow_up-judged w c.args.line c.args.time m l true of again in
+      subst (λ (r : Option Listening). IsListener w c.judge_follow_up.new.self (hears_ready false call r l))
+      (sym one.ready_is)
+      (subst (IsListener w c.judge_follow_up.new.self) one.known_is (c.judge_follow_up.ensures.listens w l is));
   answered = λ w l is.
-        let m : Contents = contents c.args.message.now in
-        let call : Call = General (Ok m) c.args.line in
-        let of : is_of w w.master m.header ≡ true =
-        subst (λ (v : Watched). is_of v v.master m.header ≡ true) is.watched (sym c.is_of.ensures ∙ c.if-not-is_of.false) in
-        let says = c.judge_follow_up.ensures.judgement w l is in
-        let a : Arrival = arrival_of m.header c.args.time in
-        let again = says-repeated (is_repeated a table_capacity l.heard) c.judge_follow_up.result says c.in-Repeated.is in
-        let one = follow_up-judged w c.args.line c.args.time m l true of again in
-        ap (option_map (λ l. answer_in w l call)) (sym one.ready_is);
+      let m : Contents = contents c.args.message.now in
+      let call : Call = General (Ok m) c.args.line in
+      let of : is_of w w.master m.header ≡ true =
+      subst (λ (v : Watched). is_of v v.master m.header ≡ true) is.watched (sym c.is_of.ensures ∙ c.if-not-is_of.false) in
+      let says = c.judge_follow_up.ensures.judgement w l is in
+      let a : Arrival = arrival_of m.header c.args.time in
+      let again = says-repeated (is_repeated a table_capacity l.heard) c.judge_follow_up.result says c.in-Repeated.is in
+      let one = follow_up-judged w c.args.line c.args.time m l true of again in
+      ap (option_map (λ l. answer_in w l call)) (sym one.ready_is);
 }

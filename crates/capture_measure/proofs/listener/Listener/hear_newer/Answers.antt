@@ -71,29 +71,29 @@ returns-in-BeganAnew-clause-answered c = λ w l is.
 pub returns-in-Newer : goal.returns-in-Newer
 returns-in-Newer c = record {
   listens = λ w l is.
-        let m : Contents = contents c.args.message.now in
-        let call : Call = Event (Ok m) c.args.time c.args.line in
-        let a : Arrival = arrival_of m.header c.args.time in
-        let stood = c.sync-heard.ensures.stands (Ok m) c.requires (setup_in w l) l.calls is.port in
-        let heard = IsListener-told w c.args.self.now l call c.sync-heard.new.self refl stood is in
-        let answer = c.sync-heard.ensures.answer (Ok m) c.requires (setup_in w l) l.calls is.port in
-        let stale : is_stale (answer_in w l call) ≡ true =
-        sym (ap is_stale answer) ∙ sym c.is_stale.ensures ∙ c.if-not-is_stale.false in
-        let judged = c.judge_refused.ensures.judgement w (told call l) heard in
-        let started : IsNoBeginning (judged_refused a table_capacity l.heard) = subst IsNoBeginning judged c.in-Newer.is in
-        subst (λ (k : Listening). IsListener w c.count_sync-in-Newer.new.self (with_count k))
-        (refused-told w c.args.line call a l stale started)
-        (c.count_sync-in-Newer.ensures w _ (c.judge_refused.ensures.listens w (told call l) heard));
+      let m : Contents = contents c.args.message.now in
+      let call : Call = Event (Ok m) c.args.time c.args.line in
+      let a : Arrival = arrival_of m.header c.args.time in
+      let stood = c.sync-heard.ensures.stands (Ok m) c.requires (setup_in w l) l.calls is.port in
+      let heard = IsListener-told w c.args.self.now l call c.sync-heard.new.self refl stood is in
+      let answer = c.sync-heard.ensures.answer (Ok m) c.requires (setup_in w l) l.calls is.port in
+      let stale : is_stale (answer_in w l call) ≡ true =
+      sym (ap is_stale answer) ∙ sym c.is_stale.ensures ∙ c.if-not-is_stale.false in
+      let judged = c.judge_refused.ensures.judgement w (told call l) heard in
+      let started : IsNoBeginning (judged_refused a table_capacity l.heard) = subst IsNoBeginning judged c.in-Newer.is in
+      subst (λ (k : Listening). IsListener w c.count_sync-in-Newer.new.self (with_count k))
+      (refused-told w c.args.line call a l stale started)
+      (c.count_sync-in-Newer.ensures w _ (c.judge_refused.ensures.listens w (told call l) heard));
   answered = λ w l is.
-        let m : Contents = contents c.args.message.now in
-        let call : Call = Event (Ok m) c.args.time c.args.line in
-        let a : Arrival = arrival_of m.header c.args.time in
-        let stood = c.sync-heard.ensures.stands (Ok m) c.requires (setup_in w l) l.calls is.port in
-        let heard = IsListener-told w c.args.self.now l call c.sync-heard.new.self refl stood is in
-        let answer = c.sync-heard.ensures.answer (Ok m) c.requires (setup_in w l) l.calls is.port in
-        let stale : is_stale (answer_in w l call) ≡ true =
-        sym (ap is_stale answer) ∙ sym c.is_stale.ensures ∙ c.if-not-is_stale.false in
-        let judged = c.judge_refused.ensures.judgement w (told call l) heard in
-        let started : IsNoBeginning (judged_refused a table_capacity l.heard) = subst IsNoBeginning judged c.in-Newer.is in
-        ap Some (answer ∙ refused-answer w c.args.line call a l stale started);
+      let m : Contents = contents c.args.message.now in
+      let call : Call = Event (Ok m) c.args.time c.args.line in
+      let a : Arrival = arrival_of m.header c.args.time in
+      let stood = c.sync-heard.ensures.stands (Ok m) c.requires (setup_in w l) l.calls is.port in
+      let heard = IsListener-told w c.args.self.now l call c.sync-heard.new.self refl stood is in
+      let answer = c.sync-heard.ensures.answer (Ok m) c.requires (setup_in w l) l.calls is.port in
+      let stale : is_stale (answer_in w l call) ≡ true =
+      sym (ap is_stale answer) ∙ sym c.is_stale.ensures ∙ c.if-not-is_stale.false in
+      let judged = c.judge_refused.ensures.judgement w (told call l) heard in
+      let started : IsNoBeginning (judged_refused a table_capacity l.heard) = subst IsNoBeginning judged c.in-Newer.is in
+      ap Some (answer ∙ refused-answer w c.args.line call a l stale started);
 }

@@ -73,25 +73,25 @@ returns-in-Newer-clause-answered c = λ w l is.
 pub returns-in-Repeated : goal.returns-in-Repeated
 returns-in-Repeated c = record {
   listens = λ w l is.
-        let m : Contents = contents c.args.message.now in
-        let call : Call = General (Ok m) c.args.line in
-        let of : (is_of w w.master m.header && is_same_port c.args.requesting w.slave) ≡ true =
-        subst (λ (v : Watched). (is_of v v.master m.header && is_same_port c.args.requesting v.slave) ≡ true) is.watched
-        (sym c.is_answer.ensures ∙ c.if-not-is_answer.false) in
-        let says = c.judge_response.ensures.judgement w l is in
-        let again = says-repeated (is_some (known table_capacity m.header.sequence.0 l.responses)) c.judge_response.result says c.in-Repeated.is in
-        let one = response-judged w c.args.line c.args.time m l c.args.requesting true of again in
-        subst (λ (r : Option Listening). IsListener w c.judge_response.new.self (hears_ready false call r l))
-        (sym one.0)
-        (subst (IsListener w c.judge_response.new.self) one.1 (c.judge_response.ensures.listens w l is));
+      let m : Contents = contents c.args.message.now in
+      let call : Call = General (Ok m) c.args.line in
+      let of : (is_of w w.master m.header && is_same_port c.args.requesting w.slave) ≡ true =
+      subst (λ (v : Watched). (is_of v v.master m.header && is_same_port c.args.requesting v.slave) ≡ true) is.watched
+      (sym c.is_answer.ensures ∙ c.if-not-is_answer.false) in
+      let says = c.judge_response.ensures.judgement w l is in
+      let again = says-repeated (is_some (known table_capacity m.header.sequence.0 l.responses)) c.judge_response.result says c.in-Repeated.is in
+      let one = response-judged w c.args.line c.args.time m l c.args.requesting true of again in
+      subst (λ (r : Option Listening). IsListener w c.judge_response.new.self (hears_ready false call r l))
+      (sym one.0)
+      (subst (IsListener w c.judge_response.new.self) one.1 (c.judge_response.ensures.listens w l is));
   answered = λ w l is.
-        let m : Contents = contents c.args.message.now in
-        let call : Call = General (Ok m) c.args.line in
-        let of : (is_of w w.master m.header && is_same_port c.args.requesting w.slave) ≡ true =
-        subst (λ (v : Watched). (is_of v v.master m.header && is_same_port c.args.requesting v.slave) ≡ true) is.watched
-        (sym c.is_answer.ensures ∙ c.if-not-is_answer.false) in
-        let says = c.judge_response.ensures.judgement w l is in
-        let again = says-repeated (is_some (known table_capacity m.header.sequence.0 l.responses)) c.judge_response.result says c.in-Repeated.is in
-        let one = response-judged w c.args.line c.args.time m l c.args.requesting true of again in
-        ap (option_map (λ l. answer_in w l call)) (sym one.0);
+      let m : Contents = contents c.args.message.now in
+      let call : Call = General (Ok m) c.args.line in
+      let of : (is_of w w.master m.header && is_same_port c.args.requesting w.slave) ≡ true =
+      subst (λ (v : Watched). (is_of v v.master m.header && is_same_port c.args.requesting v.slave) ≡ true) is.watched
+      (sym c.is_answer.ensures ∙ c.if-not-is_answer.false) in
+      let says = c.judge_response.ensures.judgement w l is in
+      let again = says-repeated (is_some (known table_capacity m.header.sequence.0 l.responses)) c.judge_response.result says c.in-Repeated.is in
+      let one = response-judged w c.args.line c.args.time m l c.args.requesting true of again in
+      ap (option_map (λ l. answer_in w l call)) (sym one.0);
 }
