@@ -1,0 +1,70 @@
+//! The latest messages of a kind, by their numbers, and those with unicastFlag apart from the others.
+
+ghost use Rattle.std.specs.Prelude.{◌≡◌, ◌≤◌, ℕ, Bool, List, []};
+ghost use Rattle.pairing.specs.Marked.{Entry};
+ghost use Rattle.sync_watch.specs.Told.{arrival, of_flag, known};
+ghost use Rattle.sync_watch.specs.StandsFor.{HoldsKnown};
+
+use pairing::PairTable;
+use ptp_units::{ScaledTime, Seq};
+use std::marker::Model;
+
+/// When the latest messages of a kind came, under their numbers.
+#[derive(Drop)]
+pub(crate) struct Known<T: PairTable<ScaledTime>> {
+    multicast: T,
+    unicast: T,
+}
+
+impl<T: PairTable<ScaledTime>> Model for Known<T> {
+    ghost use Rattle.sync_watch.specs.StandsFor.{KnownTimes};
+
+    ghost Value = { KnownTimes };
+
+    ghost view = { λ k. record { multicast = T.marked k.multicast; unicast = T.marked k.unicast } };
+}
+
+impl<T: PairTable<ScaledTime>> Known<T> {
+    /// No message came.
+    pub(crate) fn new() -> Self
+        requires { (1 ≤ T.CAPACITY) × (T.CAPACITY ≤ 256) }
+        ensures { HoldsKnown T.CAPACITY (λ flag. []) result }
+    {
+        Known {
+            multicast: T::empty(),
+            unicast: T::empty(),
+        }
+    }
+
+    /// When the message of this number and flag came, if it is known.
+    pub(crate) fn time_of(&self, number: Seq, is_unicast: bool) -> Option<ScaledTime>
+        ensures { (entries : Bool → List (Entry ℕ)) → HoldsKnown T.CAPACITY entries self.now
+            → result ≡ known T.CAPACITY number.0 (entries is_unicast) }
+    {
+        if is_unicast {
+            self.unicast.find(number).copied()
+        } else {
+            self.multicast.find(number).copied()
+        }
+    }
+
+    /// A message came.
+    pub(crate) fn push(&mut self, number: Seq, is_unicast: bool, time: ScaledTime)
+        ensures { (entries : Bool → List (Entry ℕ)) → HoldsKnown T.CAPACITY entries self.old
+            → HoldsKnown T.CAPACITY (λ flag. of_flag flag (arrival number.0 is_unicast time) (entries flag)) self.new }
+    {
+        if is_unicast {
+            self.unicast.push(number, time);
+        } else {
+            self.multicast.push(number, time);
+        }
+    }
+
+    /// Forgets all that came.
+    pub(crate) fn clear(&mut self)
+        ensures { HoldsKnown T.CAPACITY (λ flag. []) self.new }
+    {
+        self.multicast.clear();
+        self.unicast.clear();
+    }
+}

@@ -1,0 +1,15 @@
+//! Masters that begin their numbers anew: what is known of the Syncs and Follow_Ups of one, and what the number of
+//! the next one says.
+//!
+//! What a watch answers is a function of the list of what it was told since the master began (`specs/Judged.antt`).
+#![tactic(auto)]
+
+mod judgement;
+mod known;
+mod response_watch;
+mod row;
+mod sync_watch;
+
+pub use judgement::Judgement;
+pub use response_watch::ResponseWatch;
+pub use sync_watch::SyncWatch;
