@@ -55,7 +55,8 @@ VERDICT = re.compile(rb'accepted ([0-9]+)\n|refused event ([0-9]+): (70[1-8])\n'
 MEASURED = [*[kind + ' too early' for kind in ('Sync', 'Delay_Req')], 'refused 201', 'refused 202', 'refused 203 type 11', 'refused 204', 'refused 205', 'refused 206',
             *['Delay_Req ' + what for what in ('departed', 'repeated', 'anew', 'of another domain', 'of another slave')],
             *[f'{kind} {what}' for kind in ('Sync', 'Follow_Up') for what in ('held', 'completed', 503, 505, 507, 512)],
-            *[f'Delay_Resp {what}' for what in ('completed', 503, 505, 507, 508, 509)]]
+            *[f'Delay_Resp {what}' for what in ('completed', 503, 505, 507, 508, 509)],
+            *[f'{kind} before' for kind in ('Sync', 'Follow_Up', 'Delay_Resp')], 'master anew']
 
 # What must have been seen. 801, 802 and 808 don't come from inputs, and 804 needs a longer one.
 SEEN = {

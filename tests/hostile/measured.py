@@ -8,13 +8,18 @@ import typing
 
 import shown
 
-# How many lines wait until it is known whom to watch, and how many of each kind of message a port holds.
+# How many lines wait until it is known whom to watch, how many of each kind of message a port holds, and of how many of the master's
+# the numbers are known.
 KEPT = 1024
 HELD = 256
+KNOWN = 256
 
-# After so many Syncs of the master a tick falls, and after so many in a row that were refused by 512 two ticks.
+# After so many Syncs of the master a tick falls, and so many in a row that were refused by 512 say that it began anew.
 TICK = 4096
-ROW = 16
+ROW = 3
+
+# A second, in units.
+SECOND = 10**9 * 2**16
 
 # A line: seconds, their decimals and the octets.
 LINE = re.compile(rb'(0|[1-9][0-9]{0,14})(?:\.([0-9]{1,9}))? ((?:[0-9a-fA-F]{2})*)')
@@ -24,7 +29,7 @@ IDENTITIES = [re.compile(form) for form in (
     r'([0-9a-fA-F]{16})/([0-9]{1,5})', r'([0-9a-fA-F]{6}\.[0-9a-fA-F]{4}\.[0-9a-fA-F]{6})-([0-9]{1,5})')]
 
 # A message; a line with what it said; and what completed on either side, with the tick at which it did.
-Message = collections.namedtuple('Message', 'kind domain two_step correction source sequence stamp requesting')
+Message = collections.namedtuple('Message', 'kind domain two_step unicast correction source sequence stamp requesting')
 Read = collections.namedtuple('Read', 'place time units said')
 Completed = collections.namedtuple('Completed', 'tick bracket tags sequence')
 
@@ -57,6 +62,7 @@ REASONS = {
     'completed': " that completed while the other half of a report wasn't there",
     'departed': ' of the slave', 'anew': ' of the slave',
     'repeated': ' of the slave, with the number of the last one',
+    'before': ' with a number that came before',
     'of another domain': ' of another domain', '503': ' of another domain',
     '505': ' of another master',
     'of another slave': ' of another slave', '508': ' of another slave',
@@ -108,7 +114,7 @@ def message(octets):
     correction, sequence = shown.number(octets[8:16], signed=True), shown.number(octets[30:32])
     stamp = (shown.number(octets[34:40]) * 10**9 + shown.number(octets[40:44])) * 2**16
     requesting = octets[44:54] if least == 54 else None
-    return Message(kind, octets[4], bool(octets[6] & 2), correction, octets[20:30], sequence, stamp, requesting)
+    return Message(kind, octets[4], bool(octets[6] & 2), bool(octets[6] & 4), correction, octets[20:30], sequence, stamp, requesting)
 
 
 def decimal(halves):
@@ -141,6 +147,13 @@ class Port:
         """The request that is held under a number and known to have departed, or None."""
         drawn, read = self.departed.get(sequence, (self.drawn - HELD, None))
         return read if self.drawn - drawn < HELD else None
+
+    def follow_anew(self):
+        """The port is told its master again: all that it holds is dropped, and its requests go on."""
+        self.syncs.clear()
+        self.follow_ups.clear()
+        self.departed = {}
+        self.synced = self.answered = None
 
     def in_window(self, tick):
         return self.ticks - tick < 2
@@ -233,13 +246,37 @@ class Watch:
         return None if None in watched else watched
 
 
+class Life:
+    """What was heard of the master's Syncs and Follow_Ups since it began."""
+
+    def __init__(self):
+        self.heard = collections.defaultdict(lambda: collections.deque(maxlen=KNOWN))
+        # How many Syncs in a row were refused, and the number of the last one.
+        self.row, self.refused = 0, None
+
+    def apart(self, kind, read):
+        """Whether the message of a kind that is known under this one's number and flag is a second or more away; None where there is none."""
+        units = dict(self.heard[kind, read.said.unicast]).get(read.said.sequence)
+        return None if units is None else abs(read.units - units) >= SECOND
+
+    def hear(self, read):
+        self.heard[read.said.kind, read.said.unicast].append((read.said.sequence, read.units))
+
+    def refuse(self, sequence):
+        """Whether so many Syncs in a row were refused with this one."""
+        self.row = self.row + 1 if self.row and sequence == (self.refused + 1) % 2**16 else 1
+        self.refused = sequence
+        return self.row == ROW
+
+
 class Measurer:
     """Hears lines one after the other."""
 
     def __init__(self, watched, csv):
         self.watched, self.csv = watched, csv
         self.port, self.last = Port(watched), None
-        self.syncs = self.row = 0
+        self.life, self.responses = Life(), collections.deque(maxlen=KNOWN)
+        self.syncs = 0
         self.counts = collections.Counter()
 
     def hear(self, read):
@@ -250,14 +287,56 @@ class Measurer:
         elif said.kind == 'Delay_Req':
             self.counts['Delay_Req ' + self.request(read)] += 1
         else:
-            answer = self.port.hear(read)
-            if said.kind == 'Sync' and [said.domain, said.source] == [self.watched[0], self.watched[2]]:
-                self.tick(answer)
+            answer = self.answer(read)
             if isinstance(answer, tuple):
                 self.counts['reports'] += 1
                 return self.report(read, *answer)
             self.counts[f'{said.kind} {answer}'] += 1
         return ''
+
+    def answer(self, read):
+        """What the port answers, or `before` where it doesn't hear the message."""
+        said = read.said
+        if [said.domain, said.source] != [self.watched[0], self.watched[2]]:
+            return self.port.hear(read)
+        if said.kind == 'Sync':
+            return self.sync(read)
+        if said.kind == 'Follow_Up':
+            if self.life.apart('Follow_Up', read) is not None or self.life.apart('Sync', read):
+                return 'before'
+            self.life.hear(read)
+        elif said.requesting == self.watched[1]:
+            if said.sequence in self.responses:
+                return 'before'
+            self.responses.append(said.sequence)
+        return self.port.hear(read)
+
+    def sync(self, read):
+        """The answer to a Sync of the master."""
+        apart = self.life.apart('Sync', read)
+        if apart is False:
+            return 'before'
+        if apart or self.life.apart('Follow_Up', read):
+            self.begin_anew()
+        self.life.hear(read)
+        answer = self.port.hear(read)
+        if answer != 512:
+            self.life.row = 0
+        elif self.life.refuse(read.said.sequence):
+            self.begin_anew()
+            self.life.hear(read)
+            answer = self.port.hear(read)
+        self.syncs += 1
+        if self.syncs % TICK == 0:
+            self.port.ticks += 1
+        return answer
+
+    def begin_anew(self):
+        """The master began its numbers anew."""
+        self.counts['master anew'] += 1
+        self.life = Life()
+        self.responses.clear()
+        self.port.follow_anew()
 
     def request(self, read):
         """What became of a Delay_Req."""
@@ -271,18 +350,9 @@ class Measurer:
             return 'repeated'
         if ahead > HELD:
             self.port = Port(self.watched)
+            self.responses.clear()
         self.port.request(read)
         return 'departed' if ahead <= HELD else 'anew'
-
-    def tick(self, answer):
-        """The ticks that fall after a Sync of the master."""
-        self.syncs += 1
-        self.row = self.row + 1 if answer == 512 else 0
-        if self.syncs % TICK == 0:
-            self.port.ticks += 1
-        if self.row == ROW:
-            self.port.ticks += 2
-            self.row = 0
 
     def report(self, read, offset2, path2, tags):
         by = 'response' if read.said.kind == 'Delay_Resp' else 'sync'
@@ -338,11 +408,12 @@ def summary(watch, counts, times):
         else:
             printed = value if name == 'domain' else f'{value[:8].hex()}/{int.from_bytes(value[8:], "big")}'
             yield f'{name} {printed}, ' + (f'told by line {line}' if line else 'as asked for')
-    reports = counts.pop('reports', 0)
+    reports, master_anew = counts.pop('reports', 0), counts.pop('master anew', 0)
     yield f'{reports or "no"} report{"s" if reports > 1 else ""}'
     yield from datagrams(counts)
-    if counts['Delay_Req anew']:
-        yield 'the slave began anew ' + ('once' if counts['Delay_Req anew'] == 1 else f'{counts["Delay_Req anew"]} times')
+    for what, times_anew in (('slave began', counts['Delay_Req anew']), ('master began its numbers', master_anew)):
+        if times_anew:
+            yield f'the {what} anew ' + ('once' if times_anew == 1 else f'{times_anew} times')
     if times and all(times):
         yield 'all times are of whole microseconds'
 

@@ -34,12 +34,12 @@ LATE = [1021, 1022, 1023, 1024, 1025, 1026]
 TICK = 4096
 
 
-def datagram(kind, source, sequence, domain=0, stamp=(0, 0), correction=0, two_step=False, requesting=b'', suffix=b''):
+def datagram(kind, source, sequence, domain=0, stamp=(0, 0), correction=0, two_step=False, unicast=False, requesting=b'', suffix=b''):
     """The octets of a message."""
     seconds, nanoseconds = stamp
     length = 34 + 10 + len(requesting) + len(suffix)
     return b''.join([
-        bytes([kind, 0x12]), length.to_bytes(2, 'big'), bytes([domain, 0, 2 * two_step, 0]),
+        bytes([kind, 0x12]), length.to_bytes(2, 'big'), bytes([domain, 0, 2 * two_step + 4 * unicast, 0]),
         correction.to_bytes(8, 'big', signed=True), bytes(4), source, sequence.to_bytes(2, 'big'), bytes([kind % 8, 0]),
         seconds.to_bytes(6, 'big'), nanoseconds.to_bytes(4, 'big'), requesting, suffix])
 
@@ -52,7 +52,8 @@ class Tape:
         self.lines = []
         self.time = rng.choice([0, 10**9, 1795329143 * 10**9, rng.randrange(2**48 * 10**9 - 10**15)])
         self.master, self.slave, self.domain = MASTERS[0], SLAVES[0], 0
-        self.step = rng.choice([1, 1000, 1000])
+        self.step = rng.choice([1, 1000, 1000, 2000, 2 * 10**6])
+        self.unicast = rng.choice([0, 0, 0, 1, 0.5])
         self.sync, self.request = rng.choice(SEQUENCES), rng.choice(SEQUENCES)
         # How many Syncs there are of the first master.
         self.syncs = 0
@@ -72,7 +73,8 @@ class Tape:
         """A message of the slave where it is a Delay_Req, and else of the master."""
         source = self.slave if kind == 1 else self.master
         self.syncs += (kind, source, self.domain) == (0, MASTERS[0], 0)
-        self.put(datagram(kind, source, sequence, self.domain, correction=self.correction(), **more))
+        self.put(datagram(kind, source, sequence, self.domain, correction=self.correction(),
+                          unicast=self.rng.random() < self.unicast, **more))
 
     def two_step_sync(self, sequence):
         self.message(0, sequence, two_step=True)
@@ -155,8 +157,8 @@ def not_newer(rng, tape):
     """A Sync that completes, and a row of others that aren't newer, perhaps with other lines among them."""
     tape.one_step_sync(tape.next_sync())
     newest = tape.sync
-    for place in range(rng.choice([15, 16, 17, 31, 32, 33])):
-        older = (newest - rng.choice([1, place + 1, 32767, 32768])) % 2**16
+    for place in range(rng.choice([2, 3, 4, 9, 16])):
+        older = (newest - rng.choice([1, place + 1, 100 - place, 100 - place, 32767, 32768])) % 2**16
         rng.choice([tape.one_step_sync, tape.two_step_sync])(older)
         if rng.random() < 0.1:
             rng.choice([lambda: tape.follow_up(older), lambda: tape.delay_req(tape.next_request()),

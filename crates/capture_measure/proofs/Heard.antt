@@ -1,6 +1,6 @@
 -- What comes of a row that is heard.
 use Rattle.std.proofs.Common.{◌≡◌, ◌∙◌, ℕ, List, [], Option, Some, None, Result, Ok, Err, sym, ap}
-use Rattle.std.specs.Prelude.{OnOk, option_map}
+use Rattle.std.specs.Prelude.{OnOk, option_map, option_and_then}
 use Rattle.std.specs.Option.{option_map_or}
 use Rattle.std.specs.Result.{result_ok}
 use Rattle.event_codec.specs.declared.message.Message.{Message}
@@ -9,14 +9,14 @@ use Rattle.event_codec.specs.Packet.{Contents, contents}
 use Rattle.event_codec.specs.Reading.{Reading, Answers}
 use Rattle.slave_port.specs.declared.heard.Report.{Report}
 use Rattle.capture_model.specs.declared.watched.Watched.{Watched}
-use Rattle.capture_model.specs.Listening.{hear, hears, after_all, report_at}
+use Rattle.capture_model.specs.Listening.{hear, hears, after_all, answered, report_in, report_at}
 use Rattle.capture_lines.specs.declared.measurement.Half.{Half}
 use Rattle.capture_lines.specs.declared.measurement.Half.TheVariants as halves
 use Rattle.capture_measure.specs.declared.listener.Became.{Became}
 use Rattle.capture_measure.specs.declared.measuring.Form.{Form}
 use Rattle.capture_measure.specs.Row.{Row, datagrams}
 use Rattle.capture_measure.specs.Measured.{half_of, text_as, report_text}
-use Rattle.capture_measure.specs.Inner.Listener.{became, report_by}
+use Rattle.capture_measure.specs.Inner.Listener.{heard_by, report_by}
 use Rattle.capture_measure.proofs.Listeners.{hear-said}
 use Rattle.capture_measure.proofs.Reports.{report_at-said}
 
@@ -54,12 +54,14 @@ module _ (watched : Watched) (earlier : List Row) (row : Row) (m : Contents) (li
       hear-said watched row.datagram (after_all watched (datagrams earlier)) m said
       ∙ (λ i. hears watched (numbered i) (moment i) m m.body (after_all watched (datagrams earlier)))
 
-  pub row_reports : (result : Became) → result ≡ became line time m watched (after_all watched (datagrams earlier))
+  pub row_reports : (result : Became)
+      → heard_by result ≡ answered watched line time m m.body (after_all watched (datagrams earlier))
       → report_at watched (datagrams earlier) row.datagram ≡ report_by result
   row_reports result is =
       report_at-said watched row.datagram (datagrams earlier) m said
-      ∙ (λ i. report_by (became (numbered i) (moment i) m watched (after_all watched (datagrams earlier))))
-      ∙ ap report_by (sym is)
+      ∙ (λ i. option_and_then report_in
+      (answered watched (numbered i) (moment i) m m.body (after_all watched (datagrams earlier))))
+      ∙ ap (option_and_then report_in) (sym is)
 
   pub row_text_is : (form : Form) (text : List ℕ) (report : Report) → row.time ≡ text
       → report_at watched (datagrams earlier) row.datagram ≡ Some report

@@ -2,6 +2,7 @@ pub mod Bodies
 pub mod Exact
 pub mod Goes
 pub mod Heard
+pub mod Judged
 pub mod Kept
 pub mod Listeners
 pub mod Readings

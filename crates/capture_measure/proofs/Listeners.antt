@@ -1,13 +1,15 @@
 -- What a listener stands for after its port was told of a message.
-use Rattle.std.proofs.Common.{◌≡◌, ◌∙◌, ◌+◌, ◌%◌, ◌∷◌, Ok, Err, sym, ap}
+use Rattle.std.proofs.Common.{◌≡◌, ◌∙◌, ◌+◌, ◌%◌, ◌∷◌, List, Ok, Err, sym, ap}
 use Rattle.std.specs.Option.{option_map_or}
 use Rattle.std.specs.Result.{result_ok}
 use Rattle.event_codec.specs.declared.refusal.DecodeRefusal.{DecodeRefusal}
 use Rattle.event_codec.specs.Packet.{Contents}
+use Rattle.sync_watch.specs.Told.{Told}
+use Rattle.sync_watch.specs.StandsFor.{Watch, StandsFor as StandsForTold}
 use Rattle.slave_port.specs.History.{Call, requests_drawn}
 use Rattle.slave_port.specs.StandsFor.{Port, StandsFor}
 use Rattle.capture_model.specs.declared.watched.Watched.{Watched}
-use Rattle.capture_model.specs.Listening.{Listening, setup_in, told, hears, hear}
+use Rattle.capture_model.specs.Listening.{Listening, setup_in, table_capacity, told, hears, hear}
 use Rattle.capture_model.specs.Recorded.{Recorded}
 use Rattle.capture_measure.specs.declared.listener.Listener.{Listener}
 use Rattle.capture_measure.specs.Inner.Listener.{IsListener}
@@ -23,8 +25,23 @@ IsListener-told w listener l call port same stood is = record {
   asked = is.asked;
   syncs = is.syncs;
   few_syncs = is.few_syncs;
-  stale = is.stale;
-  few_stale = is.few_stale;
+  heard = is.heard;
+  responses = is.responses;
+}
+
+-- what was heard of the master is other
+pub IsListener-heard : (w : Watched) (listener : Listener) (l : Listening) (heard : Watch) (told : List Told)
+    → StandsForTold table_capacity heard told → IsListener w listener l
+    → IsListener w (record listener { heard = heard }) (record l { heard = told })
+IsListener-heard w listener l heard told stood is = record {
+  watched = is.watched;
+  port = is.port;
+  next = is.next;
+  asked = is.asked;
+  syncs = is.syncs;
+  few_syncs = is.few_syncs;
+  heard = stood;
+  responses = is.responses;
 }
 
 -- what a listener stands for after a datagram, by what its octets say

@@ -1,22 +1,29 @@
 //! The slave port that hears a recording.
 
-ghost use Rattle.std.specs.Prelude.{◌≡◌, ◌∷◌, [], List, Ok, if◌then◌else◌};
+ghost use Rattle.std.specs.Prelude.{◌≡◌, ◌∷◌, ◌&&◌, ℕ, false, [], List, Ok, Some, None, if◌then◌else◌};
 ghost use Rattle.ptp_units.specs.Sequence.{ahead};
 ghost use Rattle.event_codec.specs.Packet.{contents};
+ghost use Rattle.event_codec.specs.Port.{is_same_port};
 ghost use Rattle.event_codec.specs.Reading.{IsReading};
-ghost use Rattle.slave_port.specs.History.{Setup, Call, SetMaster, Event};
+ghost use Rattle.sync_watch.specs.Judged.{judged_sync, judged_follow_up, judged_refused, judged_response};
+ghost use Rattle.slave_port.specs.History.{Setup, Call, SetMaster, Event, General};
 ghost use Rattle.slave_port.specs.StandsFor.{StandsFor};
 ghost use Rattle.capture_model.specs.declared.watched.Watched.{Watched};
-ghost use Rattle.capture_model.specs.Listening.{Listening, setup_with, start, draws, is_of, is_stale, with_row};
-ghost use Rattle.capture_model.specs.Listening.{with_count, asks, anew, answer_in, hears_sync, hears_request, hears};
-ghost use Rattle.capture_measure.specs.Inner.Listener.{IsListener, Listens, Becomes, became_own_request};
-ghost use Rattle.capture_measure.specs.Inner.Listener.{became_request, became};
+ghost use Rattle.capture_model.specs.Listening.{Listening, setup_with, table_capacity, start, told, draws, is_of};
+ghost use Rattle.capture_model.specs.Listening.{is_stale, is_unicast, arrival_of, with_count, ready_newer, ready_sync};
+ghost use Rattle.capture_model.specs.Listening.{ready_follow_up, ready_response, hears_ready, asks, anew, answer_in};
+ghost use Rattle.capture_model.specs.Listening.{hears_request, hears};
+ghost use Rattle.capture_measure.specs.Inner.Listener.{IsListener, Listens, Becomes, Says, Answers, IsAnswered};
+ghost use Rattle.capture_measure.specs.Inner.Listener.{heard_by};
+ghost use Rattle.capture_measure.specs.Inner.Listener.{with_sync, with_follow_up, with_refused, with_response};
+ghost use Rattle.capture_measure.specs.Inner.Listener.{told_again, became_own_request, became_request};
 
 use capture_model::Watched;
 use event_codec::{Body, Header, Message, PortConfig, PortIdentity};
 use pairing::RingTable;
 use ptp_units::{ScaledTime, Seq};
 use slave_port::{Heard, HeldFollow, HeldRequest, HeldSync, Reason, SlavePort};
+use sync_watch::{Judgement, ResponseWatch, SyncWatch};
 
 /// How many messages of a kind the port holds.
 const CAPACITY: usize = 256;
@@ -24,8 +31,8 @@ const CAPACITY: usize = 256;
 /// Syncs of the master after which there is a tick.
 const TICKS_EVERY: u16 = 4096;
 
-/// Syncs in a row that aren't newer, after which there are two.
-const STALE_MOST: u8 = 16;
+/// The bit of unicastFlag in the first octet of flagField (IEEE 1588-2019, 13.3.2.8).
+const UNICAST: u8 = 4;
 
 type Port = SlavePort<
     RingTable<HeldSync, CAPACITY>,
@@ -33,11 +40,17 @@ type Port = SlavePort<
     RingTable<HeldRequest, CAPACITY>,
 >;
 
+type Times = RingTable<ScaledTime, CAPACITY>;
+
 /// What became of a message.
 #[derive(Clone, Copy, Debug, PartialEq, Eq)]
 pub(crate) enum Became {
     /// The port heard it, and answered so.
     Heard(Heard),
+    /// The port heard a Sync of the master, which began anew, and answered so.
+    HeardAnew(Heard),
+    /// A message of the master whose number came before: the port didn't hear it.
+    HeardBefore,
     /// A Delay_Req of the slave.
     Asked,
     /// A Delay_Req of the slave with the number of the last one.
@@ -57,10 +70,12 @@ pub(crate) struct Listener {
     next: Seq,
     /// Whether a Delay_Req of the slave came.
     asked: bool,
-    /// Syncs of the master since the last tick that this count brought.
+    /// Syncs of the master since the last tick.
     syncs: u16,
-    /// How many of these in a row, up to the last one, weren't newer than the last Sync that completed.
-    stale: u8,
+    /// What it heard of the master since that began.
+    heard: SyncWatch<Times>,
+    /// Which Delay_Resps it heard since the port began.
+    responses: ResponseWatch<Times>,
 }
 
 /// A port of the slave that follows the master, whose requests are numbered from `first` on.
@@ -94,6 +109,13 @@ fn is_stale(heard: &Heard) -> bool
     matches!(heard, Heard::Ignored(Reason::NotNewer))
 }
 
+/// Whether unicastFlag is set.
+fn is_unicast(header: &Header) -> bool
+    ensures { result ≡ is_unicast header.now }
+{
+    header.flags[0] & UNICAST != 0
+}
+
 impl Listener {
     /// A port that was told its master and nothing else.
     pub(crate) fn new(watched: Watched) -> Listener
@@ -105,7 +127,8 @@ impl Listener {
             next: Seq(0),
             asked: false,
             syncs: 0,
-            stale: 0,
+            heard: SyncWatch::new(),
+            responses: ResponseWatch::new(),
         }
     }
 
@@ -121,6 +144,14 @@ impl Listener {
         header.domain == self.watched.domain && header.source == port
     }
 
+    /// Whether this is the header of a Delay_Resp of the master, where it is to this port.
+    fn is_answer(&self, header: &Header, requesting: PortIdentity) -> bool
+        ensures { result
+            ≡ (is_of self.now.watched self.now.watched.master header.now && is_same_port requesting self.now.watched.slave) }
+    {
+        self.is_of(self.watched.master, header) && requesting == self.watched.slave
+    }
+
     /// Hears the message that these octets begin with.
     pub(crate) fn hear(
         &mut self,
@@ -131,19 +162,85 @@ impl Listener {
     ) -> Became
         requires { IsReading octets.now (Ok (contents message.now)) }
         ensures listens { Listens (λ w. hears w line time (contents message.now) message.now.body) self.old self.new }
-        ensures became { Becomes (became line time (contents message.now)) self.old result }
+        ensures answered { IsAnswered line time (contents message.now) self.old result }
     {
         match message.body {
-            Body::Sync { .. } => Became::Heard(self.hear_sync(line, time, octets, message)),
+            Body::Sync { .. } => self.hear_sync(line, time, octets, message),
             Body::DelayReq { .. } => self.hear_request(line, time, &message.header),
-            Body::FollowUp { .. } | Body::DelayResp { .. } => Became::Heard(
-                self.port.general(octets, line),
-            ),
+            Body::FollowUp { .. } => self.hear_follow_up(line, time, octets, message),
+            Body::DelayResp { requesting, .. } => {
+                self.hear_response(line, time, octets, message, requesting)
+            }
         }
     }
 
-    /// Hears a Sync, whoever sent it, and counts it where it is the master's.
+    /// Hears a Sync, whoever sent it, unless the master's number says that it came before.
     fn hear_sync(
+        &mut self,
+        line: u64,
+        time: ScaledTime,
+        octets: &[u8],
+        message: &Message<'_>,
+    ) -> Became
+        requires { IsReading octets.now (Ok (contents message.now)) }
+        ensures listens { let m = contents message.now in
+            let call = Event (Ok m) time line in
+            Listens (λ w l. hears_ready (is_of w w.master m.header) call (ready_sync w line time m l) l)
+            self.old self.new }
+        ensures answered { let m = contents message.now in
+            let call = Event (Ok m) time line in
+            Answers call (λ w l. ready_sync w line time m l) self.old result }
+    {
+        if !self.is_of(self.watched.master, &message.header) {
+            return Became::Heard(self.port.sync(octets, time, line));
+        }
+        match self.judge_sync(&message.header, time) {
+            Judgement::Newer => self.hear_newer(line, time, octets, message),
+            Judgement::Repeated => Became::HeardBefore,
+            Judgement::BeganAnew => {
+                self.tell_master();
+                Became::HeardAnew(self.hear_counted(line, time, octets, message))
+            }
+        }
+    }
+
+    /// Hears a Sync of the master whose number says nothing. Where it is refused, that may say that the master began
+    /// anew, and then it is heard again.
+    fn hear_newer(
+        &mut self,
+        line: u64,
+        time: ScaledTime,
+        octets: &[u8],
+        message: &Message<'_>,
+    ) -> Became
+        requires { IsReading octets.now (Ok (contents message.now)) }
+        ensures listens { let m = contents message.now in
+            let call = Event (Ok m) time line in
+            Listens (λ w l. with_count (told call (ready_newer w line call (arrival_of m.header time) l)))
+            self.old self.new }
+        ensures answered { let m = contents message.now in
+            let call = Event (Ok m) time line in
+            Answers call (λ w l. Some (ready_newer w line call (arrival_of m.header time) l)) self.old result }
+    {
+        let heard = self.port.sync(octets, time, line);
+        if !is_stale(&heard) {
+            self.count_sync();
+            return Became::Heard(heard);
+        }
+        match self.judge_refused(&message.header, time) {
+            Judgement::Newer | Judgement::Repeated => {
+                self.count_sync();
+                Became::Heard(heard)
+            }
+            Judgement::BeganAnew => {
+                self.tell_master();
+                Became::HeardAnew(self.hear_counted(line, time, octets, message))
+            }
+        }
+    }
+
+    /// Hears a Sync of the master, which is counted.
+    fn hear_counted(
         &mut self,
         line: u64,
         time: ScaledTime,
@@ -152,16 +249,109 @@ impl Listener {
     ) -> Heard
         requires { IsReading octets.now (Ok (contents message.now)) }
         ensures listens { let call = Event (Ok (contents message.now)) time line in
-            Listens (λ w. hears_sync w (is_of w w.master message.now.header) call) self.old self.new }
+            Listens (λ w l. with_count (told call l)) self.old self.new }
         ensures answer { let call = Event (Ok (contents message.now)) time line in
             (w : Watched) (l : Listening) → IsListener w self.old l → result ≡ answer_in w l call }
     {
         let heard = self.port.sync(octets, time, line);
-        if self.is_of(self.watched.master, &message.header) {
-            self.count_stale(&heard);
-            self.count_sync();
-        }
+        self.count_sync();
         heard
+    }
+
+    /// Hears a Follow_Up, whoever sent it, unless the master's number says that it came before.
+    fn hear_follow_up(
+        &mut self,
+        line: u64,
+        time: ScaledTime,
+        octets: &[u8],
+        message: &Message<'_>,
+    ) -> Became
+        requires { IsReading octets.now (Ok (contents message.now)) }
+        ensures listens { let m = contents message.now in
+            let call = General (Ok m) line in
+            Listens (λ w l. hears_ready false call (ready_follow_up w time m l) l) self.old self.new }
+        ensures answered { let m = contents message.now in
+            let call = General (Ok m) line in
+            Answers call (λ w l. ready_follow_up w time m l) self.old result }
+    {
+        if !self.is_of(self.watched.master, &message.header) {
+            return Became::Heard(self.port.general(octets, line));
+        }
+        match self.judge_follow_up(&message.header, time) {
+            Judgement::Newer => Became::Heard(self.port.general(octets, line)),
+            Judgement::Repeated | Judgement::BeganAnew => Became::HeardBefore,
+        }
+    }
+
+    /// Hears a Delay_Resp, whoever sent it, unless it is the master's to the slave, and its number came before.
+    fn hear_response(
+        &mut self,
+        line: u64,
+        time: ScaledTime,
+        octets: &[u8],
+        message: &Message<'_>,
+        requesting: PortIdentity,
+    ) -> Became
+        requires { IsReading octets.now (Ok (contents message.now)) }
+        ensures listens { let m = contents message.now in
+            let call = General (Ok m) line in
+            Listens (λ w l. hears_ready false call (ready_response w time m requesting l) l) self.old self.new }
+        ensures answered { let m = contents message.now in
+            let call = General (Ok m) line in
+            Answers call (λ w l. ready_response w time m requesting l) self.old result }
+    {
+        if !self.is_answer(&message.header, requesting) {
+            return Became::Heard(self.port.general(octets, line));
+        }
+        match self.judge_response(message.header.sequence, time) {
+            Judgement::Newer => Became::Heard(self.port.general(octets, line)),
+            Judgement::Repeated | Judgement::BeganAnew => Became::HeardBefore,
+        }
+    }
+
+    /// What the number of a Sync of the master says, which is known from then on.
+    fn judge_sync(&mut self, header: &Header, time: ScaledTime) -> Judgement
+        ensures listens { Listens (λ w. with_sync (arrival_of header.now time)) self.old self.new }
+        ensures judgement { Says (λ l. judged_sync (arrival_of header.now time) table_capacity l.heard)
+            self.old result }
+    {
+        self.heard.sync(header.sequence, is_unicast(header), time)
+    }
+
+    /// What it says that the last Sync of the master was refused.
+    fn judge_refused(&mut self, header: &Header, time: ScaledTime) -> Judgement
+        ensures listens { Listens (λ w. with_refused (arrival_of header.now time)) self.old self.new }
+        ensures judgement { Says (λ l. judged_refused (arrival_of header.now time) table_capacity l.heard)
+            self.old result }
+    {
+        self.heard
+            .refused(header.sequence, is_unicast(header), time)
+    }
+
+    /// What the number of a Follow_Up of the master says, which is known from then on.
+    fn judge_follow_up(&mut self, header: &Header, time: ScaledTime) -> Judgement
+        ensures listens { Listens (λ w. with_follow_up (arrival_of header.now time)) self.old self.new }
+        ensures judgement { Says (λ l. judged_follow_up (arrival_of header.now time) table_capacity l.heard)
+            self.old result }
+    {
+        self.heard
+            .follow_up(header.sequence, is_unicast(header), time)
+    }
+
+    /// What the number of a Delay_Resp of the master to the slave says, which is known from then on.
+    fn judge_response(&mut self, number: Seq, time: ScaledTime) -> Judgement
+        ensures listens { Listens (λ w. with_response number.0 time) self.old self.new }
+        ensures judgement { Says (λ l. judged_response table_capacity number.0 l.responses) self.old result }
+    {
+        self.responses.response(number, time)
+    }
+
+    /// The port is told its master again, and forgets what it heard.
+    fn tell_master(&mut self)
+        ensures { (line : ℕ) → Listens (λ w. told_again w line) self.old self.new }
+    {
+        self.port.set_master(self.watched.master);
+        self.responses.forget();
     }
 
     /// Takes a Delay_Req, whoever sent it.
@@ -169,27 +359,12 @@ impl Listener {
         ensures listens { Listens (λ w l. if is_of w w.slave header.now
             then hears_request w line time header.now.sequence.0 l else l) self.old self.new }
         ensures became { Becomes (became_request header.now) self.old result }
+        ensures unheard { heard_by result ≡ None }
     {
         if self.is_of(self.watched.slave, header) {
             self.request(line, time, header.sequence)
         } else {
             Became::Foreign
-        }
-    }
-
-    /// One more Sync of the master in a row that aren't newer, or one that ends the row. Two ticks drop
-    /// all that the port holds of Syncs.
-    fn count_stale(&mut self, heard: &Heard)
-        ensures { Listens (λ w. with_row (is_stale heard.now)) self.old self.new }
-    {
-        if !is_stale(heard) {
-            self.stale = 0;
-        } else if self.stale < STALE_MOST - 1 {
-            self.stale += 1;
-        } else {
-            self.stale = 0;
-            self.port.tick();
-            self.port.tick();
         }
     }
 
@@ -216,6 +391,7 @@ impl Listener {
     fn request(&mut self, line: u64, time: ScaledTime, number: Seq) -> Became
         ensures listens { Listens (λ w. hears_request w line time number.0) self.old self.new }
         ensures became { Becomes (became_own_request number.0) self.old result }
+        ensures unheard { heard_by result ≡ None }
     {
         let ahead = self.ahead(number);
         if !self.asked || usize::from(ahead) < CAPACITY {
@@ -243,10 +419,11 @@ impl Listener {
 
     /// A new port, whose requests begin with this number.
     fn begin_anew(&mut self, number: Seq)
-        ensures { Listens (λ w. anew w number.0) self.old self.new }
+        ensures { (line : ℕ) → Listens (λ w. anew w line number.0) self.old self.new }
     {
         self.port.restart(number);
         self.port.set_master(self.watched.master);
         self.next = number;
+        self.responses.forget();
     }
 }

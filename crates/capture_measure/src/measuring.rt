@@ -239,7 +239,9 @@ fn report_in(became: Became) -> Option<Report>
     ensures { result ≡ report_by became }
 {
     match became {
-        Became::Heard(Heard::Report(report)) => Some(report),
+        Became::Heard(Heard::Report(report)) | Became::HeardAnew(Heard::Report(report)) => {
+            Some(report)
+        }
         _ => None,
     }
 }

@@ -15,7 +15,7 @@ const KINDS: usize = 10;
 const MICROSECOND: u128 = 65_536_000;
 
 /// How many reasons there are.
-const REASONS: usize = 13;
+const REASONS: usize = 14;
 
 /// What a datagram is.
 #[derive(Clone, Copy, Debug, PartialEq, Eq)]
@@ -39,6 +39,7 @@ enum Why {
     Alone,
     OfSlave,
     Again,
+    Before,
     OtherDomain,
     OtherMaster,
     OtherSlave,
@@ -70,6 +71,7 @@ const ALL_REASONS: [Why; REASONS] = [
     Why::Alone,
     Why::OfSlave,
     Why::Again,
+    Why::Before,
     Why::OtherDomain,
     Why::OtherMaster,
     Why::OtherSlave,
@@ -160,6 +162,7 @@ impl Why {
             Why::Alone => " that completed while the other half of a report wasn't there",
             Why::OfSlave => " of the slave",
             Why::Again => " of the slave, with the number of the last one",
+            Why::Before => " with a number that came before",
             Why::OtherDomain => " of another domain",
             Why::OtherMaster => " of another master",
             Why::OtherSlave => " of another slave",
@@ -199,6 +202,8 @@ pub(crate) struct Tally {
     reports: u64,
     /// How often the slave began anew.
     anew: u64,
+    /// How often the master did.
+    master_anew: u64,
     /// Whether all times are of whole microseconds; None where none came.
     whole: Option<bool>,
 }
@@ -210,6 +215,7 @@ impl Tally {
             counts: [[0; REASONS]; KINDS],
             reports: 0,
             anew: 0,
+            master_anew: 0,
             whole: None,
         }
     }
@@ -231,11 +237,14 @@ impl Tally {
 
     /// Counts a message that is heard by a port of this domain.
     pub(crate) fn count_heard(&mut self, message: &Message<'_>, domain: u8, became: Became) {
-        if became == Became::Anew {
-            self.anew = self.anew.saturating_add(1);
+        match became {
+            Became::Anew => self.anew = self.anew.saturating_add(1),
+            Became::HeardAnew(_) => self.master_anew = self.master_anew.saturating_add(1),
+            _ => {}
         }
         let why = match became {
-            Became::Heard(heard) => Why::of_heard(heard),
+            Became::Heard(heard) | Became::HeardAnew(heard) => Why::of_heard(heard),
+            Became::HeardBefore => Some(Why::Before),
             Became::Asked | Became::Anew => Some(Why::OfSlave),
             Became::Repeated => Some(Why::Again),
             Became::Foreign if message.header.domain != domain => Some(Why::OtherDomain),
@@ -278,6 +287,14 @@ impl Tally {
             0 => Ok(()),
             1 => writeln!(errors, "ptpx: the slave began anew once"),
             count => writeln!(errors, "ptpx: the slave began anew {count} times"),
+        };
+        let _ = match self.master_anew {
+            0 => Ok(()),
+            1 => writeln!(errors, "ptpx: the master began its numbers anew once"),
+            count => writeln!(
+                errors,
+                "ptpx: the master began its numbers anew {count} times"
+            ),
         };
         if self.whole == Some(true) {
             let _ = writeln!(errors, "ptpx: all times are of whole microseconds");

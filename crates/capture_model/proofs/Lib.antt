@@ -11,4 +11,6 @@ mod Reported
 mod Steps
 mod Listened
 mod Short
+mod Tags
+mod Lives
 mod Worked

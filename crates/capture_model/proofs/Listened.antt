@@ -23,8 +23,8 @@ use Rattle.network_model.specs.Outcome.{IsRun}
 use Rattle.network_model.proofs.Sequences.{count-yes, count-no, count-more}
 use Rattle.capture_model.specs.declared.watched.Watched.{Watched}
 use Rattle.capture_model.specs.Recorded.{Recorded}
-use Rattle.capture_model.specs.Listening.{Listening, setup_in, start, is_of, hears, hears_request, after_all, hearing}
-use Rattle.capture_model.specs.Listening.{asks, anew, table_capacity, answer_in, report_in, report_at, reports}
+use Rattle.capture_model.specs.Listening.{Listening, setup_in, start, is_of, hears, hears_request, after_all}
+use Rattle.capture_model.specs.Listening.{asks, anew, table_capacity, answered, report_in, report_at, reports}
 use Rattle.capture_model.specs.Told.{Tells, Nothing, Untold, Told, Other, told_at, is_own, own_request, last_request}
 use Rattle.capture_model.specs.Told.{asks_nothing}
 use Rattle.capture_model.specs.Told.{says_nothing}
@@ -176,7 +176,7 @@ module _ (network : Network) (slave master : NodeName) (w : Watched) (apart : Is
       → (l.asked ≡ true) × (n < 65536) × (next_number (setup_in w l) l.calls ≡ next n))
       → says_nothing network slave ds r ≡ true
       → (option_map_or (λ m. hears w line time m m.body l) (result_ok r) l ≡ l)
-      × (option_and_then (λ m. hearing line time m m.body) (result_ok r) ≡ None)
+      × (option_and_then (λ m. answered w line time m m.body l) (result_ok r) ≡ None)
       × (option_or (option_and_then (λ m. own_request network slave m.header m.body) (result_ok r))
       (last_request network slave ds) ≡ last_request network slave ds)
   unheard line time (Err refusal) ds l follows nothing = (refl, refl, refl)
@@ -203,9 +203,9 @@ module _ (network : Network) (slave master : NodeName) (w : Watched) (apart : Is
           if not asked || nat_lt (ahead number (next_number (setup_in w l) l.calls)) table_capacity then asks w
           line time number l
           else if ahead number (next_number (setup_in w l) l.calls) == 65535 then l else asks w line time number
-          (anew w number l)) known.0
+          (anew w line number l)) known.0
           ∙ ap (λ (n : ℕ). if nat_lt n table_capacity then asks w line time number l else if n == 65535 then l
-          else asks w line time number (anew w number l)) behind
+          else asks w line time number (anew w line number l)) behind
 
       last_is : (last : Option ℕ) → option_map_or (λ last. last == number) last false ≡ true → last ≡ Some number
       last_is None is = cc
@@ -231,7 +231,7 @@ module _ (network : Network) (slave master : NodeName) (w : Watched) (apart : Is
           where_heard false same = refl
 
       by : (body : Body) → asks_nothing network slave ds m.header body ≡ true
-          → (hears w line time m body l ≡ l) × (hearing line time m body ≡ None)
+          → (hears w line time m body l ≡ l) × (answered w line time m body l ≡ None)
           × (option_or (own_request network slave m.header body) (last_request network slave ds) ≡ last_request network
           slave ds)
       by (bodies.DelayReq origin) nothing =
@@ -251,7 +251,7 @@ module _ (network : Network) (slave master : NodeName) (w : Watched) (apart : Is
       let still = unheard d.line d.time d.said ds l (λ n last.
       let follows = before.last n last in
       (follows.0, follows.1, before.stands.next follows.0 ∙ sym follows.2)) nothing in
-      let none : report_at w ds d ≡ None = ap (option_and_then (λ call. report_in (answer_in w l call))) still.1 in
+      let none : report_at w ds d ≡ None = ap (option_and_then report_in) still.1 in
       record {
         known = before.known;
         counted = before.counted;

@@ -1,13 +1,22 @@
 -- A listening port over a datagram: what holds of it goes on holding, and is as after a tick where the datagram brings
 -- one.
 use Rattle.std.proofs.Common.{◌≡◌, ◌∙◌, ℕ, zero, suc, ◌+◌, ◌-◌, ◌<◌, ◌≤◌, Bool, true, false, List, [], ◌∷◌, Some, refl}
+use Rattle.std.proofs.Common.{None, Ok, is_some}
 use Rattle.std.proofs.Common.{sym, ap}
 use Rattle.std.proofs.Common.{subst, arith, nat_lt, if◌then◌else◌}
-use Rattle.std.specs.Prelude.{◌==◌, ◌||◌, not, count_by}
+use Rattle.std.specs.Prelude.{◌==◌, ◌&&◌, ◌||◌, not, count_by}
 use Rattle.std.proofs.lemmas.Bool.{ne_eqb, eq-eqb, eqb-true}
 use Rattle.std.proofs.lemmas.List.Sums.{sum_by-cons}
 use Rattle.ptp_units.specs.Sequence.{of_count, ahead}
+use Rattle.event_codec.specs.declared.port.PortIdentity.{PortIdentity}
+use Rattle.event_codec.specs.Packet.{Contents}
+use Rattle.event_codec.specs.Port.{is_same_port}
 use Rattle.event_codec.specs.Reading.{Reading}
+use Rattle.pairing.specs.Marked.{Entry, entry}
+use Rattle.sync_watch.specs.declared.judgement.Judgement.{Judgement}
+use Rattle.sync_watch.specs.declared.judgement.Judgement.TheVariants.{Newer, Repeated, BeganAnew}
+use Rattle.sync_watch.specs.Told.{Arrival, Told, Sync, FollowUp, Refused, known}
+use Rattle.sync_watch.specs.Judged.{judged_sync, judged_follow_up, judged_refused}
 use Rattle.slave_port.specs.History as calls
 use Rattle.slave_port.specs.History.{Call, Setup, requests_drawn, next_number}
 use Rattle.slave_port.specs.Requests.{requests}
@@ -16,9 +25,10 @@ use Rattle.network_model.specs.Run.{Place}
 use Rattle.network_model.specs.Kinds.{is_at, is_request}
 use Rattle.network_model.specs.Clock.{reading}
 use Rattle.capture_model.specs.declared.watched.Watched.{Watched}
-use Rattle.capture_model.specs.Listening.{Listening, setup_in, told, draws, asks, anew, hears_request, hears_sync}
-use Rattle.capture_model.specs.Listening.{is_stale, answer_in, with_row, with_count, stale_most, ticks_every}
-use Rattle.capture_model.specs.Listening.{table_capacity}
+use Rattle.capture_model.specs.Listening.{Listening, setup_in, is_of, told, draws, asks, anew, hears_request}
+use Rattle.capture_model.specs.Listening.{is_stale, answer_in, with_count, ticks_every, table_capacity, arrival_of}
+use Rattle.capture_model.specs.Listening.{with_master_anew, ready_refused, ready_newer, ready_judged, ready_sync}
+use Rattle.capture_model.specs.Listening.{ready_followed, ready_follow_up, ready_response, hears_ready}
 use Rattle.capture_model.specs.Premises.{is_tick, ticks_in}
 use Rattle.capture_model.specs.Exact.{Watches}
 use Rattle.capture_model.proofs.Lines.{Lines}
@@ -29,6 +39,11 @@ use Rattle.capture_model.proofs.Holding.{Holds, holds-ticked, holds-asked}
 -- one call more
 count-tick : (history : List Call) → count_by is_tick (calls.Tick ∷ history) ≡ count_by is_tick history + 1
 count-tick history = omega (arith, sum_by-cons (λ c. if is_tick c then 1 else 0) calls.Tick history)
+
+count-master : (master : PortIdentity) (history : List Call)
+    → count_by is_tick (calls.SetMaster master ∷ history) ≡ count_by is_tick history + 1
+count-master master history =
+    omega (arith, sum_by-cons (λ c. if is_tick c then 1 else 0) (calls.SetMaster master) history)
 
 count-other : (call : Call) (history : List Call) → is_tick call ≡ false
     → count_by is_tick (call ∷ history) ≡ count_by is_tick history
@@ -49,14 +64,14 @@ count-draws (suc count) tag history = count-other (calls.NextRequest tag) (draws
 abbrev pub since_tick : (before slack : ℕ) → Listening → ℕ
 since_tick before slack l = if not (ticks_in l == before) then 0 else slack
 
-since-no_tick : (before slack : ℕ) (l : Listening) → ticks_in l ≡ before → since_tick before slack l ≡ slack
+pub since-no_tick : (before slack : ℕ) (l : Listening) → ticks_in l ≡ before → since_tick before slack l ≡ slack
 since-no_tick before slack l same = ap {B = ℕ} (λ b. if not b then 0 else slack) (eq-eqb (ticks_in l) before same)
 
 since-tick : (before slack : ℕ) (l : Listening) → before < ticks_in l → since_tick before slack l ≡ 0
 since-tick before slack l more = ap {B = ℕ} (λ b. if not b then 0 else slack)
     (ne_eqb (ticks_in l) before (λ (e : ticks_in l ≡ before). omega arith))
 
-since-low : (before slack : ℕ) (l : Listening) → since_tick before slack l ≤ slack
+pub since-low : (before slack : ℕ) (l : Listening) → since_tick before slack l ≤ slack
 since-low before slack l = by (ticks_in l == before)
   where
     by : (same : Bool) → (if not same then 0 else slack) ≤ slack
@@ -80,18 +95,18 @@ module _ (network : Network) (slave master : NodeName) (w : Watched) (watches : 
     pub more : before ≤ ticks_in l
     pub stands : Stands syncs sent (since_tick before slack l) l
 
-  -- with a tick more, and other counts
-  abbrev with_tick : (counted stale : ℕ) → Listening → Listening
-  with_tick counted stale l = record l { calls = calls.Tick ∷ l.calls; syncs = counted; stale = stale }
+  -- with a tick more, and another count
+  abbrev with_tick : (counted : ℕ) → Listening → Listening
+  with_tick counted l = record l { calls = calls.Tick ∷ l.calls; syncs = counted }
 
   module _ (before syncs sent slack : ℕ) (few : slack ≤ reach.between) where
     -- over a tick
-    ticked : (l : Listening) (counted stale : ℕ) → StandsAfter before syncs sent slack l
-        → StandsAfter before syncs sent slack (with_tick counted stale l)
-    ticked l counted stale after =
-        let grown : before < ticks_in (with_tick counted stale l) =
+    ticked : (l : Listening) (counted : ℕ) → StandsAfter before syncs sent slack l
+        → StandsAfter before syncs sent slack (with_tick counted l)
+    ticked l counted after =
+        let grown : before < ticks_in (with_tick counted l) =
         (let more = after.more in omega (arith, count-tick l.calls)) in
-        let none = since-tick before slack (with_tick counted stale l) grown in
+        let none = since-tick before slack (with_tick counted l) grown in
         record {
           more = omega arith;
           stands = record {
@@ -104,24 +119,13 @@ module _ (network : Network) (slave master : NodeName) (w : Watched) (watches : 
           };
         }
 
-    -- over other counts
-    recounted : (l : Listening) (counted stale : ℕ) → StandsAfter before syncs sent slack l
-        → StandsAfter before syncs sent slack (record l { syncs = counted; stale = stale })
-    recounted l counted stale after = record {
+    -- over another count
+    recounted : (l : Listening) (counted : ℕ) → StandsAfter before syncs sent slack l
+        → StandsAfter before syncs sent slack (record l { syncs = counted })
+    recounted l counted after = record {
       more = after.more;
       stands = record { holds = after.stands.holds; next = after.stands.next; none = after.stands.none };
     }
-
-    rowed : (stale : Bool) (l : Listening) → StandsAfter before syncs sent slack l
-        → StandsAfter before syncs sent slack (with_row stale l)
-    rowed false l after = recounted l l.syncs 0 after
-    rowed true l after = by (l.stale + 1 == stale_most)
-      where
-        by : (full : Bool) → StandsAfter before syncs sent slack
-            (if full then record l { calls = calls.Tick ∷ calls.Tick ∷ l.calls; stale = 0 }
-            else record l { stale = l.stale + 1 })
-        by true = ticked (with_tick l.syncs l.stale l) l.syncs 0 (ticked l l.syncs l.stale after)
-        by false = recounted l l.syncs (l.stale + 1) after
 
     counted : (l : Listening) → StandsAfter before syncs sent slack l
         → StandsAfter before syncs sent slack (with_count l)
@@ -129,29 +133,17 @@ module _ (network : Network) (slave master : NodeName) (w : Watched) (watches : 
       where
         by : (full : Bool) → StandsAfter before syncs sent slack
             (if full then record l { calls = calls.Tick ∷ l.calls; syncs = 0 } else record l { syncs = l.syncs + 1 })
-        by true = ticked l 0 l.stale after
-        by false = recounted l (l.syncs + 1) l.stale after
+        by true = ticked l 0 after
+        by false = recounted l (l.syncs + 1) after
 
-    -- a Sync
-    pub hears_sync-stands : (of_master : Bool) (call : Call) (l : Listening)
-        → StandsAfter before syncs sent slack (told call l)
-        → StandsAfter before syncs sent slack (hears_sync w of_master call l)
-    hears_sync-stands false call l after = after
-    hears_sync-stands true call l after =
-        counted (with_row (is_stale (answer_in w l call)) (told call l))
-        (rowed (is_stale (answer_in w l call)) (told call l) after)
+    -- over a message that a port hears which is ready
+    pub heard-stands : (counts : Bool) (call : Call) (ready l : Listening)
+        → StandsAfter before syncs sent slack (told call ready)
+        → StandsAfter before syncs sent slack (hears_ready counts call (Some ready) l)
+    heard-stands false call ready l after = after
+    heard-stands true call ready l after = counted (told call ready) after
 
-  -- a Sync is no Delay_Req
-  rowed-asked : (stale : Bool) (l : Listening) → (with_row stale l).asked ≡ l.asked
-  rowed-asked false l = refl
-  rowed-asked true l = by (l.stale + 1 == stale_most)
-    where
-      by : (full : Bool)
-          → (if full then record l { calls = calls.Tick ∷ calls.Tick ∷ l.calls; stale = 0 }
-          else record l { stale = l.stale + 1 }).asked ≡ l.asked
-      by true = refl
-      by false = refl
-
+  -- such a message is no Delay_Req
   counted-asked : (l : Listening) → (with_count l).asked ≡ l.asked
   counted-asked l = by (l.syncs + 1 == ticks_every)
     where
@@ -161,57 +153,193 @@ module _ (network : Network) (slave master : NodeName) (w : Watched) (watches : 
       by true = refl
       by false = refl
 
-  pub hears_sync-asked : (of_master : Bool) (call : Call) (l : Listening)
-      → (hears_sync w of_master call l).asked ≡ l.asked
-  hears_sync-asked false call l = refl
-  hears_sync-asked true call l =
-      counted-asked (with_row (is_stale (answer_in w l call)) (told call l))
-      ∙ rowed-asked (is_stale (answer_in w l call)) (told call l)
+  pub heard-asked : (counts : Bool) (call : Call) (ready l : Listening)
+      → (hears_ready counts call (Some ready) l).asked ≡ ready.asked
+  heard-asked false call ready l = refl
+  heard-asked true call ready l = counted-asked (told call ready)
 
-  module _ (syncs sent slack : ℕ) (l : Listening) where
+  module _ (before syncs sent slack : ℕ) (l : Listening) where
     -- a message that the port is told
-    pub told-event : (heard : Reading) (t2 tag : ℕ)
-        → HoldsIn syncs sent slack (setup_in w l) (calls.Event heard t2 tag ∷ l.calls) → Stands syncs sent slack l
-        → StandsAfter (ticks_in l) syncs sent slack (told (calls.Event heard t2 tag) l)
-    told-event heard t2 tag holds before =
-        let same = count-other (calls.Event heard t2 tag) l.calls refl in
+    told-call : (call : Call) → is_tick call ≡ false
+        → HoldsIn syncs sent (since_tick before slack l) (setup_in w l) (call ∷ l.calls)
+        → (l.asked ≡ true → next_number (setup_in w l) (call ∷ l.calls) ≡ of_count (watches.own.first + sent))
+        → (l.asked ≡ false → requests (setup_in w l) (call ∷ l.calls) ≡ [])
+        → StandsAfter before syncs sent slack l
+        → StandsAfter before syncs sent slack (told call l)
+    told-call call no_tick holds next none after =
+        let same = count-other call l.calls no_tick in
+        let since : since_tick before slack (told call l) ≡ since_tick before slack l =
+        ap {B = ℕ} (λ (n : ℕ). if not (n == before) then 0 else slack) same in
         record {
-          more = omega arith;
+          more = (let more = after.more in omega arith);
           stands = record {
-            holds = subst (λ (s : ℕ). HoldsIn syncs sent s (setup_in w l) (calls.Event heard t2 tag ∷ l.calls))
-                (sym (since-no_tick (ticks_in l) slack (told (calls.Event heard t2 tag) l) same)) holds;
-            next = before.next;
-            none = before.none;
+            holds = subst (λ (s : ℕ). HoldsIn syncs sent s (setup_in w l) (call ∷ l.calls)) (sym since) holds;
+            next = next;
+            none = none;
           };
         }
+
+    pub told-event : (heard : Reading) (t2 tag : ℕ)
+        → HoldsIn syncs sent (since_tick before slack l) (setup_in w l) (calls.Event heard t2 tag ∷ l.calls)
+        → StandsAfter before syncs sent slack l
+        → StandsAfter before syncs sent slack (told (calls.Event heard t2 tag) l)
+    told-event heard t2 tag holds after =
+        told-call (calls.Event heard t2 tag) refl holds after.stands.next after.stands.none after
 
     pub told-general : (heard : Reading) (tag : ℕ)
-        → HoldsIn syncs sent slack (setup_in w l) (calls.General heard tag ∷ l.calls) → Stands syncs sent slack l
-        → StandsAfter (ticks_in l) syncs sent slack (told (calls.General heard tag) l)
-    told-general heard tag holds before =
-        let same = count-other (calls.General heard tag) l.calls refl in
+        → HoldsIn syncs sent (since_tick before slack l) (setup_in w l) (calls.General heard tag ∷ l.calls)
+        → StandsAfter before syncs sent slack l
+        → StandsAfter before syncs sent slack (told (calls.General heard tag) l)
+    told-general heard tag holds after =
+        told-call (calls.General heard tag) refl holds after.stands.next after.stands.none after
+
+  -- a port that was told its master holds nothing
+  told-master : (syncs sent slack : ℕ) (setup : Setup) (earlier : List Call)
+      → HoldsIn syncs sent slack setup (calls.SetMaster w.master ∷ earlier)
+  told-master syncs sent slack setup earlier = record {
+    follows_master = refl;
+    near_syncs = (λ k d low. absurd (omega arith), λ k d low. absurd (omega arith));
+    near_follows = (λ k d low. absurd (omega arith), λ k d low. absurd (omega arith));
+    near_completions = (λ k d low. absurd (omega arith), λ k d low. absurd (omega arith));
+    near_delays = (λ k d low. absurd (omega arith), λ k d low. absurd (omega arith));
+    last_requests = tt;
+  }
+
+  -- the port that is to hear a message, before which the port had so many ticks
+  pub record IsReady (syncs sent slack : ℕ) (l ready : Listening) : Type 0 where
+    pub after : StandsAfter (ticks_in l) syncs sent slack ready
+    pub asked : ready.asked ≡ l.asked
+
+  module _ (syncs sent slack : ℕ) (l : Listening) (stands : Stands syncs sent slack l) where
+    -- the port as it is, but for what was heard
+    as_it_is : (heard : List Told) (responses : List (Entry ℕ))
+        → IsReady syncs sent slack l (record l { heard = heard; responses = responses })
+    as_it_is heard responses =
+        let since = since-no_tick (ticks_in l) slack l refl in
         record {
-          more = omega arith;
-          stands = record {
-            holds = subst (λ (s : ℕ). HoldsIn syncs sent s (setup_in w l) (calls.General heard tag ∷ l.calls))
-                (sym (since-no_tick (ticks_in l) slack (told (calls.General heard tag) l) same)) holds;
-            next = before.next;
-            none = before.none;
+          after = record {
+            more = omega arith;
+            stands = record {
+              holds = subst (λ (s : ℕ). HoldsIn syncs sent s (setup_in w l) l.calls) (sym since) stands.holds;
+              next = stands.next;
+              none = stands.none;
+            };
           };
+          asked = refl;
         }
+
+    -- the master began anew, with no call between that draws requests
+    master_anew : (line : ℕ) (a : Arrival) (before : Listening) → ticks_in l ≤ ticks_in before
+        → before.asked ≡ l.asked
+        → next_number (setup_in w before) before.calls ≡ next_number (setup_in w l) l.calls
+        → IsReady syncs sent slack l (with_master_anew w line a before)
+    master_anew line a before more asked next = record {
+      after = record {
+        more = omega (arith, count-master w.master before.calls);
+        stands = record {
+          holds = told-master syncs sent (since_tick (ticks_in l) slack (with_master_anew w line a before))
+              (setup_in w before) before.calls;
+          next = λ is. next ∙ stands.next (sym asked ∙ is);
+          none = λ unasked. refl;
+        };
+      };
+      asked = asked;
+    }
+
+    refused-ready : (j : Judgement) (line t2 tag : ℕ) (said : Reading) (a : Arrival) (heard : List Told)
+        → IsReady syncs sent slack l
+        (ready_refused j w line (calls.Event said t2 tag) a (record l { heard = heard }))
+    refused-ready Newer line t2 tag said a heard = as_it_is (Refused a.number ∷ heard) l.responses
+    refused-ready Repeated line t2 tag said a heard = as_it_is heard l.responses
+    refused-ready BeganAnew line t2 tag said a heard =
+        master_anew line a (told (calls.Event said t2 tag) (record l { heard = heard }))
+        (omega (arith, count-other (calls.Event said t2 tag) l.calls refl)) refl refl
+
+    newer-ready : (line t2 tag : ℕ) (said : Reading) (a : Arrival) (heard : List Told)
+        → IsReady syncs sent slack l
+        (ready_newer w line (calls.Event said t2 tag) a (record l { heard = heard }))
+    newer-ready line t2 tag said a heard =
+        by (is_stale (answer_in w (record l { heard = heard }) (calls.Event said t2 tag)))
+        (judged_refused a table_capacity heard)
+      where
+        by : (stale : Bool) (j : Judgement) → IsReady syncs sent slack l
+            (if stale then ready_refused j w line (calls.Event said t2 tag) a (record l { heard = heard })
+            else record l { heard = heard })
+        by true j = refused-ready j line t2 tag said a heard
+        by false j = as_it_is heard l.responses
+
+    judged-ready : (j : Judgement) (line t2 tag : ℕ) (said : Reading) (a : Arrival) (ready : Listening)
+        → ready_judged j w line (calls.Event said t2 tag) a l ≡ Some ready → IsReady syncs sent slack l ready
+    judged-ready Newer line t2 tag said a ready is =
+        let same : ready_newer w line (calls.Event said t2 tag) a (record l { heard = Sync a ∷ l.heard }) ≡ ready = cc in
+        subst (IsReady syncs sent slack l) same (newer-ready line t2 tag said a (Sync a ∷ l.heard))
+    judged-ready Repeated line t2 tag said a ready is = cc
+    judged-ready BeganAnew line t2 tag said a ready is =
+        let same : with_master_anew w line a l ≡ ready = cc in
+        subst (IsReady syncs sent slack l) same (master_anew line a l (omega arith) refl refl)
+
+    -- each of them
+    pub sync-ready : (line time : ℕ) (m : Contents) (ready : Listening) → ready_sync w line time m l ≡ Some ready
+        → IsReady syncs sent slack l ready
+    sync-ready line time m ready is = by (is_of w w.master m.header) is
+      where
+        by : (of_master : Bool)
+            → (if of_master
+            then ready_judged (judged_sync (arrival_of m.header time) table_capacity l.heard) w line
+            (calls.Event (Ok m) time line) (arrival_of m.header time) l
+            else Some l) ≡ Some ready
+            → IsReady syncs sent slack l ready
+        by true is = judged-ready (judged_sync (arrival_of m.header time) table_capacity l.heard) line time line (Ok m)
+            (arrival_of m.header time) ready is
+        by false is =
+            let same : l ≡ ready = cc in subst (IsReady syncs sent slack l) same (as_it_is l.heard l.responses)
+
+    followed-ready : (j : Judgement) (a : Arrival) (ready : Listening) → ready_followed j a l ≡ Some ready
+        → IsReady syncs sent slack l ready
+    followed-ready Newer a ready is =
+        let same : record l { heard = FollowUp a ∷ l.heard } ≡ ready = cc in
+        subst (IsReady syncs sent slack l) same (as_it_is (FollowUp a ∷ l.heard) l.responses)
+    followed-ready Repeated a ready is = cc
+    followed-ready BeganAnew a ready is = cc
+
+    pub follow_up-ready : (time : ℕ) (m : Contents) (ready : Listening) → ready_follow_up w time m l ≡ Some ready
+        → IsReady syncs sent slack l ready
+    follow_up-ready time m ready is = by (is_of w w.master m.header) is
+      where
+        by : (of_master : Bool)
+            → (if of_master
+            then ready_followed (judged_follow_up (arrival_of m.header time) table_capacity l.heard)
+            (arrival_of m.header time) l
+            else Some l) ≡ Some ready
+            → IsReady syncs sent slack l ready
+        by true is = followed-ready (judged_follow_up (arrival_of m.header time) table_capacity l.heard)
+            (arrival_of m.header time) ready is
+        by false is =
+            let same : l ≡ ready = cc in subst (IsReady syncs sent slack l) same (as_it_is l.heard l.responses)
+
+    pub response-ready : (time : ℕ) (m : Contents) (requesting : PortIdentity) (ready : Listening)
+        → ready_response w time m requesting l ≡ Some ready → IsReady syncs sent slack l ready
+    response-ready time m requesting ready is =
+        by (not (is_of w w.master m.header && is_same_port requesting w.slave))
+        (is_some (known table_capacity m.header.sequence.0 l.responses)) is
+      where
+        by : (others again : Bool)
+            → (if others then Some l else if again then None
+            else Some (record l { responses = entry m.header.sequence.0 time ∷ l.responses })) ≡ Some ready
+            → IsReady syncs sent slack l ready
+        by true again is =
+            let same : l ≡ ready = cc in subst (IsReady syncs sent slack l) same (as_it_is l.heard l.responses)
+        by false true is = cc
+        by false false is =
+            let same : record l { responses = entry m.header.sequence.0 time ∷ l.responses } ≡ ready = cc in
+            subst (IsReady syncs sent slack l) same
+            (as_it_is l.heard (entry m.header.sequence.0 time ∷ l.responses))
 
   -- a port that was told its master and nothing else
   pub set-stands : (syncs sent slack : ℕ) (l : Listening) → l.calls ≡ calls.SetMaster w.master ∷ []
       → HoldsIn syncs sent slack (setup_in w l) l.calls
   set-stands syncs sent slack l is =
-      subst (HoldsIn syncs sent slack (setup_in w l)) (sym is) (record {
-        follows_master = refl;
-        near_syncs = (λ k d low. absurd (omega arith), λ k d low. absurd (omega arith));
-        near_follows = (λ k d low. absurd (omega arith), λ k d low. absurd (omega arith));
-        near_completions = (λ k d low. absurd (omega arith), λ k d low. absurd (omega arith));
-        near_delays = (λ k d low. absurd (omega arith), λ k d low. absurd (omega arith));
-        last_requests = tt;
-      })
+      subst (HoldsIn syncs sent slack (setup_in w l)) (sym is) (told-master syncs sent slack (setup_in w l) [])
 
   -- as long as no Delay_Req is told, nothing is said of them
   pub unasked-stands : (syncs sent more slack : ℕ) (l : Listening) → l.asked ≡ false → Stands syncs sent slack l
@@ -266,7 +394,7 @@ module _ (network : Network) (slave master : NodeName) (w : Watched) (watches : 
     -- the port after it, where it is near or the last one's again
     abbrev after : Listening → (near again : Bool) → Listening
     after l near again =
-        if near then asks w line time number l else if again then l else asks w line time number (anew w number l)
+        if near then asks w line time number l else if again then l else asks w line time number (anew w line number l)
 
     -- the slave's next Delay_Req that is told, and fewer than half a turn were missing
     pub asked-stands : (sent missing slack : ℕ) (l : Listening) → Stands syncs sent slack l
@@ -321,8 +449,8 @@ module _ (network : Network) (slave master : NodeName) (w : Watched) (watches : 
             let turn : ahead number next ≡ 65535 = eqb-true (ahead number next) 65535 f in
             absurd (omega (arith, ahead_is asked))
         by false e false f = (
-          asks-stands 0 (since_tick (ticks_in l) slack (asks w line time number (anew w number l))) (anew w number l)
-              (set-stands syncs 0 (since_tick (ticks_in l) slack (asks w line time number (anew w number l)))
-              (anew w number l) refl) tt,
+          asks-stands 0 (since_tick (ticks_in l) slack (asks w line time number (anew w line number l))) (anew w line number l)
+              (set-stands syncs 0 (since_tick (ticks_in l) slack (asks w line time number (anew w line number l)))
+              (anew w line number l) refl) tt,
           refl,
         )

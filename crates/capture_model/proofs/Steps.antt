@@ -2,7 +2,7 @@
 -- events that lines tell.
 use Rattle.std.proofs.Common.{◌≡◌, ◌∙◌, ℕ, ◌+◌, ◌<◌, ◌≤◌, true, false, List, ◌∷◌, Some, None, Ok, refl, sym, ap, subst}
 use Rattle.std.proofs.Common.{arith, Bool, option_and_then, if◌then◌else◌}
-use Rattle.std.specs.Prelude.{◌==◌, count_by, IfSome, IsTrue, Option}
+use Rattle.std.specs.Prelude.{◌==◌, count_by, IfSome, IsTrue, Option, option_map}
 use Rattle.std.specs.Option.{option_map_or, option_or}
 use Rattle.std.specs.Result.{result_ok}
 use Rattle.std.proofs.lemmas.Bool.{and_from, eq-eqb}
@@ -36,8 +36,9 @@ use Rattle.network_model.proofs.Reach.{draws_with-request}
 use Rattle.network_model.proofs.Hearing.{used_of_use}
 use Rattle.capture_model.specs.declared.watched.Watched.{Watched}
 use Rattle.capture_model.specs.Recorded.{Recorded}
-use Rattle.capture_model.specs.Listening.{Listening, setup_in, is_of, hears, hear, hears_sync, hears_request, told}
-use Rattle.capture_model.specs.Listening.{after_all, hearing, hearing_of, answer_in, report_in, report_at}
+use Rattle.capture_model.specs.Listening.{Listening, setup_in, is_of, hears, hear, hears_ready, hears_request, told}
+use Rattle.capture_model.specs.Listening.{ready_sync, ready_follow_up, ready_response, after_all, answer_in}
+use Rattle.capture_model.specs.Listening.{answered, answered_to, report_in, report_at}
 use Rattle.capture_model.specs.Told.{told_at, is_own, own_request, last_request, IsTimed}
 use Rattle.capture_model.specs.Premises.{is_used, ticks_in}
 use Rattle.capture_model.specs.Exact.{Watches}
@@ -47,9 +48,9 @@ use Rattle.capture_model.proofs.ToldEvents as events
 use Rattle.capture_model.proofs.ToldEvents.{IsTold, IsGeneral, told_is}
 use Rattle.capture_model.proofs.Holding.{Holds, holds-later}
 use Rattle.capture_model.proofs.Messages.{IsFreshUse, arrived, heard}
-use Rattle.capture_model.proofs.Standing.{Stands, since_tick, hears_sync-stands, hears_sync-asked, told-event}
-use Rattle.capture_model.proofs.Standing.{told-general}
-use Rattle.capture_model.proofs.Standing.{asked-stands}
+use Rattle.capture_model.proofs.Standing.{Stands, StandsAfter, IsReady, since_tick, since-no_tick, since-low}
+use Rattle.capture_model.proofs.Standing.{sync-ready, follow_up-ready, response-ready, heard-stands, heard-asked}
+use Rattle.capture_model.proofs.Standing.{told-event, told-general, asked-stands}
 use Rattle.capture_model.proofs.Reported.{IsMadeOf, made_of}
 
 -- how far behind what is held may be
@@ -63,7 +64,7 @@ same_identity identity =
     (eq-eqb identity.port identity.port refl)
 
 -- an answer that is a report
-report-in : (heard : Heard) (report : Report) → report_in heard ≡ Some report → heard ≡ answers.Report report
+pub report-in : (heard : Heard) (report : Report) → report_in heard ≡ Some report → heard ≡ answers.Report report
 report-in (answers.Report given) report is = let same : given ≡ report = cc in ap (λ (r : Report). answers.Report r)
     same
 report-in answers.Held report is = cc
@@ -120,26 +121,26 @@ module _ (network : Network) (slave master : NodeName) (w : Watched) (apart : Is
       none = before.none;
     }
 
-    module _ (call : Call) (hearing_is : hearing_of d ≡ Some call) where
+    -- what a port answers that is ready to hear a message
+    module _ (call : Call) (ready : Listening)
+        (answer_is : answered_to w d (after_all w ds) ≡ Some (answer_in w ready call)) where
       -- what is used is fresh
-      fresh_use : IsFreshUse (setup_in w (after_all w ds)) (after_all w ds).calls 32768 (place event earlier) call
+      fresh_use : IsFreshUse (setup_in w ready) ready.calls 32768 (place event earlier) call
       fresh_use uses origin is =
           let of_use : is_used w ds d ≡ true =
-          ap (λ (c : Option Call). option_map_or (λ call. is_of_use (answer_in w (after_all w ds) call)) c false)
-          hearing_is
-          ∙ ap is_of_use uses ∙ used_of_use (setup_in w (after_all w ds)) (after_all w ds).calls call in
+          ap (λ (h : Option Heard). option_map_or is_of_use h false) answer_is
+          ∙ ap is_of_use uses ∙ used_of_use (setup_in w ready) ready.calls call in
           subst (λ (o : Option Place). IfSome o (λ origin. drawn_later origin earlier < 32768)) is (fresh of_use)
 
       -- a report that is answered is made of events that lines tell
-      reported_by : (syncs sent : ℕ)
-          → Holds network slave master watches.own watches.other w.master within more syncs sent slack
-          (setup_in w (after_all w ds)) (call ∷ (after_all w ds).calls)
+      reported_by : (syncs sent since : ℕ)
+          → Holds network slave master watches.own watches.other w.master within more syncs sent since
+          (setup_in w ready) (call ∷ ready.calls)
           → (report : Report) → report_at w ds d ≡ Some report → IsMadeOf more slave master report
-      reported_by syncs sent holds report is =
-          made_of network slave master watches.own watches.other w.master within more syncs sent slack
-          (setup_in w (after_all w ds)) (after_all w ds).calls call report holds
-          (report-in (answer_in w (after_all w ds) call) report
-          (sym (ap (option_and_then (λ (c : Call). report_in (answer_in w (after_all w ds) c))) hearing_is) ∙ is))
+      reported_by syncs sent since holds report is =
+          made_of network slave master watches.own watches.other w.master within more syncs sent since
+          (setup_in w ready) ready.calls call report holds
+          (report-in (answer_in w ready call) report (sym (ap (option_and_then report_in) answer_is) ∙ is))
 
     -- what is heard of a message
     hears_it : (body : Body) → m.body ≡ body → hear w d (after_all w ds) ≡ hears w d.line d.time m body (after_all w ds)
@@ -148,10 +149,12 @@ module _ (network : Network) (slave master : NodeName) (w : Watched) (apart : Is
         (after_all w ds)) said
         ∙ ap (λ (b : Body). hears w d.line d.time m b (after_all w ds)) is
 
-    hearing-is : (body : Body) → m.body ≡ body → hearing_of d ≡ hearing d.line d.time m body
-    hearing-is body is =
-        ap (λ (r : Reading). option_and_then (λ m. hearing d.line d.time m m.body) (result_ok r)) said
-        ∙ ap (λ (b : Body). hearing d.line d.time m b) is
+    answers_it : (body : Body) → m.body ≡ body
+        → answered_to w d (after_all w ds) ≡ answered w d.line d.time m body (after_all w ds)
+    answers_it body is =
+        ap (λ (r : Reading). option_and_then (λ m. answered w d.line d.time m m.body (after_all w ds)) (result_ok r))
+        said
+        ∙ ap (λ (b : Body). answered w d.line d.time m b (after_all w ds)) is
 
     -- no more requests are missing where the event is none
     still_counted : is_request event ≡ false → is_at is_request slave event ≡ false
@@ -172,6 +175,65 @@ module _ (network : Network) (slave master : NodeName) (w : Watched) (apart : Is
         ∙ last) in
         (ap (λ (l : Listening). l.asked) heard_is ∙ same ∙ before.0, before.1, before.2)
 
+    -- a message that a port hears, where one is ready
+    message_step : (body : Body) (counts : Bool) (call : Call) (ready : Option Listening) → m.body ≡ body
+        → own_request network slave m.header body ≡ None
+        → is_at is_request slave event ≡ false → is_request event ≡ false → is_at draws_sync master event ≡ false
+        → hear w d (after_all w ds) ≡ hears_ready counts call ready (after_all w ds)
+        → answered_to w d (after_all w ds) ≡ option_map (λ l. answer_in w l call) ready
+        → ((l : Listening) → ready ≡ Some l
+        → IsReady network slave master w watches within more (syncs_in (event ∷ earlier)) known slack (after_all w ds) l)
+        → ((l : Listening) → answered_to w d (after_all w ds) ≡ Some (answer_in w l call)
+        → Holds network slave master watches.own watches.other w.master within more (syncs_in (event ∷ earlier)) known
+        (since_tick (ticks_in (after_all w ds)) slack l) (setup_in w l) l.calls
+        → Holds network slave master watches.own watches.other w.master within more (syncs_in (event ∷ earlier)) known
+        (since_tick (ticks_in (after_all w ds)) slack l) (setup_in w l) (call ∷ l.calls))
+        → ((l : Listening)
+        → Holds network slave master watches.own watches.other w.master within more (syncs_in (event ∷ earlier)) known
+        (since_tick (ticks_in (after_all w ds)) slack l) (setup_in w l) (call ∷ l.calls)
+        → StandsAfter network slave master w watches within more (ticks_in (after_all w ds)) (syncs_in (event ∷ earlier))
+        known slack l
+        → StandsAfter network slave master w watches within more (ticks_in (after_all w ds)) (syncs_in (event ∷ earlier))
+        known slack (told call l))
+        → IsStep more event earlier missing slack ds d
+    message_step body counts call None body_is no_request asks_none no_asking draws_none heard_is answer_is is_ready
+        hears tells = record {
+          known = known;
+          counted = still_counted no_asking asks_none;
+          stands = subst (λ (after : Listening). Stands network slave master w watches within more
+              (syncs_in (event ∷ earlier)) known (since_tick (ticks_in (after_all w ds)) slack after) after)
+              (sym heard_is)
+              (subst (λ (s : ℕ). Stands network slave master w watches within more (syncs_in (event ∷ earlier)) known s
+              (after_all w ds)) (sym (since-no_tick (ticks_in (after_all w ds)) slack (after_all w ds) refl))
+              (lifted draws_none));
+          last = still_last body body_is no_request (after_all w ds) refl heard_is;
+          reported = λ report is.
+              let none : report_at w ds d ≡ None = ap (option_and_then report_in) answer_is in
+              let same : Some report ≡ None = sym is ∙ none in cc;
+        }
+    message_step body counts call (Some ready) body_is no_request asks_none no_asking draws_none heard_is answer_is
+        is_ready hears tells =
+        let l : Listening = after_all w ds in
+        let syncs : ℕ = syncs_in (event ∷ earlier) in
+        let one = is_ready ready refl in
+        let holds = hears ready answer_is one.after.stands.holds in
+        record {
+          known = known;
+          counted = still_counted no_asking asks_none;
+          stands = subst (λ (after : Listening). Stands network slave master w watches within more syncs known
+              (since_tick (ticks_in l) slack after) after)
+              (sym heard_is)
+              (heard-stands network slave master w watches within more (ticks_in l) syncs known slack few counts call
+              ready l (tells ready holds one.after)).stands;
+          last = still_last body body_is no_request (hears_ready counts call (Some ready) l)
+              (heard-asked network slave master w watches within more counts call ready l ∙ one.asked) heard_is;
+          reported = reported_by call ready answer_is syncs known (since_tick (ticks_in l) slack ready) holds;
+        }
+
+    -- so many are few
+    few_since : (l : Listening) → 32768 + 16384 + since_tick (ticks_in (after_all w ds)) slack l ≤ 65536
+    few_since l = omega (arith, since-low (ticks_in (after_all w ds)) slack l)
+
     -- a Sync
     sync_step : (copy moment : ℕ) (origin : Stamp) → event ≡ Arrive slave copy moment
         → copy_of network earlier copy ≡ Some m → m.body ≡ bodies.Sync origin
@@ -181,68 +243,55 @@ module _ (network : Network) (slave master : NodeName) (w : Watched) (apart : Is
         let syncs : ℕ = syncs_in (event ∷ earlier) in
         let draws_none : is_at draws_sync master event ≡ false = ap (is_at draws_sync master) event_is in
         let asks_none : is_at is_request slave event ≡ false = ap (is_at is_request slave) event_is in
-        let stands = lifted draws_none in
-        let call : Call = calls.Event (Ok m) (reading (place event earlier)) d.line in
+        let call : Call = calls.Event (Ok m) d.time d.line in
         let time : d.time ≡ reading (place event earlier) =
         subst (λ (e : Event). IsTimed e earlier d.time) event_is timed
         ∙ ap (λ (e : Event). reading (place e earlier)) (sym event_is) in
-        let hearing_is : hearing_of d ≡ Some call =
-        hearing-is (bodies.Sync origin) body ∙ ap (λ (t : ℕ). Some (calls.Event (Ok m) t d.line)) time in
-        let holds = arrived network slave master w apart watches within event earlier accepted more inside d.line now
-        syncs known slack
-        (count-no (is_at draws_sync master) event earlier draws_none) refl (setup_in w l) refl
-        (omega (arith, counted, count-no (is_at is_request slave) event earlier asks_none)) l.calls stands.holds
-        (omega arith) m copy
-        (ap heard_copy event_is) copy_is moment event_is (fresh_use call hearing_is) in
-        record {
-          known = known;
-          counted = still_counted (ap is_request event_is) asks_none;
-          stands = subst (λ (after : Listening). Stands network slave master w watches within more syncs known
-              (since_tick (ticks_in l) slack after) after)
-              (ap (λ (t : ℕ). hears_sync w (is_of w w.master m.header) (calls.Event (Ok m) t d.line) l) (sym time)
-              ∙ sym (hears_it (bodies.Sync origin) body))
-              (hears_sync-stands network slave master w watches within more (ticks_in l) syncs known slack few
-              (is_of w w.master m.header) call l
-              (told-event network slave master w watches within more syncs known slack l (Ok m)
-              (reading (place event earlier)) d.line holds stands)).stands;
-          last = still_last (bodies.Sync origin) body refl
-              (hears_sync w (is_of w w.master m.header) (calls.Event (Ok m) d.time d.line) l)
-              (hears_sync-asked network slave master w watches within more (is_of w w.master m.header)
-              (calls.Event (Ok m) d.time d.line) l)
-              (hears_it (bodies.Sync origin) body);
-          reported = reported_by call hearing_is syncs known holds;
-        }
+        message_step (bodies.Sync origin) (is_of w w.master m.header) call (ready_sync w d.line d.time m l) body refl
+        asks_none (ap is_request event_is) draws_none (hears_it (bodies.Sync origin) body)
+        (answers_it (bodies.Sync origin) body)
+        (sync-ready network slave master w watches within more syncs known slack l (lifted draws_none) d.line d.time m)
+        (λ ready answer_is holds.
+        subst (λ (t : ℕ). Holds network slave master watches.own watches.other w.master within more syncs known
+        (since_tick (ticks_in l) slack ready) (setup_in w ready) (calls.Event (Ok m) t d.line ∷ ready.calls)) (sym time)
+        (arrived network slave master w apart watches within event earlier accepted more inside d.line now syncs known
+        (since_tick (ticks_in l) slack ready) (count-no (is_at draws_sync master) event earlier draws_none) refl
+        (setup_in w ready) refl
+        (omega (arith, counted, count-no (is_at is_request slave) event earlier asks_none)) ready.calls holds
+        (few_since ready) m copy (ap heard_copy event_is) copy_is moment event_is
+        (subst (λ (t : ℕ). IsFreshUse (setup_in w ready) ready.calls 32768 (place event earlier)
+        (calls.Event (Ok m) t d.line)) time (fresh_use call ready answer_is))))
+        (λ ready holds after.
+        told-event network slave master w watches within more (ticks_in l) syncs known slack ready (Ok m) d.time d.line
+        holds after)
 
     -- a Follow_Up or a Delay_Resp
-    general_step : (copy : ℕ) (body : Body) → m.body ≡ body → own_request network slave m.header body ≡ None
+    general_step : (copy : ℕ) (body : Body) (ready : Option Listening) → m.body ≡ body
+        → own_request network slave m.header body ≡ None
         → event ≡ Hear slave copy → copy_of network earlier copy ≡ Some m
-        → hearing_of d ≡ Some (calls.General (Ok m) d.line)
-        → hear w d (after_all w ds) ≡ told (calls.General (Ok m) d.line) (after_all w ds)
+        → hear w d (after_all w ds) ≡ hears_ready false (calls.General (Ok m) d.line) ready (after_all w ds)
+        → answered_to w d (after_all w ds) ≡ option_map (λ l. answer_in w l (calls.General (Ok m) d.line)) ready
+        → (Stands network slave master w watches within more (syncs_in (event ∷ earlier)) known slack (after_all w ds)
+        → (l : Listening) → ready ≡ Some l
+        → IsReady network slave master w watches within more (syncs_in (event ∷ earlier)) known slack (after_all w ds) l)
         → IsStep more event earlier missing slack ds d
-    general_step copy body body_is no_request event_is copy_is hearing_is heard_is =
+    general_step copy body ready body_is no_request event_is copy_is heard_is answer_is is_ready =
         let l : Listening = after_all w ds in
         let syncs : ℕ = syncs_in (event ∷ earlier) in
         let draws_none : is_at draws_sync master event ≡ false = ap (is_at draws_sync master) event_is in
         let asks_none : is_at is_request slave event ≡ false = ap (is_at is_request slave) event_is in
-        let stands = lifted draws_none in
         let call : Call = calls.General (Ok m) d.line in
-        let holds = heard network slave master w apart watches within event earlier accepted more inside d.line now
-        syncs known slack
-        (count-no (is_at draws_sync master) event earlier draws_none) refl (setup_in w l) refl
-        (omega (arith, counted, count-no (is_at is_request slave) event earlier asks_none)) l.calls stands.holds
-        (omega arith) m copy
-        (ap heard_copy event_is) copy_is event_is (fresh_use call hearing_is) in
-        record {
-          known = known;
-          counted = still_counted (ap is_request event_is) asks_none;
-          stands = subst (λ (after : Listening). Stands network slave master w watches within more syncs known
-              (since_tick (ticks_in l) slack after) after)
-              (sym heard_is)
-              (told-general network slave master w watches within more syncs known slack l (Ok m) d.line holds
-              stands).stands;
-          last = still_last body body_is no_request (told call l) refl heard_is;
-          reported = reported_by call hearing_is syncs known holds;
-        }
+        message_step body false call ready body_is no_request asks_none (ap is_request event_is) draws_none heard_is
+        answer_is (is_ready (lifted draws_none))
+        (λ ready answer_is holds.
+        heard network slave master w apart watches within event earlier accepted more inside d.line now syncs known
+        (since_tick (ticks_in l) slack ready) (count-no (is_at draws_sync master) event earlier draws_none) refl
+        (setup_in w ready) refl
+        (omega (arith, counted, count-no (is_at is_request slave) event earlier asks_none)) ready.calls holds
+        (few_since ready) m copy (ap heard_copy event_is) copy_is event_is (fresh_use call ready answer_is))
+        (λ ready holds after.
+        told-general network slave master w watches within more (ticks_in l) syncs known slack ready (Ok m) d.line
+        holds after)
 
     -- a Delay_Req
     request_step : (moment : ℕ) (port : PortSetup) → event ≡ Request slave moment → slave_at network slave ≡ Some port
@@ -277,8 +326,7 @@ module _ (network : Network) (slave master : NodeName) (w : Watched) (apart : Is
         let heard_is : hear w d l ≡ hears_request w d.line d.time number l =
         hears_it said_is.body body ∙ ap (λ (b : Bool). if b then hears_request w d.line d.time number l else l) of_slave
         in
-        let none : report_at w ds d ≡ None = ap (option_and_then (λ (c : Call). report_in (answer_in w l c)))
-        (hearing-is said_is.body body) in
+        let none : report_at w ds d ≡ None = ap (option_and_then report_in) (answers_it said_is.body body) in
         let own_port : is_own network slave m.header ≡ true =
         ap (λ (o : Option PortSetup). option_map_or (λ port. is_same_port m.header.source port.config.identity) o
         false) port_is
@@ -318,13 +366,17 @@ module _ (network : Network) (slave master : NodeName) (w : Watched) (apart : Is
         general : (copy : ℕ) → event ≡ Hear slave copy → copy_of network earlier copy ≡ Some m → IsGeneral m.body
             → IsStep more event earlier missing slack ds d
         general copy event_is copy_is (events.FollowUp precise body) =
-            general_step copy (bodies.FollowUp precise) body refl event_is copy_is
-            (hearing-is (bodies.FollowUp precise) body)
-            (hears_it (bodies.FollowUp precise) body)
+            general_step copy (bodies.FollowUp precise) (ready_follow_up w d.time m (after_all w ds)) body refl event_is
+            copy_is (hears_it (bodies.FollowUp precise) body) (answers_it (bodies.FollowUp precise) body)
+            (λ stands. follow_up-ready network slave master w watches within more (syncs_in (event ∷ earlier)) known slack
+            (after_all w ds) stands d.time m)
         general copy event_is copy_is (events.DelayResp receive requesting body) =
-            general_step copy (bodies.DelayResp receive requesting) body refl event_is copy_is
-            (hearing-is (bodies.DelayResp receive requesting) body)
+            general_step copy (bodies.DelayResp receive requesting)
+            (ready_response w d.time m requesting (after_all w ds)) body refl event_is copy_is
             (hears_it (bodies.DelayResp receive requesting) body)
+            (answers_it (bodies.DelayResp receive requesting) body)
+            (λ stands. response-ready network slave master w watches within more (syncs_in (event ∷ earlier)) known slack
+            (after_all w ds) stands d.time m requesting)
 
         by : IsTold network slave event earlier m → IsStep more event earlier missing slack ds d
         by (events.Arrived copy moment origin event_is copy_is body) = sync_step copy moment origin event_is copy_is

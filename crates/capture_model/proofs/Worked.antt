@@ -1,6 +1,6 @@
 -- A worked recording: of the exchange through a clock of a slave that leads by 1,000 ns. It tells a run that meets the
 -- premises, and the port that listens to it reports once.
-use Rattle.std.proofs.Common.{true, ◌++◌, replicate, ◌≡◌, ℕ, pos, refl, arith, List, [], ◌∷◌, Some, Ok, Err}
+use Rattle.std.proofs.Common.{true, ◌≡◌, ℕ, pos, refl, arith, List, [], ◌∷◌, Some, Ok, Err}
 use Rattle.ptp_units.specs.Moment.{stamp}
 use Rattle.event_codec.specs.declared.message.Body.TheVariants.{DelayResp}
 use Rattle.event_codec.specs.declared.refusal.DecodeRefusal.TheVariants.{OtherType}
@@ -132,7 +132,9 @@ begins_anew : after_all watched (asked 2 259 ∷ asked 1 2 ∷ []) ≡ record {
   calls = calls.RequestLeft 259 (at 3 0 0) ∷ calls.NextRequest 2 ∷ calls.SetMaster m_config.identity ∷ [];
   asked = true;
   syncs = 0;
-  stale = 0;
+  heard = [];
+  responses = [];
+  begun = 2;
 }
 begins_anew = refl
 
@@ -145,12 +147,37 @@ says_nothing_of_another : after_all watched (line 2 0 (Ok (delay_req b_config 7)
     (asked 1 2 ∷ [])
 says_nothing_of_another = refl
 
--- one-step Syncs of M, and how many ticks come of 15 and of 16 that aren't newer than one that completed
-abbrev one_step : ℕ → Recorded
-one_step sequence = line 1 (at 3 0 0) (Ok (one_step_sync m_config sequence (at 2 0 0)))
+-- one-step Syncs of M, at so many seconds
+abbrev one_step : (number sequence seconds : ℕ) → Recorded
+one_step number sequence seconds =
+    line number (at seconds 0 0) (Ok (one_step_sync m_config sequence (at seconds 0 0)))
 
-fifteen_are_refused : ticks_in (after_all watched (replicate 15 (one_step 4) ++ one_step 5 ∷ [])) ≡ 0
-fifteen_are_refused = refl
+-- the port is told its master anew by a third Sync in a row that isn't newer, and hears it twice
+two_are_refused : ticks_in (after_all watched (one_step 3 4 4 ∷ one_step 2 3 3 ∷ one_step 1 5 2 ∷ [])) ≡ 1
+two_are_refused = refl
 
-sixteen_bring_ticks : ticks_in (after_all watched (replicate 16 (one_step 4) ++ one_step 5 ∷ [])) ≡ 2
-sixteen_bring_ticks = refl
+three_begin_anew : (after_all watched (one_step 4 4 5 ∷ one_step 3 3 4 ∷ one_step 2 2 3 ∷ one_step 1 5 2 ∷ [])).begun ≡ 4
+three_begin_anew = refl
+
+-- another number between them begins another row
+not_in_a_row : ticks_in
+    (after_all watched (one_step 5 0 6 ∷ one_step 4 4 5 ∷ one_step 3 3 4 ∷ one_step 2 1 3 ∷ one_step 1 5 2 ∷ [])) ≡ 1
+not_in_a_row = refl
+
+-- a number that comes again within a second is that of a copy, and later that of a master that began anew
+a_copy : after_all watched (one_step 2 5 2 ∷ one_step 1 5 2 ∷ []) ≡ after_all watched (one_step 1 5 2 ∷ [])
+a_copy = refl
+
+again : (after_all watched (one_step 2 5 3 ∷ one_step 1 5 2 ∷ [])).begun ≡ 2
+again = refl
+
+-- a Sync of another life doesn't pair with a Follow_Up that is held, nor a Follow_Up with such a Sync
+follow_of_another_life : reports watched
+    (line 4 (at 9 0 0) (Ok response_said) ∷ line 3 (at 8 0 0) (Ok request_said)
+    ∷ line 2 (at 7 4000 0) (Ok sync_said) ∷ line 1 (at 1 5000 0) (Ok follow_said) ∷ []) ≡ []
+follow_of_another_life = refl
+
+sync_of_another_life : reports watched
+    (line 4 (at 9 0 0) (Ok response_said) ∷ line 3 (at 8 0 0) (Ok request_said)
+    ∷ line 2 (at 7 5000 0) (Ok follow_said) ∷ line 1 (at 1 4000 0) (Ok sync_said) ∷ []) ≡ []
+sync_of_another_life = refl

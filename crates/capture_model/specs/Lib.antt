@@ -3,3 +3,4 @@ pub mod Listening
 pub mod Told
 pub mod Premises
 pub mod Exact
+pub mod Lives

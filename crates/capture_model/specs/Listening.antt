@@ -1,16 +1,22 @@
 -- What a slave port is told that listens to a recording, and what it reports. A list of datagrams has the newest in
 -- front.
-use Rattle.std.specs.Prelude.{ℕ, zero, suc, ◌+◌, pos, Bool, true, false, ◌&&◌, ◌||◌, not, List, [], ◌∷◌, ◌++◌, ◌==◌}
-use Rattle.std.specs.Prelude.{nat_lt, if◌then◌else◌, Option, Some, None, option_and_then, option_to_list, Ok}
+use Rattle.std.specs.Prelude.{ℕ, zero, suc, ◌+◌, ◌/◌, ◌%◌, pos, Bool, true, false, ◌&&◌, ◌||◌, not, List, [], ◌∷◌, ◌++◌}
+use Rattle.std.specs.Prelude.{◌==◌, nat_lt, slice_index, is_some, if◌then◌else◌, Option, Some, None, option_map}
+use Rattle.std.specs.Prelude.{option_and_then, option_to_list, Ok}
 use Rattle.std.specs.Option.{option_map_or}
 use Rattle.std.specs.Result.{result_ok}
 use Rattle.ptp_units.specs.Sequence.{ahead}
 use Rattle.event_codec.specs.declared.message.Header.{Header}
 use Rattle.event_codec.specs.declared.message.Body.{Body}
-use Rattle.event_codec.specs.declared.message.Body.TheVariants.{Sync, DelayReq, FollowUp, DelayResp}
+use Rattle.event_codec.specs.declared.message.Body.TheVariants as bodies
 use Rattle.event_codec.specs.declared.port.PortIdentity.{PortIdentity}
 use Rattle.event_codec.specs.Packet.{Contents}
 use Rattle.event_codec.specs.Port.{is_same_port}
+use Rattle.pairing.specs.Marked.{Entry, entry}
+use Rattle.sync_watch.specs.declared.judgement.Judgement.{Judgement}
+use Rattle.sync_watch.specs.declared.judgement.Judgement.TheVariants.{Newer, Repeated, BeganAnew}
+use Rattle.sync_watch.specs.Told.{Arrival, arrival, Told, Sync, FollowUp, Refused, known}
+use Rattle.sync_watch.specs.Judged.{judged_sync, judged_follow_up, judged_refused}
 use Rattle.slave_port.specs.declared.heard.Heard.{Heard}
 use Rattle.slave_port.specs.declared.heard.Heard.TheVariants as answers
 use Rattle.slave_port.specs.declared.heard.Report.{Report}
@@ -32,19 +38,29 @@ setup_with w first =
     table_capacity
 
 -- The port: the number of its first request, and its calls, newest first; whether a Delay_Req of the slave came; how
--- many Syncs of the master came since the last tick that this count brought, which the two ticks after Syncs that
--- aren't newer leave as it is; and how many of these Syncs in a row, up to the last one, weren't newer than the last
--- Sync that completed.
+-- many Syncs of the master it heard since the last tick that this count brought; what it heard of these and of the
+-- Follow_Ups since the master began, and which Delay_Resps since the port began, newest first; and the line at which it
+-- began, 0 for the start.
 pub record Listening : Type 0 where
   pub first : ℕ
   pub calls : List Call
   pub asked : Bool
   pub syncs : ℕ
-  pub stale : ℕ
+  pub heard : List Told
+  pub responses : List (Entry ℕ)
+  pub begun : ℕ
 
 -- a port that was told its master and nothing else
 abbrev pub start : Watched → Listening
-start w = record { first = 0; calls = calls.SetMaster w.master ∷ []; asked = false; syncs = 0; stale = 0 }
+start w = record {
+  first = 0;
+  calls = calls.SetMaster w.master ∷ [];
+  asked = false;
+  syncs = 0;
+  heard = [];
+  responses = [];
+  begun = 0;
+}
 
 -- how the port is set up
 abbrev pub setup_in : Watched → Listening → Setup
@@ -63,17 +79,6 @@ is_stale _ = false
 abbrev pub ticks_every : ℕ
 ticks_every = 4096
 
--- Syncs in a row that aren't newer, after which there are two
-abbrev pub stale_most : ℕ
-stale_most = 16
-
--- one more Sync in a row that isn't newer, or one that ends the row; two ticks drop all that the port holds of Syncs
-abbrev pub with_row : Bool → Listening → Listening
-with_row stale l =
-    if not stale then record l { stale = 0 }
-    else if l.stale + 1 == stale_most then record l { calls = calls.Tick ∷ calls.Tick ∷ l.calls; stale = 0 }
-    else record l { stale = l.stale + 1 }
-
 -- one more Sync
 abbrev pub with_count : Listening → Listening
 with_count l =
@@ -88,10 +93,83 @@ told call l = record l { calls = call ∷ l.calls }
 abbrev pub answer_in : Watched → Listening → Call → Heard
 answer_in w l call = answer (setup_in w l) l.calls call
 
--- a Sync is heard, whoever sent it, and counted where it is the master's
-abbrev pub hears_sync : Watched → (master : Bool) → Call → Listening → Listening
-hears_sync w false call l = told call l
-hears_sync w true call l = with_count (with_row (is_stale (answer_in w l call)) (told call l))
+-- unicastFlag (IEEE 1588-2019, 13.3.2.8)
+abbrev pub is_unicast : Header → Bool
+is_unicast header = slice_index header.flags 0 / 4 % 2 == 1
+
+-- when a Sync or a Follow_Up with this header came, and under which number and flag
+abbrev pub arrival_of : Header → (time : ℕ) → Arrival
+arrival_of header time = arrival header.sequence.0 (is_unicast header) time
+
+-- the master began its numbers anew, with this Sync: the port is told it again, and forgets all that it heard
+abbrev pub with_master_anew : Watched → (line : ℕ) → Arrival → Listening → Listening
+with_master_anew w line a l = record l {
+  calls = calls.SetMaster w.master ∷ l.calls;
+  heard = Sync a ∷ [];
+  responses = [];
+  begun = line;
+}
+
+-- a Sync is to be heard that the port refuses, since it isn't newer: where that says that the master began anew, the
+-- port hears it once more
+abbrev pub ready_refused : Judgement → Watched → (line : ℕ) → Call → Arrival → Listening → Listening
+ready_refused Newer w line call a l = record l { heard = Refused a.number ∷ l.heard }
+ready_refused Repeated w line call a l = l
+ready_refused BeganAnew w line call a l = with_master_anew w line a (told call l)
+
+-- a Sync is to be heard whose number says nothing, and which is known now
+abbrev pub ready_newer : Watched → (line : ℕ) → Call → Arrival → Listening → Listening
+ready_newer w line call a l =
+    if is_stale (answer_in w l call)
+    then ready_refused (judged_refused a table_capacity l.heard) w line call a l
+    else l
+
+-- the port that is to hear a Sync of the master, by what its number says; none hears a repeat
+abbrev pub ready_judged : Judgement → Watched → (line : ℕ) → Call → Arrival → Listening → Option Listening
+ready_judged Newer w line call a l = Some (ready_newer w line call a (record l { heard = Sync a ∷ l.heard }))
+ready_judged Repeated w line call a l = None
+ready_judged BeganAnew w line call a l = Some (with_master_anew w line a l)
+
+-- the port that is to hear a Sync; what isn't the master's is heard by the port as it is
+abbrev pub ready_sync : Watched → (line time : ℕ) → Contents → Listening → Option Listening
+ready_sync w line time m l =
+    if is_of w w.master m.header
+    then ready_judged (judged_sync (arrival_of m.header time) table_capacity l.heard) w line
+    (calls.Event (Ok m) time line) (arrival_of m.header time) l
+    else Some l
+
+-- the port that is to hear a Follow_Up of the master, by what its number says
+abbrev pub ready_followed : Judgement → Arrival → Listening → Option Listening
+ready_followed Newer a l = Some (record l { heard = FollowUp a ∷ l.heard })
+ready_followed Repeated a l = None
+ready_followed BeganAnew a l = None
+
+-- the port that is to hear a Follow_Up
+abbrev pub ready_follow_up : Watched → (time : ℕ) → Contents → Listening → Option Listening
+ready_follow_up w time m l =
+    if is_of w w.master m.header
+    then ready_followed (judged_follow_up (arrival_of m.header time) table_capacity l.heard) (arrival_of m.header time) l
+    else Some l
+
+-- the port that is to hear a Delay_Resp to this port
+abbrev pub ready_response : Watched → (time : ℕ) → Contents → (requesting : PortIdentity) → Listening → Option Listening
+ready_response w time m requesting l =
+    if not (is_of w w.master m.header && is_same_port requesting w.slave) then Some l
+    else if is_some (known table_capacity m.header.sequence.0 l.responses) then None
+    else Some (record l { responses = entry m.header.sequence.0 time ∷ l.responses })
+
+-- the port that is to hear a message
+abbrev pub ready : Watched → (line time : ℕ) → Contents → Body → Listening → Option Listening
+ready w line time m (bodies.Sync origin) l = ready_sync w line time m l
+ready w line time m (bodies.DelayReq origin) l = None
+ready w line time m (bodies.FollowUp precise) l = ready_follow_up w time m l
+ready w line time m (bodies.DelayResp receive requesting) l = ready_response w time m requesting l
+
+-- a port that is ready hears a message, and a Sync of the master counts
+abbrev pub hears_ready : (counts : Bool) → Call → Option Listening → Listening → Listening
+hears_ready counts call None l = l
+hears_ready true call (Some ready) l = with_count (told call ready)
+hears_ready false call (Some ready) l = told call ready
 
 -- so many requests under this tag
 abbrev pub draws : (count tag : ℕ) → List Call → List Call
@@ -105,9 +183,14 @@ asks w line time number l = record l {
   asked = true;
 }
 
--- the slave began anew: a new port, whose requests begin with this number; the Syncs stay counted
-abbrev pub anew : Watched → (number : ℕ) → Listening → Listening
-anew w number l = record l { first = number; calls = calls.SetMaster w.master ∷ [] }
+-- the slave began anew: a new port, whose requests begin with this number; what is known of the master stays
+abbrev pub anew : Watched → (line number : ℕ) → Listening → Listening
+anew w line number l = record l {
+  first = number;
+  calls = calls.SetMaster w.master ∷ [];
+  responses = [];
+  begun = line;
+}
 
 -- A Delay_Req of the slave: the first, or one that is 1 to 256 ahead of the last, is asked for; the last one's number
 -- again says nothing; any other says that the slave began anew.
@@ -116,15 +199,18 @@ hears_request w line time number l =
     if not l.asked || nat_lt (ahead number (next_number (setup_in w l) l.calls)) table_capacity
     then asks w line time number l
     else if ahead number (next_number (setup_in w l) l.calls) == 65535 then l
-    else asks w line time number (anew w number l)
+    else asks w line time number (anew w line number l)
 
 -- the port after a datagram: a Sync is heard at its time, a Follow_Up and a Delay_Resp without one, whoever sent them
 abbrev pub hears : Watched → (line time : ℕ) → Contents → Body → Listening → Listening
-hears w line time m (Sync origin) l = hears_sync w (is_of w w.master m.header) (calls.Event (Ok m) time line) l
-hears w line time m (DelayReq origin) l =
+hears w line time m (bodies.Sync origin) l =
+    hears_ready (is_of w w.master m.header) (calls.Event (Ok m) time line) (ready_sync w line time m l) l
+hears w line time m (bodies.DelayReq origin) l =
     if is_of w w.slave m.header then hears_request w line time m.header.sequence.0 l else l
-hears w line time m (FollowUp precise) l = told (calls.General (Ok m) line) l
-hears w line time m (DelayResp receive requesting) l = told (calls.General (Ok m) line) l
+hears w line time m (bodies.FollowUp precise) l =
+    hears_ready false (calls.General (Ok m) line) (ready_follow_up w time m l) l
+hears w line time m (bodies.DelayResp receive requesting) l =
+    hears_ready false (calls.General (Ok m) line) (ready_response w time m requesting l) l
 
 -- the same of any datagram
 abbrev pub hear : Watched → Recorded → Listening → Listening
@@ -137,23 +223,29 @@ after_all w (d ∷ earlier) = hear w d (after_all w earlier)
 
 -- the call that hears a message, where a slave's port hears such
 abbrev pub hearing : (line time : ℕ) → Contents → Body → Option Call
-hearing line time m (Sync origin) = Some (calls.Event (Ok m) time line)
-hearing line time m (DelayReq origin) = None
-hearing line time m (FollowUp precise) = Some (calls.General (Ok m) line)
-hearing line time m (DelayResp receive requesting) = Some (calls.General (Ok m) line)
-
--- the same of any datagram
-abbrev pub hearing_of : Recorded → Option Call
-hearing_of d = option_and_then (λ m. hearing d.line d.time m m.body) (result_ok d.said)
+hearing line time m (bodies.Sync origin) = Some (calls.Event (Ok m) time line)
+hearing line time m (bodies.DelayReq origin) = None
+hearing line time m (bodies.FollowUp precise) = Some (calls.General (Ok m) line)
+hearing line time m (bodies.DelayResp receive requesting) = Some (calls.General (Ok m) line)
 
 -- the report that an answer is
 abbrev pub report_in : Heard → Option Report
 report_in (answers.Report report) = Some report
 report_in _ = None
 
+-- what is answered to a message, by the port that is to hear it
+abbrev pub answered : Watched → (line time : ℕ) → Contents → Body → Listening → Option Heard
+answered w line time m body l = option_and_then
+    (λ call. option_map (λ l. answer_in w l call) (ready w line time m body l))
+    (hearing line time m body)
+
+-- the same of any datagram
+abbrev pub answered_to : Watched → Recorded → Listening → Option Heard
+answered_to w d l = option_and_then (λ m. answered w d.line d.time m m.body l) (result_ok d.said)
+
 -- the report that a datagram brings, after these
 abbrev pub report_at : Watched → List Recorded → Recorded → Option Report
-report_at w earlier d = option_and_then (λ call. report_in (answer_in w (after_all w earlier) call)) (hearing_of d)
+report_at w earlier d = option_and_then report_in (answered_to w d (after_all w earlier))
 
 -- all reports, newest first
 abbrev pub reports : Watched → List Recorded → List Report

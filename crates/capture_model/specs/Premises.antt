@@ -13,12 +13,12 @@ use Rattle.network_model.specs.Truth.{origin_heard}
 use Rattle.network_model.specs.Premises.{Limits, is_of_use}
 use Rattle.capture_model.specs.declared.watched.Watched.{Watched}
 use Rattle.capture_model.specs.Recorded.{Recorded}
-use Rattle.capture_model.specs.Listening.{Listening, after_all, hear, hearing_of, answer_in}
+use Rattle.capture_model.specs.Listening.{Listening, after_all, hear, answered_to}
 use Rattle.capture_model.specs.Told.{Tells, Nothing, Untold, Told, Other, AreNumbered}
 
 -- the port uses what a datagram says
 abbrev pub is_used : Watched → List Recorded → Recorded → Bool
-is_used w earlier d = option_map_or (λ call. is_of_use (answer_in w (after_all w earlier) call)) (hearing_of d) false
+is_used w earlier d = option_map_or is_of_use (answered_to w d (after_all w earlier)) false
 
 -- where the port uses a message that is told, fewer numbers than this are later than its own in its sequence
 abbrev pub IsFresh : {network : Network} {slave : NodeName} {run : Run} {ds : List Recorded} → (late : ℕ) → Watched
@@ -31,16 +31,17 @@ IsFresh late w (Told event earlier m d ds made said timed tells) =
     × IsFresh late w tells
 IsFresh late w (Other run d ds nothing tells) = IsFresh late w tells
 
--- a call that is a tick
+-- a call that is a tick, or that tells the port its master, after which nothing is held that came before
 abbrev pub is_tick : Call → Bool
 is_tick calls.Tick = true
+is_tick (calls.SetMaster master) = true
 is_tick _ = false
 
--- how many ticks the port was given
+-- how many of these the port was given
 abbrev pub ticks_in : Listening → ℕ
 ticks_in l = count_by is_tick l.calls
 
--- after a datagram the port was given another number of ticks: more, or fewer where it is a new port
+-- after a datagram the port was given another number of these: more, or fewer where it is a new port
 abbrev pub brings_tick : Watched → List Recorded → Recorded → Bool
 brings_tick w earlier d = not (ticks_in (hear w d (after_all w earlier)) == ticks_in (after_all w earlier))
 

@@ -2,6 +2,7 @@
 //! proof calls it.
 
 ghost use Rattle.capture_model.specs.Exact.{EachReportIsExact};
+ghost use Rattle.capture_model.specs.Lives.{NoReportMixesLives};
 
 /// What a port reports that listens to a recording at a slave is exact: of one Sync of the master and of one
 /// Delay_Req to it, those that its lines tell, and twice the standard's two results for them, without any
@@ -10,4 +11,11 @@ ghost use Rattle.capture_model.specs.Exact.{EachReportIsExact};
 /// Delay_Reqs are missing in a row.
 pub fn each_report_is_exact()
     ensures { EachReportIsExact }
+{}
+
+/// No report of a port that listens to a recording rests on a line from before its last beginning: each line that
+/// a report names is that at which the slave or the master was told to have begun anew, or one behind it. This
+/// holds of whatever is recorded, in lines with growing numbers.
+pub fn no_report_mixes_lives()
+    ensures { NoReportMixesLives }
 {}

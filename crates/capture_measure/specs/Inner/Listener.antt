@@ -1,16 +1,23 @@
 -- What a listener keeps, and what it makes of a message.
-use Rattle.std.specs.Prelude.{◌≡◌, ◌<◌, ℕ, ◌||◌, not, nat_lt, ◌==◌, if◌then◌else◌, Option, Some, None}
+use Rattle.std.specs.Prelude.{◌≡◌, ◌<◌, ℕ, ◌||◌, not, nat_lt, ◌==◌, [], ◌∷◌, if◌then◌else◌, Option, Some, None}
+use Rattle.std.specs.Prelude.{option_map, option_and_then}
 use Rattle.ptp_units.specs.Sequence.{ahead}
 use Rattle.event_codec.specs.declared.message.Header.{Header}
 use Rattle.event_codec.specs.Packet.{Contents}
+use Rattle.sync_watch.specs.declared.judgement.Judgement.{Judgement}
+use Rattle.sync_watch.specs.Told.{Arrival}
+use Rattle.sync_watch.specs.Judged.{after_sync, after_follow_up, after_refused, after_response}
+use Rattle.sync_watch.specs.StandsFor as watches
+use Rattle.slave_port.specs.declared.heard.Heard.{Heard}
 use Rattle.slave_port.specs.declared.heard.Report.{Report}
-use Rattle.slave_port.specs.History.{Call, next_number}
+use Rattle.slave_port.specs.History.{Call, SetMaster, next_number}
 use Rattle.slave_port.specs.StandsFor.{StandsFor}
 use Rattle.capture_model.specs.declared.watched.Watched.{Watched}
-use Rattle.capture_model.specs.Listening.{Listening, setup_in, table_capacity, ticks_every, stale_most, is_of, hearing}
-use Rattle.capture_model.specs.Listening.{answer_in, report_in}
+use Rattle.capture_model.specs.Listening.{Listening, setup_in, table_capacity, ticks_every, is_of, answer_in, answered}
+use Rattle.capture_model.specs.Listening.{report_in}
 use Rattle.capture_measure.specs.declared.listener.Became.{Became}
-use Rattle.capture_measure.specs.declared.listener.Became.TheVariants.{Heard, Asked, Repeated, Anew, Foreign}
+use Rattle.capture_measure.specs.declared.listener.Became.TheVariants as fates
+use Rattle.capture_measure.specs.declared.listener.Became.TheVariants.{Asked, Repeated, Anew, Foreign}
 use Rattle.capture_measure.specs.declared.listener.Listener.{Listener}
 
 -- the listener's port stands for these calls, and its counts are those of the definition
@@ -21,8 +28,8 @@ pub record IsListener (w : Watched) (listener : Listener) (l : Listening) : Type
   pub asked : listener.asked ≡ l.asked
   pub syncs : listener.syncs ≡ l.syncs
   pub few_syncs : l.syncs < ticks_every
-  pub stale : listener.stale ≡ l.stale
-  pub few_stale : l.stale < stale_most
+  pub heard : watches.StandsFor table_capacity listener.heard l.heard
+  pub responses : watches.StandsForResponses table_capacity listener.responses l.responses
 
 -- whatever a listener stood for, after this change it stands for what the definition makes of it
 abbrev pub Listens : (Watched → Listening → Listening) → (old new : Listener) → Type 0
@@ -45,16 +52,44 @@ abbrev pub became_request : Header → Watched → Listening → Became
 became_request header w l =
     if is_of w w.slave header then became_own_request header.sequence.0 w l else Foreign
 
--- what becomes of a message that the port hears by this call, or that is a Delay_Req
-abbrev pub became_by : Option Call → Header → Watched → Listening → Became
-became_by (Some call) header w l = Heard (answer_in w l call)
-became_by None header w l = became_request header w l
+-- whatever a listener stands for, this is what a number says
+abbrev pub Says : (Listening → Judgement) → Listener → Judgement → Type 0
+Says judged listener result = (w : Watched) (l : Listening) → IsListener w listener l → result ≡ judged l
 
--- what becomes of a message
-abbrev pub became : (line time : ℕ) → Contents → Watched → Listening → Became
-became line time m w l = became_by (hearing line time m m.body) m.header w l
+-- what was heard, with a Sync or a Follow_Up or a refusal or a Delay_Resp more, unless it came before
+abbrev pub with_sync : Arrival → Listening → Listening
+with_sync a l = record l { heard = after_sync a table_capacity l.heard }
+
+abbrev pub with_follow_up : Arrival → Listening → Listening
+with_follow_up a l = record l { heard = after_follow_up a table_capacity l.heard }
+
+abbrev pub with_refused : Arrival → Listening → Listening
+with_refused a l = record l { heard = after_refused a table_capacity l.heard }
+
+abbrev pub with_response : (number time : ℕ) → Listening → Listening
+with_response number time l = record l { responses = after_response table_capacity number time l.responses }
+
+-- the port is told its master again
+abbrev pub told_again : Watched → (line : ℕ) → Listening → Listening
+told_again w line l = record l { calls = SetMaster w.master ∷ l.calls; responses = []; begun = line }
+
+-- the answer to a message that the port heard
+abbrev pub heard_by : Became → Option Heard
+heard_by (fates.Heard heard) = Some heard
+heard_by (fates.HeardAnew heard) = Some heard
+heard_by _ = None
 
 -- the report in it
 abbrev pub report_by : Became → Option Report
-report_by (Heard heard) = report_in heard
-report_by _ = None
+report_by became = option_and_then report_in (heard_by became)
+
+-- whatever a listener stands for, this is the answer to a call, of the port that is to hear it
+abbrev pub Answers : Call → (Watched → Listening → Option Listening) → Listener → Became → Type 0
+Answers call ready listener result =
+    (w : Watched) (l : Listening) → IsListener w listener l
+    → heard_by result ≡ option_map (λ l. answer_in w l call) (ready w l)
+
+-- whatever a listener stands for, this is answered to a message
+abbrev pub IsAnswered : (line time : ℕ) → Contents → Listener → Became → Type 0
+IsAnswered line time m listener result =
+    (w : Watched) (l : Listening) → IsListener w listener l → heard_by result ≡ answered w line time m m.body l

@@ -29,6 +29,6 @@ returns c = λ w l is.
       asked = refl;
       syncs = is.syncs;
       few_syncs = is.few_syncs;
-      stale = is.stale;
-      few_stale = is.few_stale;
+      heard = is.heard;
+      responses = is.responses;
     }

@@ -1,44 +1,81 @@
-use Rattle.std.proofs.Common.{◌≡◌, ◌∙◌, Bool, true, false, Ok, refl, sym, subst}
-use Rattle.event_codec.specs.Packet.{contents}
-use Rattle.slave_port.specs.declared.heard.Heard.{Heard}
-use Rattle.slave_port.specs.History.{Call, Event}
+use Rattle.std.proofs.Common.{◌≡◌, ◌∙◌, ℕ, Bool, true, false, Option, Some, None, Ok, refl, sym, ap, subst, option_map}
+use Rattle.event_codec.specs.Packet.{Contents, contents}
+use Rattle.pairing.specs.Marked.{entry}
+use Rattle.sync_watch.specs.declared.judgement.Judgement.TheVariants.{Newer, Repeated, BeganAnew}
+use Rattle.sync_watch.specs.Told.{Arrival, Sync, FollowUp, known}
+use Rattle.sync_watch.specs.Judged.{judged_sync, judged_refused, is_repeated}
+use Rattle.slave_port.specs.History.{Call, Event, General}
 use Rattle.capture_model.specs.declared.watched.Watched.{Watched}
-use Rattle.capture_model.specs.Listening.{setup_in, is_of, is_stale, told, with_row, with_count, hears_sync}
+use Rattle.capture_model.specs.Listening.{Listening, setup_in, table_capacity, is_of, is_stale, arrival_of, told}
+use Rattle.capture_model.specs.Listening.{with_count, answer_in, hears_ready}
 use Rattle.capture_measure.specs.Inner.Listener.{IsListener}
 use Rattle.capture_measure.proofs.Listeners.{IsListener-told}
+use Rattle.capture_measure.proofs.Judged.{sync-other, sync-other-answer, sync-judged, sync-judged-answer, with_sync-judged, sync-anew}
 use Rattle.capture_measure.proofs.listener.Listener.hear_sync.Goals as goal
 
-pub returns-then-is_of-clause-answer : goal.returns-then-is_of-clause-answer
-returns-then-is_of-clause-answer c = λ w l is.
-    c.sync-heard.ensures.answer (Ok (contents c.args.message.now)) c.requires (setup_in w l) l.calls is.port
+pub returns-then-not-is_of-clause-listens : goal.returns-then-not-is_of-clause-listens
+returns-then-not-is_of-clause-listens c = λ w l is.
+    let m : Contents = contents c.args.message.now in
+    let call : Call = Event (Ok m) c.args.time c.args.line in
+    let other : is_of w w.master m.header ≡ false =
+    subst (λ (v : Watched). is_of v v.master m.header ≡ false) is.watched (sym c.is_of.ensures ∙ c.if-not-is_of.true) in
+    let stood = c.sync.ensures.stands (Ok m) c.requires (setup_in w l) l.calls is.port in
+    subst (IsListener w (record c.args.self.now { port = c.sync.new.self }))
+    (sym (sync-other w c.args.line c.args.time m l other))
+    (IsListener-told w c.args.self.now l call c.sync.new.self refl stood is)
 
-pub returns-else-is_of-clause-answer : goal.returns-else-is_of-clause-answer
-returns-else-is_of-clause-answer c = λ w l is.
-    c.sync-heard.ensures.answer (Ok (contents c.args.message.now)) c.requires (setup_in w l) l.calls is.port
+pub returns-then-not-is_of-clause-answered : goal.returns-then-not-is_of-clause-answered
+returns-then-not-is_of-clause-answered c = λ w l is.
+    let m : Contents = contents c.args.message.now in
+    let call : Call = Event (Ok m) c.args.time c.args.line in
+    let other : is_of w w.master m.header ≡ false =
+    subst (λ (v : Watched). is_of v v.master m.header ≡ false) is.watched (sym c.is_of.ensures ∙ c.if-not-is_of.true) in
+    ap Some (c.sync.ensures.answer (Ok m) c.requires (setup_in w l) l.calls is.port)
+    ∙ sym (sync-other-answer w c.args.line c.args.time m l other)
 
-pub returns-then-is_of-clause-listens : goal.returns-then-is_of-clause-listens
-returns-then-is_of-clause-listens c = λ w l is.
-    let said = Ok (contents c.args.message.now) in
-    let call : Call = Event said c.args.time c.args.line in
-    let of_master : is_of w w.master c.args.message.now.header ≡ true =
-    subst (λ (v : Watched). is_of v v.master c.args.message.now.header ≡ true) is.watched
-    (sym c.is_of.ensures ∙ c.if-is_of.true) in
-    let stood = c.sync-heard.ensures.stands said c.requires (setup_in w l) l.calls is.port in
-    let heard = IsListener-told w c.args.self.now l call c.sync-heard.new.self refl stood is in
-    let counted = c.count_sync.ensures w _ (c.count_stale.ensures w (told call l) heard) in
-    subst (λ (b : Bool). IsListener w c.count_sync.new.self (hears_sync w b call l)) (sym of_master)
-    (subst (λ (answer : Heard).
-    IsListener w c.count_sync.new.self (with_count (with_row (is_stale answer) (told call l))))
-    (c.sync-heard.ensures.answer said c.requires (setup_in w l) l.calls is.port) counted)
+pub returns-in-Newer-clause-listens : goal.returns-in-Newer-clause-listens
+returns-in-Newer-clause-listens c = λ w l is.
+    let m : Contents = contents c.args.message.now in
+    let call : Call = Event (Ok m) c.args.time c.args.line in
+    let of : is_of w w.master m.header ≡ true =
+    subst (λ (v : Watched). is_of v v.master m.header ≡ true) is.watched (sym c.is_of.ensures ∙ c.if-not-is_of.false) in
+    let says = sym (c.judge_sync.ensures.judgement w l is) ∙ c.in-Newer.is in
+    let known_now = subst (IsListener w c.judge_sync.new.self)
+    (with_sync-judged w c.args.line c.args.time m l Newer says) (c.judge_sync.ensures.listens w l is) in
+    subst (IsListener w c.hear_newer.new.self) (sym (sync-judged w c.args.line c.args.time m l Newer of says))
+    (c.hear_newer.ensures.listens w _ known_now)
 
-pub returns-else-is_of-clause-listens : goal.returns-else-is_of-clause-listens
-returns-else-is_of-clause-listens c = λ w l is.
-    let said = Ok (contents c.args.message.now) in
-    let call : Call = Event said c.args.time c.args.line in
-    let of_another : is_of w w.master c.args.message.now.header ≡ false =
-    subst (λ (v : Watched). is_of v v.master c.args.message.now.header ≡ false) is.watched
-    (sym c.is_of.ensures ∙ c.if-is_of.false) in
-    let stood = c.sync-heard.ensures.stands said c.requires (setup_in w l) l.calls is.port in
-    let heard = IsListener-told w c.args.self.now l call c.sync-heard.new.self refl stood is in
-    subst (λ (b : Bool). IsListener w (record c.args.self.now { port = c.sync-heard.new.self }) (hears_sync w b call l))
-    (sym of_another) heard
+pub returns-in-Repeated-clause-listens : goal.returns-in-Repeated-clause-listens
+returns-in-Repeated-clause-listens c = λ w l is.
+    let m : Contents = contents c.args.message.now in
+    let call : Call = Event (Ok m) c.args.time c.args.line in
+    let of : is_of w w.master m.header ≡ true =
+    subst (λ (v : Watched). is_of v v.master m.header ≡ true) is.watched (sym c.is_of.ensures ∙ c.if-not-is_of.false) in
+    let says = sym (c.judge_sync.ensures.judgement w l is) ∙ c.in-Repeated.is in
+    subst (IsListener w c.judge_sync.new.self)
+    (with_sync-judged w c.args.line c.args.time m l Repeated says
+    ∙ sym (sync-judged w c.args.line c.args.time m l Repeated of says)) (c.judge_sync.ensures.listens w l is)
+
+pub returns-in-BeganAnew-clause-listens : goal.returns-in-BeganAnew-clause-listens
+returns-in-BeganAnew-clause-listens c = λ w l is.
+    let m : Contents = contents c.args.message.now in
+    let call : Call = Event (Ok m) c.args.time c.args.line in
+    let of : is_of w w.master m.header ≡ true =
+    subst (λ (v : Watched). is_of v v.master m.header ≡ true) is.watched (sym c.is_of.ensures ∙ c.if-not-is_of.false) in
+    let says = sym (c.judge_sync.ensures.judgement w l is) ∙ c.in-BeganAnew.is in
+    let known_now = subst (IsListener w c.tell_master.new.self) (sync-anew w c.args.line c.args.time m l says)
+    (c.tell_master.ensures c.args.line w _ (c.judge_sync.ensures.listens w l is)) in
+    subst (IsListener w c.hear_counted.new.self) (sym (sync-judged w c.args.line c.args.time m l BeganAnew of says))
+    (c.hear_counted.ensures.listens w _ known_now)
+
+pub returns-in-BeganAnew-clause-answered : goal.returns-in-BeganAnew-clause-answered
+returns-in-BeganAnew-clause-answered c = λ w l is.
+    let m : Contents = contents c.args.message.now in
+    let call : Call = Event (Ok m) c.args.time c.args.line in
+    let of : is_of w w.master m.header ≡ true =
+    subst (λ (v : Watched). is_of v v.master m.header ≡ true) is.watched (sym c.is_of.ensures ∙ c.if-not-is_of.false) in
+    let says = sym (c.judge_sync.ensures.judgement w l is) ∙ c.in-BeganAnew.is in
+    let known_now = subst (IsListener w c.tell_master.new.self) (sync-anew w c.args.line c.args.time m l says)
+    (c.tell_master.ensures c.args.line w _ (c.judge_sync.ensures.listens w l is)) in
+    ap Some (c.hear_counted.ensures.answer w _ known_now)
+    ∙ sym (sync-judged-answer w c.args.line c.args.time m l BeganAnew of says)

@@ -12,7 +12,7 @@ use Rattle.capture_measure.proofs.listener.Listener.request.Goals as goal
 hears_request-anew : (w : Watched) (line time number : ℕ) (l : Listening) (listener : Listener) → l.asked ≡ true
     → nat_lt (ahead number (next_number (setup_in w l) l.calls)) 256 ≡ false
     → (ahead number (next_number (setup_in w l) l.calls) == 65535) ≡ false
-    → IsListener w listener (asks w line time number (anew w number l))
+    → IsListener w listener (asks w line time number (anew w line number l))
     → IsListener w listener (hears_request w line time number l)
 hears_request-anew w line time number l listener asked far other stood = rw (asked, far, other) stood
 
@@ -25,4 +25,4 @@ returns-clause-listens c = λ w l is.
     hears_request-anew w c.args.line c.args.time c.args.number.0 l c.ask-2.new.self (search arith)
     (le-ltb _ 256 far)
     (ne_eqb _ 65535 (λ same. c.if-ahead.false (there ∙ same)))
-    (c.ask-2.ensures w (anew w c.args.number.0 l) (c.begin_anew.ensures w l is))
+    (c.ask-2.ensures w (anew w c.args.line c.args.number.0 l) (c.begin_anew.ensures c.args.line w l is))

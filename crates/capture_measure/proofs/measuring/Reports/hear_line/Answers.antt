@@ -25,7 +25,7 @@ returns-in_default-clause-heard g c = λ watched earlier row of listens.
     let l : Listening = after_all watched (datagrams earlier) in
     let said = of.said ∙ ap reading_of c.in-Ok.is in
     let reported = row_reports watched earlier row m read.number read.timed.time said of.numbered of.moment
-    c.hear-became.result (c.hear-became.ensures.became watched l listens)
+    c.hear-became.result (c.hear-became.ensures.answered watched l listens)
     ∙ sym c.report_in.ensures ∙ c.in_default.is in (
       subst (IsListener watched c.hear-became.new.self)
           (sym (row_heard watched earlier row m read.number read.timed.time said of.numbered of.moment))
@@ -54,7 +54,7 @@ returns-clause-heard g c = λ watched earlier row of listens.
     let l : Listening = after_all watched (datagrams earlier) in
     let said = of.said ∙ ap reading_of c.in-Ok.is in
     let reported = row_reports watched earlier row m read.number read.timed.time said of.numbered of.moment
-    c.hear-became.result (c.hear-became.ensures.became watched l listens)
+    c.hear-became.result (c.hear-became.ensures.answered watched l listens)
     ∙ sym c.report_in.ensures ∙ c.in-Some.is in (
       on_ok c.write.result (subst (IsListener watched c.hear-became.new.self)
           (sym (row_heard watched earlier row m read.number read.timed.time said of.numbered of.moment))

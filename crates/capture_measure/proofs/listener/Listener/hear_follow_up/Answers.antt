@@ -1,0 +1,94 @@
+use Rattle.std.proofs.Common.{◌≡◌, ◌∙◌, ◌∷◌, ℕ, Bool, true, false, Option, Some, None, Ok, refl, sym, ap, subst, option_map}
+use Rattle.event_codec.specs.Packet.{Contents, contents}
+use Rattle.pairing.specs.Marked.{entry}
+use Rattle.sync_watch.specs.declared.judgement.Judgement.TheVariants.{Newer, Repeated, BeganAnew}
+use Rattle.sync_watch.specs.Told.{Arrival, Sync, FollowUp, known}
+use Rattle.sync_watch.specs.Judged.{judged_sync, judged_refused, is_repeated}
+use Rattle.slave_port.specs.History.{Call, Event, General}
+use Rattle.capture_model.specs.declared.watched.Watched.{Watched}
+use Rattle.capture_model.specs.Listening.{Listening, setup_in, table_capacity, is_of, is_stale, arrival_of, told}
+use Rattle.capture_model.specs.Listening.{with_count, answer_in, hears_ready}
+use Rattle.capture_measure.specs.Inner.Listener.{IsListener}
+use Rattle.capture_measure.proofs.Listeners.{IsListener-told}
+use Rattle.capture_measure.proofs.Judged.{follow_up-other, follow_up-judged, says-newer, says-repeated}
+use Rattle.capture_measure.proofs.listener.Listener.hear_follow_up.Goals as goal
+
+pub returns-then-not-is_of-clause-listens : goal.returns-then-not-is_of-clause-listens
+returns-then-not-is_of-clause-listens c = λ w l is.
+    let m : Contents = contents c.args.message.now in
+    let call : Call = General (Ok m) c.args.line in
+    let other : is_of w w.master m.header ≡ false =
+    subst (λ (v : Watched). is_of v v.master m.header ≡ false) is.watched (sym c.is_of.ensures ∙ c.if-not-is_of.true) in
+    let stood = c.general.ensures.stands (Ok m) c.requires (setup_in w l) l.calls is.port in
+    let heard = IsListener-told w c.args.self.now l call c.general.new.self refl stood is in
+    subst (λ (r : Option Listening).
+    IsListener w (record c.args.self.now { port = c.general.new.self }) (hears_ready false call r l))
+    (sym (follow_up-other w c.args.line c.args.time m l other)) heard
+
+pub returns-then-not-is_of-clause-answered : goal.returns-then-not-is_of-clause-answered
+returns-then-not-is_of-clause-answered c = λ w l is.
+    let m : Contents = contents c.args.message.now in
+    let call : Call = General (Ok m) c.args.line in
+    let other : is_of w w.master m.header ≡ false =
+    subst (λ (v : Watched). is_of v v.master m.header ≡ false) is.watched (sym c.is_of.ensures ∙ c.if-not-is_of.true) in
+    ap Some (c.general.ensures.answer (Ok m) c.requires (setup_in w l) l.calls is.port)
+    ∙ ap (option_map (λ l. answer_in w l call)) (sym (follow_up-other w c.args.line c.args.time m l other))
+
+pub returns-in-Newer-clause-listens : goal.returns-in-Newer-clause-listens
+returns-in-Newer-clause-listens c = λ w l is.
+    let m : Contents = contents c.args.message.now in
+    let call : Call = General (Ok m) c.args.line in
+    let of : is_of w w.master m.header ≡ true =
+    subst (λ (v : Watched). is_of v v.master m.header ≡ true) is.watched (sym c.is_of.ensures ∙ c.if-not-is_of.false) in
+    let says = c.judge_follow_up.ensures.judgement w l is in
+    let a : Arrival = arrival_of m.header c.args.time in
+    let again = says-newer (is_repeated a table_capacity l.heard) c.judge_follow_up.result says c.in-Newer.is in
+    let one = follow_up-judged w c.args.line c.args.time m l false of again in
+    let k : Listening = record l { heard = FollowUp a ∷ l.heard } in
+    let now = subst (IsListener w c.judge_follow_up.new.self) one.known_is (c.judge_follow_up.ensures.listens w l is) in
+    let stood = c.general-in-Newer.ensures.stands (Ok m) c.requires (setup_in w k) k.calls now.port in
+    let heard = IsListener-told w c.judge_follow_up.new.self k call c.general-in-Newer.new.self refl stood now in
+    subst (λ (r : Option Listening).
+    IsListener w (record c.judge_follow_up.new.self { port = c.general-in-Newer.new.self }) (hears_ready false call r l))
+    (sym one.ready_is) heard
+
+pub returns-in-Newer-clause-answered : goal.returns-in-Newer-clause-answered
+returns-in-Newer-clause-answered c = λ w l is.
+    let m : Contents = contents c.args.message.now in
+    let call : Call = General (Ok m) c.args.line in
+    let of : is_of w w.master m.header ≡ true =
+    subst (λ (v : Watched). is_of v v.master m.header ≡ true) is.watched (sym c.is_of.ensures ∙ c.if-not-is_of.false) in
+    let says = c.judge_follow_up.ensures.judgement w l is in
+    let a : Arrival = arrival_of m.header c.args.time in
+    let again = says-newer (is_repeated a table_capacity l.heard) c.judge_follow_up.result says c.in-Newer.is in
+    let one = follow_up-judged w c.args.line c.args.time m l false of again in
+    let k : Listening = record l { heard = FollowUp a ∷ l.heard } in
+    let now = subst (IsListener w c.judge_follow_up.new.self) one.known_is (c.judge_follow_up.ensures.listens w l is) in
+    ap Some (c.general-in-Newer.ensures.answer (Ok m) c.requires (setup_in w k) k.calls now.port)
+    ∙ ap (option_map (λ l. answer_in w l call)) (sym one.ready_is)
+
+pub returns-in-Repeated : goal.returns-in-Repeated
+returns-in-Repeated c = record {
+  listens = λ w l is.
+      let m : Contents = contents c.args.message.now in
+      let call : Call = General (Ok m) c.args.line in
+      let of : is_of w w.master m.header ≡ true =
+      subst (λ (v : Watched). is_of v v.master m.header ≡ true) is.watched (sym c.is_of.ensures ∙ c.if-not-is_of.false) in
+      let says = c.judge_follow_up.ensures.judgement w l is in
+      let a : Arrival = arrival_of m.header c.args.time in
+      let again = says-repeated (is_repeated a table_capacity l.heard) c.judge_follow_up.result says c.in-Repeated.is in
+      let one = follow_up-judged w c.args.line c.args.time m l true of again in
+      subst (λ (r : Option Listening). IsListener w c.judge_follow_up.new.self (hears_ready false call r l))
+      (sym one.ready_is)
+      (subst (IsListener w c.judge_follow_up.new.self) one.known_is (c.judge_follow_up.ensures.listens w l is));
+  answered = λ w l is.
+      let m : Contents = contents c.args.message.now in
+      let call : Call = General (Ok m) c.args.line in
+      let of : is_of w w.master m.header ≡ true =
+      subst (λ (v : Watched). is_of v v.master m.header ≡ true) is.watched (sym c.is_of.ensures ∙ c.if-not-is_of.false) in
+      let says = c.judge_follow_up.ensures.judgement w l is in
+      let a : Arrival = arrival_of m.header c.args.time in
+      let again = says-repeated (is_repeated a table_capacity l.heard) c.judge_follow_up.result says c.in-Repeated.is in
+      let one = follow_up-judged w c.args.line c.args.time m l true of again in
+      ap (option_map (λ l. answer_in w l call)) (sym one.ready_is);
+}

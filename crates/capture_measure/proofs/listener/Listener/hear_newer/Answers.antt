@@ -1,0 +1,99 @@
+use Rattle.std.proofs.Common.{◌≡◌, ◌∙◌, ℕ, Bool, true, false, Option, Some, None, Ok, refl, sym, ap, subst, option_map}
+use Rattle.event_codec.specs.Packet.{Contents, contents}
+use Rattle.pairing.specs.Marked.{entry}
+use Rattle.sync_watch.specs.declared.judgement.Judgement.TheVariants.{Newer, Repeated, BeganAnew}
+use Rattle.sync_watch.specs.Told.{Arrival, Sync, FollowUp, known}
+use Rattle.sync_watch.specs.Judged.{judged_sync, judged_refused, is_repeated}
+use Rattle.slave_port.specs.History.{Call, Event, General}
+use Rattle.capture_model.specs.declared.watched.Watched.{Watched}
+use Rattle.capture_model.specs.Listening.{Listening, setup_in, table_capacity, is_of, is_stale, arrival_of, told}
+use Rattle.capture_model.specs.Listening.{with_count, answer_in, hears_ready}
+use Rattle.capture_measure.specs.Inner.Listener.{IsListener}
+use Rattle.capture_measure.proofs.Listeners.{IsListener-told}
+use Rattle.capture_measure.proofs.Judged.{newer-other, refused-told, refused-answer, refused-anew, IsNoBeginning}
+use Rattle.capture_measure.proofs.listener.Listener.hear_newer.Goals as goal
+
+pub returns-then-not-is_stale-clause-listens : goal.returns-then-not-is_stale-clause-listens
+returns-then-not-is_stale-clause-listens c = λ w l is.
+    let m : Contents = contents c.args.message.now in
+    let call : Call = Event (Ok m) c.args.time c.args.line in
+    let a : Arrival = arrival_of m.header c.args.time in
+    let stood = c.sync-heard.ensures.stands (Ok m) c.requires (setup_in w l) l.calls is.port in
+    let heard = IsListener-told w c.args.self.now l call c.sync-heard.new.self refl stood is in
+    let answer = c.sync-heard.ensures.answer (Ok m) c.requires (setup_in w l) l.calls is.port in
+    let other : is_stale (answer_in w l call) ≡ false =
+    sym (ap is_stale answer) ∙ sym c.is_stale.ensures ∙ c.if-not-is_stale.true in
+    subst (λ (k : Listening). IsListener w c.count_sync.new.self (with_count (told call k)))
+    (sym (newer-other w c.args.line call a l other)) (c.count_sync.ensures w (told call l) heard)
+
+pub returns-then-not-is_stale-clause-answered : goal.returns-then-not-is_stale-clause-answered
+returns-then-not-is_stale-clause-answered c = λ w l is.
+    let m : Contents = contents c.args.message.now in
+    let call : Call = Event (Ok m) c.args.time c.args.line in
+    let a : Arrival = arrival_of m.header c.args.time in
+    let stood = c.sync-heard.ensures.stands (Ok m) c.requires (setup_in w l) l.calls is.port in
+    let heard = IsListener-told w c.args.self.now l call c.sync-heard.new.self refl stood is in
+    let answer = c.sync-heard.ensures.answer (Ok m) c.requires (setup_in w l) l.calls is.port in
+    let other : is_stale (answer_in w l call) ≡ false =
+    sym (ap is_stale answer) ∙ sym c.is_stale.ensures ∙ c.if-not-is_stale.true in
+    ap Some (answer ∙ ap (λ (k : Listening). answer_in w k call) (sym (newer-other w c.args.line call a l other)))
+
+pub returns-in-BeganAnew-clause-listens : goal.returns-in-BeganAnew-clause-listens
+returns-in-BeganAnew-clause-listens c = λ w l is.
+    let m : Contents = contents c.args.message.now in
+    let call : Call = Event (Ok m) c.args.time c.args.line in
+    let a : Arrival = arrival_of m.header c.args.time in
+    let stood = c.sync-heard.ensures.stands (Ok m) c.requires (setup_in w l) l.calls is.port in
+    let heard = IsListener-told w c.args.self.now l call c.sync-heard.new.self refl stood is in
+    let answer = c.sync-heard.ensures.answer (Ok m) c.requires (setup_in w l) l.calls is.port in
+    let stale : is_stale (answer_in w l call) ≡ true =
+    sym (ap is_stale answer) ∙ sym c.is_stale.ensures ∙ c.if-not-is_stale.false in
+    let anew = sym (c.judge_refused.ensures.judgement w (told call l) heard) ∙ c.in-BeganAnew.is in
+    let again = c.tell_master.ensures c.args.line w _ (c.judge_refused.ensures.listens w (told call l) heard) in
+    subst (λ (k : Listening). IsListener w c.hear_counted.new.self (with_count (told call k)))
+    (refused-anew w c.args.line call a l stale anew) (c.hear_counted.ensures.listens w _ again)
+
+pub returns-in-BeganAnew-clause-answered : goal.returns-in-BeganAnew-clause-answered
+returns-in-BeganAnew-clause-answered c = λ w l is.
+    let m : Contents = contents c.args.message.now in
+    let call : Call = Event (Ok m) c.args.time c.args.line in
+    let a : Arrival = arrival_of m.header c.args.time in
+    let stood = c.sync-heard.ensures.stands (Ok m) c.requires (setup_in w l) l.calls is.port in
+    let heard = IsListener-told w c.args.self.now l call c.sync-heard.new.self refl stood is in
+    let answer = c.sync-heard.ensures.answer (Ok m) c.requires (setup_in w l) l.calls is.port in
+    let stale : is_stale (answer_in w l call) ≡ true =
+    sym (ap is_stale answer) ∙ sym c.is_stale.ensures ∙ c.if-not-is_stale.false in
+    let anew = sym (c.judge_refused.ensures.judgement w (told call l) heard) ∙ c.in-BeganAnew.is in
+    let again = c.tell_master.ensures c.args.line w _ (c.judge_refused.ensures.listens w (told call l) heard) in
+    ap Some (c.hear_counted.ensures.answer w _ again
+    ∙ ap (λ (k : Listening). answer_in w k call) (refused-anew w c.args.line call a l stale anew))
+
+pub returns-in-Newer : goal.returns-in-Newer
+returns-in-Newer c = record {
+  listens = λ w l is.
+      let m : Contents = contents c.args.message.now in
+      let call : Call = Event (Ok m) c.args.time c.args.line in
+      let a : Arrival = arrival_of m.header c.args.time in
+      let stood = c.sync-heard.ensures.stands (Ok m) c.requires (setup_in w l) l.calls is.port in
+      let heard = IsListener-told w c.args.self.now l call c.sync-heard.new.self refl stood is in
+      let answer = c.sync-heard.ensures.answer (Ok m) c.requires (setup_in w l) l.calls is.port in
+      let stale : is_stale (answer_in w l call) ≡ true =
+      sym (ap is_stale answer) ∙ sym c.is_stale.ensures ∙ c.if-not-is_stale.false in
+      let judged = c.judge_refused.ensures.judgement w (told call l) heard in
+      let started : IsNoBeginning (judged_refused a table_capacity l.heard) = subst IsNoBeginning judged c.in-Newer.is in
+      subst (λ (k : Listening). IsListener w c.count_sync-in-Newer.new.self (with_count k))
+      (refused-told w c.args.line call a l stale started)
+      (c.count_sync-in-Newer.ensures w _ (c.judge_refused.ensures.listens w (told call l) heard));
+  answered = λ w l is.
+      let m : Contents = contents c.args.message.now in
+      let call : Call = Event (Ok m) c.args.time c.args.line in
+      let a : Arrival = arrival_of m.header c.args.time in
+      let stood = c.sync-heard.ensures.stands (Ok m) c.requires (setup_in w l) l.calls is.port in
+      let heard = IsListener-told w c.args.self.now l call c.sync-heard.new.self refl stood is in
+      let answer = c.sync-heard.ensures.answer (Ok m) c.requires (setup_in w l) l.calls is.port in
+      let stale : is_stale (answer_in w l call) ≡ true =
+      sym (ap is_stale answer) ∙ sym c.is_stale.ensures ∙ c.if-not-is_stale.false in
+      let judged = c.judge_refused.ensures.judgement w (told call l) heard in
+      let started : IsNoBeginning (judged_refused a table_capacity l.heard) = subst IsNoBeginning judged c.in-Newer.is in
+      ap Some (answer ∙ refused-answer w c.args.line call a l stale started);
+}
