@@ -56,29 +56,16 @@ static void print(const char *what, const struct ptpx_identity *identity)
     fprintf(stderr, "/%d\n", identity->port);
 }
 
-/* The portIdentity of who sent this. */
-static struct ptpx_identity source_of(const struct arrival *it)
-{
-    struct ptpx_identity source = {{0}, (uint16_t)(it->octets[28] << 8 | it->octets[29])};
-    memcpy(source.clock, it->octets + 20, sizeof source.clock);
-    return source;
-}
-
-/* The time by a clock of this machine, for the watch alone. */
+/* The time for the watch, by a clock that nobody sets: one that is set could seem to say that the master began anew. */
 static struct ptpx_time now(void)
 {
-    const int64_t at = milliseconds();
-    const struct ptpx_timestamp stamp = {(uint64_t)at / 1000, (uint32_t)(at % 1000) * 1000000};
+    const uint64_t at = (uint64_t)milliseconds();
     struct ptpx_time time = {0, 0};
-    must(ptpx_time_join(stamp, 0, &time));
+    must(ptpx_time_join((struct ptpx_timestamp){at / 1000, (uint32_t)(at % 1000) * 1000000}, 0, &time));
     return time;
 }
 
-/*
- * The one place that judges whether the master is there no more. No call takes a master away: a slave that is restarted
- * has none, until the next Announce. A master that is back before its Announces are missed may begin its numbers anew:
- * the watch finds it.
- */
+/* No call takes a master away: a slave that is restarted has none. One that is back sooner may begin anew, see judge. */
 static void judge_master(struct station *station)
 {
     if (!station->has_master || milliseconds() < station->silent_at)
@@ -91,7 +78,8 @@ static void judge_master(struct station *station)
 /* Who announces itself first is followed until it falls silent. Which master is best isn't asked. */
 static void hear_announce(struct station *station, const struct arrival *it)
 {
-    const struct ptpx_identity source = source_of(it);
+    struct ptpx_identity source = {{0}, (uint16_t)(it->octets[28] << 8 | it->octets[29])};
+    memcpy(source.clock, it->octets + 20, sizeof source.clock);
     if (it->length < ANNOUNCE_LENGTH || (it->octets[6] & ALTERNATE_MASTER_FLAG) != 0)
         return;
     judge_master(station); /* this Announce may come too late */
@@ -128,14 +116,10 @@ static void send_request(struct station *station)
 static void told(struct station *station, const struct ptpx_heard *heard)
 {
     int64_t offset = 0, path = 0;
-    switch (heard->reason) {
-    case PTPX_REASON_NO_MESSAGE:
-    case PTPX_REASON_TOO_BIG:
-    case PTPX_REASON_NOT_NEWER:
-    case PTPX_REASON_UNKNOWN_REQUEST:
-    case PTPX_REASON_EGRESS_UNKNOWN:
-        fprintf(stderr, "ignored: %d\n", heard->reason);
-    }
+    const uint16_t reason = heard->reason;
+    if (reason == PTPX_REASON_NO_MESSAGE || reason == PTPX_REASON_TOO_BIG || reason == PTPX_REASON_NOT_NEWER ||
+        reason == PTPX_REASON_UNKNOWN_REQUEST || reason == PTPX_REASON_EGRESS_UNKNOWN)
+        fprintf(stderr, "ignored: %d\n", reason);
     if (heard->kind != PTPX_REPORT || station->reports == 0)
         return;
     if (ptpx_nanoseconds_of_twice(heard->offset2, &offset) != 0 || ptpx_nanoseconds_of_twice(heard->path2, &path) != 0) {
@@ -146,23 +130,19 @@ static void told(struct station *station, const struct ptpx_heard *heard)
     station->reports--;
 }
 
-/* It is the master's. */
-static bool is_of_master(const struct station *station, const struct arrival *it)
-{
-    const struct ptpx_identity source = source_of(it);
-    return station->has_master && it->length >= PTPX_SYNC_LENGTH && is_same(&source, &station->master);
-}
-
-/* What the number of a Sync or a Follow_Up of the master says, or that of a Sync that the slave refused. */
+/* What the number of the master's Sync or Follow_Up says, or of a Sync that was refused. Only what decodes is told. */
 static uint16_t judge(struct station *station, const struct arrival *it, bool refused)
 {
-    const uint16_t number = (uint16_t)(it->octets[30] << 8 | it->octets[31]);
-    const bool is_unicast = (it->octets[6] & UNICAST_FLAG) != 0;
+    struct ptpx_message message = {0};
     uint16_t judgement = PTPX_NEWER;
-    if ((it->octets[0] & 0x0f) == PTPX_SYNC)
-        must(ptpx_watch_sync(&station->watch, number, is_unicast, now(), refused, &judgement));
-    else
-        must(ptpx_watch_follow_up(&station->watch, number, is_unicast, now(), &judgement));
+    if (!station->has_master || ptpx_decode(it->octets, it->length, &message) != PTPX_DONE ||
+        !is_same(&message.source, &station->master))
+        return PTPX_NEWER;
+    const bool is_unicast = (message.flags[0] & UNICAST_FLAG) != 0;
+    if (message.kind == PTPX_SYNC)
+        must(ptpx_watch_sync(&station->watch, message.sequence, is_unicast, now(), refused, &judgement));
+    else if (message.kind == PTPX_FOLLOW_UP)
+        must(ptpx_watch_follow_up(&station->watch, message.sequence, is_unicast, now(), &judgement));
     if (judgement == PTPX_BEGAN_ANEW) {
         print("began its numbers anew:", &station->master);
         must(ptpx_slave_set_master(&station->slave, &station->master));
@@ -179,11 +159,10 @@ static void hear_event(struct station *station, const struct arrival *it)
         fprintf(stderr, "a Sync without a time stamp\n");
         return;
     }
-    const bool of_master = is_of_master(station, it);
-    if (of_master && judge(station, it, false) == PTPX_REPEATED)
+    if (judge(station, it, false) == PTPX_REPEATED)
         return;
     must(ptpx_slave_sync(&station->slave, it->octets, it->length, it->stamp, station->tag++, &heard));
-    if (of_master && heard.reason == PTPX_REASON_NOT_NEWER && judge(station, it, true) == PTPX_BEGAN_ANEW)
+    if (heard.reason == PTPX_REASON_NOT_NEWER && judge(station, it, true) == PTPX_BEGAN_ANEW)
         must(ptpx_slave_sync(&station->slave, it->octets, it->length, it->stamp, station->tag++, &heard));
     told(station, &heard);
 }
@@ -196,7 +175,7 @@ static void hear_general(struct station *station, const struct arrival *it)
         hear_announce(station, it);
         return;
     }
-    if ((it->octets[0] & 0x0f) == PTPX_FOLLOW_UP && is_of_master(station, it) && judge(station, it, false) == PTPX_REPEATED)
+    if (judge(station, it, false) == PTPX_REPEATED)
         return;
     must(ptpx_slave_general(&station->slave, it->octets, it->length, station->tag++, &heard));
     told(station, &heard);

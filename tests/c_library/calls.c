@@ -330,6 +330,82 @@ static void answers_of_masters(void)
     CHECK(ptpx_master_delay_req(&master, request, (size_t)PTRDIFF_MAX + 1, at(1, 0, 1), response) == PTPX_TOO_LONG);
 }
 
+static void refused_watches(void)
+{
+    static struct ptpx_watch_memory memory;
+    struct ptpx_watch watch = {NULL};
+    uint16_t judgement = 77;
+    CHECK(ptpx_watch_init(NULL, &memory, sizeof memory) == PTPX_NULL);
+    CHECK(ptpx_watch_init(&watch, NULL, sizeof memory) == PTPX_NULL);
+    CHECK(ptpx_watch_init(&watch, &memory, sizeof memory - 1) == PTPX_SMALL_MEMORY);
+    CHECK(ptpx_watch_init(&watch, memory.octets + 8, sizeof memory) == PTPX_UNALIGNED_MEMORY);
+    CHECK(ptpx_watch_sync(&watch, 1, false, at(1, 0, 0), false, &judgement) == PTPX_NULL);
+    CHECK(ptpx_watch_follow_up(&watch, 1, false, at(1, 0, 0), &judgement) == PTPX_NULL);
+    CHECK(ptpx_watch_init(&watch, &memory, sizeof memory) == PTPX_DONE);
+    CHECK(ptpx_watch_sync(NULL, 1, false, at(1, 0, 0), false, &judgement) == PTPX_NULL);
+    CHECK(ptpx_watch_sync(&watch, 1, false, at(1, 0, 0), false, NULL) == PTPX_NULL);
+    CHECK(ptpx_watch_follow_up(&watch, 1, false, at(1, 0, 0), NULL) == PTPX_NULL);
+    CHECK(ptpx_watch_sync(&watch, 1, false, no_moment, false, &judgement) == PTPX_NO_MOMENT);
+    CHECK(ptpx_watch_sync(&watch, 1, false, no_moment, true, &judgement) == PTPX_NO_MOMENT);
+    CHECK(ptpx_watch_follow_up(&watch, 1, false, no_moment, &judgement) == PTPX_NO_MOMENT);
+    CHECK(judgement == 77);
+}
+
+/* What a watch says of a Sync, or that the slave refused it, or of a Follow_Up, of this number at this time. */
+static uint16_t of_sync(struct ptpx_watch *watch, uint16_t number, bool is_unicast, struct ptpx_time time)
+{
+    uint16_t judgement = 77;
+    CHECK(ptpx_watch_sync(watch, number, is_unicast, time, false, &judgement) == PTPX_DONE);
+    return judgement;
+}
+
+static uint16_t of_refused(struct ptpx_watch *watch, uint16_t number, struct ptpx_time time)
+{
+    uint16_t judgement = 77;
+    CHECK(ptpx_watch_sync(watch, number, false, time, false, &judgement) == PTPX_DONE && judgement == PTPX_NEWER);
+    CHECK(ptpx_watch_sync(watch, number, false, time, true, &judgement) == PTPX_DONE);
+    return judgement;
+}
+
+static uint16_t of_follow_up(struct ptpx_watch *watch, uint16_t number, bool is_unicast, struct ptpx_time time)
+{
+    uint16_t judgement = 77;
+    CHECK(ptpx_watch_follow_up(watch, number, is_unicast, time, &judgement) == PTPX_DONE);
+    return judgement;
+}
+
+/* A number that comes again, less than a second apart and a second apart, and three that are refused in a row. */
+static void watches(void)
+{
+    static struct ptpx_watch_memory memory;
+    struct ptpx_watch watch;
+    CHECK(sizeof watch == 8 && ptpx_raw_watch_size() == PTPX_WATCH_SIZE && sizeof memory == PTPX_WATCH_SIZE);
+    CHECK(ptpx_raw_watch_alignment() == PTPX_SLAVE_ALIGNMENT);
+    CHECK(ptpx_watch_init(&watch, &memory, sizeof memory) == PTPX_DONE);
+    CHECK(of_sync(&watch, 7, false, at(10, 0, 0)) == PTPX_NEWER);
+    CHECK(of_sync(&watch, 7, true, at(20, 0, 0)) == PTPX_NEWER);
+    CHECK(of_sync(&watch, 7, false, at(10, 999999999, 65535)) == PTPX_REPEATED);
+    CHECK(of_follow_up(&watch, 7, false, at(11, 0, 0)) == PTPX_REPEATED);
+    CHECK(of_follow_up(&watch, 7, false, at(10, 999999999, 65535)) == PTPX_NEWER);
+    CHECK(of_follow_up(&watch, 7, false, at(10, 0, 0)) == PTPX_REPEATED);
+    CHECK(of_follow_up(&watch, 8, false, at(12, 0, 0)) == PTPX_NEWER);
+    CHECK(of_sync(&watch, 8, false, at(11, 0, 1)) == PTPX_NEWER);
+    CHECK(of_follow_up(&watch, 9, false, at(12, 0, 0)) == PTPX_NEWER);
+    CHECK(of_sync(&watch, 9, false, at(11, 0, 0)) == PTPX_BEGAN_ANEW);
+    CHECK(of_sync(&watch, 7, false, at(11, 0, 0)) == PTPX_NEWER);
+    CHECK(of_sync(&watch, 7, false, at(12, 0, 0)) == PTPX_BEGAN_ANEW);
+    CHECK(of_refused(&watch, 65534, at(13, 0, 0)) == PTPX_NEWER);
+    CHECK(of_refused(&watch, 65535, at(14, 0, 0)) == PTPX_NEWER);
+    CHECK(of_refused(&watch, 1, at(15, 0, 0)) == PTPX_NEWER);
+    CHECK(of_refused(&watch, 2, at(16, 0, 0)) == PTPX_NEWER);
+    CHECK(of_sync(&watch, 3, false, at(17, 0, 0)) == PTPX_NEWER);
+    CHECK(of_refused(&watch, 4, at(18, 0, 0)) == PTPX_NEWER);
+    CHECK(of_refused(&watch, 5, at(19, 0, 0)) == PTPX_NEWER);
+    CHECK(of_refused(&watch, 6, at(20, 0, 0)) == PTPX_BEGAN_ANEW);
+    CHECK(of_sync(&watch, 5, false, at(30, 0, 0)) == PTPX_NEWER);
+    CHECK(of_sync(&watch, 6, false, at(20, 0, 0)) == PTPX_REPEATED);
+}
+
 int main(void)
 {
     sizes();
@@ -346,6 +422,8 @@ int main(void)
     clocks();
     masters();
     answers_of_masters();
+    refused_watches();
+    watches();
     printf("calls: %lu checks\n", checks_made);
     return 0;
 }

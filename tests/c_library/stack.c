@@ -10,6 +10,7 @@
 #include "kind.h"
 
 #define STACK 262144
+#define STACK_OF_WATCH 1024
 #define PAINT 0x5C
 
 #ifdef LAZY
@@ -24,6 +25,8 @@ static _Alignas(16) uint8_t stack[STACK];
 static ucontext_t outside, inside;
 static struct ptpx_slave_memory memory;
 static struct ptpx_slave slave;
+static struct ptpx_watch_memory known;
+static struct ptpx_watch watch;
 static struct ptpx_master master;
 static uint8_t octets[54], response[54];
 
@@ -57,6 +60,20 @@ static void port_calls(void)
     CHECK(ptpx_slave_sync(&slave, octets, 44, second, 5, &heard) == PTPX_DONE && heard.kind == PTPX_REPORT);
     CHECK(ptpx_slave_last(&slave, &last) == PTPX_DONE && last.sync_number == 1);
     CHECK(ptpx_slave_tick(&slave) == PTPX_DONE && ptpx_slave_restart(&slave, 0) == PTPX_DONE);
+}
+
+static void watch_init(void)
+{
+    CHECK(ptpx_watch_init(&watch, &known, sizeof known) == PTPX_DONE);
+}
+
+static void watch_calls(void)
+{
+    const struct ptpx_time zero = {0, 0};
+    uint16_t judgement = 0;
+    CHECK(ptpx_watch_sync(&watch, 1, false, zero, false, &judgement) == PTPX_DONE);
+    CHECK(ptpx_watch_sync(&watch, 1, false, zero, true, &judgement) == PTPX_DONE);
+    CHECK(ptpx_watch_follow_up(&watch, 1, false, zero, &judgement) == PTPX_DONE);
 }
 
 static void codec_calls(void)
@@ -107,8 +124,11 @@ int main(void)
     const size_t base = used(nothing);
     const size_t init = used(slave_init) - base, ports = used(port_calls) - base;
     const size_t codec = used(codec_calls) - base, times = used(time_calls) - base;
+    const size_t watch_made = used(watch_init) - base, watches = used(watch_calls) - base;
     printf("stack" BINDING ": init of a " KIND " %zu, other calls of ports %zu, codec and clock %zu, times %zu octets\n",
            init, ports, codec, times);
+    printf("stack" BINDING ": init of a watch %zu, its other calls %zu octets\n", watch_made, watches);
+    CHECK(watch_made <= STACK_OF_WATCH + STACK_OF_LINKER && watches <= 1024 + STACK_OF_LINKER);
     CHECK(init <= STACK_OF_INIT + STACK_OF_LINKER && ports <= 1024 + STACK_OF_LINKER);
     CHECK(codec <= 768 + STACK_OF_LINKER && times <= 768 + STACK_OF_LINKER);
     return 0;

@@ -4,7 +4,7 @@ the other half of a Sync. Of what `ptpx measure` reports of each:
 
 - no report is of a Sync of one life and a Follow_Up of the other, nor of two that are a second or more apart;
 - each report of one life says the offset of its own messages, which is that of the slave and no more;
-- the second life is heard again within a few Syncs, unless its numbers are those that the first would have gone on with."""
+- the second life is heard again within a few Syncs, unless its numbers are those that the first would have gone on with, or far ahead of these, so that they may be newer."""
 import itertools
 import json
 import os

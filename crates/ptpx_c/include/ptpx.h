@@ -113,7 +113,7 @@ enum ptpx_refusal {
     PTPX_NO_KIND = 903,             /* the type isn't Sync (0), Delay_Req (1), Follow_Up (8) or Delay_Resp (9) */
     PTPX_NIBBLE = 904,              /* majorSdoId or minorVersionPTP is 16 or more */
     PTPX_LEFT_ALREADY = 905,        /* no message stays: it left already, or never entered */
-    PTPX_SMALL_MEMORY = 906,        /* the memory is smaller than a slave port */
+    PTPX_SMALL_MEMORY = 906,        /* the memory is smaller than a slave port, or than a watch */
     PTPX_UNALIGNED_MEMORY = 907,    /* the address of the memory isn't a multiple of 16 */
     PTPX_NO_BRACKET = 908,          /* a bracket isn't strictly between -2^96 and 2^96 */
     PTPX_WIDE = 909,                /* the number doesn't fit a signed number of 64 bits */
@@ -374,16 +374,6 @@ void ptpx_raw_slave_general(struct ptpx_slave *slave, const uint8_t *octets, siz
 uint16_t ptpx_raw_slave_last(struct ptpx_slave *slave, struct ptpx_exchange *exchange);
 size_t ptpx_raw_wide_slave_size(void);
 size_t ptpx_raw_wide_slave_alignment(void);
-void ptpx_raw_watch_init(struct ptpx_watch *watch);
-uint16_t ptpx_raw_watch_sync(struct ptpx_watch *watch, uint16_t number, bool is_unicast, struct ptpx_time time,
-                             uint16_t *judgement);
-uint16_t ptpx_raw_watch_refused(struct ptpx_watch *watch, uint16_t number, bool is_unicast, struct ptpx_time time,
-                                uint16_t *judgement);
-uint16_t ptpx_raw_watch_follow_up(struct ptpx_watch *watch, uint16_t number, bool is_unicast, struct ptpx_time time,
-                                  uint16_t *judgement);
-size_t ptpx_raw_watch_size(void);
-size_t ptpx_raw_watch_alignment(void);
-
 void ptpx_raw_wide_slave_init(struct ptpx_wide_slave *slave, const struct ptpx_config *config, uint16_t first);
 void ptpx_raw_wide_slave_restart(struct ptpx_wide_slave *slave, uint16_t first);
 void ptpx_raw_wide_slave_set_master(struct ptpx_wide_slave *slave, const struct ptpx_identity *master);
@@ -395,6 +385,15 @@ uint16_t ptpx_raw_wide_slave_sync(struct ptpx_wide_slave *slave, const uint8_t *
 void ptpx_raw_wide_slave_general(struct ptpx_wide_slave *slave, const uint8_t *octets, size_t length, uint64_t tag,
                                  struct ptpx_heard *heard);
 uint16_t ptpx_raw_wide_slave_last(struct ptpx_wide_slave *slave, struct ptpx_exchange *exchange);
+void ptpx_raw_watch_init(struct ptpx_watch *watch);
+uint16_t ptpx_raw_watch_sync(struct ptpx_watch *watch, uint16_t number, bool is_unicast, struct ptpx_time time,
+                             uint16_t *judgement);
+uint16_t ptpx_raw_watch_refused(struct ptpx_watch *watch, uint16_t number, bool is_unicast, struct ptpx_time time,
+                                uint16_t *judgement);
+uint16_t ptpx_raw_watch_follow_up(struct ptpx_watch *watch, uint16_t number, bool is_unicast, struct ptpx_time time,
+                                  uint16_t *judgement);
+size_t ptpx_raw_watch_size(void);
+size_t ptpx_raw_watch_alignment(void);
 
 /* ---- numbers ---- */
 
@@ -793,8 +792,9 @@ static inline uint16_t ptpx_watch_init(struct ptpx_watch *watch, void *memory, s
 }
 
 /*
- * A Sync of the master has this number and this unicastFlag (4 in octet 6), and came at this time by the slave's clock.
- * Ask before the slave hears it, with refused false, and once more with refused true where the slave ignored it for
+ * A Sync of the master has this number and this unicastFlag (4 in octet 6), and came at this time by a clock that nobody
+ * sets: one that is set by a second or more between two messages could seem to say that the master began anew. Tell
+ * only what ptpx_decode takes, since the slave hears nothing else. Ask before the slave hears it, with refused false, and once more with refused true where the slave ignored it for
  * 512. Where its number is that of a Sync that is known, less than a second apart, it is a copy. Where it is that of a
  * Sync or a Follow_Up that is known, a second or more apart, and where three Syncs in a row with numbers that follow
  * each other were refused, the master began its numbers anew: call ptpx_slave_set_master for the same master, and
