@@ -794,10 +794,13 @@ static inline uint16_t ptpx_watch_init(struct ptpx_watch *watch, void *memory, s
 /*
  * A Sync of the master has this number and this unicastFlag (4 in octet 6), and came at this time by a clock that nobody
  * sets: one that is set by a second or more between two messages could seem to say that the master began anew. Tell
- * only what ptpx_decode takes, since the slave hears nothing else. Ask before the slave hears it, with refused false, and once more with refused true where the slave ignored it for
- * 512. Where its number is that of a Sync that is known, less than a second apart, it is a copy. Where it is that of a
- * Sync or a Follow_Up that is known, a second or more apart, and where three Syncs in a row with numbers that follow
- * each other were refused, the master began its numbers anew: call ptpx_slave_set_master for the same master, and
+ * only what ptpx_decode takes, since the slave hears nothing else. Ask before the slave hears it, with refused false;
+ * where the slave ignored it for 512, ask once more with refused true, to which the answer is PTPX_NEWER or
+ * PTPX_BEGAN_ANEW.
+ *
+ * Where its number is that of a Sync that is known, less than a second apart, it is a copy. Where it is that of a Sync
+ * or a Follow_Up that is known, a second or more apart, and where three Syncs in a row with numbers that follow each
+ * other were refused, the master began its numbers anew: call ptpx_slave_set_master for the same master, and
  * ptpx_slave_sync (of three for the third, again). All else that was known is forgotten then. 101.
  */
 PTPX_LOOK_AT_IT
@@ -813,7 +816,7 @@ static inline uint16_t ptpx_watch_sync(struct ptpx_watch *watch, uint16_t number
 
 /*
  * The same of a Follow_Up of the master, before the slave hears it: where one of its number is known, or the known Sync
- * of its number is a second or more apart, it came before, and the slave isn't to hear it. 101.
+ * of its number is a second or more apart, it came before, and the slave isn't to hear it. Never PTPX_BEGAN_ANEW. 101.
  */
 PTPX_LOOK_AT_IT
 static inline uint16_t ptpx_watch_follow_up(struct ptpx_watch *watch, uint16_t number, bool is_unicast,
