@@ -1,0 +1,48 @@
+-- A header of IPv6, and its extension headers.
+use Rattle.std.proofs.Common.{◌≡◌, ◌∙◌, ℕ, ◌+◌, ◌<◌, ◌≤◌, List, ◌++◌, length, take, get_or, Option, Some, None, sym, ap, subst, refl, arith}
+use Rattle.std.specs.Prelude.{◌*◌, ◌/◌, ◌%◌, Bool, true, false, cond, nat_eq, ◌&&◌, ◌||◌}
+use Rattle.std.proofs.lemmas.Bool.{cases_Bool, eq-eqb, ne_eqb, cond_both}
+use Rattle.std.proofs.lemmas.Bool.Decides.{nat_tests}
+use Rattle.std.proofs.lemmas.List.{get_or_append_left}
+use Rattle.capture_frame.specs.Chain.{IsChain}
+use Rattle.capture_frame.specs.Ipv6.{IsIpv6, CarriesOverIpv6, extension_size, next_header, is_whole}
+use Rattle.capture_frame.specs.Octets.{two_octets}
+use Rattle.capture_frame.specs.Payload.{Payload, Whole, Part}
+use Rattle.capture_frame.specs.Inner.Exactly.{IsCut}
+use Rattle.capture_frame.proofs.Chains.{IsWalkable}
+use Rattle.capture_frame.proofs.Cuts.{one_cut, front_within}
+
+-- what a packet says of a header that was cut off
+pub record Ipv6At (header behind : List ℕ) (payload : Payload) : Type 0 where
+  pub version : get_or header 0 0 / 16 ≡ 6
+  pub carries : IsChain extension_size next_header CarriesOverIpv6 (get_or header 6 0) (take (two_octets header 4) behind) payload
+
+pub ipv6_at : (octets header behind : List ℕ) (payload : Payload) → IsCut octets 40 header behind → IsIpv6 octets payload
+    → Ipv6At header behind payload
+ipv6_at octets header behind payload cut ip =
+    let same = one_cut ip.header ip.behind header behind (sym ip.parts ∙ cut.parts) (ip.size ∙ sym cut.size) in
+    let here : Ipv6At ip.header ip.behind payload = record { version = ip.version; carries = ip.carries } in
+    subst (λ (b : List ℕ). Ipv6At header b payload) same.1 (subst (λ (h : List ℕ). Ipv6At h ip.behind payload) same.0 here)
+
+pub ipv6_needs : (octets : List ℕ) (payload : Payload) → IsIpv6 octets payload → 40 ≤ length octets
+ipv6_needs octets payload ip = omega (arith, ip.size, front_within octets ip.header ip.behind ip.parts)
+
+-- an extension header has eight octets or more
+extension_least : (kind : ℕ) (octets : List ℕ) (n : ℕ) → extension_size kind octets ≡ Some n → 8 ≤ n
+extension_least kind octets n h = grind (arith, nat_tests)
+
+-- its size is told by the first eight
+extension_same : (kind : ℕ) (header behind : List ℕ) → 8 ≤ length header → extension_size kind (header ++ behind) ≡ extension_size kind header
+extension_same kind header behind least =
+    rw (get_or_append_left header behind 0 1 (omega arith), get_or_append_left header behind 0 2 (omega arith), get_or_append_left header behind 0 3 (omega arith)) refl
+
+no_extension : (kind : ℕ) (octets : List ℕ) (payload : Payload) → CarriesOverIpv6 kind octets payload → extension_size kind octets ≡ None
+no_extension kind octets (Whole datagram) h = rw h.0 refl
+no_extension kind octets Part h = rw (h.0, h.2) refl
+
+pub extensions : IsWalkable extension_size CarriesOverIpv6
+extensions = record {
+  longer = λ kind header behind h. extension_same kind header behind (extension_least kind header (length header) h) ∙ h;
+  shorter = λ kind header behind h. sym (extension_same kind header behind (extension_least kind (header ++ behind) (length header) h)) ∙ h;
+  ends = no_extension;
+}
