@@ -7,9 +7,11 @@ use Rattle.std.proofs.lemmas.List.{get_or_append_left}
 use Rattle.capture_frame.specs.Chain.{IsChain}
 use Rattle.capture_frame.specs.Ipv6.{IsIpv6, CarriesOverIpv6, extension_size, next_header, is_whole}
 use Rattle.capture_frame.specs.Octets.{two_octets}
+use Rattle.capture_frame.specs.Udp.{IsUdp}
 use Rattle.capture_frame.specs.Payload.{Payload, Whole, Part}
 use Rattle.capture_frame.specs.Inner.Exactly.{IsCut}
 use Rattle.capture_frame.proofs.Chains.{IsWalkable}
+use Rattle.capture_frame.proofs.Only.{IsSame}
 use Rattle.capture_frame.proofs.Cuts.{one_cut, front_within}
 
 -- what a packet says of a header that was cut off
@@ -23,6 +25,29 @@ ipv6_at octets header behind payload cut ip =
     let same = one_cut ip.header ip.behind header behind (sym ip.parts ∙ cut.parts) (ip.size ∙ sym cut.size) in
     let here : Ipv6At ip.header ip.behind payload = record { version = ip.version; carries = ip.carries } in
     subst (λ (b : List ℕ). Ipv6At header b payload) same.1 (subst (λ (h : List ℕ). Ipv6At h ip.behind payload) same.0 here)
+
+-- a packet carries what its extension headers do
+pub ipv6_same : (octets header behind inner : List ℕ) → IsCut octets 40 header behind → get_or header 0 0 / 16 ≡ 6
+    → inner ≡ take (two_octets header 4) behind
+    → IsSame (IsChain extension_size next_header CarriesOverIpv6 (get_or header 6 0) inner) (IsIpv6 octets)
+ipv6_same octets header behind inner cut version is = record {
+  to = λ payload chain. record {
+    header = header;
+    behind = behind;
+    parts = cut.parts;
+    size = cut.size;
+    version = version;
+    carries = subst (λ (o : List ℕ). IsChain extension_size next_header CarriesOverIpv6 (get_or header 6 0) o payload) is chain;
+  };
+  back = λ payload ip. subst (λ (o : List ℕ). IsChain extension_size next_header CarriesOverIpv6 (get_or header 6 0) o payload) (sym is)
+      (ipv6_at octets header behind payload cut ip).carries;
+}
+
+pub ipv6_version : (octets : List ℕ) (payload : Payload) → IsIpv6 octets payload → get_or octets 0 0 / 16 ≡ 6
+ipv6_version octets payload ip =
+    let first : get_or octets 0 0 ≡ get_or ip.header 0 0 =
+    ap (λ (o : List ℕ). get_or o 0 0) ip.parts ∙ get_or_append_left ip.header ip.behind 0 0 (omega (arith, ip.size)) in
+    ap (λ (n : ℕ). n / 16) first ∙ ip.version
 
 pub ipv6_needs : (octets : List ℕ) (payload : Payload) → IsIpv6 octets payload → 40 ≤ length octets
 ipv6_needs octets payload ip = omega (arith, ip.size, front_within octets ip.header ip.behind ip.parts)
@@ -46,3 +71,17 @@ extensions = record {
   shorter = λ kind header behind h. sym (extension_same kind header behind (extension_least kind (header ++ behind) (length header) h)) ∙ h;
   ends = no_extension;
 }
+
+-- what has no datagram carries nothing
+pub udp_none : (octets : List ℕ) (payload : Payload) → ((other : List ℕ) → IsUdp octets other → ⊥) → CarriesOverIpv6 17 octets payload → ⊥
+udp_none octets (Whole datagram) none h = none datagram h.1
+udp_none octets Part none h = absurd (omega (arith, h.0))
+
+udp_alone : (octets datagram : List ℕ) (payload : Payload) → ((other : List ℕ) → IsUdp octets other → other ≡ datagram)
+    → CarriesOverIpv6 17 octets payload → payload ≡ Whole datagram
+udp_alone octets datagram (Whole other) only h = ap Whole (only other h.1)
+udp_alone octets datagram Part only h = absurd (omega (arith, h.0))
+
+pub udp_whole : (octets datagram : List ℕ) → IsUdp octets datagram → ((other : List ℕ) → IsUdp octets other → other ≡ datagram)
+    → CarriesOverIpv6 17 octets (Whole datagram) × ((payload : Payload) → CarriesOverIpv6 17 octets payload → payload ≡ Whole datagram)
+udp_whole octets datagram udp only = ((refl, udp), λ payload h. udp_alone octets datagram payload only h)

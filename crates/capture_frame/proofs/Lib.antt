@@ -6,3 +6,4 @@ pub mod Ipv4Headers
 pub mod Ipv6Headers
 pub mod Tagged
 pub mod Frames
+pub mod Families

@@ -35,4 +35,4 @@ pub record IsIpv6 (octets : List ℕ) (payload : Payload) : Type 0 where
   pub size : length header ≡ 40
   pub version : slice_index header 0 / 16 ≡ 6
   pub carries : IsChain extension_size next_header CarriesOverIpv6
-    (slice_index header 6) (take (two_octets header 4) behind) payload
+      (slice_index header 6) (take (two_octets header 4) behind) payload

@@ -12,14 +12,20 @@ use crate::octets::{cut, u16_at};
 
 /// EtherTypes of tags: of VLANs (IEEE 802.1Q), of redundancy (IEEE 802.1CB) and of HSR (IEC 62439-3).
 const CUSTOMER_TAG: u16 = 0x8100;
+
 const SERVICE_TAG: u16 = 0x88a8;
+
 const OLD_SERVICE_TAG: u16 = 0x9100;
+
 const REDUNDANCY_TAG: u16 = 0xf1c1;
+
 const HSR_TAG: u16 = 0x892f;
 
 /// EtherTypes of what carries PTP.
 const PTP: u16 = 0x88f7;
+
 const IPV4: u16 = 0x0800;
+
 const IPV6: u16 = 0x86dd;
 
 /// How many octets a tag has behind its EtherType, that of what follows among them.

@@ -1,3 +1,7 @@
+ghost use Rattle.std.specs.Prelude.{◌≡◌};
+ghost use Rattle.capture_frame.specs.Found.{Answer, IsAnswer, IsFound, answer_of};
+ghost use Rattle.capture_frame.specs.Link.{Carries};
+
 use crate::content::Content;
 use crate::link::in_link;
 use crate::link_type::LinkType;
@@ -21,9 +25,12 @@ pub enum Found<'a> {
     Other,
 }
 
-/// The answer for a packet of a known link type.
-fn answer_for(content: Option<Content<'_>>) -> Found<'_> {
-    match content {
+/// What a packet of a known link type has of PTP.
+fn found_behind(link: LinkType, octets: &[u8]) -> Found<'_>
+    ensures found { IsAnswer (Carries link octets.now) (answer_of result) }
+    ensures only { (answer : Answer) → IsAnswer (Carries link octets.now) answer → answer ≡ answer_of result }
+{
+    match in_link(link, octets) {
         Some(Content::Datagram(datagram)) if datagram.len() > DATAGRAM_LIMIT => Found::TooLong,
         Some(Content::Datagram(datagram)) => Found::Datagram(datagram),
         Some(Content::Fragment) => Found::Fragment,
@@ -31,10 +38,20 @@ fn answer_for(content: Option<Content<'_>>) -> Found<'_> {
     }
 }
 
-/// What a captured packet has of PTP.
-pub fn find_datagram<'a>(link: u16, octets: &'a [u8]) -> Found<'a> {
+/// What a captured packet has of PTP: `link` is the number of its link type, as tcpdump.org gives them, and `octets` is what
+/// was captured of it, from its first octet on.
+///
+/// PTP is found in Ethernet (1), Linux cooked capture (113 and 276), raw IP (101, 228 and 229) and behind the family of a
+/// loopback (0 and 108): behind any tags in packets of type 0x88f7 (IEEE 1588-2019, annex E), and to ports 319 and 320 of UDP
+/// over IPv4 and IPv6 (annexes C and D), behind any of the extension headers 0, 43, 44 and 60.
+pub fn find_datagram<'a>(link: u16, octets: &'a [u8]) -> Found<'a>
+    // What is said is so.
+    ensures found { IsFound link octets.now (answer_of result) }
+    // What is so is said.
+    ensures only { (answer : Answer) → IsFound link octets.now answer → answer ≡ answer_of result }
+{
     match LinkType::from_number(link) {
-        Some(link) => answer_for(in_link(link, octets)),
+        Some(link) => found_behind(link, octets),
         None => Found::OtherLink,
     }
 }

@@ -11,8 +11,11 @@ use crate::udp::{UDP, in_udp};
 
 /// The numbers of extension headers (RFC 8200, 4).
 const HOP_BY_HOP_OPTIONS: u8 = 0;
+
 const ROUTING: u8 = 43;
+
 const FRAGMENT: u8 = 44;
+
 const DESTINATION_OPTIONS: u8 = 60;
 
 /// Whether a fragment header is of a whole packet: its offset is 0, and no fragments follow (RFC 8200, 4.5).

@@ -17,9 +17,10 @@ use crate::octets::octet_at;
 fn in_raw(octets: &[u8]) -> Option<Content<'_>>
     ensures { IsOnly (λ payload. IsIpv4 octets.now payload ⊎ IsIpv6 octets.now payload) (option_map payload_of result) }
 {
-    match octet_at(octets, 0) / 16 {
-        4 => in_ipv4(octets),
-        _ => in_ipv6(octets),
+    if octet_at(octets, 0) / 16 == 4 {
+        in_ipv4(octets)
+    } else {
+        in_ipv6(octets)
     }
 }
 
@@ -34,8 +35,8 @@ fn in_family(family: u8, octets: &[u8]) -> Option<Content<'_>>
     }
 }
 
-/// What a packet carries behind a family in four octets, in the order of the network.
-fn in_loop(octets: &[u8]) -> Option<Content<'_>>
+/// What a packet carries behind a family in four octets, the most significant first.
+fn in_big_endian(octets: &[u8]) -> Option<Content<'_>>
     ensures { IsOnly (IsBigEndian octets.now) (option_map payload_of result) }
 {
     match octets {
@@ -44,13 +45,24 @@ fn in_loop(octets: &[u8]) -> Option<Content<'_>>
     }
 }
 
-/// What a packet carries behind a family in four octets, in either order.
-fn in_null(octets: &[u8]) -> Option<Content<'_>>
-    ensures { IsOnly (λ payload. IsBigEndian octets.now payload ⊎ IsLittleEndian octets.now payload) (option_map payload_of result) }
+/// What a packet carries behind a family in four octets, the least significant first.
+fn in_little_endian(octets: &[u8]) -> Option<Content<'_>>
+    ensures { IsOnly (IsLittleEndian octets.now) (option_map payload_of result) }
 {
     match octets {
-        [0, 0, 0, family, behind @ ..] | [family, 0, 0, 0, behind @ ..] => in_family(*family, behind),
+        [family, 0, 0, 0, behind @ ..] => in_family(*family, behind),
         _ => None,
+    }
+}
+
+/// What a packet carries behind a family in four octets, in either order.
+fn in_either_endian(octets: &[u8]) -> Option<Content<'_>>
+    ensures { IsOnly (λ payload. IsBigEndian octets.now payload ⊎ IsLittleEndian octets.now payload) (option_map payload_of result) }
+{
+    if octet_at(octets, 0) == 0 {
+        in_big_endian(octets)
+    } else {
+        in_little_endian(octets)
     }
 }
 
@@ -59,10 +71,10 @@ pub(crate) fn in_link(link: LinkType, octets: &[u8]) -> Option<Content<'_>>
     ensures { IsOnly (Carries link octets.now) (option_map payload_of result) }
 {
     match link {
-        LinkType::Null => in_null(octets),
+        LinkType::Null => in_either_endian(octets),
         LinkType::Ethernet => in_frame(14, 12, octets),
         LinkType::Raw => in_raw(octets),
-        LinkType::Loop => in_loop(octets),
+        LinkType::Loop => in_big_endian(octets),
         LinkType::Cooked => in_frame(16, 14, octets),
         LinkType::Ipv4 => in_ipv4(octets),
         LinkType::Ipv6 => in_ipv6(octets),
