@@ -3,7 +3,7 @@ use Rattle.std.specs.Prelude.{◌≡◌, ℕ, List, [], ◌∷◌, ◌++◌, len
 use Rattle.std.specs.List.{concat}
 use Rattle.capture_frame.specs.Payload.{Payload}
 
--- each header has the size of its kind, the first is of kind `first`, and behind the last one stands what is of kind `last`
+-- each header has the size of its kind: the first is of kind `first`, and what stands behind them all is of kind `last`
 abbrev pub InRow : (size : ℕ → List ℕ → Option ℕ) → (next : List ℕ → ℕ) → List (List ℕ) → (first last : ℕ) → Type 0
 InRow size next [] first last = last ≡ first
 InRow size next (header ∷ headers) first last =

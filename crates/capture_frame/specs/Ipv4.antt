@@ -5,7 +5,8 @@ use Rattle.capture_frame.specs.Octets.{two_octets}
 use Rattle.capture_frame.specs.Payload.{Payload, Whole, Part}
 use Rattle.capture_frame.specs.Udp.{udp, IsUdp}
 
--- a header, options included, of a packet of UDP; a total length of 0 tells nothing
+-- a header, options included, of a packet of UDP; a total length of 0, which a sender has that leaves cutting to its
+-- network card, tells nothing
 pub record IsIpv4Header (header : List ℕ) : Type 0 where
   pub version : slice_index header 0 / 16 ≡ 4
   pub size : length header ≡ 4 * (slice_index header 0 % 16)
@@ -13,7 +14,7 @@ pub record IsIpv4Header (header : List ℕ) : Type 0 where
   pub total_length : (two_octets header 2 ≡ 0) ⊎ (length header ≤ two_octets header 2)
   pub protocol : slice_index header 9 ≡ udp
 
--- the fragment offset is 0, and no fragments follow
+-- the fragment offset, in the last 13 bits, is 0, and so is the bit before it: no fragments follow
 abbrev pub is_unfragmented : List ℕ → Bool
 is_unfragmented header = two_octets header 6 % 8192 == 0 && two_octets header 6 / 8192 % 2 == 0
 
@@ -22,6 +23,7 @@ abbrev pub ipv4_data : (header behind : List ℕ) → List ℕ
 ipv4_data header behind =
     if two_octets header 2 == 0 then behind else take (two_octets header 2 - length header) behind
 
+-- behind such a header stands a datagram of UDP, or a part of one
 abbrev pub CarriesOverIpv4 : (header behind : List ℕ) → Payload → Type 0
 CarriesOverIpv4 header behind (Whole datagram) =
     (is_unfragmented header ≡ true) × IsUdp (ipv4_data header behind) datagram

@@ -10,8 +10,8 @@ use Rattle.capture_frame.specs.Udp.{udp, IsUdp}
 abbrev pub is_whole : List ℕ → Bool
 is_whole header = two_octets header 2 / 8 == 0 && two_octets header 2 % 2 == 0
 
--- the size of an extension header with this number: of hop-by-hop options (0), routing (43) and destination options (60), and
--- of a fragment header (44) of a whole packet
+-- the size of an extension header that is passed over: of hop-by-hop options (0), routing (43) and destination options
+-- (60), and of a fragment header (44) of a whole packet (4.3 to 4.6)
 abbrev pub extension_size : ℕ → List ℕ → Option ℕ
 extension_size kind header =
     if kind == 0 || kind == 43 || kind == 60 then Some (8 + 8 * slice_index header 1)

@@ -29,7 +29,7 @@ pub record IsFrame (count place : ℕ) (octets : List ℕ) (payload : Payload) :
   pub size : length header ≡ count
   pub carries : IsTagged (two_octets header place) behind payload
 
--- a packet of a family of addresses: of IPv4 in every BSD (2), of IPv6 in NetBSD and OpenBSD (24), FreeBSD (28) and macOS (30)
+-- a packet of a family of addresses: of IPv4 (2), or of IPv6 in NetBSD and OpenBSD (24), FreeBSD (28) and macOS (30)
 abbrev pub IsOfFamily : ℕ → List ℕ → Payload → Type 0
 IsOfFamily family octets payload =
     ((family ≡ 2) × IsIpv4 octets payload)

@@ -6,15 +6,15 @@ use Rattle.capture_frame.specs.Ipv6.{IsIpv6}
 use Rattle.capture_frame.specs.Octets.{two_octets}
 use Rattle.capture_frame.specs.Payload.{Payload, Whole}
 
--- how many octets a tag has behind its EtherType, that of what follows among them: of VLANs (IEEE 802.1Q), of
--- redundancy (IEEE 802.1CB) and of HSR (IEC 62439-3)
+-- how many octets stand behind the EtherType of a tag, of which the last two are the next EtherType: of VLANs (IEEE
+-- 802.1Q), of redundancy (IEEE 802.1CB) and of HSR (IEC 62439-3)
 abbrev pub tag_size : ℕ → List ℕ → Option ℕ
 tag_size kind tag =
     if kind == 0x8100 || kind == 0x88a8 || kind == 0x9100 then Some 4
     else if kind == 0xf1c1 || kind == 0x892f then Some 6
     else None
 
--- the EtherType of what follows a tag: its last two octets
+-- the EtherType behind a tag
 abbrev pub next_type : List ℕ → ℕ
 next_type tag = two_octets tag (length tag - 2)
 

@@ -10,8 +10,7 @@ udp = 17
 abbrev pub IsPtpPort : ℕ → Type 0
 IsPtpPort port = (port ≡ 319) ⊎ (port ≡ 320)
 
--- the octets are a header for such a port, and then this datagram, up to UDP's
--- length or as far as it was captured
+-- the octets are a header for such a port and then this datagram, up to UDP's length or as far as it was captured
 pub record IsUdp (octets datagram : List ℕ) : Type 0 where
   pub header : List ℕ
   pub behind : List ℕ

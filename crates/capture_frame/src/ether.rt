@@ -21,14 +21,14 @@ const REDUNDANCY_TAG: u16 = 0xf1c1;
 
 const HSR_TAG: u16 = 0x892f;
 
-/// EtherTypes of what carries PTP.
+/// EtherTypes of PTP (IEEE 1588-2019, annex E) and of what carries it.
 const PTP: u16 = 0x88f7;
 
 const IPV4: u16 = 0x0800;
 
 const IPV6: u16 = 0x86dd;
 
-/// How many octets a tag has behind its EtherType, that of what follows among them.
+/// How many octets stand behind the EtherType of a tag, of which the last two are the next EtherType.
 fn tag_size(kind: u16) -> Option<usize>
     ensures { result ≡ tag_size kind [] }
 {
@@ -39,7 +39,7 @@ fn tag_size(kind: u16) -> Option<usize>
     }
 }
 
-/// What stands behind the tags carries.
+/// What a packet carries behind its tags.
 fn behind_tags(kind: u16, octets: &[u8]) -> Option<Content<'_>>
     ensures { IsOnly (CarriesByType kind octets.now) (option_map payload_of result) }
 {
@@ -51,7 +51,7 @@ fn behind_tags(kind: u16, octets: &[u8]) -> Option<Content<'_>>
     }
 }
 
-/// What tags and what is behind them carry.
+/// What tags, of which the first has this EtherType, and what is behind them carry.
 fn in_tags(first: u16, octets: &[u8]) -> Option<Content<'_>>
     ensures { IsOnly (IsTagged first octets.now) (option_map payload_of result) }
 {

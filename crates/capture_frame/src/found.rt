@@ -6,7 +6,7 @@ use crate::content::Content;
 use crate::link::in_link;
 use crate::link_type::LinkType;
 
-/// The most octets of a datagram that is handed on.
+/// The most octets of a datagram that is handed on: so many fit into a line of a recording.
 pub const DATAGRAM_LIMIT: usize = 2035;
 
 /// What a captured packet has of PTP.
@@ -53,5 +53,16 @@ pub fn find_datagram<'a>(link: u16, octets: &'a [u8]) -> Found<'a>
     match LinkType::from_number(link) {
         Some(link) => found_behind(link, octets),
         None => Found::OtherLink,
+    }
+}
+
+#[cfg(test)]
+mod tests {
+    use super::*;
+
+    #[test]
+    fn finds_a_datagram_behind_a_vlan_tag(rt: HostRuntime) {
+        let packet = b"\x01\x1b\x19\0\0\0\x02\0\0\0\0\x01\x81\0\0\x07\x88\xf7PTP";
+        assert_eq!(rt; find_datagram(1, packet), Found::Datagram(&packet[18..]));
     }
 }

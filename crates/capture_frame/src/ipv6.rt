@@ -22,11 +22,11 @@ const DESTINATION_OPTIONS: u8 = 60;
 fn is_whole(header: &[u8]) -> bool
     ensures { result ≡ is_whole header.now }
 {
-    let flags = octet_at(header, 3);
-    octet_at(header, 2) == 0 && flags / 8 == 0 && flags % 2 == 0
+    let offset_and_more = u16::from_be_bytes([octet_at(header, 2), octet_at(header, 3)]);
+    offset_and_more / 8 == 0 && offset_and_more % 2 == 0
 }
 
-/// The size of the extension header that the octets begin with, or `None` where they begin with none that is passed over.
+/// The size of the extension header that the octets begin with, of those that are passed over (RFC 8200, 4.3 to 4.6).
 fn extension_size(kind: u8, octets: &[u8]) -> Option<usize>
     ensures { result ≡ extension_size kind octets.now }
 {
@@ -39,7 +39,7 @@ fn extension_size(kind: u8, octets: &[u8]) -> Option<usize>
     }
 }
 
-/// What stands behind the extension headers carries.
+/// What a packet carries behind its extension headers.
 fn behind_extensions(kind: u8, octets: &[u8]) -> Option<Content<'_>>
     ensures { IsOnly (CarriesOverIpv6 kind octets.now) (option_map payload_of result) }
 {
@@ -50,7 +50,7 @@ fn behind_extensions(kind: u8, octets: &[u8]) -> Option<Content<'_>>
     }
 }
 
-/// What extension headers and what is behind them carry.
+/// What extension headers, of which the first has this number, and what is behind them carry.
 fn in_extensions(first: u8, octets: &[u8]) -> Option<Content<'_>>
     ensures { IsOnly (IsChain extension_size next_header CarriesOverIpv6 first octets.now) (option_map payload_of result) }
 {
