@@ -28,6 +28,19 @@ chain_none size next Carries kind octets payload h = record {
   carries = h;
 }
 
+-- one header in front
+pub chain_front : (size : ℕ → List ℕ → Option ℕ) (next : List ℕ → ℕ) (Carries : ℕ → List ℕ → Payload → Type 0)
+    (kind : ℕ) (payload : Payload) (header behind : List ℕ) → size kind header ≡ Some (length header)
+    → IsChain size next Carries (next header) behind payload → IsChain size next Carries kind (header ++ behind) payload
+chain_front size next Carries kind payload header behind sized chain = record {
+  headers = header ∷ chain.headers;
+  last = chain.last;
+  behind = chain.behind;
+  parts = ap (λ (rest : List ℕ). header ++ rest) chain.parts ∙ sym (append_assoc header (concat chain.headers) chain.behind);
+  in_row = (sized, chain.in_row);
+  carries = chain.carries;
+}
+
 -- one header more
 pub chain_more : (size : ℕ → List ℕ → Option ℕ) (next : List ℕ → ℕ) (Carries : ℕ → List ℕ → Payload → Type 0)
     → IsWalkable size Carries → (kind : ℕ) (octets : List ℕ) (payload : Payload) (n : ℕ) (header behind : List ℕ)
@@ -36,14 +49,8 @@ pub chain_more : (size : ℕ → List ℕ → Option ℕ) (next : List ℕ → �
 chain_more size next Carries walk kind octets payload n header behind sized cut chain =
     let whole : size kind (header ++ behind) ≡ Some (length header) =
     ap (size kind) (sym cut.parts) ∙ sized ∙ ap (λ (k : ℕ). Some k) (sym cut.size) in
-    record {
-      headers = header ∷ chain.headers;
-      last = chain.last;
-      behind = chain.behind;
-      parts = cut.parts ∙ ap (λ (rest : List ℕ). header ++ rest) chain.parts ∙ sym (append_assoc header (concat chain.headers) chain.behind);
-      in_row = (walk.shorter kind header behind whole, chain.in_row);
-      carries = chain.carries;
-    }
+    subst (λ (o : List ℕ). IsChain size next Carries kind o payload) (sym cut.parts)
+    (chain_front size next Carries kind payload header behind (walk.shorter kind header behind whole) chain)
 
 -- where no header is passed over, what stands there carries
 stops : (size : ℕ → List ℕ → Option ℕ) (next : List ℕ → ℕ) (Carries : ℕ → List ℕ → Payload → Type 0)

@@ -7,3 +7,5 @@ pub mod Ipv6Headers
 pub mod Tagged
 pub mod Frames
 pub mod Families
+pub mod Writing
+mod Worked

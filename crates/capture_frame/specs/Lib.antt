@@ -7,4 +7,5 @@ pub mod Ipv6
 pub mod Tags
 pub mod Link
 pub mod Found
+pub mod Written
 pub mod Inner

@@ -7,6 +7,7 @@ mod ether;
 mod found;
 mod ipv4;
 mod ipv6;
+pub mod laws;
 mod link;
 mod link_type;
 mod octets;
