@@ -1,9 +1,9 @@
 -- Headers in a row, from the first one on.
-use Rattle.std.proofs.Common.{◌≡◌, ◌∙◌, ℕ, ◌<◌, ◌≤◌, List, [], ◌∷◌, ◌++◌, length, Option, Some, None, refl, sym, ap, subst, arith, append_assoc, length-append}
+use Rattle.std.proofs.Common.{◌≡◌, ◌∙◌, ℕ, ◌<◌, ◌≤◌, List, [], ◌∷◌, ◌++◌, length, Option, Some, None, refl, sym, ap, subst, arith, append_assoc}
 use Rattle.std.specs.List.{concat}
 use Rattle.capture_frame.specs.Chain.{InRow, IsChain}
 use Rattle.capture_frame.specs.Payload.{Payload}
-use Rattle.capture_frame.specs.Inner.Exactly.{IsCut}
+use Rattle.capture_frame.specs.Inner.Walk.{IsCut}
 use Rattle.capture_frame.proofs.Cuts.{one_cut, front_within}
 use Rattle.capture_frame.proofs.Only.{IsSame}
 

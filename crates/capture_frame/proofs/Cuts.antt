@@ -1,5 +1,5 @@
 -- Octets that are cut in two.
-use Rattle.std.proofs.Common.{◌≡◌, ◌∙◌, ℕ, ◌+◌, ◌<◌, ◌≤◌, List, ◌++◌, length, take, drop, refl, sym, ap, arith, length-append}
+use Rattle.std.proofs.Common.{◌≡◌, ◌∙◌, ℕ, ◌≤◌, List, ◌++◌, length, take, drop, refl, sym, ap, arith, length-append}
 use Rattle.std.proofs.lemmas.List.{take_at, drop_at}
 
 -- at one place there is one cut

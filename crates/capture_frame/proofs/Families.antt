@@ -1,5 +1,5 @@
 -- A packet of IP, by its version or its family.
-use Rattle.std.proofs.Common.{◌≡◌, ◌∙◌, ℕ, ◌/◌, ◌⊎◌, List, [], ◌∷◌, ◌++◌, ◌-◌, ◌≤◌, length, take, drop, ap, get_or, inl, inr, refl, sym, arith}
+use Rattle.std.proofs.Common.{◌≡◌, ◌∙◌, ℕ, ◌/◌, ◌⊎◌, List, [], ◌∷◌, ◌-◌, ◌≤◌, length, take, drop, ap, get_or, inl, inr, refl, sym, arith}
 use Rattle.std.proofs.lemmas.List.{take_rest}
 use Rattle.capture_frame.specs.Ipv4.{IsIpv4}
 use Rattle.capture_frame.specs.Ipv6.{IsIpv6}

@@ -1,10 +1,10 @@
 -- The header that a link type puts in front.
-use Rattle.std.proofs.Common.{◌≡◌, ◌∙◌, ℕ, ◌≤◌, List, ◌++◌, length, sym, subst, arith}
+use Rattle.std.proofs.Common.{◌≡◌, ◌∙◌, ℕ, ◌≤◌, List, length, sym, subst, arith}
 use Rattle.capture_frame.specs.Link.{IsFrame}
 use Rattle.capture_frame.specs.Octets.{two_octets}
 use Rattle.capture_frame.specs.Payload.{Payload}
 use Rattle.capture_frame.specs.Tags.{IsTagged}
-use Rattle.capture_frame.specs.Inner.Exactly.{IsCut}
+use Rattle.capture_frame.specs.Inner.Walk.{IsCut}
 use Rattle.capture_frame.proofs.Cuts.{one_cut, front_within}
 use Rattle.capture_frame.proofs.Only.{IsSame}
 

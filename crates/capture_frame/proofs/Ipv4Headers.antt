@@ -1,10 +1,10 @@
 -- A header of IPv4.
-use Rattle.std.proofs.Common.{◌≡◌, ◌∙◌, ℕ, ◌*◌, ◌/◌, ◌%◌, ◌<◌, ◌≤◌, true, false, List, ◌++◌, length, get_or, sym, ap, subst, refl, arith}
+use Rattle.std.proofs.Common.{◌≡◌, ◌∙◌, ℕ, ◌*◌, ◌/◌, ◌%◌, ◌≤◌, true, List, ◌++◌, length, get_or, sym, ap, subst, arith}
 use Rattle.std.proofs.lemmas.List.{get_or_append_left}
 use Rattle.capture_frame.specs.Ipv4.{IsIpv4, IsIpv4Header, CarriesOverIpv4, ipv4_data, is_unfragmented}
 use Rattle.capture_frame.specs.Payload.{Payload, Whole, Part}
 use Rattle.capture_frame.specs.Udp.{IsUdp}
-use Rattle.capture_frame.specs.Inner.Exactly.{IsCut}
+use Rattle.capture_frame.specs.Inner.Walk.{IsCut}
 use Rattle.capture_frame.proofs.Cuts.{one_cut, front_within}
 
 -- what a packet says of a header that was cut off at its length

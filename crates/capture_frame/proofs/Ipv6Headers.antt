@@ -1,15 +1,14 @@
 -- A header of IPv6, and its extension headers.
-use Rattle.std.proofs.Common.{◌≡◌, ◌∙◌, ℕ, ◌+◌, ◌<◌, ◌≤◌, List, ◌++◌, length, take, get_or, Option, Some, None, sym, ap, subst, refl, arith}
-use Rattle.std.specs.Prelude.{◌*◌, ◌/◌, ◌%◌, Bool, true, false, cond, nat_eq, ◌&&◌, ◌||◌}
-use Rattle.std.proofs.lemmas.Bool.{cases_Bool, eq-eqb, ne_eqb, cond_both}
+use Rattle.std.proofs.Common.{◌≡◌, ◌∙◌, ℕ, ◌≤◌, List, ◌++◌, length, take, get_or, Some, None, sym, ap, subst, refl, arith}
+use Rattle.std.specs.Prelude.{◌/◌}
 use Rattle.std.proofs.lemmas.Bool.Decides.{nat_tests}
 use Rattle.std.proofs.lemmas.List.{get_or_append_left}
 use Rattle.capture_frame.specs.Chain.{IsChain}
-use Rattle.capture_frame.specs.Ipv6.{IsIpv6, CarriesOverIpv6, extension_size, next_header, is_whole}
+use Rattle.capture_frame.specs.Ipv6.{IsIpv6, CarriesOverIpv6, extension_size, next_header}
 use Rattle.capture_frame.specs.Octets.{two_octets}
 use Rattle.capture_frame.specs.Udp.{IsUdp}
 use Rattle.capture_frame.specs.Payload.{Payload, Whole, Part}
-use Rattle.capture_frame.specs.Inner.Exactly.{IsCut}
+use Rattle.capture_frame.specs.Inner.Walk.{IsCut}
 use Rattle.capture_frame.proofs.Chains.{IsWalkable}
 use Rattle.capture_frame.proofs.Only.{IsSame}
 use Rattle.capture_frame.proofs.Cuts.{one_cut, front_within}

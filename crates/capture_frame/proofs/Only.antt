@@ -1,7 +1,7 @@
 -- One value that a relation gives, and no other.
-use Rattle.std.proofs.Common.{◌≡◌, ◌∙◌, Option, Some, None}
+use Rattle.std.proofs.Common.{◌≡◌, Option, Some, None}
 use Rattle.std.specs.Option.{option_map}
-use Rattle.capture_frame.specs.Inner.Exactly.{IsOnly}
+use Rattle.capture_frame.specs.Inner.Walk.{IsOnly}
 
 -- two relations give the same values
 pub record IsSame {A : Type 0} (P Q : A → Type 0) : Type 0 where

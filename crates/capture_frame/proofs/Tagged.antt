@@ -1,5 +1,5 @@
 -- Tags.
-use Rattle.std.proofs.Common.{◌≡◌, ◌∙◌, ℕ, List, ◌++◌, length, Option, Some, None, inl, inr, refl, arith}
+use Rattle.std.proofs.Common.{◌≡◌, ℕ, List, None, inl, inr, refl, arith}
 use Rattle.capture_frame.specs.Tags.{CarriesByType, tag_size}
 use Rattle.capture_frame.specs.Payload.{Payload}
 use Rattle.capture_frame.proofs.Chains.{IsWalkable}

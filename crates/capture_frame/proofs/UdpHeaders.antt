@@ -1,8 +1,8 @@
 -- A header of UDP.
-use Rattle.std.proofs.Common.{◌≡◌, ◌∙◌, ℕ, ◌-◌, ◌<◌, ◌≤◌, List, ◌++◌, length, take, sym, subst, arith}
+use Rattle.std.proofs.Common.{◌≡◌, ◌∙◌, ℕ, ◌-◌, ◌≤◌, List, length, take, sym, subst, arith}
 use Rattle.capture_frame.specs.Octets.{two_octets}
 use Rattle.capture_frame.specs.Udp.{IsPtpPort, IsUdp}
-use Rattle.capture_frame.specs.Inner.Exactly.{IsCut}
+use Rattle.capture_frame.specs.Inner.Walk.{IsCut}
 use Rattle.capture_frame.proofs.Cuts.{one_cut, front_within}
 
 -- what a datagram says of a header that was cut off

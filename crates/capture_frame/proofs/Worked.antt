@@ -1,5 +1,5 @@
 -- Worked cases: packets of recordings, octet for octet, and some that were written by hand.
-use Rattle.std.proofs.Common.{◌≡◌, ℕ, ◌≤◌, List, [], ◌∷◌, take, drop, refl, inl, inr, arith}
+use Rattle.std.proofs.Common.{ℕ, List, [], ◌∷◌, take, drop, refl, inl, inr, arith}
 use Rattle.capture_frame.specs.Found.{IsFound, Datagram, Fragment, OtherLink, Other}
 use Rattle.capture_frame.specs.Ipv6.{CarriesOverIpv6, extension_size, next_header}
 use Rattle.capture_frame.specs.Payload.{Payload, Whole}

@@ -1,21 +1,21 @@
 -- Packets as a sender writes them are found.
-use Rattle.std.proofs.Common.{◌≡◌, ◌∙◌, ℕ, ◌+◌, ◌-◌, ◌*◌, ◌/◌, ◌%◌, ◌^◌, ◌<◌, ◌≤◌, ◌==◌, ◌&&◌, ◌⊎◌, List, [], ◌∷◌, ◌++◌, length, take, get_or, true, false, Some, refl, sym, ap, subst, inl, inr, arith}
+use Rattle.std.proofs.Common.{◌≡◌, ◌∙◌, ℕ, ◌+◌, ◌-◌, ◌*◌, ◌/◌, ◌%◌, ◌==◌, ◌&&◌, ◌⊎◌, List, [], ◌∷◌, ◌++◌, length, take, get_or, true, Some, refl, sym, ap, subst, inl, inr, arith}
 use Rattle.std.proofs.Common.{append_assoc, length-append}
 use Rattle.std.specs.Prelude.{All}
 use Rattle.std.proofs.lemmas.Bool.{ne_eqb}
 use Rattle.std.proofs.lemmas.List.{take_all, take_at, get_or_at, get_or-append-add}
 use Rattle.std.proofs.lemmas.List.Elements.{All-head, All-tail}
 use Rattle.capture_frame.specs.Chain.{IsChain}
-use Rattle.capture_frame.specs.Ipv4.{IsIpv4, IsIpv4Header, ipv4_data, is_unfragmented}
+use Rattle.capture_frame.specs.Ipv4.{IsIpv4, ipv4_data}
 use Rattle.capture_frame.specs.Ipv6.{IsIpv6, CarriesOverIpv6, extension_size, next_header}
 use Rattle.capture_frame.specs.Link.{IsFrame}
 use Rattle.capture_frame.specs.Octets.{two_octets}
-use Rattle.capture_frame.specs.Payload.{Payload, Whole, Part}
+use Rattle.capture_frame.specs.Payload.{Payload, Whole}
 use Rattle.capture_frame.specs.Tags.{CarriesByType, IsTagged, next_type, tag_size}
 use Rattle.capture_frame.specs.Udp.{IsPtpPort, IsUdp}
 use Rattle.capture_frame.specs.Written.{UdpHeader, udp_octets, in_two, Ipv4Header, IsIpv4Whole, ipv4_front, ipv4_octets}
-use Rattle.capture_frame.specs.Written.{Extension, IsExtension, IsOptions, IsWholeFragment, first_number, extended, Ipv6Header, IsIpv6Header, ipv6_front, ipv6_octets}
-use Rattle.capture_frame.specs.Written.{Tag, IsTag, first_type, tagged, ethernet_octets, IsSent, FindsOverEthernet, FindsOverIpv4, FindsOverIpv6}
+use Rattle.capture_frame.specs.Written.{Extension, IsExtension, first_number, extended, Ipv6Header, IsIpv6Header, ipv6_front, ipv6_octets}
+use Rattle.capture_frame.specs.Written.{Tag, IsTag, first_type, tagged, ethernet_octets, FindsOverEthernet, FindsOverIpv4, FindsOverIpv6}
 use Rattle.capture_frame.proofs.Chains.{chain_front, chain_none}
 
 -- two octets are the number that they were written of

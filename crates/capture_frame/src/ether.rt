@@ -2,8 +2,7 @@ ghost use Rattle.std.specs.Prelude.{◌≡◌, [], ◌+◌, ◌<◌, ◌≤◌, 
 ghost use Rattle.std.specs.Option.{option_map};
 ghost use Rattle.capture_frame.specs.Tags.{CarriesByType, IsTagged, tag_size};
 ghost use Rattle.capture_frame.specs.Link.{IsFrame};
-ghost use Rattle.capture_frame.specs.Payload.{payload_of};
-ghost use Rattle.capture_frame.specs.Inner.Exactly.{IsOnly};
+ghost use Rattle.capture_frame.specs.Inner.Walk.{IsOnly, payload_of};
 
 use crate::content::Content;
 use crate::ipv4::in_ipv4;

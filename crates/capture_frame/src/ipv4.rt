@@ -2,8 +2,7 @@ ghost use Rattle.std.specs.Prelude.{◌≡◌, ◌<◌, ◌≤◌, ◌⊎◌, le
 ghost use Rattle.std.specs.Option.{option_map};
 ghost use Rattle.capture_frame.specs.Ipv4.{IsIpv4, is_unfragmented, ipv4_data};
 ghost use Rattle.capture_frame.specs.Octets.{two_octets};
-ghost use Rattle.capture_frame.specs.Payload.{payload_of};
-ghost use Rattle.capture_frame.specs.Inner.Exactly.{IsOnly};
+ghost use Rattle.capture_frame.specs.Inner.Walk.{IsOnly, payload_of};
 
 use crate::content::Content;
 use crate::octets::{cut, front, octet_at, u16_at};

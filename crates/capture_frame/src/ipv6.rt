@@ -2,8 +2,7 @@ ghost use Rattle.std.specs.Prelude.{◌≡◌, ◌<◌, ◌≤◌, length, Match
 ghost use Rattle.std.specs.Option.{option_map};
 ghost use Rattle.capture_frame.specs.Chain.{IsChain};
 ghost use Rattle.capture_frame.specs.Ipv6.{IsIpv6, CarriesOverIpv6, extension_size, next_header, is_whole};
-ghost use Rattle.capture_frame.specs.Payload.{payload_of};
-ghost use Rattle.capture_frame.specs.Inner.Exactly.{IsOnly};
+ghost use Rattle.capture_frame.specs.Inner.Walk.{IsOnly, payload_of};
 
 use crate::content::Content;
 use crate::octets::{cut, front, octet_at, u16_at};

@@ -3,8 +3,7 @@ ghost use Rattle.std.specs.Option.{option_map};
 ghost use Rattle.capture_frame.specs.Ipv4.{IsIpv4};
 ghost use Rattle.capture_frame.specs.Ipv6.{IsIpv6};
 ghost use Rattle.capture_frame.specs.Link.{Carries, IsOfFamily, IsBigEndian, IsLittleEndian};
-ghost use Rattle.capture_frame.specs.Payload.{payload_of};
-ghost use Rattle.capture_frame.specs.Inner.Exactly.{IsOnly};
+ghost use Rattle.capture_frame.specs.Inner.Walk.{IsOnly, payload_of};
 
 use crate::content::Content;
 use crate::ether::in_frame;

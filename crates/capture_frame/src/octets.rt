@@ -1,6 +1,6 @@
 ghost use Rattle.std.specs.Prelude.{◌≡◌, ◌+◌, ◌<◌, ◌≤◌, length, take, slice_index, MatchOption};
 ghost use Rattle.capture_frame.specs.Octets.{two_octets};
-ghost use Rattle.capture_frame.specs.Inner.Exactly.{IsCut};
+ghost use Rattle.capture_frame.specs.Inner.Walk.{IsCut};
 
 /// The octet at this place, and 0 behind the end.
 pub(crate) fn octet_at(octets: &[u8], at: usize) -> u8

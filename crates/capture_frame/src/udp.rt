@@ -1,7 +1,7 @@
 ghost use Rattle.std.specs.Prelude.{◌↔◌, IsTrue};
 ghost use Rattle.std.specs.Option.{option_copied};
 ghost use Rattle.capture_frame.specs.Udp.{IsUdp, IsPtpPort};
-ghost use Rattle.capture_frame.specs.Inner.Exactly.{IsOnly};
+ghost use Rattle.capture_frame.specs.Inner.Walk.{IsOnly};
 
 use crate::octets::{cut, front, u16_at};
 

@@ -1,6 +1,6 @@
 use Rattle.std.proofs.Common.{ℕ, ◌∙◌, ◌-◌, sym, ap}
 use Rattle.capture_frame.specs.Octets.{two_octets}
-use Rattle.capture_frame.specs.Payload.{payload_of}
+use Rattle.capture_frame.specs.Inner.Walk.{payload_of}
 use Rattle.capture_frame.specs.Tags.{CarriesByType, IsTagged, next_type, tag_size}
 use Rattle.capture_frame.proofs.Chains.{chain_cut, chain_end, chain_step}
 use Rattle.capture_frame.proofs.Tagged.{tags}

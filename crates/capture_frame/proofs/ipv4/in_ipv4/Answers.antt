@@ -1,6 +1,6 @@
-use Rattle.std.proofs.Common.{◌≡◌, ℕ, ◌∙◌, ◌*◌, ◌%◌, List, get_or, sym, ap, subst, arith}
-use Rattle.capture_frame.specs.Ipv4.{IsIpv4, ipv4_data}
-use Rattle.capture_frame.specs.Payload.{payload_of}
+use Rattle.std.proofs.Common.{◌≡◌, ℕ, ◌∙◌, ◌*◌, ◌%◌, List, get_or, sym, ap, subst}
+use Rattle.capture_frame.specs.Ipv4.{IsIpv4}
+use Rattle.capture_frame.specs.Inner.Walk.{payload_of}
 use Rattle.capture_frame.specs.Udp.{IsUdp}
 use Rattle.capture_frame.proofs.Ipv4Headers.{ipv4_none, ipv4_whole, first_octet}
 use Rattle.capture_frame.proofs.Only.{none_only}

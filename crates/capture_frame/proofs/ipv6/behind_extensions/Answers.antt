@@ -1,6 +1,5 @@
-use Rattle.std.proofs.Common.{sym}
 use Rattle.capture_frame.specs.Ipv6.{CarriesOverIpv6}
-use Rattle.capture_frame.specs.Payload.{payload_of}
+use Rattle.capture_frame.specs.Inner.Walk.{payload_of}
 use Rattle.capture_frame.proofs.Ipv6Headers.{udp_none, udp_whole}
 use Rattle.capture_frame.proofs.Only.{none_only}
 use Rattle.capture_frame.proofs.ipv6.behind_extensions.Goals as goal

@@ -1,7 +1,7 @@
 use Rattle.std.proofs.Common.{sym}
 use Rattle.capture_frame.specs.Chain.{IsChain}
 use Rattle.capture_frame.specs.Ipv6.{CarriesOverIpv6, extension_size, next_header}
-use Rattle.capture_frame.specs.Payload.{payload_of}
+use Rattle.capture_frame.specs.Inner.Walk.{payload_of}
 use Rattle.capture_frame.proofs.Chains.{chain_cut, chain_end, chain_step}
 use Rattle.capture_frame.proofs.Ipv6Headers.{extensions}
 use Rattle.capture_frame.proofs.Only.{none_only, only_same, same_along}

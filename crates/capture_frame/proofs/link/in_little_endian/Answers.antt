@@ -1,4 +1,4 @@
-use Rattle.std.proofs.Common.{◌≡◌, ◌≤◌, [], ◌∷◌, ◌-◌, length, take, drop, get_or, arith}
+use Rattle.std.proofs.Common.{◌≡◌, ◌∷◌, ◌-◌, length, take, drop, get_or, arith}
 use Rattle.capture_frame.proofs.Families.{little_endian, four}
 use Rattle.capture_frame.proofs.Only.{only_same}
 use Rattle.capture_frame.proofs.link.in_little_endian.Goals as goal
