@@ -49,7 +49,8 @@ pub record IsLittleEndian (octets : List ℕ) (payload : Payload) : Type 0 where
   pub parts : octets ≡ (family ∷ 0 ∷ 0 ∷ 0 ∷ []) ++ behind
   pub carries : IsOfFamily family behind payload
 
--- the octets of a packet of this link type carry this
+-- the octets of a packet of this link type carry this: Ethernet has an EtherType behind two addresses of six octets, Linux
+-- cooked capture in the last two of 16 octets, or in the first two of 20
 abbrev pub Carries : LinkType → List ℕ → Payload → Type 0
 Carries Ethernet = IsFrame 14 12
 Carries Cooked = IsFrame 16 14

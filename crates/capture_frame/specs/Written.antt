@@ -13,6 +13,7 @@ pub record UdpHeader : Type 0 where
   pub destination : ℕ
   pub checksum : ℕ
 
+-- the header and what is behind it
 abbrev pub udp_octets : UdpHeader → List ℕ → List ℕ
 udp_octets header datagram =
     in_two header.source ++ in_two header.destination ++ in_two (8 + length datagram) ++ in_two header.checksum
@@ -36,13 +37,14 @@ pub record IsIpv4Whole (header : Ipv4Header) : Type 0 where
   pub padded : length header.options ≡ 4 * header.words
   pub most : header.words ≤ 10
 
--- the header in front of so many octets
+-- the header in front of so many octets: version 4, and protocol 17
 abbrev pub ipv4_front : Ipv4Header → ℕ → List ℕ
 ipv4_front header count =
     (16 * 4 + (5 + header.words)) ∷ header.service ∷ in_two (20 + 4 * header.words + count)
     ++ in_two header.identification ++ (header.flags ∷ 0 ∷ header.time_to_live ∷ 17 ∷ in_two header.checksum)
     ++ header.addresses ++ header.options
 
+-- the header and what is behind it
 abbrev pub ipv4_octets : Ipv4Header → List ℕ → List ℕ
 ipv4_octets header payload = ipv4_front header (length payload) ++ payload
 
@@ -71,6 +73,7 @@ abbrev pub first_number : List Extension → (last : ℕ) → ℕ
 first_number [] last = last
 first_number (header ∷ headers) last = header.kind
 
+-- extension headers in front of what is of number `last`
 abbrev pub extended : List Extension → (last : ℕ) → List ℕ → List ℕ
 extended [] last payload = payload
 extended (header ∷ headers) last payload =
@@ -86,11 +89,13 @@ pub record IsIpv6Header (header : Ipv6Header) : Type 0 where
   pub within : header.flow < 2 ^ 28
   pub two_addresses : length header.addresses ≡ 32
 
+-- the header in front of so many octets: version 6
 abbrev pub ipv6_front : Ipv6Header → (next count : ℕ) → List ℕ
 ipv6_front header next count =
     (16 * 6 + header.flow / 2 ^ 24) ∷ header.flow / 2 ^ 16 % 256 ∷ header.flow / 256 % 256 ∷ header.flow % 256
     ∷ in_two count ++ (next ∷ header.hop_limit ∷ header.addresses)
 
+-- the header, and behind it extension headers, the last of which announces UDP
 abbrev pub ipv6_octets : Ipv6Header → List Extension → List ℕ → List ℕ
 ipv6_octets header extensions payload =
     ipv6_front header (first_number extensions 17) (length (extended extensions 17 payload))
@@ -112,10 +117,12 @@ abbrev pub first_type : List Tag → (last : ℕ) → ℕ
 first_type [] last = last
 first_type (tag ∷ tags) last = tag.kind
 
+-- what stands behind the first EtherType
 abbrev pub tagged : List Tag → (last : ℕ) → List ℕ → List ℕ
 tagged [] last payload = payload
 tagged (tag ∷ tags) last payload = (tag.content ++ in_two (first_type tags last)) ++ tagged tags last payload
 
+-- two addresses, and tags in front of what is of type `last`
 abbrev pub ethernet_octets : (addresses : List ℕ) → List Tag → (last : ℕ) → List ℕ → List ℕ
 ethernet_octets addresses tags last payload =
     (addresses ++ in_two (first_type tags last)) ++ tagged tags last payload

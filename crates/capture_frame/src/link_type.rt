@@ -1,13 +1,21 @@
-/// The link types of captures in which PTP is looked for.
+/// The link types of captures in which PTP is looked for, as tcpdump.org has them.
 #[derive(Clone, Copy)]
 pub(crate) enum LinkType {
+    /// `LINKTYPE_NULL`: a family of addresses in four octets, in the order of the machine that captured.
     Null,
+    /// `LINKTYPE_ETHERNET`: two addresses and an EtherType in 14 octets.
     Ethernet,
+    /// `LINKTYPE_RAW`: IP of either version.
     Raw,
+    /// `LINKTYPE_LOOP`: a family of addresses in four octets, in the order of the network.
     Loop,
+    /// `LINKTYPE_LINUX_SLL`: 16 octets, of which the last two are an EtherType.
     Cooked,
+    /// `LINKTYPE_IPV4`
     Ipv4,
+    /// `LINKTYPE_IPV6`
     Ipv6,
+    /// `LINKTYPE_LINUX_SLL2`: 20 octets, of which the first two are an EtherType.
     Cooked2,
 }
 
