@@ -13,7 +13,7 @@ pub record UdpHeader : Type 0 where
   pub destination : ℕ
   pub checksum : ℕ
 
--- the header and what is behind it
+-- a datagram behind its header
 abbrev pub udp_octets : UdpHeader → List ℕ → List ℕ
 udp_octets header datagram =
     in_two header.source ++ in_two header.destination ++ in_two (8 + length datagram) ++ in_two header.checksum
@@ -44,7 +44,7 @@ ipv4_front header count =
     ++ in_two header.identification ++ (header.flags ∷ 0 ∷ header.time_to_live ∷ 17 ∷ in_two header.checksum)
     ++ header.addresses ++ header.options
 
--- the header and what is behind it
+-- what goes over IPv4, behind its header
 abbrev pub ipv4_octets : Ipv4Header → List ℕ → List ℕ
 ipv4_octets header payload = ipv4_front header (length payload) ++ payload
 
