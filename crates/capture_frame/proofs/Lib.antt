@@ -9,3 +9,4 @@ pub mod Frames
 pub mod Families
 pub mod Writing
 mod Worked
+pub mod Fronts

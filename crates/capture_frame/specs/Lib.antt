@@ -7,5 +7,6 @@ pub mod Ipv6
 pub mod Tags
 pub mod Link
 pub mod Found
+pub mod Captured
 pub mod Written
 pub mod Inner

@@ -1,5 +1,6 @@
 //! What follows from the definitions alone.
-ghost use Rattle.std.specs.Prelude.{◌≡◌};
+ghost use Rattle.std.specs.Prelude.{◌≡◌, take};
+ghost use Rattle.capture_frame.specs.Captured.{IsFrontOf};
 ghost use Rattle.capture_frame.specs.Found.{Answer, IsFound};
 ghost use Rattle.capture_frame.specs.Written.{FindsOverEthernet, FindsOverIpv4, FindsOverIpv6};
 
@@ -8,6 +9,15 @@ use crate::found::find_datagram;
 /// Of a packet one thing is said, and nothing else.
 pub fn found_as_one_answer(link: u16, octets: &[u8])
     ensures { (one other : Answer) → IsFound link octets.now one → IsFound link octets.now other → one ≡ other }
+{
+    let _ = find_datagram(link, octets);
+}
+
+/// Of a packet that was cut short at any octet, what is said is so of the whole packet, but for how long its datagram is, or
+/// it is that nothing was found.
+pub fn found_as_captured(link: u16, octets: &[u8], count: usize)
+    ensures { (captured whole : Answer) → IsFound link (take count octets.now) captured → IsFound link octets.now whole
+        → IsFrontOf captured whole }
 {
     let _ = find_datagram(link, octets);
 }
