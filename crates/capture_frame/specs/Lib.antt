@@ -1,0 +1,11 @@
+pub mod Octets
+pub mod Payload
+pub mod Udp
+pub mod Chain
+pub mod Ipv4
+pub mod Ipv6
+pub mod Tags
+pub mod Link
+pub mod Found
+pub mod Written
+pub mod Inner

@@ -1,0 +1,16 @@
+//! What a captured packet has of PTP: the datagram that it carries over UDP or Ethernet, behind the headers that its link
+//! type, tags and IP put in front.
+#![tactic(auto)]
+
+mod content;
+mod ether;
+mod found;
+mod ipv4;
+mod ipv6;
+pub mod laws;
+mod link;
+mod link_type;
+mod octets;
+mod udp;
+
+pub use found::{DATAGRAM_LIMIT, Found, find_datagram};
