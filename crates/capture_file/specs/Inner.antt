@@ -1,0 +1,3 @@
+pub mod Octets
+pub mod Front
+pub mod Reading
