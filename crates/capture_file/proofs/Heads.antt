@@ -64,7 +64,8 @@ pub head_stops : (a b c : Option (List ℕ)) (size : ℕ) (order : ByteOrder) (u
 head_stops a b c size order unit front new Read most begun wants version =
     let after = begun_more a b c order unit front new begun wants in (new, after.read)
 head_stops a b c size order unit front new (Fault CutOff place) most begun (fills, short, end, first) version =
-    rw first (cut_off a c order unit new (begun_more a b c order unit front new begun fills) end (omega (arith, short, most)) (λ least. version short least fills))
+    let after = begun_more a b c order unit front new begun fills in
+    ((new, after.read), rw first (cut_off a c order unit new after end (omega (arith, short, most)) (λ least. version short least fills)))
 head_stops a b c size order unit front new (Fault NoCapture place) most begun wants version = absurd wants
 head_stops a b c size order unit front new (Fault Version place) most begun wants version = absurd wants
 head_stops a b c size order unit front new (Fault ByteOrderMagic place) most begun wants version = absurd wants
@@ -77,16 +78,19 @@ reads_none a c (Err other) stop is stops = let same : other ≡ stop = cc in rw 
 
 -- a version that isn't known
 pub wrong_version : (a b : Option (List ℕ)) (order : ByteOrder) (unit : FractionUnit) (front : List ℕ) → IsBegun a b order unit front → 8 ≤ length front
-    → is_pcap_version order front ≡ false → ForSome a (λ octets. IsFault Start octets Version 4)
-wrong_version a b order unit front begun least wrong octets known =
-    let (rest, left, split) = Consumes-known a b front octets begun.read known in
-    rw split (
-      order,
-      (
-        rw (length-append front rest) (let least = begun.least in omega arith),
-        some (unit_of (number32 order (front ++ rest) 0)) unit (ap unit_of (number32_front order front rest 0 begun.least) ∙ begun.magic),
+    → is_pcap_version order front ≡ false → StopsPart Start (Fault Version 4) a b
+wrong_version a b order unit front begun least wrong = (
+  (front, begun.read),
+  λ octets known.
+      let (rest, left, split) = Consumes-known a b front octets begun.read known in
+      rw split (
+        order,
+        (
+          rw (length-append front rest) (let least = begun.least in omega arith),
+          some (unit_of (number32 order (front ++ rest) 0)) unit (ap unit_of (number32_front order front rest 0 begun.least) ∙ begun.magic),
+        ),
+        rw (length-append front rest) (omega (arith, least)),
+        version_front order front rest least ∙ wrong,
+        refl,
       ),
-      rw (length-append front rest) (omega (arith, least)),
-      version_front order front rest least ∙ wrong,
-      refl,
-    )
+)

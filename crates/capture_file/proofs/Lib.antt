@@ -2,3 +2,4 @@ pub mod Fronts
 pub mod Reading
 pub mod Heads
 pub mod Packets
+pub mod Taking

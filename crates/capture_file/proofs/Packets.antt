@@ -30,8 +30,8 @@ packet_front None interface link front passed least full = refl
 packet_front (Some time) interface link front [] least full = rw (append-nil front) refl
 packet_front (Some time) interface link front (x ∷ xs) least full =
     ap (Captured interface time link) (
-      ap (take 65536) (drop-append-le 16 front (x ∷ xs) least)
-      ∙ take-append-le 65536 (drop 16 front) (x ∷ xs) (rw (length-drop 16 front) (let long = full (omega arith) in omega arith))
+    ap (take 65536) (drop-append-le 16 front (x ∷ xs) least)
+    ∙ take-append-le 65536 (drop 16 front) (x ∷ xs) (rw (length-drop 16 front) (let long = full (omega arith) in omega arith))
     )
 
 -- those that were read are the packet that they say
@@ -43,9 +43,9 @@ is_packet pcap front passed packet least full whole is = record {
   least = rw (length-append front passed) (omega (arith, least));
   captured_length = length-append front passed ∙ whole ∙ ap (λ n. 16 + n) (sym (number32_front pcap.order front passed 8 (omega (arith, least))));
   packet_is = is ∙ sym (
-    (λ i. packet_at (pcap_time pcap.unit (number32_front pcap.order front passed 0 (omega (arith, least)) i) (number32_front pcap.order front passed 4 (omega (arith, least)) i)) pcap_interface pcap.link (drop 16 (front ++ passed)))
-    ∙ packet_front (pcap_time pcap.unit (number32 pcap.order front 0) (number32 pcap.order front 4)) pcap_interface pcap.link front passed least full
-  );
+      (λ i. packet_at (pcap_time pcap.unit (number32_front pcap.order front passed 0 (omega (arith, least)) i) (number32_front pcap.order front passed 4 (omega (arith, least)) i)) pcap_interface pcap.link (drop 16 (front ++ passed)))
+      ∙ packet_front (pcap_time pcap.unit (number32 pcap.order front 0) (number32 pcap.order front 4)) pcap_interface pcap.link front passed least full
+      );
 }
 
 -- the octets of a packet whose time is one
@@ -53,8 +53,8 @@ pub captured_is : (time : Option Stamp) (stamp : Stamp) (link : ℕ) (octets : L
     → Captured pcap_interface stamp link (take (length octets - 16) (drop 16 octets)) ≡ packet_at time pcap_interface link (drop 16 octets)
 captured_is time stamp link octets is most =
     rw is (ap (Captured pcap_interface stamp link) (
-      take_all (length octets - 16) (drop 16 octets) (rw (length-drop 16 octets) (omega arith))
-      ∙ sym (take_all 65536 (drop 16 octets) (rw (length-drop 16 octets) (omega (arith, most))))
+    take_all (length octets - 16) (drop 16 octets) (rw (length-drop 16 octets) (omega arith))
+    ∙ sym (take_all 65536 (drop 16 octets) (rw (length-drop 16 octets) (omega (arith, most))))
     ))
 
 -- ---- a packet that is cut off
@@ -88,9 +88,12 @@ pub packet_stops : (a b c : Option (List ℕ)) (pcap : PcapOf) (size : ℕ) (fro
     → size ≤ 16 + number32 pcap.order front 8 → Wants {T = ⊤} size (Err stop) front new b c → StopsPart (Pcap pcap) stop a c
 packet_stops a b c pcap size front new Read read head most (more, is, next) = (new, rw is (Consumes-trans a b c front more read next))
 packet_stops a b c pcap size front new (Fault CutOff place) read head most ((more, is, next), short, end, first) =
-    rw first (cut_packet a c pcap new (rw is (Consumes-trans a b c front more read next)) end
-    (rw (is, length-append front more) (omega (arith, head)))
-    (rw (is, number32_front pcap.order front more 8 (omega (arith, head))) (omega (arith, most, ap length is, short))))
+    let all : Consumes a c new = rw is (Consumes-trans a b c front more read next) in (
+      (new, all),
+      rw first (cut_packet a c pcap new all end
+          (rw (is, length-append front more) (omega (arith, head)))
+          (rw (is, number32_front pcap.order front more 8 (omega (arith, head))) (omega (arith, most, ap length is, short)))),
+    )
 packet_stops a b c pcap size front new (Fault NoCapture place) read head most wants = absurd wants
 packet_stops a b c pcap size front new (Fault Version place) read head most wants = absurd wants
 packet_stops a b c pcap size front new (Fault ByteOrderMagic place) read head most wants = absurd wants
@@ -102,9 +105,12 @@ pub rest_stops : (a b c : Option (List ℕ)) (pcap : PcapOf) (count : ℕ) (fron
     → length front + count ≡ 16 + number32 pcap.order front 8 → PassesRest {T = ⊤} count (Err stop) b c → StopsPart (Pcap pcap) stop a c
 rest_stops a b c pcap count front Read read least whole (passed, next) = (front ++ passed, Consumes-trans a b c front passed read next)
 rest_stops a b c pcap count front (Fault CutOff place) read least whole (passed, next, short, end, first) =
-    rw first (cut_packet a c pcap (front ++ passed) (Consumes-trans a b c front passed read next) end
-    (rw (length-append front passed) (omega (arith, least)))
-    (rw (length-append front passed, number32_front pcap.order front passed 8 (omega (arith, least))) (omega (arith, short, whole))))
+    let all = Consumes-trans a b c front passed read next in (
+      (front ++ passed, all),
+      rw first (cut_packet a c pcap (front ++ passed) all end
+          (rw (length-append front passed) (omega (arith, least)))
+          (rw (length-append front passed, number32_front pcap.order front passed 8 (omega (arith, least))) (omega (arith, short, whole)))),
+    )
 rest_stops a b c pcap count front (Fault NoCapture place) read least whole passes = absurd passes
 rest_stops a b c pcap count front (Fault Version place) read least whole passes = absurd passes
 rest_stops a b c pcap count front (Fault ByteOrderMagic place) read least whole passes = absurd passes

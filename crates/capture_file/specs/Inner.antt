@@ -1,3 +1,4 @@
 pub mod Octets
 pub mod Front
 pub mod Reading
+pub mod Taking

@@ -10,7 +10,7 @@ use Rattle.capture_file.specs.declared.fault.CaptureCause.{CaptureCause}
 use Rattle.capture_file.specs.declared.fault.CaptureCause.TheVariants.{Read, Memory, Capture, Task}
 use Rattle.capture_file.specs.declared.fault.CaptureStop.{CaptureStop}
 use Rattle.capture_file.specs.Packet.{PacketOf}
-use Rattle.capture_file.specs.Parts.{Part, AreParts, IsFault, form_behind, octets_of, packets_of}
+use Rattle.capture_file.specs.Parts.{Form, Part, AreParts, IsFault, form_behind, octets_of, packets_of}
 
 -- The rules of a task: from which state to which the packet of a number, counted from 1, takes it, with what is
 -- written; at which fault one stops it, with what is written before; what it answers after so many packets, at the end,
@@ -45,8 +45,8 @@ StopsAt rules parts state rest (Capture fault) place written =
     IsFault (form_behind parts) rest fault place × (written ≡ [])
 StopsAt rules parts state rest (Task fault) place written =
     (place ≡ 0)
-    × (((octets : List ℕ) × (packet : PacketOf) × (others : List ℕ) × (rest ≡ octets ++ others)
-    × AreParts (record { octets = octets; packet = Some packet; later = form_behind parts } ∷ parts)
+    × (((octets : List ℕ) × (packet : PacketOf) × (later : Form) × (others : List ℕ) × (rest ≡ octets ++ others)
+    × AreParts (record { octets = octets; packet = Some packet; later = later } ∷ parts)
     × rules.Stops (length (packets_of parts) + 1) packet state fault written)
     ⊎ ((rest ≡ []) × (parts ≢ []) × rules.StopsAtEnd state fault written))
 

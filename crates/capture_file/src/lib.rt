@@ -8,6 +8,7 @@ mod order;
 mod packet;
 mod part;
 mod pcap;
+mod progress;
 mod reader;
 mod task;
 

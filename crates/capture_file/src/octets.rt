@@ -43,10 +43,7 @@ pub(crate) fn fill_behind<R: Read>(
 }
 
 /// Passes over so many octets. Answers whether so many were there.
-pub(crate) fn pass_over<R: Read>(
-    count: u64,
-    input: &mut Counted<R>,
-) -> Result<bool, ReadFailed>
+pub(crate) fn pass_over<R: Read>(count: u64, input: &mut Counted<R>) -> Result<bool, ReadFailed>
     ensures passed { PassesOver count result (R.remaining (device_of input.old)) (R.remaining (device_of input.new)) }
     ensures failures { MatchResult result
         (λ _. HasNotFailed input.old input.new)

@@ -108,10 +108,7 @@ fn pass_rest<R: Read>(count: u32, input: &mut Counted<R>) -> Result<(), PartStop
 }
 
 /// Reads what stands in front of the octets of a packet. Answers whether there is one.
-fn read_packet_head<R: Read>(
-    front: &mut Front,
-    input: &mut Counted<R>,
-) -> Result<bool, PartStop>
+fn read_packet_head<R: Read>(front: &mut Front, input: &mut Counted<R>) -> Result<bool, PartStop>
     requires empty { front_of front.old ≡ [] }
     ensures head { ReadsPacketHead result (front_of front.new) (R.remaining (device_of input.old)) (R.remaining (device_of input.new)) }
     ensures failures { FailedIn result input.old input.new }

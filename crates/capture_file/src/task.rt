@@ -1,16 +1,18 @@
 //! The one loop over the packets of a capture.
-ghost use Rattle.std.specs.Prelude.{◌≡◌, List, ℕ, MatchResult};
+ghost use Rattle.std.specs.Prelude.{◌≡◌, ◌+◌, List, ℕ, MatchResult, IfOk};
 ghost use Rattle.std.specs.Option.{ForSome};
 ghost use Rattle.std.specs.Io.KnownBytes.{Appends};
 ghost use Rattle.text_lines.specs.Counted.{device_of, HasNotFailed, HasFailedIf};
 ghost use Rattle.text_lines.specs.Task.{WentOut};
-ghost use Rattle.capture_file.specs.Task.{PacketRules, Answers, FailedAt};
-ghost use Rattle.capture_file.specs.Inner.Reading.{packet_of};
+ghost use Rattle.capture_file.specs.Task.{PacketRules, Answers, FailedAt, is_of_writer};
+ghost use Rattle.capture_file.specs.Inner.Reading.{packet_of, packet_in};
+ghost use Rattle.capture_file.specs.Inner.Taking.{IsBehind, TakesPart, StopsTaking};
 
 use crate::fault::{CaptureCause, CaptureStop};
 use crate::front::Front;
 use crate::packet::Packet;
-use crate::part::{Part, PartStop};
+use crate::part::Part;
+use crate::progress::Progress;
 use crate::reader::{Form, read_part};
 use std::alloc::Global;
 use std::io::{Read, Write};
@@ -70,54 +72,35 @@ pub trait PacketTask {
             (λ what. HasFailedIf (rules.is_of_writer what) output.old output.new) };
 }
 
-/// How far a capture was read: how many packets, and how many octets, up to 2^64 - 1.
-#[derive(Clone, Copy)]
-struct Progress {
-    packets: u64,
-    octets: u64,
-}
-
-impl Progress {
-    /// What stops it here.
-    fn stop<F>(self, what: CaptureCause<F>) -> CaptureStop<F> {
-        CaptureStop {
-            packets: self.packets,
-            octet: self.octets,
-            what,
-        }
-    }
-
-    /// Why the next part isn't read.
-    fn stop_part<F>(self, stop: PartStop) -> CaptureStop<F> {
-        match stop {
-            PartStop::Read => self.stop(CaptureCause::Read),
-            PartStop::Fault(fault, place) => CaptureStop {
-                packets: self.packets,
-                octet: self.octets.saturating_add(place),
-                what: CaptureCause::Capture(fault),
-            },
-        }
-    }
-}
-
-/// Takes the packet that a part is, if it is one. More packets than can be counted are refused as want of memory.
+/// Takes the packet that a part is, if it is one. What can't be counted is refused as want of memory.
 fn take_part<T: PacketTask, W: Write>(
     task: &mut T,
     part: &Part<'_>,
-    progress: &mut Progress,
+    progress: Progress,
     output: &mut Counted<W>,
-) -> Result<(), CaptureStop<T::Fault>> {
+) -> Result<Progress, CaptureStop<T::Fault>>
+    requires stands { (state : T.State) × T.is_at task.old state }
+    ensures behind { IfOk result (IsBehind progress part.now.size (packet_in part.now)) }
+    ensures taken { (state : T.State) → T.is_at task.old state →
+        let before = W.contents (device_of output.old) in
+        let after = W.contents (device_of output.new) in
+        MatchResult result
+        (λ _. (later : T.State) × (written : List ℕ) × T.is_at task.new later
+        × TakesPart T.rules (progress.packets + 1) (packet_in part.now) state later written × Appends before after written)
+        (λ stop. StopsTaking T.rules progress (packet_in part.now) state before after stop) }
+    ensures failures { MatchResult result
+        (λ _. HasNotFailed output.old output.new)
+        (λ stop. HasFailedIf (is_of_writer T.rules stop.what) output.old output.new) }
+{
+    let Some(behind) = progress.behind(part) else {
+        return Err(progress.stop(CaptureCause::Memory));
+    };
     if let Some(packet) = &part.packet {
-        let Some(number) = progress.packets.checked_add(1) else {
-            return Err(progress.stop(CaptureCause::Memory));
-        };
-        if let Err(fault) = task.take(number, packet, output) {
+        if let Err(fault) = task.take(behind.packets, packet, output) {
             return Err(progress.stop(CaptureCause::Task(fault)));
         }
-        progress.packets = number;
     }
-    progress.octets = progress.octets.saturating_add(part.size);
-    Ok(())
+    Ok(behind)
 }
 
 /// Takes all packets of the capture that the input is, in turn, and ends after the last. A packet is taken before an octet behind it
@@ -136,17 +119,14 @@ pub fn answer_packets<T: PacketTask, R: Read, W: Write>(
         (λ _. HasNotFailed input.old input.new × HasNotFailed output.old output.new)
         (λ stop. FailedAt T.rules stop.what input.old input.new output.old output.new) }
 {
-    let mut progress = Progress {
-        packets: 0,
-        octets: 0,
-    };
+    let mut progress = Progress::START;
     let Ok(mut front) = Front::new(alloc) else {
         return Err(progress.stop(CaptureCause::Memory));
     };
     let mut form = Form::Start;
     loop {
         match read_part(&mut form, &mut front, input) {
-            Ok(Some(part)) => take_part(task, &part, &mut progress, output)?,
+            Ok(Some(part)) => progress = take_part(task, &part, progress, output)?,
             Ok(None) => break,
             Err(stop) => return Err(progress.stop_part(stop)),
         }

@@ -33,6 +33,10 @@ packet_of (packets.Captured p) = Captured (interface_of p.interface) p.time p.li
 packet_of packets.Timeless = Timeless
 packet_of packets.Simple = Simple
 
+-- the packet that a part is, if it is one
+abbrev pub packet_in : Part → Option PacketOf
+packet_in part = option_map packet_of part.packet
+
 -- what a head tells
 abbrev pub pcap_of : PcapHead → PcapOf
 pcap_of head = record { order = head.order; unit = head.unit; link = head.link }
@@ -56,10 +60,15 @@ FailedIn (Ok read) old new = HasNotFailed old new
 FailedIn (Err Read) old new = HasFailed old new
 FailedIn (Err (Fault fault place)) old new = HasNotFailed old new
 
+-- some octets were read
+abbrev pub Sees : (before after : Option (List ℕ)) → Type 0
+Sees before after = (seen : List ℕ) × Consumes before after seen
+
 -- why a part wasn't read
 abbrev pub StopsPart : Form → PartStop → (before after : Option (List ℕ)) → Type 0
-StopsPart form Read before after = (seen : List ℕ) × Consumes before after seen
-StopsPart form (Fault fault place) before after = ForSome before (λ octets. IsFault form octets fault place)
+StopsPart form Read before after = Sees before after
+StopsPart form (Fault fault place) before after =
+    Sees before after × ForSome before (λ octets. IsFault form octets fault place)
 
 -- the magic of a pcap was read
 abbrev pub ReadsMagic : Result (ByteOrder × FractionUnit) PartStop → (front : List ℕ) → (before after : Option (List ℕ)) → Type 0
@@ -90,7 +99,7 @@ ReadsHead (Err stop) before after = StopsPart Start stop before after
 abbrev pub IsRead : (old new : Form) → Part → (before after : Option (List ℕ)) → Type 0
 IsRead old new part before after =
     (octets : List ℕ) × Consumes before after octets × (length octets ≡ part.size)
-    × IsPart old octets (option_map packet_of part.packet) new
+    × IsPart old octets (packet_in part) new
 
 -- the end of the input, behind a part
 abbrev pub IsEnd : (old new : Form) → (before after : Option (List ℕ)) → Type 0

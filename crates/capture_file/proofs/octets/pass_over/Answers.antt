@@ -9,7 +9,7 @@ loop-left-preserved g c =
     let count = c.in-Ok.passed in
     let within : count ≤ length c.read.new.buf = search rules in
     let more : length (passed ++ take count c.read.new.buf) ≡ length passed + count =
-        length-append passed (take count c.read.new.buf) ∙ (λ i. length passed + length-take-le count c.read.new.buf within i) in
+    length-append passed (take count c.read.new.buf) ∙ (λ i. length passed + length-take-le count c.read.new.buf within i) in
     record {
       passed = (
         passed ++ take count c.read.new.buf,

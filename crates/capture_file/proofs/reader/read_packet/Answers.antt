@@ -27,7 +27,7 @@ returns-in_err-pass_rest-clause-part g c =
     let kept : c.min-kept.result ≤ c.u32_at-captured.result = search rules in
     let ((more, is, next), whole) = c.in_ok-want.ensures.wanted in
     let same : number32 c.args.head.order (front_of c.want.new.self) 8 ≡ number32 c.args.head.order front 8 =
-        rw is (number32_front c.args.head.order front more 8 (omega (arith, size))) in
+    rw is (number32_front c.args.head.order front more 8 (omega (arith, size))) in
     reads_no_part _ _ _ _ _ c.in_err-pass_rest.field-0.0 (search rules)
     (rest_stops _ _ _ (pcap_of c.args.head) (c.u32_at-captured.result - c.min-kept.result) (front_of c.want.new.self) c.in_err-pass_rest.field-0.0
     (rw is (Consumes-trans _ _ _ front more read next)) (omega (arith, whole)) (omega (arith, whole, kept, captured, same)) c.in_err-pass_rest.ensures.passed)
@@ -41,11 +41,14 @@ returns-clause-part g c =
     let ((more, is, next), whole) = c.in_ok-want.ensures.wanted in
     let all = front_of c.want.new.self in
     let same : number32 c.args.head.order all 8 ≡ number32 c.args.head.order front 8 =
-        rw is (number32_front c.args.head.order front more 8 (omega (arith, size))) in
+    rw is (number32_front c.args.head.order front more 8 (omega (arith, size))) in
     let (passed, last, count) = c.in_ok-pass_rest.ensures.passed in (
       all ++ passed,
       Consumes-trans _ _ _ all passed (rw is (Consumes-trans _ _ _ front more read next)) last,
       length-append all passed ∙ search rules,
-      (refl, is_packet (pcap_of c.args.head) all passed (packet_of c.packet_in.result) (omega (arith, whole)) (λ some. omega (arith, whole, kept, count, some))
-      (omega (arith, whole, kept, count, captured, same)) (search rules)),
+      (
+        refl,
+        is_packet (pcap_of c.args.head) all passed (packet_of c.packet_in.result) (omega (arith, whole)) (λ some. omega (arith, whole, kept, count, some))
+            (omega (arith, whole, kept, count, captured, same)) (search rules),
+      ),
     )
