@@ -13,4 +13,7 @@ mod Listened
 mod Short
 mod Tags
 mod Lives
+mod Known
+mod HeldPairs
+mod Pairs
 mod Worked

@@ -26,6 +26,20 @@ Extends lines more = (line : ℕ) (p : Place) → lines line ≡ Some p → more
 abbrev pub AreIn : Lines → Run → Type 0
 AreIn lines run = (line : ℕ) (p : Place) → lines line ≡ Some p → IsIn run p
 
+-- in lines with growing numbers each is below the next, and so are those before it
+pub numbered-below : (d : Recorded) (ds : List Recorded) → AreNumbered (d ∷ ds)
+    → All (λ (e : Recorded). e.line < d.line) ds
+numbered-below d [] numbered = All-nil (λ (e : Recorded). e.line < d.line)
+numbered-below d (before ∷ earlier) numbered =
+    let lower : before.line < d.line = numbered.0 in
+    All-cons (λ (e : Recorded). e.line < d.line) before earlier lower
+    (All-weaker (λ (e : Recorded). e.line < before.line) (λ (e : Recorded). e.line < d.line)
+    (λ (e : Recorded) (below : e.line < before.line). omega arith) earlier (numbered-below before earlier numbered.1))
+
+pub numbered-rest : (d : Recorded) (ds : List Recorded) → AreNumbered (d ∷ ds) → AreNumbered ds
+numbered-rest d [] numbered = tt
+numbered-rest d (before ∷ earlier) numbered = numbered.1
+
 module _ (network : Network) (slave : NodeName) where
   pub told-in : {run : Run} {ds : List Recorded} (tells : Tells network slave run ds) → AreIn (event_told tells) run
   told-in Nothing line p is = cc
@@ -57,19 +71,6 @@ module _ (network : Network) (slave : NodeName) where
       by true e is rest = let head : d.line < n = All-head (λ (d : Recorded). d.line < n) d ds below in omega
           (arith, eqb-true d.line line e)
       by false e is rest = rest is
-
-  numbered-below : (d : Recorded) (ds : List Recorded) → AreNumbered (d ∷ ds)
-      → All (λ (e : Recorded). e.line < d.line) ds
-  numbered-below d [] numbered = All-nil (λ (e : Recorded). e.line < d.line)
-  numbered-below d (before ∷ earlier) numbered =
-      let lower : before.line < d.line = numbered.0 in
-      All-cons (λ (e : Recorded). e.line < d.line) before earlier lower
-      (All-weaker (λ (e : Recorded). e.line < before.line) (λ (e : Recorded). e.line < d.line)
-      (λ (e : Recorded) (below : e.line < before.line). omega arith) earlier (numbered-below before earlier numbered.1))
-
-  pub numbered-rest : (d : Recorded) (ds : List Recorded) → AreNumbered (d ∷ ds) → AreNumbered ds
-  numbered-rest d [] numbered = tt
-  numbered-rest d (before ∷ earlier) numbered = numbered.1
 
   module _ {ds : List Recorded} (event : Event) (earlier : Run) (m : Contents) (d : Recorded)
       (made : told_at network slave event earlier ≡ Some m)

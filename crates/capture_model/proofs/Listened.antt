@@ -315,11 +315,11 @@ module _ (network : Network) (slave master : NodeName) (w : Watched) (apart : Is
   listened (Untold event earlier ds tells) accepted numbered fresh ticked missing =
       untold event earlier ds tells (listened tells accepted.1 numbered fresh ticked.1 missing.1)
   listened (Other run d ds nothing tells) accepted numbered fresh ticked missing =
-      other run d ds nothing tells (listened tells accepted (numbered-rest network slave d ds numbered) fresh ticked
+      other run d ds nothing tells (listened tells accepted (numbered-rest d ds numbered) fresh ticked
       missing)
   listened (Told event earlier m d ds made said timed tells) accepted numbered fresh ticked missing =
       told event earlier m d ds made said timed tells accepted numbered fresh ticked missing
-      (listened tells accepted.1 (numbered-rest network slave d ds numbered) fresh.1 ticked missing)
+      (listened tells accepted.1 (numbered-rest d ds numbered) fresh.1 ticked missing)
 
   -- all reports
   pub each_exact : {run : Run} {ds : List Recorded} (tells : Tells network slave run ds) → IsRun network run

@@ -1,11 +1,10 @@
 -- What a listening port holds, and so each of its reports, is of lines since it began last.
-use Rattle.std.proofs.Common.{◌≡◌, ◌∙◌, ℕ, zero, suc, ◌+◌, ◌<◌, ◌≤◌, Bool, true, false, List, [], ◌∷◌, Option, Some, None}
+use Rattle.std.proofs.Common.{◌≡◌, ℕ, zero, suc, ◌+◌, ◌<◌, ◌≤◌, Bool, true, false, List, [], ◌∷◌, Option, Some, None}
 use Rattle.std.proofs.Common.{Ok, Err, refl, sym, ap, subst, arith, is_some, option_map, option_and_then, if◌then◌else◌}
 use Rattle.std.specs.Prelude.{◌==◌, ◌&&◌, ◌||◌, not, nat_lt}
 use Rattle.std.specs.Option.{option_map_or}
 use Rattle.std.specs.Result.{result_ok}
 use Rattle.std.specs.List.{All}
-use Rattle.std.proofs.lemmas.List.Elements.{All-nil, All-cons, All-head, All-tail, All-weaker}
 use Rattle.ptp_units.specs.Sequence.{ahead}
 use Rattle.event_codec.specs.declared.message.Body.{Body}
 use Rattle.event_codec.specs.declared.message.Body.TheVariants as bodies
@@ -18,18 +17,16 @@ use Rattle.sync_watch.specs.declared.judgement.Judgement.{Judgement}
 use Rattle.sync_watch.specs.declared.judgement.Judgement.TheVariants.{Newer, Repeated, BeganAnew}
 use Rattle.sync_watch.specs.Told.{Arrival, Told, Sync, FollowUp, Refused, known}
 use Rattle.sync_watch.specs.Judged.{judged_sync, judged_follow_up, judged_refused}
-use Rattle.slave_port.specs.declared.heard.Heard.{Heard}
 use Rattle.slave_port.specs.declared.heard.Report.{Report}
 use Rattle.slave_port.specs.History as calls
 use Rattle.slave_port.specs.History.{Call, Setup, next_number}
-use Rattle.slave_port.proofs.Options.{some_step}
 use Rattle.capture_model.specs.declared.watched.Watched.{Watched}
 use Rattle.capture_model.specs.Recorded.{Recorded}
 use Rattle.capture_model.specs.Listening.{Listening, start, setup_in, table_capacity, is_of, is_stale, ticks_every}
 use Rattle.capture_model.specs.Listening.{with_count, told, answer_in, arrival_of, with_master_anew, ready_refused}
 use Rattle.capture_model.specs.Listening.{ready_newer, ready_judged, ready_sync, ready_followed, ready_follow_up}
 use Rattle.capture_model.specs.Listening.{ready_response, ready, hears_ready, draws, asks, anew, hears_request, hears}
-use Rattle.capture_model.specs.Listening.{hear, after_all, hearing, answered, answered_to, report_in, report_at}
+use Rattle.capture_model.specs.Listening.{hear, after_all, answered, report_in}
 use Rattle.capture_model.specs.Told.{AreNumbered}
 use Rattle.capture_model.specs.Lives.{lines_of, NoReportMixesLives}
 use Rattle.capture_model.proofs.Tags.{AreTagged, tagged-master, tagged-tick, tagged-request, tagged-left, tagged-event}

@@ -58,7 +58,7 @@ abbrev pub within : Reach
 within = record { late = 32768; between = 16384 }
 
 -- a port is of one identity
-same_identity : (identity : PortIdentity) → is_same_port identity identity ≡ true
+pub same_identity : (identity : PortIdentity) → is_same_port identity identity ≡ true
 same_identity identity =
     and_from (is_named identity.clock identity.clock) (identity.port == identity.port) (named-self identity.clock)
     (eq-eqb identity.port identity.port refl)

@@ -1,8 +1,8 @@
 -- Each tag of a report is that of a call since the port was told its master last: what holds of the tags of these calls
 -- holds of those of what it holds, and of its reports.
-use Rattle.std.proofs.Common.{◌≡◌, ◌∙◌, ℕ, zero, suc, Bool, true, false, List, [], ◌∷◌, take, Option, Some, None, refl}
-use Rattle.std.proofs.Common.{sym, ap, subst, option_map, if◌then◌else◌}
-use Rattle.std.specs.Prelude.{◌==◌, ◌++◌, nat_eq, find, option_to_list}
+use Rattle.std.proofs.Common.{◌≡◌, ◌∙◌, ℕ, Bool, true, false, List, [], ◌∷◌, Some, None}
+use Rattle.std.proofs.Common.{sym, ap, subst, if◌then◌else◌}
+use Rattle.std.specs.Prelude.{◌==◌, option_to_list}
 use Rattle.std.specs.List.{All}
 use Rattle.std.proofs.lemmas.List.Elements.{All-nil, All-cons, All-head, All-tail, All-append, All-take}
 use Rattle.event_codec.specs.Reading.{Reading}
@@ -12,13 +12,13 @@ use Rattle.slave_port.specs.declared.heard.Report.{Report}
 use Rattle.slave_port.specs.declared.heard.Heard.TheVariants as answers
 use Rattle.slave_port.specs.History as calls
 use Rattle.slave_port.specs.History.{Call, Setup, next_number}
-use Rattle.slave_port.specs.Window.{Window, all, last, with_brought}
+use Rattle.slave_port.specs.Window.{Window, all, with_brought}
 use Rattle.slave_port.specs.Values.{SyncValue, FollowValue, RequestValue}
 use Rattle.slave_port.specs.Requests.{requests, stamped, held_requests}
-use Rattle.slave_port.specs.Completion.{SyncCompletion, DelayCompletion, pair, alone}
+use Rattle.slave_port.specs.Completion.{SyncCompletion, DelayCompletion}
 use Rattle.slave_port.specs.Kept.{kept, criteria, delay_completions, held_syncs, held_follows, usable_two_step_sync}
 use Rattle.slave_port.specs.Kept.{usable_follow_up, sync_completion, delay_completion}
-use Rattle.slave_port.specs.Answer.{answer, report_of}
+use Rattle.slave_port.specs.Answer.{answer}
 use Rattle.slave_port.proofs.Uses.{two_step_entry, follow_entry, sync_completion_of, delay_completion_of, report_parts}
 use Rattle.slave_port.proofs.Uses.{IsSyncCompletion, BySync, Alone, ByFollowUp, HeardSync, HeardFollowUp}
 use Rattle.network_model.proofs.Pairing.{found_in}
@@ -27,10 +27,10 @@ use Rattle.capture_model.specs.Lives.{lines_of}
 use Rattle.capture_model.proofs.Near.{All-brought}
 
 -- in both parts of a window
-abbrev AllIn : {E : Type 0} → (E → Type 0) → Window E → Type 0
+abbrev pub AllIn : {E : Type 0} → (E → Type 0) → Window E → Type 0
 AllIn P window = All P window.since × All P window.before
 
-all-in : {E : Type 0} (P : E → Type 0) (window : Window E) → AllIn P window → All P (all window)
+pub all-in : {E : Type 0} (P : E → Type 0) (window : Window E) → AllIn P window → All P (all window)
 all-in P window are = All-append P window.since window.before are.0 are.1
 
 -- what is found first is one of them

@@ -1,6 +1,7 @@
 -- A worked recording: of the exchange through a clock of a slave that leads by 1,000 ns. It tells a run that meets the
 -- premises, and the port that listens to it reports once.
-use Rattle.std.proofs.Common.{true, ◌≡◌, ℕ, pos, refl, arith, List, [], ◌∷◌, Some, Ok, Err}
+use Rattle.std.proofs.Common.{true, false, ◌≡◌, ℕ, zero, suc, ◌+◌, pos, refl, arith, List, [], ◌∷◌, Some, Ok, Err}
+use Rattle.ptp_units.specs.Interval.{too_big}
 use Rattle.ptp_units.specs.Moment.{stamp}
 use Rattle.event_codec.specs.declared.message.Body.TheVariants.{DelayResp}
 use Rattle.event_codec.specs.declared.refusal.DecodeRefusal.TheVariants.{OtherType}
@@ -9,9 +10,11 @@ use Rattle.event_codec.specs.Packet.{Contents}
 use Rattle.event_codec.specs.Profile.{header_of}
 use Rattle.event_codec.specs.Reading.{Reading}
 use Rattle.master_port.specs.Written.{sync, one_step_sync, follow_up}
+use Rattle.slave_port.specs.declared.heard.Report.{Report}
 use Rattle.slave_port.specs.Written.{delay_req}
 use Rattle.slave_port.specs.History as calls
 use Rattle.slave_port.specs.History.{requests_drawn}
+use Rattle.sync_watch.specs.Judged.{is_apart}
 use Rattle.network_model.specs.declared.event.Event.TheVariants.{Sync, Follow, Enter, Leave, Arrive, Hear, Request}
 use Rattle.network_model.specs.declared.event.Event.TheVariants.{Stamped, SetMaster, StepClock}
 use Rattle.network_model.specs.Premises.{exact_limits}
@@ -23,6 +26,8 @@ use Rattle.capture_model.specs.Listening.{after_all, reports}
 use Rattle.capture_model.specs.Told.{Tells, Nothing, Untold, Told, Other}
 use Rattle.capture_model.specs.Premises.{IsFreshAndTicked, ticks_in}
 use Rattle.capture_model.specs.Exact.{Watches}
+use Rattle.capture_model.specs.Pairs.{heard_between}
+use Rattle.capture_model.proofs.Pairs.{no_pair}
 use Rattle.capture_model.proofs.Short.{IsFresh-short, IsTicked-short, MissesFew-short}
 
 -- the slave S, which follows M
@@ -61,21 +66,36 @@ response_said = record {
 abbrev line : ℕ → ℕ → Reading → Recorded
 line number time said = record { line = number; time = time; said = said }
 
+abbrev sync_line : Recorded
+sync_line = line 1 (at 1 4000 0) (Ok sync_said)
+
+abbrev follow_line : Recorded
+follow_line = line 3 (at 1 5000 0) (Ok follow_said)
+
+abbrev response_line : Recorded
+response_line = line 7 0 (Ok response_said)
+
+abbrev six_lines : List Recorded
+six_lines =
+    line 6 (at 2 1000 1) (Ok request_said) ∷ line 5 0 (Ok (delay_req b_config 7))
+    ∷ line 4 (at 2 1000 0) (Ok request_said) ∷ follow_line ∷ line 2 (at 1 4500 0)
+    (Err (OtherType 11)) ∷ sync_line ∷ []
+
 abbrev recording : List Recorded
-recording =
-    line 7 0 (Ok response_said) ∷ line 6 (at 2 1000 1) (Ok request_said) ∷ line 5 0 (Ok (delay_req b_config 7))
-    ∷ line 4 (at 2 1000 0) (Ok request_said) ∷ line 3 (at 1 5000 0) (Ok follow_said) ∷ line 2 (at 1 4500 0)
-    (Err (OtherType 11)) ∷ line 1 (at 1 4000 0) (Ok sync_said) ∷ []
+recording = response_line ∷ six_lines
 
 -- twice 1,000 ns and twice 1,000 ns
-one_report : reports watched recording ≡ record {
+abbrev report : Report
+report = record {
   offset2 = pos 131072000;
   path2 = pos 131072000;
   sync_tag = 1;
   follow_tag = Some 3;
   request_tag = 4;
   response_tag = 7;
-} ∷ []
+}
+
+one_report : reports watched recording ≡ report ∷ []
 one_report = refl
 
 -- event by event
@@ -181,3 +201,66 @@ sync_of_another_life : reports watched
     (line 4 (at 9 0 0) (Ok response_said) ∷ line 3 (at 8 0 0) (Ok request_said)
     ∷ line 2 (at 7 5000 0) (Ok follow_said) ∷ line 1 (at 1 4000 0) (Ok sync_said) ∷ []) ≡ []
 sync_of_another_life = refl
+
+-- the pair of the one report meets the premises of the law on pairs
+pair_is_near : is_apart sync_line.time follow_line.time ≡ false
+pair_is_near =
+    let no_syncs : heard_between watched sync_line follow_line recording ≡ 0 = refl in
+    let no_follow_ups : heard_between watched follow_line sync_line recording ≡ 0 = refl in
+    no_pair watched six_lines response_line report sync_line follow_line fresh_and_ticked.numbered refl
+    (record { sync_is = refl; follow_is = refl }) refl
+    (record { few_syncs = omega (arith, no_syncs); few_follow_ups = omega (arith, no_follow_ups) })
+
+-- so does one whose Follow_Up came first
+abbrev early_follow : Recorded
+early_follow = line 1 (at 1 3000 0) (Ok follow_said)
+
+abbrev late_sync : Recorded
+late_sync = line 2 (at 1 4000 0) (Ok sync_said)
+
+abbrev three_lines : List Recorded
+three_lines = line 4 (at 2 1000 0) (Ok request_said) ∷ late_sync ∷ early_follow ∷ []
+
+late_pair_is_near : is_apart late_sync.time early_follow.time ≡ false
+late_pair_is_near =
+    let no_syncs : heard_between watched late_sync early_follow (response_line ∷ three_lines) ≡ 0 = refl in
+    let no_follow_ups : heard_between watched early_follow late_sync (response_line ∷ three_lines) ≡ 0 = refl in
+    no_pair watched three_lines response_line (record report { sync_tag = 2; follow_tag = Some 1 }) late_sync
+    early_follow (omega arith, (omega arith, (omega arith, tt))) refl
+    (record { sync_is = refl; follow_is = refl }) refl
+    (record { few_syncs = omega (arith, no_syncs); few_follow_ups = omega (arith, no_follow_ups) })
+
+-- it says nothing of a Follow_Up with another unicastFlag, which completes its Sync whenever it comes
+abbrev with_unicast : Contents → Contents
+with_unicast m = record m { header = record m.header { flags = 4 ∷ 0 ∷ [] } }
+
+pair_of_two_flags : reports watched
+    (response_line ∷ line 4 (at 2 1000 0) (Ok request_said) ∷ line 3 (at 7 5000 0) (Ok (with_unicast follow_said))
+    ∷ sync_line ∷ []) ≡ report ∷ []
+pair_of_two_flags = refl
+
+-- nor of a Sync behind which 256 more were heard: the port, which used none of them, holds it still
+abbrev unusable : (number : ℕ) → Recorded
+unusable number =
+    line (number + 1) (at 1 4000 0) (Ok (with_correction (sync m_config number) (record { 0 = too_big })))
+
+abbrev up_to : (count : ℕ) → List Recorded
+up_to zero = sync_line ∷ []
+up_to (suc count) = unusable (suc count) ∷ up_to count
+
+abbrev late_follow : Recorded
+late_follow = line 300 (at 7 5000 0) (Ok follow_said)
+
+abbrev completed : (count : ℕ) → List Recorded
+completed count =
+    line 302 0 (Ok response_said) ∷ line 301 (at 2 1000 0) (Ok request_said) ∷ late_follow ∷ up_to count
+
+pair_behind_255 : reports watched (completed 255) ≡ []
+pair_behind_255 = refl
+
+pair_behind_256 : reports watched (completed 256)
+    ≡ record report { follow_tag = Some 300; request_tag = 301; response_tag = 302 } ∷ []
+pair_behind_256 = refl
+
+many_behind : heard_between watched sync_line late_follow (completed 256) ≡ 256
+many_behind = refl

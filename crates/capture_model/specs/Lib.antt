@@ -4,3 +4,4 @@ pub mod Told
 pub mod Premises
 pub mod Exact
 pub mod Lives
+pub mod Pairs

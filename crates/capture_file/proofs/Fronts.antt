@@ -1,0 +1,34 @@
+-- Octets in front of others, and numbers in them.
+use Rattle.std.proofs.Common.{◌≡◌, ℕ, ◌+◌, ◌-◌, ◌≤◌, List, [], ◌++◌, length, take, drop, sym, ap, ◌∙◌, arith, Option, Some, None, refl, append-nil}
+use Rattle.std.specs.Prelude.{slice_range}
+use Rattle.std.proofs.lemmas.List.{take-append-le, drop-append-le, length-drop}
+use Rattle.std.specs.Int.{w16, w32}
+use Rattle.std.specs.Io.KnownBytes.{Consumes, IsAtEnd}
+use Rattle.text_lines.proofs.KnownOctets.{Consumes-known}
+use Rattle.capture_file.specs.declared.order.ByteOrder.{ByteOrder}
+use Rattle.capture_file.specs.Order.{number_of, number16, number32}
+use Rattle.capture_file.specs.Pcap.{is_pcap_version}
+
+slice_front : (front rest : List ℕ) (i j : ℕ) → i ≤ j → j ≤ length front → slice_range (front ++ rest) i j ≡ slice_range front i j
+slice_front front rest i j up within =
+    ap (take (j - i)) (drop-append-le i front rest (omega arith))
+    ∙ take-append-le (j - i) (drop i front) rest (rw (length-drop i front) (omega arith))
+
+pub number16_front : (order : ByteOrder) (front rest : List ℕ) (i : ℕ) → i + 2 ≤ length front → number16 order (front ++ rest) i ≡ number16 order front i
+number16_front order front rest i within = ap (number_of order w16) (slice_front front rest i (i + 2) (omega arith) within)
+
+pub number32_front : (order : ByteOrder) (front rest : List ℕ) (i : ℕ) → i + 4 ≤ length front → number32 order (front ++ rest) i ≡ number32 order front i
+number32_front order front rest i within = ap (number_of order w32) (slice_front front rest i (i + 4) (omega arith) within)
+
+pub version_front : (order : ByteOrder) (front rest : List ℕ) → 8 ≤ length front → is_pcap_version order (front ++ rest) ≡ is_pcap_version order front
+version_front order front rest within = rw (number16_front order front rest 4 (omega arith), number16_front order front rest 6 (omega arith)) refl
+
+-- these were read, and nothing is behind them
+pub all_read : (a c : Option (List ℕ)) (front octets : List ℕ) → Consumes a c front → IsAtEnd c → a ≡ Some octets → octets ≡ front
+all_read a c front octets read end known =
+    let (rest, left, split) = Consumes-known a c front octets read known in
+    split ∙ ap (λ r. front ++ r) (at_end c rest end left) ∙ append-nil front
+  where
+    at_end : (c : Option (List ℕ)) (rest : List ℕ) → IsAtEnd c → c ≡ Some rest → rest ≡ []
+    at_end None rest end left = absurd cc
+    at_end (Some xs) rest end left = let same : xs ≡ rest = cc in sym same ∙ end

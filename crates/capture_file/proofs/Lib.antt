@@ -1,0 +1,5 @@
+pub mod Fronts
+pub mod Reading
+pub mod Heads
+pub mod Packets
+pub mod Taking

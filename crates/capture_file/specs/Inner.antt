@@ -1,0 +1,4 @@
+pub mod Octets
+pub mod Front
+pub mod Reading
+pub mod Taking

@@ -1,0 +1,24 @@
+-- The packets of a capture.
+use Rattle.std.specs.Prelude.{ℕ, List, take, Option, Some, None}
+use Rattle.ptp_units.specs.Moment.{Stamp}
+
+-- an interface in its section: its place from 0, and its name where no earlier one has that
+pub record InterfaceOf : Type 0 where
+  pub place : ℕ
+  pub name : Option (List ℕ)
+
+-- a packet: where, when and with which link type these octets were captured; or one without a time, or of a kind that has
+-- none
+pub data PacketOf : Type 0 where
+  Captured : (interface : InterfaceOf) → (time : Stamp) → (link : ℕ) → (octets : List ℕ) → PacketOf
+  Timeless : PacketOf
+  Simple : PacketOf
+
+-- the most octets of a packet that are looked at
+abbrev pub packet_limit : ℕ
+packet_limit = 65536
+
+-- a packet of these octets, where its time is one
+abbrev pub packet_at : Option Stamp → InterfaceOf → (link : ℕ) → List ℕ → PacketOf
+packet_at None interface link octets = Timeless
+packet_at (Some time) interface link octets = Captured interface time link (take packet_limit octets)

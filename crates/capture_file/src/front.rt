@@ -1,0 +1,90 @@
+//! The octets of a part of a capture, as far as they were read.
+ghost use Rattle.std.specs.Prelude.{◌≡◌, ◌≤◌, length};
+
+use crate::octets::{ReadFailed, fill_behind};
+use crate::packet::PACKET_LIMIT;
+use crate::part::PartStop;
+use std::alloc::{AllocError, Global};
+use std::io::Read;
+use text_lines::Counted;
+
+/// The most octets that stand in front of those of a packet.
+const HEAD_LIMIT: usize = 64;
+
+/// The first octets of a part of a capture.
+#[derive(Drop)]
+pub(crate) struct Front {
+    room: Vec<u8>,
+    size: usize,
+    ghost fits: { size ≤ 65600 },
+    ghost wide: { length room.items ≡ 65600 },
+}
+
+impl Front {
+    ghost use Rattle.std.specs.Prelude.{[], MatchResult};
+    ghost use Rattle.text_lines.specs.Counted.{device_of, HasFailed, HasNotFailed};
+    ghost use Rattle.capture_file.specs.Inner.Front.{front_of};
+    ghost use Rattle.capture_file.specs.Inner.Octets.{FillsTo};
+    ghost use Rattle.capture_file.specs.Inner.Reading.{Wants, FailedIn};
+
+    /// No octet was read yet.
+    pub(crate) fn new(alloc: Global) -> Result<Front, AllocError>
+        ensures { MatchResult result (λ front. front_of front ≡ []) (λ _. Unit {0}) }
+    {
+        Ok(Front {
+            room: vec![in alloc; 0; HEAD_LIMIT + PACKET_LIMIT]?,
+            size: 0,
+        })
+    }
+
+    /// The octets that were read.
+    pub(crate) fn octets(&self) -> &[u8]
+        ensures { result.now ≡ front_of self.now }
+    {
+        &self.room[..self.size]
+    }
+
+    /// Begins with the next part.
+    pub(crate) fn clear(&mut self)
+        ensures { front_of self.new ≡ [] }
+    {
+        self.size = 0;
+    }
+
+    /// Reads until there are so many octets, and not one more. Answers whether so many are there.
+    pub(crate) fn fill_to<R: Read>(
+        &mut self,
+        size: usize,
+        input: &mut Counted<R>,
+    ) -> Result<bool, ReadFailed>
+        requires within { size ≤ 65600 }
+        ensures filled { FillsTo size result (front_of self.old) (front_of self.new)
+            (R.remaining (device_of input.old)) (R.remaining (device_of input.new)) }
+        ensures failures { MatchResult result
+            (λ _. HasNotFailed input.old input.new)
+            (λ _. HasFailed input.old input.new) }
+    {
+        let (count, filled) = fill_behind(&mut self.room, self.size, size, input);
+        self.size = count;
+        filled
+    }
+
+    /// Reads until there are so many octets. An input that ends before cuts the part off.
+    pub(crate) fn want<R: Read>(
+        &mut self,
+        size: usize,
+        input: &mut Counted<R>,
+    ) -> Result<(), PartStop>
+        requires within { size ≤ 65600 }
+        requires more { length (front_of self.old) ≤ size }
+        ensures wanted { Wants size result (front_of self.old) (front_of self.new)
+            (R.remaining (device_of input.old)) (R.remaining (device_of input.new)) }
+        ensures failures { FailedIn result input.old input.new }
+    {
+        match self.fill_to(size, input) {
+            Ok(true) => Ok(()),
+            Ok(false) => Err(PartStop::CUT_OFF),
+            Err(ReadFailed) => Err(PartStop::Read),
+        }
+    }
+}

@@ -1,0 +1,17 @@
+//! Captures: the octets of pcap and pcapng, from any reader, and the packets that they are.
+#![tactic(auto)]
+
+mod fault;
+mod front;
+mod octets;
+mod order;
+mod packet;
+mod part;
+mod pcap;
+mod progress;
+mod reader;
+mod task;
+
+pub use fault::{CaptureCause, CaptureFault, CaptureStop};
+pub use packet::{Captured, Interface, PACKET_LIMIT, Packet};
+pub use task::{PacketTask, answer_packets};
