@@ -2,4 +2,5 @@ pub mod Fronts
 pub mod Reading
 pub mod Heads
 pub mod Packets
+pub mod OptionSteps
 pub mod Taking

@@ -1,6 +1,9 @@
 pub mod Order
 pub mod Packet
 pub mod Pcap
+pub mod Pcapng
+pub mod Clock
+pub mod Options
 pub mod Parts
 pub mod Fault
 pub mod Task

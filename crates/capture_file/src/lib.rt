@@ -1,15 +1,18 @@
 //! Captures: the octets of pcap and pcapng, from any reader, and the packets that they are.
 #![tactic(auto)]
 
+mod block;
 mod fault;
 mod front;
 mod octets;
+mod options;
 mod order;
 mod packet;
 mod part;
 mod pcap;
 mod progress;
 mod reader;
+mod resolution;
 mod task;
 
 pub use fault::{CaptureCause, CaptureFault, CaptureStop};
