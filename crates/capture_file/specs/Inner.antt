@@ -2,5 +2,6 @@ pub mod Octets
 pub mod Front
 pub mod Clock
 pub mod Options
+pub mod Section
 pub mod Reading
 pub mod Taking

@@ -4,6 +4,7 @@ pub mod Pcap
 pub mod Pcapng
 pub mod Clock
 pub mod Options
+pub mod Section
 pub mod Parts
 pub mod Fault
 pub mod Task

@@ -13,6 +13,7 @@ mod pcap;
 mod progress;
 mod reader;
 mod resolution;
+mod section;
 mod task;
 
 pub use fault::{CaptureCause, CaptureFault, CaptureStop};
