@@ -59,8 +59,15 @@ pub record IsBlock (order : ByteOrder) (kind : ℕ) (octets : List ℕ) : Type 0
   pub total_length : number32 order octets 4 ≡ length octets
   pub total_length_again : number32 order octets (length octets - 4) ≡ length octets
 
--- a section header; its length and options aren't looked at
+-- the octets begin with a section header, whose type reads alike in both orders
+abbrev pub BeginsSection : List ℕ → Type 0
+BeginsSection octets = number32 Big octets 0 ≡ section_type
+
+-- a section header; the section's length and its options aren't looked at
 pub record IsSection (order : ByteOrder) (octets : List ℕ) : Type 0 where
-  pub block : IsBlock order section_type octets
+  pub kind_is : BeginsSection octets
   pub magic : order_of_magic octets ≡ Some order
+  pub size : is_length_of section_type (length octets) ≡ true
   pub version : is_section_version order octets ≡ true
+  pub total_length : number32 order octets 4 ≡ length octets
+  pub total_length_again : number32 order octets (length octets - 4) ≡ length octets

@@ -10,7 +10,7 @@ use Rattle.capture_file.specs.Order.{number16, number32}
 use Rattle.capture_file.specs.Clock.{ResolutionOf, resolution_of, microseconds, time_at}
 use Rattle.capture_file.specs.Options.{OptionOf, FoundOf, AreOptions, found_in}
 use Rattle.capture_file.specs.Packet.{PacketOf, Simple, packet_at}
-use Rattle.capture_file.specs.Pcapng.{IsBlock, padded, section_type, description_type, old_packet_type}
+use Rattle.capture_file.specs.Pcapng.{IsBlock, padded, BeginsSection, description_type, old_packet_type}
 use Rattle.capture_file.specs.Pcapng.{simple_packet_type, enhanced_packet_type}
 
 -- an interface: the link type of its packets, how their times are to be read, and its name where it has one of its own
@@ -92,9 +92,9 @@ IsSimple section octets =
 -- the type of a block that is passed over
 abbrev pub is_other : (kind : ℕ) → Bool
 is_other kind =
-    not (kind == section_type || kind == description_type || kind == old_packet_type || kind == simple_packet_type
-    || kind == enhanced_packet_type)
+    not (kind == description_type || kind == old_packet_type || kind == simple_packet_type || kind == enhanced_packet_type)
 
 -- a block that is passed over
 abbrev pub IsOther : SectionOf → List ℕ → Type 0
-IsOther section octets = (kind : ℕ) × (is_other kind ≡ true) × IsBlock section.order kind octets
+IsOther section octets =
+    (kind : ℕ) × (is_other kind ≡ true) × (BeginsSection octets → ⊥) × IsBlock section.order kind octets

@@ -10,7 +10,8 @@ use Rattle.capture_file.specs.declared.fault.CaptureCause.{CaptureCause}
 use Rattle.capture_file.specs.declared.fault.CaptureCause.TheVariants.{Read, Memory, Capture, Task}
 use Rattle.capture_file.specs.declared.fault.CaptureStop.{CaptureStop}
 use Rattle.capture_file.specs.Packet.{PacketOf}
-use Rattle.capture_file.specs.Parts.{Form, Part, AreParts, IsFault, form_behind, octets_of, packets_of}
+use Rattle.capture_file.specs.Parts.{Form, Part, AreParts, form_behind, octets_of, packets_of}
+use Rattle.capture_file.specs.Wrong.{IsFault}
 
 -- The rules of a task: from which state to which the packet of a number, counted from 1, takes it, with what is
 -- written; at which fault one stops it, with what is written before; what it answers after so many packets, at the end,

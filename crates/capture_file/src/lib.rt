@@ -10,10 +10,12 @@ mod order;
 mod packet;
 mod part;
 mod pcap;
+mod pcap_reading;
 mod progress;
 mod reader;
 mod resolution;
 mod section;
+mod section_reading;
 mod task;
 
 pub use fault::{CaptureCause, CaptureFault, CaptureStop};
