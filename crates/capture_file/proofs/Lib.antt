@@ -4,3 +4,6 @@ pub mod Heads
 pub mod Packets
 pub mod OptionSteps
 pub mod Taking
+pub mod Ends
+pub mod Blocks
+pub mod Descriptions

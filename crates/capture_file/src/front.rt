@@ -8,8 +8,8 @@ use std::alloc::{AllocError, Global};
 use std::io::Read;
 use text_lines::Counted;
 
-/// The most octets that stand in front of those of a packet.
-const HEAD_LIMIT: usize = 64;
+/// The most octets that are kept of a part: those of a packet, and what stands in front of them.
+pub(crate) const FRONT_LIMIT: usize = PACKET_LIMIT + 64;
 
 /// The first octets of a part of a capture.
 #[derive(Drop)]
@@ -32,7 +32,7 @@ impl Front {
         ensures { MatchResult result (λ front. front_of front ≡ []) (λ _. Unit {0}) }
     {
         Ok(Front {
-            room: vec![in alloc; 0; HEAD_LIMIT + PACKET_LIMIT]?,
+            room: vec![in alloc; 0; FRONT_LIMIT]?,
             size: 0,
         })
     }

@@ -2,6 +2,7 @@
 #![tactic(auto)]
 
 mod block;
+mod block_reading;
 mod fault;
 mod front;
 mod octets;

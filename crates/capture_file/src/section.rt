@@ -1,5 +1,5 @@
 //! What a section of pcapng tells of its packets.
-ghost use Rattle.std.specs.Prelude.{◌≡◌, OnOk, option_map};
+ghost use Rattle.std.specs.Prelude.{◌≡◌, OnOk, option_map, slice_get};
 ghost use Rattle.std.specs.List.{list_any};
 ghost use Rattle.capture_file.specs.Section.{own_name, has_name, description_of, with_interface, begun};
 ghost use Rattle.capture_file.specs.Inner.Options.{found_of};
@@ -51,6 +51,13 @@ impl Section {
             order,
             interfaces: Vec::new(alloc),
         }
+    }
+
+    /// The interface of this place, if one was described.
+    pub(crate) fn interface(&self, place: u32) -> Option<&Described>
+        ensures { option_map (λ d. described_in d.now) result ≡ slice_get (section_in self.now).interfaces place }
+    {
+        self.interfaces.get(place as usize)
     }
 
     /// Whether an interface has this name.
