@@ -4,3 +4,4 @@ pub mod Heads
 pub mod Packets
 pub mod OptionSteps
 pub mod Taking
+pub mod Headers

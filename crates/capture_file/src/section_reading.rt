@@ -1,5 +1,5 @@
 //! The blocks of a section of pcapng, from a reader.
-ghost use Rattle.std.specs.Prelude.{◌≡◌, ◌≤◌, ◌<◌, ◌+◌, [], length, Some};
+ghost use Rattle.std.specs.Prelude.{◌≡◌, ◌≤◌, ◌<◌, ◌+◌, ◌-◌, [], length, Some};
 ghost use Rattle.std.specs.Io.KnownBytes.{prepend_known};
 ghost use Rattle.text_lines.specs.Counted.{device_of};
 ghost use Rattle.capture_file.specs.Order.{number32};
@@ -31,6 +31,21 @@ const LENGTH: u32 = 4;
 /// The octets of a section header that are looked at.
 const SECTION_HEAD: u32 = 16;
 
+/// Reads the total length at the end of a block, of which all else was read.
+fn read_last<R: Read>(order: ByteOrder, total: u32, input: &mut Counted<R>) -> Result<(), PartStop>
+    requires { 4 ≤ total }
+    ensures closed { Closes order total (total - 4) result (R.remaining (device_of input.old)) (R.remaining (device_of input.new)) }
+    ensures failures { FailedIn result input.old input.new }
+{
+    let mut last = [0; 4];
+    match fill_behind(&mut last, 0, 4, input).1 {
+        Ok(true) if order.u32_at(&last, 0) == total => Ok(()),
+        Ok(true) => Err(PartStop::Fault(CaptureFault::Length, u64::from(total - LENGTH))),
+        Ok(false) => Err(PartStop::CUT_OFF),
+        Err(_) => Err(PartStop::Read),
+    }
+}
+
 /// Passes over what is left of a block, of which so many octets were read, and reads its total length again.
 fn close<R: Read>(
     order: ByteOrder,
@@ -43,13 +58,7 @@ fn close<R: Read>(
     ensures failures { FailedIn result input.old input.new }
 {
     pass_rest(total - seen - LENGTH, input)?;
-    let mut last = [0; 4];
-    match fill_behind(&mut last, 0, 4, input).1 {
-        Ok(true) if order.u32_at(&last, 0) == total => Ok(()),
-        Ok(true) => Err(PartStop::Fault(CaptureFault::Length, u64::from(total - LENGTH))),
-        Ok(false) => Err(PartStop::CUT_OFF),
-        Err(_) => Err(PartStop::Read),
-    }
+    read_last(order, total, input)
 }
 
 /// Reads a section header, of which the type is there, and at most what tells its order. Answers the order, and how many octets it has.
