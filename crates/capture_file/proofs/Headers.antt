@@ -1,9 +1,8 @@
 -- What the reading of a section header comes to, and of the end of a block.
-use Rattle.std.proofs.Common.{◌≡◌, ◌≢◌, ℕ, ◌+◌, ◌-◌, ◌≤◌, ◌<◌, List, [], ◌++◌, length, take, drop, Bool, true, false, sym, ap, ◌∙◌, refl, inl, inr, arith, Option, Some, None, Result, Ok, Err}
+use Rattle.std.proofs.Common.{◌≡◌, ◌≢◌, ℕ, ◌+◌, ◌-◌, ◌≤◌, List, [], ◌++◌, length, take, drop, Bool, true, false, sym, ap, ◌∙◌, refl, inl, inr, arith, Option, Some, None, Result, Ok, Err}
 use Rattle.std.proofs.Common.{length-append}
 use Rattle.std.specs.Prelude.{⊤, slice_range}
 use Rattle.std.specs.Int.{w32}
-use Rattle.std.specs.Option.{ForSome}
 use Rattle.std.specs.Io.KnownBytes.{Consumes, IsAtEnd, prepend_known}
 use Rattle.std.proofs.KnownBytes.{Consumes-trans}
 use Rattle.std.proofs.Math.Seq.{drop-append-add}

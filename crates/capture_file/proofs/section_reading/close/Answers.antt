@@ -1,5 +1,4 @@
-use Rattle.std.proofs.Common.{rules, ◌≡◌, ◌≤◌, ◌+◌, ◌-◌, length, arith}
-use Rattle.text_lines.specs.Counted.{device_of}
+use Rattle.std.proofs.Common.{arith}
 use Rattle.capture_file.proofs.Headers.{closes_behind}
 use Rattle.capture_file.proofs.section_reading.close.Goals as goal
 

@@ -1,4 +1,4 @@
-use Rattle.std.proofs.Common.{rules, ◌≡◌, ◌≢◌, ◌≤◌, ◌+◌, ◌-◌, length, arith, refl, Ok, Err, true, false, ◌∙◌, take}
+use Rattle.std.proofs.Common.{rules, ◌≡◌, ◌≢◌, ◌+◌, length, refl}
 use Rattle.capture_file.specs.Order.{number32}
 use Rattle.capture_file.proofs.Headers.{room_read, last_is, last_isnt, last_cut, last_fails}
 use Rattle.capture_file.proofs.section_reading.read_last.Goals as goal
