@@ -9,12 +9,11 @@ use Rattle.capture_file.specs.Clock.{time_at}
 use Rattle.capture_file.specs.Packet.{InterfaceOf, PacketOf, Captured, packet_at}
 use Rattle.std.proofs.lemmas.Bool.{and_parts, leb-true, leb-false}
 use Rattle.std.specs.Prelude.{nat_le, ◌==◌, ◌%◌}
-use Rattle.std.specs.Prelude.{⊤, slice_get, option_map}
+use Rattle.std.specs.Prelude.{⊤, slice_get}
 use Rattle.std.specs.Io.KnownBytes.{Consumes, IsAtEnd, prepend_known}
 use Rattle.std.proofs.KnownBytes.{Consumes-trans}
 use Rattle.text_lines.proofs.KnownOctets.{Consumes-known}
 use Rattle.capture_file.specs.declared.fault.CaptureFault.TheVariants.{NoCapture, Version, ByteOrderMagic, Length, Interface, CutOff}
-use Rattle.capture_file.specs.declared.order.ByteOrder.{ByteOrder}
 use Rattle.capture_file.specs.declared.order.ByteOrder.TheVariants.{Big}
 use Rattle.capture_file.specs.declared.packet.Packet.{Packet}
 use Rattle.capture_file.specs.declared.part.PartStop.{PartStop}
@@ -25,7 +24,7 @@ use Rattle.capture_file.specs.Pcapng.{BeginsSection, IsBlock, is_length_of, padd
 use Rattle.capture_file.specs.Section.{DescriptionOf, SectionOf, IsSimple, options_there, packet_time}
 use Rattle.capture_file.specs.Wrong.{total_of, IsBegun, IsBlockSoFar, IsBlockFault}
 use Rattle.capture_file.specs.Inner.Octets.{Fills}
-use Rattle.capture_file.specs.Inner.Reading.{Wants, Closes, StopsBy, IsBlockHead, ReadsBlock}
+use Rattle.capture_file.specs.Inner.Reading.{Wants, Closes, StopsBy, IsBlockHead, ReadsBlock, ReadsBlockHead}
 use Rattle.capture_file.proofs.Ends.{last_of}
 use Rattle.capture_file.proofs.Fronts.{number32_front, all_read, consumes_front}
 
@@ -141,12 +140,14 @@ close_stops a b c s kind total seen front (Fault Length place) i is sound (rest,
   where
     total_behind : (unread : List ℕ) → IsInBlock a c s kind total (front ++ rest) → total_of s.order ((front ++ rest) ++ unread) ≡ total
     total_behind unread all = number32_front s.order (front ++ rest) unread 4 (let head = all.head in omega arith) ∙ all.total_is
+
     end_is : (unread : List ℕ) → IsInBlock a c s kind total (front ++ rest) → length (front ++ rest) ≡ total
         → number32 s.order ((front ++ rest) ++ unread) (total_of s.order ((front ++ rest) ++ unread) - 4) ≡ number32 s.order rest (length rest - 4)
     end_is unread all whole =
         ap (λ n. number32 s.order ((front ++ rest) ++ unread) (n - 4)) (total_behind unread all ∙ sym whole)
         ∙ number32_front s.order (front ++ rest) unread (length (front ++ rest) - 4) (rw (length-append front rest) (omega (arith, least)))
         ∙ last_of s.order front rest least
+
     in_block_again : (unread : List ℕ) → IsInBlock a c s kind total (front ++ rest)
         → IsInBlock (prepend_known ((front ++ rest) ++ unread) (Some [])) (Some []) s kind total ((front ++ rest) ++ unread)
     in_block_again unread all = record {
@@ -157,6 +158,7 @@ close_stops a b c s kind total seen front (Fault Length place) i is sound (rest,
       size = all.size;
       other = λ begins. all.other (sym (number32_front Big (front ++ rest) unread 0 (let head = all.head in omega arith)) ∙ begins);
     }
+
     so_far_behind : (unread : List ℕ) → IsInBlock a c s kind total (front ++ rest) → IsBlockSoFar s ((front ++ rest) ++ unread)
     so_far_behind unread all =
         so_far (prepend_known ((front ++ rest) ++ unread) (Some [])) (Some []) s kind total ((front ++ rest) ++ unread)
@@ -328,7 +330,7 @@ pub packet_kept : (s : SectionOf) (d : DescriptionOf) (front rest : List ℕ) (c
     → number32 s.order front 20 ≡ captured → (packet : PacketOf)
     → packet ≡ packet_at (packet_time d s.order front) (record { place = number32 s.order front 8; name = d.name }) d.link (slice_range front 28 (28 + kept))
     → packet ≡ packet_at (packet_time d s.order (front ++ rest)) (record { place = number32 s.order (front ++ rest) 8; name = d.name }) d.link
-        (slice_range (front ++ rest) 28 (28 + number32 s.order (front ++ rest) 20))
+    (slice_range (front ++ rest) 28 (28 + number32 s.order (front ++ rest) 20))
 packet_kept s d front rest captured kept size least captured_is packet is =
     is
     ∙ (λ i. packet_at (time_at d.resolution d.offset (sym (number32_front s.order front rest 12 (omega (arith, size))) i * 2 ^ 32 + sym (number32_front s.order front rest 16 (omega (arith, size))) i))
@@ -338,23 +340,38 @@ packet_kept s d front rest captured kept size least captured_is packet is =
     same_packet : (time : Option Stamp) (interface : InterfaceOf) (link : ℕ) (xs ys : List ℕ) → take 65536 xs ≡ take 65536 ys → packet_at time interface link xs ≡ packet_at time interface link ys
     same_packet None interface link xs ys same = refl
     same_packet (Some time) interface link xs ys same = ap (Captured interface time link) same
+
     captured_there : number32 s.order (front ++ rest) 20 ≡ captured
     captured_there = number32_front s.order front rest 20 (omega (arith, size)) ∙ captured_is
+
     behind : length (drop 28 front) ≡ kept
     behind = length-drop 28 front ∙ omega (arith, size)
+
     front_is : take 65536 (slice_range front 28 (28 + kept)) ≡ drop 28 front
     front_is =
         ap (take 65536) (ap (λ n. take n (drop 28 front)) (omega arith) ∙ take_all kept (drop 28 front) (omega (arith, behind)))
         ∙ take_all 65536 (drop 28 front) (omega (arith, behind, least))
+
     number_is : 28 + captured - 28 ≡ captured
     number_is = omega arith
+
     whole_is : take 65536 (slice_range (front ++ rest) 28 (28 + captured)) ≡ drop 28 front
     whole_is =
         ap (take 65536) ((λ i. take (number_is i) (drop-append-le 28 front rest (omega (arith, size)) i)))
         ∙ take_both 65536 captured (drop 28 front ++ rest)
         ∙ take_at (drop 28 front) rest (min 65536 captured) (behind ∙ least ∙ omega arith)
+
     octets_same : take 65536 (slice_range front 28 (28 + kept)) ≡ take 65536 (slice_range (front ++ rest) 28 (28 + number32 s.order (front ++ rest) 20))
     octets_same = front_is ∙ sym whole_is ∙ ap (λ n. take 65536 (slice_range (front ++ rest) 28 (28 + n))) (sym captured_there)
 
 pub same_captured : (b c : Option (List ℕ)) (s : SectionOf) (front new : List ℕ) → 24 ≤ length front → Fills front new b c → number32 s.order new 20 ≡ number32 s.order front 20
 same_captured b c s front new least (more, is, next) = rw is (number32_front s.order front more 20 least)
+
+-- memory was refused behind octets that were read
+pub no_memory : (a c : Option (List ℕ)) (s : SectionOf) (stop : PartStop) (octets : List ℕ) → stop ≡ Memory → Consumes a c octets → StopsBy (IsBlockFault s) stop a c
+no_memory a c s stop octets is read = rw is (octets, read)
+
+-- there is a head
+pub block_head_is : (a b : Option (List ℕ)) (there : Bool) (front : List ℕ) → there ≡ true → ReadsBlockHead (Ok there) front a b → Consumes a b front × (length front ≡ 8)
+block_head_is a b true front is read = read
+block_head_is a b false front is read = absurd cc

@@ -1,20 +1,18 @@
 -- What the reading of an interface description comes to.
-use Rattle.std.proofs.Common.{◌≡◌, ◌≢◌, ℕ, ◌+◌, ◌-◌, ◌≤◌, ◌<◌, min, List, [], ◌++◌, length, take, drop, Bool, true, false, sym, ap, ◌∙◌, subst, refl, inl, inr, arith, Option, Some, None, Result, Ok, Err}
+use Rattle.std.proofs.Common.{◌≡◌, ℕ, ◌+◌, ◌-◌, ◌≤◌, ◌<◌, min, List, [], ◌++◌, length, take, drop, Bool, true, false, sym, ap, ◌∙◌, subst, refl, inl, inr, arith, Option, Result, Ok}
 use Rattle.std.proofs.Common.{length-append, append-nil}
-use Rattle.std.specs.Prelude.{⊤, nat_le, ◌==◌, ◌%◌, slice_range}
-use Rattle.std.specs.Io.KnownBytes.{Consumes, IsAtEnd}
-use Rattle.std.proofs.KnownBytes.{Consumes-trans}
+use Rattle.std.specs.Prelude.{nat_le, ◌==◌, ◌%◌}
+use Rattle.std.specs.Io.KnownBytes.{IsAtEnd}
 use Rattle.std.proofs.lemmas.Bool.{and_parts, leb-true}
-use Rattle.std.proofs.lemmas.List.{take_all, take_at, drop-append-le, length-drop, length-take}
+use Rattle.std.proofs.lemmas.List.{take_all, take_at, drop-append-le, length-drop}
 use Rattle.text_lines.proofs.KnownOctets.{Consumes-known}
 use Rattle.capture_file.specs.declared.fault.CaptureFault.TheVariants.{Length, CutOff}
-use Rattle.capture_file.specs.declared.order.ByteOrder.{ByteOrder}
 use Rattle.capture_file.specs.declared.part.PartStop.TheVariants.{Fault}
 use Rattle.capture_file.specs.declared.octets.ReadFailed.{ReadFailed}
-use Rattle.capture_file.specs.Order.{number16, number32}
+use Rattle.capture_file.specs.Order.{number16}
 use Rattle.capture_file.specs.Options.{OptionOf, AreOptions, HasWrongOption, found_in}
 use Rattle.capture_file.specs.Pcapng.{is_length_of, description_type, IsBlock}
-use Rattle.capture_file.specs.Section.{SectionOf, DescriptionOf, IsDescription, description_of, options_there}
+use Rattle.capture_file.specs.Section.{SectionOf, IsDescription, description_of, options_there}
 use Rattle.capture_file.specs.Wrong.{total_of, IsBegun, IsBlockFault}
 use Rattle.capture_file.specs.Inner.Octets.{Fills, FillsTo}
 use Rattle.capture_file.specs.Inner.Reading.{StopsBy}
@@ -88,7 +86,7 @@ wrong_option a m c s total kept place head front true i least some is before (fi
         rw (length-append front rest) (omega (arith, some)),
         place,
         subst (λ (t : ℕ). HasWrongOption s.order (t - 20) (options_there t (front ++ rest)) place) (sym same)
-        (subst (λ (o : List ℕ). HasWrongOption s.order (total - 20) o place) (there_is ∙ sym (options_whole total kept front rest least (size before) is)) wrong),
+            (subst (λ (o : List ℕ). HasWrongOption s.order (total - 20) o place) (there_is ∙ sym (options_whole total kept front rest least (size before) is)) wrong),
         refl,
       )))),
 )
@@ -99,7 +97,7 @@ wrong_option a m c s total kept place head front false i least some is before (f
     some,
     place,
     subst (λ (t : ℕ). HasWrongOption s.order (t - 20) (options_there t front) place) (sym i.total_is)
-    (subst (λ (o : List ℕ). HasWrongOption s.order (total - 20) o place) (there_is ∙ sym (options_partial total front (omega (arith, short, is)) (omega (arith, short, is)))) wrong),
+        (subst (λ (o : List ℕ). HasWrongOption s.order (total - 20) o place) (there_is ∙ sym (options_partial total front (omega (arith, short, is)) (omega (arith, short, is)))) wrong),
     refl,
   )))),
 )

@@ -50,18 +50,23 @@ consumes_from None b c front octets first both = tt
 consumes_from (Some xs) None c front octets first both = absurd first
 consumes_from (Some xs) (Some ys) c front octets first both = subst (λ (k : List ℕ). Consumes (Some k) c octets) (sym first) both
 
--- what holds of both, where they are known
-pub known_from : (a b : Option (List ℕ)) (front : List ℕ) (P : List ℕ → Type 0) → Consumes a b front → ForSome (prepend_known front b) P → ForSome a P
+-- what holds of both, where they are known, holds of all that stand behind the front
+known_from : (a b : Option (List ℕ)) (front : List ℕ) (P : List ℕ → Type 0) → Consumes a b front → ForSome (prepend_known front b) P
+    → (octets : List ℕ) → a ≡ Some octets → ((rest : List ℕ) × (octets ≡ front ++ rest)) × P octets
 known_from None b front P first both octets known = absurd cc
 known_from (Some xs) None front P first both octets known = absurd first
-known_from (Some xs) (Some ys) front P first both octets known = both octets (ap Some (sym first) ∙ known)
+known_from (Some xs) (Some ys) front P first both octets known =
+    let same : xs ≡ octets = cc in ((ys, sym same ∙ first), both octets (ap Some (sym first) ∙ known))
 
+-- why octets behind others aren't read is why both aren't
 pub stops_from : (a b c : Option (List ℕ)) (front : List ℕ) (Wrong Faulty : List ℕ → CaptureFault → ℕ → Type 0) (stop : PartStop)
-    → ((octets : List ℕ) (fault : CaptureFault) (place : ℕ) → Wrong octets fault place → Faulty octets fault place) → Consumes a b front
+    → ((rest : List ℕ) (fault : CaptureFault) (place : ℕ) → Wrong (front ++ rest) fault place → Faulty (front ++ rest) fault place) → Consumes a b front
     → StopsBy Wrong stop (prepend_known front b) c → StopsBy Faulty stop a c
 stops_from a b c front Wrong Faulty Read wider first (seen, read) = (seen, consumes_from a b c front seen first read)
 stops_from a b c front Wrong Faulty Memory wider first (seen, read) = (seen, consumes_from a b c front seen first read)
 stops_from a b c front Wrong Faulty (Fault fault place) wider first ((seen, read), faulty) = (
   (seen, consumes_from a b c front seen first read),
-  λ octets known. wider octets fault place (known_from a b front (λ o. Wrong o fault place) first faulty octets known),
+  λ octets known.
+      let ((rest, is), wrong) = known_from a b front (λ o. Wrong o fault place) first faulty octets known in
+      rw is (wider rest fault place (subst (λ (o : List ℕ). Wrong o fault place) is wrong)),
 )

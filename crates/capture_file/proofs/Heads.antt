@@ -1,12 +1,11 @@
 -- What the reading of a pcap's head comes to.
-use Rattle.std.proofs.Common.{◌≡◌, ◌≢◌, ℕ, ◌+◌, ◌≤◌, ◌<◌, List, [], ◌++◌, length, true, false, sym, ap, ◌∙◌, subst, refl, inl, arith, Option, Some, None, Result, Ok, Err}
+use Rattle.std.proofs.Common.{◌≡◌, ◌≢◌, ℕ, ◌≤◌, ◌<◌, List, ◌++◌, length, true, false, ap, ◌∙◌, refl, inl, arith, Option, Some, None, Result, Ok, Err}
 use Rattle.std.specs.Prelude.{⊤}
 use Rattle.std.specs.Option.{ForSome}
 use Rattle.std.specs.Io.KnownBytes.{Consumes, IsAtEnd, prepend_known}
 use Rattle.std.proofs.KnownBytes.{Consumes-trans}
 use Rattle.std.proofs.Common.{length-append}
 use Rattle.text_lines.proofs.KnownOctets.{Consumes-known}
-use Rattle.capture_file.specs.declared.fault.CaptureFault.{CaptureFault}
 use Rattle.capture_file.specs.declared.fault.CaptureFault.TheVariants.{NoCapture, Version, ByteOrderMagic, Length, Interface, CutOff}
 use Rattle.capture_file.specs.declared.order.ByteOrder.{ByteOrder}
 use Rattle.capture_file.specs.declared.part.PartStop.{PartStop}
@@ -14,11 +13,11 @@ use Rattle.capture_file.specs.declared.part.PartStop.TheVariants.{Read, Memory, 
 use Rattle.capture_file.specs.declared.pcap.FractionUnit.{FractionUnit}
 use Rattle.capture_file.specs.declared.pcap.PcapHead.{PcapHead}
 use Rattle.capture_file.specs.Order.{number32}
-use Rattle.capture_file.specs.Pcap.{unit_of, is_pcap_version, IsPcapHead}
+use Rattle.capture_file.specs.Pcap.{unit_of, is_pcap_version}
 use Rattle.capture_file.specs.Parts.{Start}
-use Rattle.capture_file.specs.Wrong.{IsPcapMagic, IsFault}
+use Rattle.capture_file.specs.Wrong.{IsFault}
 use Rattle.capture_file.specs.Inner.Octets.{Fills}
-use Rattle.capture_file.specs.Inner.Reading.{Wants, StopsPart, ReadsHead, pcap_of}
+use Rattle.capture_file.specs.Inner.Reading.{Wants, StopsPart, ReadsHead}
 use Rattle.capture_file.proofs.Fronts.{number32_front, version_front, all_read, consumes_front}
 
 -- the octets that were read of a head, and the unit that its magic tells

@@ -7,3 +7,5 @@ pub mod Taking
 pub mod Ends
 pub mod Blocks
 pub mod Descriptions
+pub mod Headers
+pub mod Starts

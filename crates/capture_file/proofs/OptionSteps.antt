@@ -1,11 +1,11 @@
 -- One option more.
-use Rattle.std.proofs.Common.{◌≡◌, ◌≢◌, ℕ, ◌+◌, ◌-◌, ◌*◌, ◌/◌, ◌≤◌, List, ◌∷◌, length, take, drop, true, sym, ap, ◌∙◌, refl, arith, subst}
+use Rattle.std.proofs.Common.{◌≡◌, ◌≢◌, ℕ, ◌+◌, ◌-◌, ◌≤◌, List, ◌∷◌, length, take, drop, true, sym, ap, ◌∙◌, refl, arith}
 use Rattle.std.specs.Prelude.{slice_range}
 use Rattle.std.proofs.lemmas.List.{length-take-le, length-drop, take_all}
 use Rattle.capture_file.specs.declared.order.ByteOrder.{ByteOrder}
 use Rattle.capture_file.specs.Order.{number16}
 use Rattle.capture_file.specs.Pcapng.{padded}
-use Rattle.capture_file.specs.Options.{OptionOf, FoundOf, AreFirst, IsOption, is_size_of, with_option, found_in}
+use Rattle.capture_file.specs.Options.{OptionOf, FoundOf, AreFirst, is_size_of, with_option, found_in}
 
 -- so many octets from the fourth on
 value_length : (octets : List ℕ) (size : ℕ) → 4 + padded size ≤ length octets → length (slice_range octets 4 (4 + size)) ≡ size
@@ -50,5 +50,6 @@ one_more order left octets options before behind found found' size whole value r
   where
     size_of : length value ≡ size
     size_of = ap length value_is ∙ value_length behind size (omega (arith, within, whole_is))
+
     taken : 4 + padded (length value) ≡ whole
     taken = ap (λ n. 4 + padded n) size_of ∙ sym whole_is

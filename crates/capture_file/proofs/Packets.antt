@@ -18,7 +18,6 @@ use Rattle.capture_file.specs.Packet.{InterfaceOf, PacketOf, Captured, packet_at
 use Rattle.capture_file.specs.Pcap.{PcapOf, pcap_time, pcap_interface, IsPcapPacket}
 use Rattle.capture_file.specs.Parts.{Form, Pcap}
 use Rattle.capture_file.specs.Wrong.{packet_length, IsFault}
-use Rattle.capture_file.specs.Inner.Octets.{Fills}
 use Rattle.capture_file.specs.Inner.Reading.{Wants, PassesRest, StopsPart, ReadsPacketHead, ReadsPart}
 use Rattle.capture_file.proofs.Fronts.{number32_front, all_read}
 

@@ -1,8 +1,7 @@
 -- How far a capture was taken: from part to part, and where it stops.
-use Rattle.std.proofs.Common.{◌≡◌, ◌≢◌, ℕ, ◌+◌, ◌^◌, ◌≤◌, ◌<◌, min, List, [], ◌∷◌, ◌++◌, length, sym, ap, ◌∙◌, subst, refl, inl, inr, Bool, true, false, arith, Option, Some, None, Result, Ok, Err}
-use Rattle.std.proofs.Common.{append-nil, append_assoc, length-append}
+use Rattle.std.proofs.Common.{◌≡◌, ◌≢◌, ℕ, ◌+◌, ◌^◌, ◌<◌, min, List, [], ◌∷◌, ◌++◌, length, sym, ap, ◌∙◌, subst, refl, inl, inr, Bool, true, false, arith, Option, Some, None, Result, Ok, Err}
+use Rattle.std.proofs.Common.{append-nil, length-append}
 use Rattle.std.specs.Prelude.{option_to_list}
-use Rattle.std.specs.Option.{ForSome}
 use Rattle.std.specs.Io.KnownBytes.{Appends, Consumes, IsAtEnd}
 use Rattle.std.proofs.KnownBytes.{Consumes-trans, Appends-trans}
 use Rattle.text_lines.specs.Counted.{greatest_count}
@@ -16,7 +15,7 @@ use Rattle.capture_file.specs.declared.part.PartStop.TheVariants.{Read, Memory, 
 use Rattle.capture_file.specs.declared.part.Part as parts
 use Rattle.capture_file.specs.declared.progress.Progress.{Progress}
 use Rattle.capture_file.specs.Packet.{PacketOf}
-use Rattle.capture_file.specs.Parts.{Form, Start, Part, AreParts, IsPart, form_behind, octets_of, packets_of}
+use Rattle.capture_file.specs.Parts.{Form, Start, IsPart, form_behind, octets_of, packets_of}
 use Rattle.capture_file.specs.Wrong.{IsFault}
 use Rattle.capture_file.specs.Task.{PacketRules, TakesPackets, AnswersCapture, AnswersUntil, Answers}
 use Rattle.capture_file.specs.Inner.Reading.{packet_in, IsRead, IsEnd, StopsPart, ReadsPart}

@@ -1,5 +1,5 @@
 -- Times of packets in pcapng: in parts of a second since an offset, cut down to whole nanoseconds.
-use Rattle.std.specs.Prelude.{ℕ, ◌+◌, ◌-◌, ◌*◌, ◌/◌, ◌%◌, ◌^◌, nat_lt, ℤ, pos, negsuc, ◌+ℤ◌, if◌then◌else◌, Option, Some, None}
+use Rattle.std.specs.Prelude.{ℕ, ◌-◌, ◌*◌, ◌/◌, ◌%◌, ◌^◌, nat_lt, ℤ, pos, negsuc, ◌+ℤ◌, if◌then◌else◌, Option, Some, None}
 use Rattle.ptp_units.specs.Moment.{Stamp, stamp}
 
 -- a second is divided into base ^ exponent parts

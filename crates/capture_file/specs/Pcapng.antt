@@ -1,7 +1,7 @@
 -- The blocks of pcapng (draft-ietf-opsawg-pcapng).
-use Rattle.std.specs.Prelude.{◌≡◌, ◌≢◌, ℕ, ◌+◌, ◌-◌, ◌*◌, ◌/◌, ◌%◌, ◌^◌, ◌<◌, ◌≤◌, nat_le, nat_lt, ◌==◌, ◌&&◌, ◌||◌, ℤ}
-use Rattle.std.specs.Prelude.{List, [], ◌∷◌, length, drop, slice_range, slice_get, if◌then◌else◌}
-use Rattle.std.specs.Prelude.{Option, Some, None, Bool, true, false, option_map}
+use Rattle.std.specs.Prelude.{◌≡◌, ℕ, ◌+◌, ◌-◌, ◌*◌, ◌/◌, ◌%◌, nat_le, ◌==◌, ◌&&◌, ◌||◌}
+use Rattle.std.specs.Prelude.{List, length, if◌then◌else◌}
+use Rattle.std.specs.Prelude.{Option, Some, None, Bool, true}
 use Rattle.capture_file.specs.declared.order.ByteOrder.{ByteOrder}
 use Rattle.capture_file.specs.declared.order.ByteOrder.TheVariants.{Big, Little}
 use Rattle.capture_file.specs.Order.{number16, number32}

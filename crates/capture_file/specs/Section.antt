@@ -1,5 +1,5 @@
 -- What stands in a section of pcapng: interfaces, and packets that were captured at them (draft-ietf-opsawg-pcapng).
-use Rattle.std.specs.Prelude.{◌≡◌, ◌≢◌, ◌⊎◌, ℕ, ◌+◌, ◌-◌, ◌*◌, ◌^◌, ◌≤◌, ◌==◌, ◌||◌, ℤ, pos, List, [], ◌∷◌, ◌++◌, length}
+use Rattle.std.specs.Prelude.{◌≡◌, ◌⊎◌, ℕ, ◌+◌, ◌-◌, ◌*◌, ◌^◌, ◌≤◌, ◌==◌, ◌||◌, ℤ, pos, List, [], ◌∷◌, ◌++◌, length}
 use Rattle.std.specs.Prelude.{take, slice_range, slice_get, if◌then◌else◌, Option, Some, None, Bool, true, false, not}
 use Rattle.std.specs.List.{list_any}
 use Rattle.std.specs.Option.{option_map_or}
@@ -9,7 +9,7 @@ use Rattle.capture_file.specs.declared.order.ByteOrder.{ByteOrder}
 use Rattle.capture_file.specs.Order.{number16, number32}
 use Rattle.capture_file.specs.Clock.{ResolutionOf, resolution_of, microseconds, time_at}
 use Rattle.capture_file.specs.Options.{OptionOf, FoundOf, AreOptions, found_in}
-use Rattle.capture_file.specs.Packet.{PacketOf, Simple, packet_at}
+use Rattle.capture_file.specs.Packet.{PacketOf, packet_at}
 use Rattle.capture_file.specs.Pcapng.{IsBlock, padded, BeginsSection, description_type, old_packet_type}
 use Rattle.capture_file.specs.Pcapng.{simple_packet_type, enhanced_packet_type}
 

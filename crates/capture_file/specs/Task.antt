@@ -1,7 +1,7 @@
 -- What is made of the packets of a capture, by what a task does with each of them, and at the end. Lists of packets and
 -- of parts have the newest in front.
 use Rattle.std.specs.Prelude.{◌≡◌, ◌≢◌, ◌⊎◌, ℕ, ◌+◌, min, List, [], ◌∷◌, ◌++◌, length, Bool, false, Option, Some, Result}
-use Rattle.std.specs.Prelude.{MatchResult, ⊤}
+use Rattle.std.specs.Prelude.{MatchResult}
 use Rattle.std.specs.Io.KnownBytes.{Appends}
 use Rattle.text_lines.specs.declared.counted.Counted.{Counted}
 use Rattle.text_lines.specs.Counted.{greatest_count, HasFailed, HasNotFailed, HasFailedIf}

@@ -1,7 +1,7 @@
 -- What is wrong with octets that are no part of a capture, and at which of them: the first thing that is. Places count
 -- from 0, from the part's first octet.
 use Rattle.std.specs.Prelude.{◌≡◌, ◌≢◌, ◌⊎◌, ℕ, ◌+◌, ◌-◌, ◌<◌, ◌≤◌, nat_lt, List, [], length, if◌then◌else◌}
-use Rattle.std.specs.Prelude.{slice_get, Option, Some, None, true, false}
+use Rattle.std.specs.Prelude.{slice_get, Some, None, true, false}
 use Rattle.capture_file.specs.declared.order.ByteOrder.{ByteOrder}
 use Rattle.capture_file.specs.declared.order.ByteOrder.TheVariants.{Big, Little}
 use Rattle.capture_file.specs.declared.fault.CaptureFault.{CaptureFault}

@@ -7,9 +7,13 @@ use crate::order::ByteOrder;
 
 /// The types of blocks that are looked at.
 pub(crate) const SECTION: u32 = 0x0a0d_0d0a;
+
 pub(crate) const DESCRIPTION: u32 = 1;
+
 pub(crate) const OLD_PACKET: u32 = 2;
+
 pub(crate) const SIMPLE_PACKET: u32 = 3;
+
 pub(crate) const ENHANCED_PACKET: u32 = 6;
 
 /// The byte-order magic of a section.

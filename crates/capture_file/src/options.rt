@@ -76,11 +76,7 @@ impl<'a> Options<'a> {
 
 /// What options say that take `left` octets, of which these are there. Where one doesn't fit, or is of another length than it has, the
 /// place of its length is answered.
-pub(crate) fn options_in(
-    order: ByteOrder,
-    octets: &[u8],
-    left: u32,
-) -> Result<Options<'_>, u64>
+pub(crate) fn options_in(order: ByteOrder, octets: &[u8], left: u32) -> Result<Options<'_>, u64>
     ensures { MatchResult result
         (λ found. (options : List OptionOf) × AreOptions order left options octets.now × (found_of found ≡ found_in order options))
         (λ place. HasWrongOption order left octets.now place) }
@@ -100,7 +96,11 @@ pub(crate) fn options_in(
         if rest.len() < whole as usize {
             break;
         }
-        found = found.with(order, code, &rest[OPTION_HEAD as usize..][..usize::from(size)]);
+        found = found.with(
+            order,
+            code,
+            &rest[OPTION_HEAD as usize..][..usize::from(size)],
+        );
         rest = &rest[whole as usize..];
         behind -= whole;
     }

@@ -4,26 +4,33 @@ ghost use Rattle.text_lines.specs.Counted.{device_of};
 ghost use Rattle.capture_file.specs.Order.{number32};
 ghost use Rattle.capture_file.specs.Pcap.{unit_of};
 ghost use Rattle.capture_file.specs.Pcapng.{section_type};
+ghost use Rattle.capture_file.specs.Parts.{Start};
 ghost use Rattle.capture_file.specs.Inner.Front.{front_of};
 ghost use Rattle.capture_file.specs.Inner.Reading.{form_of, TellsMagic, ReadsMagic, ReadsPart, FailedIn};
 
 use crate::block::SECTION;
+use crate::block_reading::read_block;
 use crate::fault::CaptureFault;
 use crate::front::Front;
 use crate::order::ByteOrder;
 use crate::part::{Part, PartStop};
 use crate::pcap::{FractionUnit, PcapHead, pcap_magic};
 use crate::pcap_reading::{PCAP_HEAD, read_packet, read_pcap_head};
+use crate::section::Section;
+use crate::section_reading::read_section_header;
+use std::alloc::Global;
 use std::io::Read;
 use text_lines::Counted;
 
 /// What stands before the next part of a capture.
-#[derive(Clone, Copy)]
+#[derive(Drop)]
 pub(crate) enum Form {
     /// Nothing.
     Start,
     /// The head of a pcap.
     Pcap(PcapHead),
+    /// A section of a pcapng.
+    Section(Section),
 }
 
 /// What the first four octets of a capture tell.
@@ -63,8 +70,41 @@ fn read_magic<R: Read>(front: &mut Front, input: &mut Counted<R>) -> Result<Magi
     }
 }
 
+/// Reads the head of a pcap, or the first section header of a pcapng.
+fn read_start<'a, R: Read>(
+    alloc: Global,
+    form: &mut Form,
+    front: &'a mut Front,
+    input: &mut Counted<R>,
+) -> Result<Option<Part<'a>>, PartStop>
+    requires empty { front_of front.old ≡ [] }
+    requires start { form_of form.old ≡ Start }
+    ensures part { ReadsPart Start (form_of form.new) result
+        (R.remaining (device_of input.old)) (R.remaining (device_of input.new)) }
+    ensures failures { FailedIn result input.old input.new }
+{
+    match read_magic(front, input)? {
+        Magic::Pcap(order, unit) => {
+            *form = Form::Pcap(read_pcap_head(order, unit, front, input)?);
+            Ok(Some(Part {
+                size: PCAP_HEAD as u64,
+                packet: None,
+            }))
+        }
+        Magic::Section => {
+            let (order, total) = read_section_header(front, input)?;
+            *form = Form::Section(Section::new(alloc, order));
+            Ok(Some(Part {
+                size: u64::from(total),
+                packet: None,
+            }))
+        }
+    }
+}
+
 /// Reads the next part of a capture; None at the end.
 pub(crate) fn read_part<'a, R: Read>(
+    alloc: Global,
     form: &mut Form,
     front: &'a mut Front,
     input: &mut Counted<R>,
@@ -74,17 +114,9 @@ pub(crate) fn read_part<'a, R: Read>(
     ensures failures { FailedIn result input.old input.new }
 {
     front.clear();
-    match *form {
-        Form::Start => {
-            let Magic::Pcap(order, unit) = read_magic(front, input)? else {
-                return Err(PartStop::Read);
-            };
-            *form = Form::Pcap(read_pcap_head(order, unit, front, input)?);
-            Ok(Some(Part {
-                size: PCAP_HEAD as u64,
-                packet: None,
-            }))
-        }
-        Form::Pcap(head) => read_packet(head, front, input),
+    match form {
+        Form::Start => read_start(alloc, form, front, input),
+        Form::Pcap(head) => read_packet(*head, front, input),
+        Form::Section(section) => read_block(alloc, section, front, input),
     }
 }

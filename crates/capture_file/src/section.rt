@@ -84,7 +84,12 @@ impl Section {
     }
 
     /// Takes one more interface, by its link type and what its options say.
-    pub(crate) fn describe(&mut self, alloc: Global, link: u16, options: Options<'_>) -> Result<(), AllocError>
+    pub(crate) fn describe(
+        &mut self,
+        alloc: Global,
+        link: u16,
+        options: Options<'_>,
+    ) -> Result<(), AllocError>
         ensures { OnOk result (section_in self.new ≡ with_interface
             (description_of link (descriptions_in self.old.interfaces.items) (found_of options.entry)) (section_in self.old)) }
     {

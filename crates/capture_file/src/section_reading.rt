@@ -9,8 +9,8 @@ ghost use Rattle.capture_file.specs.Inner.Section.{section_in};
 ghost use Rattle.capture_file.specs.Inner.Reading.{Closes, ReadsSection, IsBlockHead, ReadsBlock, FailedIn};
 
 use crate::block::{
-    DESCRIPTION, ENHANCED_PACKET, OLD_PACKET, SECTION, SIMPLE_PACKET, is_length_of, is_section_version, order_of_magic,
-    padded,
+    DESCRIPTION, ENHANCED_PACKET, OLD_PACKET, SECTION, SIMPLE_PACKET, is_length_of,
+    is_section_version, order_of_magic, padded,
 };
 use crate::fault::CaptureFault;
 use crate::front::Front;
@@ -32,11 +32,7 @@ const LENGTH: u32 = 4;
 const SECTION_HEAD: u32 = 16;
 
 /// Reads the total length at the end of a block, which is that at its front.
-fn read_last<R: Read>(
-    order: ByteOrder,
-    total: u32,
-    input: &mut Counted<R>,
-) -> Result<(), PartStop>
+fn read_last<R: Read>(order: ByteOrder, total: u32, input: &mut Counted<R>) -> Result<(), PartStop>
     requires { 4 ≤ total }
     ensures closed { Closes order total (total - 4) result (R.remaining (device_of input.old)) (R.remaining (device_of input.new)) }
     ensures failures { FailedIn result input.old input.new }

@@ -1,5 +1,5 @@
 -- What was found in options, without where it lies in memory.
-use Rattle.std.specs.Prelude.{ℕ, List, option_map}
+use Rattle.std.specs.Prelude.{option_map}
 use Rattle.capture_file.specs.declared.options.Options.{Options}
 use Rattle.capture_file.specs.Options.{FoundOf}
 

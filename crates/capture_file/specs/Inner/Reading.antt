@@ -16,14 +16,13 @@ use Rattle.capture_file.specs.declared.pcap.PcapHead.{PcapHead}
 use Rattle.capture_file.specs.declared.reader.Form as reader
 use Rattle.capture_file.specs.declared.reader.Magic.{Magic}
 use Rattle.capture_file.specs.declared.reader.Magic.TheVariants as magics
-use Rattle.capture_file.specs.declared.order.ByteOrder.TheVariants.{Big}
 use Rattle.capture_file.specs.Pcapng.{BeginsSection, IsSection, is_length_of}
 use Rattle.capture_file.specs.Section.{SectionOf}
+use Rattle.capture_file.specs.Inner.Section.{section_in}
 use Rattle.capture_file.specs.declared.reader.Form.TheVariants as readers
 use Rattle.capture_file.specs.Packet.{InterfaceOf, PacketOf, Captured, Timeless, Simple}
 use Rattle.capture_file.specs.Order.{number32}
 use Rattle.capture_file.specs.declared.order.ByteOrder.{ByteOrder}
-use Rattle.capture_file.specs.declared.pcap.FractionUnit.{FractionUnit}
 use Rattle.capture_file.specs.Pcap.{PcapOf, unit_of, IsPcapHead}
 use Rattle.capture_file.specs.Parts.{Form, Start, Pcap, Section, IsPart}
 use Rattle.capture_file.specs.Wrong.{IsFault, IsSectionFault, IsBlockFault}
@@ -51,6 +50,7 @@ pcap_of head = record { order = head.order; unit = head.unit; link = head.link }
 abbrev pub form_of : reader.Form → Form
 form_of readers.Start = Start
 form_of (readers.Pcap head) = Pcap (pcap_of head)
+form_of (readers.Section section) = Section (section_in section)
 
 -- so many octets are there, or the part is cut off
 abbrev pub Wants : {T : Type 0} → ℕ → Result T PartStop → (old new : List ℕ) → (before after : Option (List ℕ)) → Type 0
@@ -165,3 +165,9 @@ ReadsBlock old new total (Ok packet) before after =
     (octets : List ℕ) × Consumes before after octets × (length octets ≡ total)
     × IsPart (Section old) octets (option_map packet_of packet) (Section new)
 ReadsBlock old new total (Err stop) before after = StopsBy (IsBlockFault old) stop before after
+
+-- the type and the total length of a block were read, or the end was there
+abbrev pub ReadsBlockHead : Result Bool PartStop → (front : List ℕ) → (before after : Option (List ℕ)) → Type 0
+ReadsBlockHead (Ok true) front before after = Consumes before after front × (length front ≡ 8)
+ReadsBlockHead (Ok false) front before after = Consumes before after [] × IsAtEnd after
+ReadsBlockHead (Err stop) front before after = (section : SectionOf) → StopsPart (Section section) stop before after

@@ -1,5 +1,4 @@
-use Rattle.std.proofs.Common.{rules, ◌≡◌, ◌≢◌, ◌++◌, ℕ, sym, refl, inr}
-use Rattle.text_lines.specs.Counted.{device_of}
+use Rattle.std.proofs.Common.{rules, ◌≢◌, ◌++◌, sym, refl, inr}
 use Rattle.capture_file.specs.Pcapng.{enhanced_packet_type, description_type}
 use Rattle.capture_file.specs.Inner.Front.{front_of}
 use Rattle.capture_file.specs.Inner.Section.{section_in}

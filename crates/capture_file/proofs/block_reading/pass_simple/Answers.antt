@@ -1,6 +1,4 @@
-use Rattle.std.proofs.Common.{rules, ◌≡◌, ◌≢◌, ◌⊎◌, ◌++◌, ℕ, sym, refl, inl, inr}
-use Rattle.text_lines.specs.Counted.{device_of}
-use Rattle.capture_file.specs.Pcapng.{enhanced_packet_type, description_type}
+use Rattle.std.proofs.Common.{rules, ◌++◌, sym, refl, inr}
 use Rattle.capture_file.specs.Inner.Front.{front_of}
 use Rattle.capture_file.specs.Inner.Section.{section_in}
 use Rattle.capture_file.proofs.Blocks.{in_block, in_block_more, close_stops, reads_no_block, is_block, sound_type, not_enhanced, not_description, is_simple}

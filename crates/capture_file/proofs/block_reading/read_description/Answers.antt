@@ -1,8 +1,8 @@
-use Rattle.std.proofs.Common.{rules, ◌≡◌, ◌+◌, ◌-◌, ◌≤◌, ◌<◌, ◌++◌, ℕ, min, length, drop, sym, refl, inl, inr, Some, None, Ok, Err, true, false, arith, ◌∙◌, ap}
+use Rattle.std.proofs.Common.{rules, ◌≡◌, ◌-◌, ◌++◌, min, drop, sym, inl, inr, Ok, Err, true, false, arith, ◌∙◌, ap}
 use Rattle.text_lines.specs.Counted.{device_of}
 use Rattle.capture_file.specs.Pcapng.{description_type}
 use Rattle.capture_file.specs.Inner.Front.{front_of}
-use Rattle.capture_file.specs.Inner.Section.{section_in, described_in}
+use Rattle.capture_file.specs.Inner.Section.{section_in}
 use Rattle.capture_file.proofs.Blocks.{in_block, in_block_filled, in_block_more, block_stops, close_stops, reads_no_block, is_block}
 use Rattle.capture_file.proofs.Descriptions.{least_description, sound_head, sound_whole, cut_options, wrong_option, is_description, filled_as, fills_any, longer}
 use Rattle.capture_file.proofs.OptionSteps.{rest_is}
@@ -111,12 +111,16 @@ returns-in-Ok-clause-block g c =
     let (rest, read, least-4, whole, same) = c.in_ok-close.ensures.closed in
     let all = in_block_more _ _ _ s description_type total front rest last read in
     let (length_is, block) = is_block _ _ _ s description_type total c.min-kept.result front rest last (sym full) read least-4 whole same in
-    let link : c.u16_at-link.result ≡ number16 s.order front 8 = search rules in
-    (front ++ rest, all.read, length_is, inr (inl (
-      description_of c.u16_at-link.result s.interfaces (found_in s.order options),
-      is_description _ _ s total c.min-kept.result front rest options c.u16_at-link.result last least (omega (arith, full, kept, least)) full kept length_is block _ there are link,
-      ap Section (search rules),
-    )))
+    let link : c.u16_at-link.result ≡ number16 s.order front 8 = search rules in (
+      front ++ rest,
+      all.read,
+      length_is,
+      inr (inl (
+        description_of c.u16_at-link.result s.interfaces (found_in s.order options),
+        is_description _ _ s total c.min-kept.result front rest options c.u16_at-link.result last least (omega (arith, full, kept, least)) full kept length_is block _ there are link,
+        ap Section (search rules),
+      )),
+    )
 
 pub returns-in-Err-clause-block : goal.returns-in-Err-clause-block
 returns-in-Err-clause-block g c =

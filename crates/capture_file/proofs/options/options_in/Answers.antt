@@ -1,6 +1,6 @@
-use Rattle.std.proofs.Common.{rules, ◌≡◌, ◌≢◌, ◌≤◌, ◌+◌, ◌-◌, length, true, ℕ, List, refl, ◌∙◌}
+use Rattle.std.proofs.Common.{rules, ◌≡◌, ◌≢◌, ◌+◌, true}
 use Rattle.capture_file.specs.Order.{number16}
-use Rattle.capture_file.specs.Options.{OptionOf, is_size_of, found_in, with_option}
+use Rattle.capture_file.specs.Options.{is_size_of}
 use Rattle.capture_file.specs.Inner.Options.{found_of}
 use Rattle.capture_file.proofs.OptionSteps.{one_more, value_is, rest_is}
 use Rattle.capture_file.proofs.options.options_in.Goals as goal

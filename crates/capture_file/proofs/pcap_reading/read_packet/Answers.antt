@@ -1,7 +1,6 @@
-use Rattle.std.proofs.Common.{rules, ◌≡◌, ◌≤◌, ◌<◌, ◌+◌, ◌-◌, List, ℕ, length, arith, Err, ◌∙◌, sym, ap, min, [], ◌++◌, refl}
+use Rattle.std.proofs.Common.{rules, ◌≡◌, ◌≤◌, ◌+◌, ◌-◌, arith, ◌∙◌, min, ◌++◌, refl}
 use Rattle.std.proofs.Common.{length-append}
 use Rattle.std.proofs.KnownBytes.{Consumes-trans}
-use Rattle.text_lines.specs.Counted.{device_of}
 use Rattle.capture_file.specs.Order.{number32}
 use Rattle.capture_file.specs.Inner.Front.{front_of}
 use Rattle.capture_file.specs.Inner.Reading.{pcap_of, packet_of}

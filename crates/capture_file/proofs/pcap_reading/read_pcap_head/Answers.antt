@@ -1,10 +1,8 @@
-use Rattle.std.proofs.Common.{rules, ◌≡◌, ◌≤◌, ◌<◌, ◌+◌, List, ℕ, length, true, false, arith, Err, Ok, ◌∙◌, sym, ap, Option, length-append}
+use Rattle.std.proofs.Common.{rules, ◌≡◌, true, false, arith, ◌∙◌}
 use Rattle.text_lines.specs.Counted.{device_of}
 use Rattle.capture_file.specs.Pcap.{is_pcap_version}
 use Rattle.capture_file.specs.Inner.Front.{front_of}
-use Rattle.capture_file.specs.Inner.Octets.{Fills}
-use Rattle.capture_file.proofs.Heads.{IsBegun, begun, begun_more, version_more, head_stops, reads_none, wrong_version}
-use Rattle.capture_file.proofs.Fronts.{number32_front}
+use Rattle.capture_file.proofs.Heads.{begun, begun_more, version_more, head_stops, reads_none, wrong_version}
 use Rattle.capture_file.proofs.pcap_reading.read_pcap_head.Goals as goal
 
 pub returns-in_err-want-clause-head : goal.returns-in_err-want-clause-head
