@@ -1,24 +1,24 @@
 -- What the reading of a pcap's head comes to.
-use Rattle.std.proofs.Common.{◌≡◌, ◌≢◌, ℕ, ◌+◌, ◌≤◌, ◌<◌, List, [], ◌++◌, length, true, false, sym, ap, ◌∙◌, subst, refl, arith, Option, Some, None, Result, Ok, Err}
+use Rattle.std.proofs.Common.{◌≡◌, ◌≢◌, ℕ, ◌≤◌, ◌<◌, List, ◌++◌, length, true, false, ap, ◌∙◌, refl, inl, arith, Option, Some, None, Result, Ok, Err}
 use Rattle.std.specs.Prelude.{⊤}
 use Rattle.std.specs.Option.{ForSome}
-use Rattle.std.specs.Io.KnownBytes.{Consumes, IsAtEnd}
+use Rattle.std.specs.Io.KnownBytes.{Consumes, IsAtEnd, prepend_known}
 use Rattle.std.proofs.KnownBytes.{Consumes-trans}
 use Rattle.std.proofs.Common.{length-append}
 use Rattle.text_lines.proofs.KnownOctets.{Consumes-known}
-use Rattle.capture_file.specs.declared.fault.CaptureFault.{CaptureFault}
 use Rattle.capture_file.specs.declared.fault.CaptureFault.TheVariants.{NoCapture, Version, ByteOrderMagic, Length, Interface, CutOff}
 use Rattle.capture_file.specs.declared.order.ByteOrder.{ByteOrder}
 use Rattle.capture_file.specs.declared.part.PartStop.{PartStop}
-use Rattle.capture_file.specs.declared.part.PartStop.TheVariants.{Read, Fault}
+use Rattle.capture_file.specs.declared.part.PartStop.TheVariants.{Read, Memory, Fault}
 use Rattle.capture_file.specs.declared.pcap.FractionUnit.{FractionUnit}
 use Rattle.capture_file.specs.declared.pcap.PcapHead.{PcapHead}
 use Rattle.capture_file.specs.Order.{number32}
-use Rattle.capture_file.specs.Pcap.{unit_of, is_pcap_version, IsPcapHead}
-use Rattle.capture_file.specs.Parts.{Start, IsPcapMagic, IsFault}
+use Rattle.capture_file.specs.Pcap.{unit_of, is_pcap_version}
+use Rattle.capture_file.specs.Parts.{Start}
+use Rattle.capture_file.specs.Wrong.{IsFault}
 use Rattle.capture_file.specs.Inner.Octets.{Fills}
-use Rattle.capture_file.specs.Inner.Reading.{Wants, StopsPart, ReadsHead, pcap_of}
-use Rattle.capture_file.proofs.Fronts.{number32_front, version_front, all_read}
+use Rattle.capture_file.specs.Inner.Reading.{Wants, StopsPart, ReadsHead}
+use Rattle.capture_file.proofs.Fronts.{number32_front, version_front, all_read, consumes_front}
 
 -- the octets that were read of a head, and the unit that its magic tells
 pub record IsBegun (a b : Option (List ℕ)) (order : ByteOrder) (unit : FractionUnit) (front : List ℕ) : Type 0 where
@@ -26,9 +26,9 @@ pub record IsBegun (a b : Option (List ℕ)) (order : ByteOrder) (unit : Fractio
   pub least : 4 ≤ length front
   pub magic : unit_of (number32 order front 0) ≡ Some unit
 
-pub begun : (a b : Option (List ℕ)) (order : ByteOrder) (unit : FractionUnit) (front : List ℕ)
-    → Consumes a b front × (length front ≡ 4) × (unit_of (number32 order front 0) ≡ Some unit) → IsBegun a b order unit front
-begun a b order unit front (read, size, magic) = record { read = read; least = omega (arith, size); magic = magic }
+pub begun : (b : Option (List ℕ)) (order : ByteOrder) (unit : FractionUnit) (front : List ℕ) → (length front ≡ 4) × (unit_of (number32 order front 0) ≡ Some unit)
+    → IsBegun (prepend_known front b) b order unit front
+begun b order unit front (size, magic) = record { read = consumes_front b front; least = omega (arith, size); magic = magic }
 
 some : {T : Type 0} (o : Option T) (x : T) → o ≡ Some x → o ≢ None
 some o x is none = absurd cc
@@ -55,7 +55,7 @@ cut_off : (a c : Option (List ℕ)) (order : ByteOrder) (unit : FractionUnit) (f
     → (8 ≤ length front → is_pcap_version order front ≡ true) → ForSome a (λ octets. IsFault Start octets CutOff 0)
 cut_off a c order unit front begun end short version octets known =
     rw (all_read a c front octets begun.read end known)
-    (order, (begun.least, some (unit_of (number32 order front 0)) unit begun.magic), short, version, refl)
+    (inl (order, (begun.least, some (unit_of (number32 order front 0)) unit begun.magic), short, version, refl))
 
 -- why a head isn't read whole
 pub head_stops : (a b c : Option (List ℕ)) (size : ℕ) (order : ByteOrder) (unit : FractionUnit) (front new : List ℕ) (stop : PartStop)
@@ -63,6 +63,7 @@ pub head_stops : (a b c : Option (List ℕ)) (size : ℕ) (order : ByteOrder) (u
     → (length new < size → 8 ≤ length new → Fills front new b c → is_pcap_version order new ≡ true) → StopsPart Start stop a c
 head_stops a b c size order unit front new Read most begun wants version =
     let after = begun_more a b c order unit front new begun wants in (new, after.read)
+head_stops a b c size order unit front new Memory most begun wants version = absurd wants
 head_stops a b c size order unit front new (Fault CutOff place) most begun (fills, short, end, first) version =
     let after = begun_more a b c order unit front new begun fills in
     ((new, after.read), rw first (cut_off a c order unit new after end (omega (arith, short, most)) (λ least. version short least fills)))
@@ -83,7 +84,7 @@ wrong_version a b order unit front begun least wrong = (
   (front, begun.read),
   λ octets known.
       let (rest, left, split) = Consumes-known a b front octets begun.read known in
-      rw split (
+      rw split (inl (
         order,
         (
           rw (length-append front rest) (let least = begun.least in omega arith),
@@ -92,5 +93,5 @@ wrong_version a b order unit front begun least wrong = (
         rw (length-append front rest) (omega (arith, least)),
         version_front order front rest least ∙ wrong,
         refl,
-      ),
+      )),
 )

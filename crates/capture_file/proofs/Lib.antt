@@ -2,4 +2,10 @@ pub mod Fronts
 pub mod Reading
 pub mod Heads
 pub mod Packets
+pub mod OptionSteps
 pub mod Taking
+pub mod Ends
+pub mod Blocks
+pub mod Descriptions
+pub mod Headers
+pub mod Starts

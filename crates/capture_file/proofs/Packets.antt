@@ -12,12 +12,12 @@ use Rattle.capture_file.specs.declared.fault.CaptureFault.TheVariants.{NoCapture
 use Rattle.capture_file.specs.declared.order.ByteOrder.{ByteOrder}
 use Rattle.capture_file.specs.declared.part.Part.{Part}
 use Rattle.capture_file.specs.declared.part.PartStop.{PartStop}
-use Rattle.capture_file.specs.declared.part.PartStop.TheVariants.{Read, Fault}
+use Rattle.capture_file.specs.declared.part.PartStop.TheVariants.{Read, Memory, Fault}
 use Rattle.capture_file.specs.Order.{number32}
 use Rattle.capture_file.specs.Packet.{InterfaceOf, PacketOf, Captured, packet_at}
 use Rattle.capture_file.specs.Pcap.{PcapOf, pcap_time, pcap_interface, IsPcapPacket}
-use Rattle.capture_file.specs.Parts.{Form, Pcap, packet_length, IsFault}
-use Rattle.capture_file.specs.Inner.Octets.{Fills}
+use Rattle.capture_file.specs.Parts.{Form, Pcap}
+use Rattle.capture_file.specs.Wrong.{packet_length, IsFault}
 use Rattle.capture_file.specs.Inner.Reading.{Wants, PassesRest, StopsPart, ReadsPacketHead, ReadsPart}
 use Rattle.capture_file.proofs.Fronts.{number32_front, all_read}
 
@@ -87,6 +87,7 @@ head_is a b false front is read = absurd cc
 pub packet_stops : (a b c : Option (List ℕ)) (pcap : PcapOf) (size : ℕ) (front new : List ℕ) (stop : PartStop) → Consumes a b front → length front ≡ 16
     → size ≤ 16 + number32 pcap.order front 8 → Wants {T = ⊤} size (Err stop) front new b c → StopsPart (Pcap pcap) stop a c
 packet_stops a b c pcap size front new Read read head most (more, is, next) = (new, rw is (Consumes-trans a b c front more read next))
+packet_stops a b c pcap size front new Memory read head most wants = absurd wants
 packet_stops a b c pcap size front new (Fault CutOff place) read head most ((more, is, next), short, end, first) =
     let all : Consumes a c new = rw is (Consumes-trans a b c front more read next) in (
       (new, all),
@@ -104,6 +105,7 @@ packet_stops a b c pcap size front new (Fault Interface place) read head most wa
 pub rest_stops : (a b c : Option (List ℕ)) (pcap : PcapOf) (count : ℕ) (front : List ℕ) (stop : PartStop) → Consumes a b front → 16 ≤ length front
     → length front + count ≡ 16 + number32 pcap.order front 8 → PassesRest {T = ⊤} count (Err stop) b c → StopsPart (Pcap pcap) stop a c
 rest_stops a b c pcap count front Read read least whole (passed, next) = (front ++ passed, Consumes-trans a b c front passed read next)
+rest_stops a b c pcap count front Memory read least whole passes = absurd passes
 rest_stops a b c pcap count front (Fault CutOff place) read least whole (passed, next, short, end, first) =
     let all = Consumes-trans a b c front passed read next in (
       (front ++ passed, all),

@@ -1,8 +1,7 @@
 -- How far a capture was taken: from part to part, and where it stops.
-use Rattle.std.proofs.Common.{◌≡◌, ◌≢◌, ℕ, ◌+◌, ◌^◌, ◌≤◌, ◌<◌, min, List, [], ◌∷◌, ◌++◌, length, sym, ap, ◌∙◌, subst, refl, inl, inr, Bool, true, false, arith, Option, Some, None, Result, Ok, Err}
-use Rattle.std.proofs.Common.{append-nil, append_assoc, length-append}
+use Rattle.std.proofs.Common.{◌≡◌, ◌≢◌, ℕ, ◌+◌, ◌^◌, ◌<◌, min, List, [], ◌∷◌, ◌++◌, length, sym, ap, ◌∙◌, subst, refl, inl, inr, Bool, true, false, arith, Option, Some, None, Result, Ok, Err}
+use Rattle.std.proofs.Common.{append-nil, length-append}
 use Rattle.std.specs.Prelude.{option_to_list}
-use Rattle.std.specs.Option.{ForSome}
 use Rattle.std.specs.Io.KnownBytes.{Appends, Consumes, IsAtEnd}
 use Rattle.std.proofs.KnownBytes.{Consumes-trans, Appends-trans}
 use Rattle.text_lines.specs.Counted.{greatest_count}
@@ -12,11 +11,12 @@ use Rattle.capture_file.specs.declared.fault.CaptureCause.{CaptureCause}
 use Rattle.capture_file.specs.declared.fault.CaptureCause.TheVariants as causes
 use Rattle.capture_file.specs.declared.fault.CaptureStop.{CaptureStop}
 use Rattle.capture_file.specs.declared.part.PartStop.{PartStop}
-use Rattle.capture_file.specs.declared.part.PartStop.TheVariants.{Read, Fault}
+use Rattle.capture_file.specs.declared.part.PartStop.TheVariants.{Read, Memory, Fault}
 use Rattle.capture_file.specs.declared.part.Part as parts
 use Rattle.capture_file.specs.declared.progress.Progress.{Progress}
 use Rattle.capture_file.specs.Packet.{PacketOf}
-use Rattle.capture_file.specs.Parts.{Form, Start, Part, AreParts, IsPart, IsFault, form_behind, octets_of, packets_of}
+use Rattle.capture_file.specs.Parts.{Form, Start, IsPart, form_behind, octets_of, packets_of}
+use Rattle.capture_file.specs.Wrong.{IsFault}
 use Rattle.capture_file.specs.Task.{PacketRules, TakesPackets, AnswersCapture, AnswersUntil, Answers}
 use Rattle.capture_file.specs.Inner.Reading.{packet_in, IsRead, IsEnd, StopsPart, ReadsPart}
 use Rattle.capture_file.specs.Inner.Taking.{IsBehind, IsTaken, StopsIn, TakesPart, StopsTaking, StopsTakingFor}
@@ -93,6 +93,26 @@ pub stops_reading : {S A F : Type 0} (rules : PacketRules S A F) (start state : 
     (answer : CaptureStop F) (octets : List ℕ) → progress.octets < 2 ^ 64 → IsTaken rules start form progress i l b n state → StopsPart form stop l l' → StopsIn progress stop answer → i ≡ Some octets
     → AnswersUntil rules start octets l' b n answer
 stops_reading rules start state form progress i l l' b n Read answer octets fits t (seen, read) is known =
+    let (rest, left, split) = behind_parts rules start state form progress i l b n octets t known in
+    let (unread, left', split') = Consumes-known l l' seen rest read left in
+    rw is (record {
+      parts = t.parts;
+      rest = rest;
+      state = state;
+      text = t.text;
+      taken = record { are = t.are; split = split; taken = t.taken };
+      packets = t.packets;
+      place = 0;
+      octet = (let count = t.octets in omega (arith, fits));
+      last = [];
+      stops = (refl, refl);
+      output = no_more b n t.text t.wrote;
+      seen = seen;
+      unread = unread;
+      read = split';
+      input = left';
+    })
+stops_reading rules start state form progress i l l' b n Memory answer octets fits t (seen, read) is known =
     let (rest, left, split) = behind_parts rules start state form progress i l b n octets t known in
     let (unread, left', split') = Consumes-known l l' seen rest read left in
     rw is (record {

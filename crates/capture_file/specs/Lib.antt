@@ -1,7 +1,12 @@
 pub mod Order
 pub mod Packet
 pub mod Pcap
+pub mod Pcapng
+pub mod Clock
+pub mod Options
+pub mod Section
 pub mod Parts
+pub mod Wrong
 pub mod Fault
 pub mod Task
 pub mod Inner

@@ -1,7 +1,7 @@
 -- What is made of the packets of a capture, by what a task does with each of them, and at the end. Lists of packets and
 -- of parts have the newest in front.
 use Rattle.std.specs.Prelude.{◌≡◌, ◌≢◌, ◌⊎◌, ℕ, ◌+◌, min, List, [], ◌∷◌, ◌++◌, length, Bool, false, Option, Some, Result}
-use Rattle.std.specs.Prelude.{MatchResult, ⊤}
+use Rattle.std.specs.Prelude.{MatchResult}
 use Rattle.std.specs.Io.KnownBytes.{Appends}
 use Rattle.text_lines.specs.declared.counted.Counted.{Counted}
 use Rattle.text_lines.specs.Counted.{greatest_count, HasFailed, HasNotFailed, HasFailedIf}
@@ -10,7 +10,8 @@ use Rattle.capture_file.specs.declared.fault.CaptureCause.{CaptureCause}
 use Rattle.capture_file.specs.declared.fault.CaptureCause.TheVariants.{Read, Memory, Capture, Task}
 use Rattle.capture_file.specs.declared.fault.CaptureStop.{CaptureStop}
 use Rattle.capture_file.specs.Packet.{PacketOf}
-use Rattle.capture_file.specs.Parts.{Form, Part, AreParts, IsFault, form_behind, octets_of, packets_of}
+use Rattle.capture_file.specs.Parts.{Form, Part, AreParts, form_behind, octets_of, packets_of}
+use Rattle.capture_file.specs.Wrong.{IsFault}
 
 -- The rules of a task: from which state to which the packet of a number, counted from 1, takes it, with what is
 -- written; at which fault one stops it, with what is written before; what it answers after so many packets, at the end,

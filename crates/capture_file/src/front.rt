@@ -8,22 +8,23 @@ use std::alloc::{AllocError, Global};
 use std::io::Read;
 use text_lines::Counted;
 
-/// The most octets that stand in front of those of a packet.
-const HEAD_LIMIT: usize = 64;
+/// The most octets that are kept of a part: those of a packet, and what stands in front of them.
+pub(crate) const FRONT_LIMIT: usize = PACKET_LIMIT + 64;
 
-/// The first octets of a part of a capture.
+/// The first octets of a part of a capture, and the name of the interface of a packet.
 #[derive(Drop)]
 pub(crate) struct Front {
     room: Vec<u8>,
     size: usize,
+    name: Vec<u8>,
     ghost fits: { size ≤ 65600 },
     ghost wide: { length room.items ≡ 65600 },
 }
 
 impl Front {
-    ghost use Rattle.std.specs.Prelude.{[], MatchResult};
+    ghost use Rattle.std.specs.Prelude.{[], MatchResult, OnOk};
     ghost use Rattle.text_lines.specs.Counted.{device_of, HasFailed, HasNotFailed};
-    ghost use Rattle.capture_file.specs.Inner.Front.{front_of};
+    ghost use Rattle.capture_file.specs.Inner.Front.{front_of, name_of};
     ghost use Rattle.capture_file.specs.Inner.Octets.{FillsTo};
     ghost use Rattle.capture_file.specs.Inner.Reading.{Wants, FailedIn};
 
@@ -32,8 +33,9 @@ impl Front {
         ensures { MatchResult result (λ front. front_of front ≡ []) (λ _. Unit {0}) }
     {
         Ok(Front {
-            room: vec![in alloc; 0; HEAD_LIMIT + PACKET_LIMIT]?,
+            room: vec![in alloc; 0; FRONT_LIMIT]?,
             size: 0,
+            name: Vec::new(alloc),
         })
     }
 
@@ -42,6 +44,22 @@ impl Front {
         ensures { result.now ≡ front_of self.now }
     {
         &self.room[..self.size]
+    }
+
+    /// The name that was kept.
+    pub(crate) fn name(&self) -> &[u8]
+        ensures { result.now ≡ name_of self.now }
+    {
+        &self.name
+    }
+
+    /// Keeps the name of an interface.
+    pub(crate) fn keep_name(&mut self, name: &[u8]) -> Result<(), AllocError>
+        ensures front { front_of self.new ≡ front_of self.old }
+        ensures name { OnOk result (name_of self.new ≡ name.now) }
+    {
+        self.name.clear();
+        self.name.extend_from_slice(name)
     }
 
     /// Begins with the next part.

@@ -1,15 +1,22 @@
 //! Captures: the octets of pcap and pcapng, from any reader, and the packets that they are.
 #![tactic(auto)]
 
+mod block;
+mod block_reading;
 mod fault;
 mod front;
 mod octets;
+mod options;
 mod order;
 mod packet;
 mod part;
 mod pcap;
+mod pcap_reading;
 mod progress;
 mod reader;
+mod resolution;
+mod section;
+mod section_reading;
 mod task;
 
 pub use fault::{CaptureCause, CaptureFault, CaptureStop};

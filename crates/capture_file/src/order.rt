@@ -1,5 +1,6 @@
 ghost use Rattle.std.specs.Prelude.{◌≡◌, ◌≤◌, ◌+◌, length, slice_range};
-ghost use Rattle.capture_file.specs.Order.{number16, number32};
+ghost use Rattle.std.specs.Int.{w64, cast_signed};
+ghost use Rattle.capture_file.specs.Order.{number_of, number16, number32};
 
 /// The order of the octets of a number.
 #[derive(Clone, Copy, Debug, PartialEq, Eq)]
@@ -42,5 +43,18 @@ impl ByteOrder {
             ByteOrder::Big => u32::from_be_bytes(array),
             ByteOrder::Little => u32::from_le_bytes(array),
         }
+    }
+
+    /// The signed number of 64 bits that these octets are.
+    pub(crate) fn i64_in(self, octets: &[u8]) -> i64
+        requires { length octets.now ≡ 8 }
+        ensures { result ≡ cast_signed w64 (number_of self w64 octets.now) }
+    {
+        let array = array_at(octets, 0);
+        let number = match self {
+            ByteOrder::Big => u64::from_be_bytes(array),
+            ByteOrder::Little => u64::from_le_bytes(array),
+        };
+        number.cast_signed()
     }
 }

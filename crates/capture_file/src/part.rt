@@ -17,6 +17,8 @@ pub(crate) struct Part<'a> {
 pub(crate) enum PartStop {
     /// The reader failed.
     Read,
+    /// Memory was refused.
+    Memory,
     /// A fault, and at which octet of the part.
     Fault(CaptureFault, u64),
 }

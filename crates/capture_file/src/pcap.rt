@@ -39,7 +39,7 @@ fn unit_of(magic: u32) -> Option<FractionUnit>
 }
 
 /// The order and the unit that the first four octets tell, where these are a magic of pcap.
-pub(crate) fn magic_in(octets: &[u8]) -> Option<(ByteOrder, FractionUnit)>
+pub(crate) fn pcap_magic(octets: &[u8]) -> Option<(ByteOrder, FractionUnit)>
     requires { 4 ≤ length octets.now }
     ensures { MatchOption result
         ((unit_of (number32 ByteOrder.Big octets.now 0) ≡ None) × (unit_of (number32 ByteOrder.Little octets.now 0) ≡ None))

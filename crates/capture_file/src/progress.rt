@@ -47,6 +47,7 @@ impl Progress {
     {
         match stop {
             PartStop::Read => self.stop(CaptureCause::Read),
+            PartStop::Memory => self.stop(CaptureCause::Memory),
             PartStop::Fault(fault, place) => CaptureStop {
                 packets: self.packets,
                 octet: self.octets.saturating_add(place),

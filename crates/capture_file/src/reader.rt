@@ -1,44 +1,64 @@
 //! The next part of a capture, from a reader.
-ghost use Rattle.std.specs.Prelude.{◌≡◌, ◌≤◌, ◌+◌, [], length, drop, MatchResult};
+ghost use Rattle.std.specs.Prelude.{◌≡◌, ◌≢◌, ◌≤◌, [], None, Some, length, MatchOption};
 ghost use Rattle.text_lines.specs.Counted.{device_of};
 ghost use Rattle.capture_file.specs.Order.{number32};
-ghost use Rattle.capture_file.specs.Packet.{packet_at};
-ghost use Rattle.capture_file.specs.Parts.{Pcap};
-ghost use Rattle.capture_file.specs.Pcap.{pcap_time, pcap_interface};
+ghost use Rattle.capture_file.specs.Pcap.{unit_of};
+ghost use Rattle.capture_file.specs.Pcapng.{section_type};
+ghost use Rattle.capture_file.specs.Parts.{Start};
 ghost use Rattle.capture_file.specs.Inner.Front.{front_of};
-ghost use Rattle.capture_file.specs.Inner.Octets.{Fills};
-ghost use Rattle.capture_file.specs.Inner.Reading.{packet_of, pcap_of, form_of, ReadsHead, ReadsMagic, ReadsPacketHead, ReadsPart, PassesRest, FailedIn};
+ghost use Rattle.capture_file.specs.Inner.Reading.{form_of, TellsMagic, ReadsMagic, ReadsPart, FailedIn};
 
+use crate::block::SECTION;
+use crate::block_reading::read_block;
 use crate::fault::CaptureFault;
 use crate::front::Front;
-use crate::octets::pass_over;
 use crate::order::ByteOrder;
-use crate::packet::{Captured, Interface, PACKET_LIMIT, Packet};
 use crate::part::{Part, PartStop};
-use crate::pcap::{FractionUnit, PcapHead, is_pcap_version, magic_in, pcap_time};
+use crate::pcap::{FractionUnit, PcapHead, pcap_magic};
+use crate::pcap_reading::{PCAP_HEAD, read_packet, read_pcap_head};
+use crate::section::Section;
+use crate::section_reading::read_section_header;
+use std::alloc::Global;
 use std::io::Read;
 use text_lines::Counted;
 
 /// What stands before the next part of a capture.
-#[derive(Clone, Copy)]
+#[derive(Drop)]
 pub(crate) enum Form {
     /// Nothing.
     Start,
     /// The head of a pcap.
     Pcap(PcapHead),
+    /// A section of a pcapng.
+    Section(Section),
 }
 
-/// The octets of the head of a pcap.
-const PCAP_HEAD: usize = 24;
+/// What the first four octets of a capture tell.
+#[derive(Clone, Copy)]
+pub(crate) enum Magic {
+    /// It is a pcap.
+    Pcap(ByteOrder, FractionUnit),
+    /// It is a pcapng, which begins with a section header.
+    Section,
+}
 
-/// The octets in front of those of a packet.
-const PACKET_HEAD: usize = 16;
+/// What these octets tell, where they are a magic.
+fn magic_in(octets: &[u8]) -> Option<Magic>
+    requires { 4 ≤ length octets.now }
+    ensures { MatchOption result
+        ((unit_of (number32 ByteOrder.Big octets.now 0) ≡ None) × (unit_of (number32 ByteOrder.Little octets.now 0) ≡ None)
+        × (number32 ByteOrder.Big octets.now 0 ≢ section_type))
+        (λ magic. TellsMagic magic octets.now) }
+{
+    if ByteOrder::Big.u32_at(octets, 0) == SECTION {
+        return Some(Magic::Section);
+    }
+    let (order, unit) = pcap_magic(octets)?;
+    Some(Magic::Pcap(order, unit))
+}
 
 /// Reads the magic that a capture begins with.
-fn read_magic<R: Read>(
-    front: &mut Front,
-    input: &mut Counted<R>,
-) -> Result<(ByteOrder, FractionUnit), PartStop>
+fn read_magic<R: Read>(front: &mut Front, input: &mut Counted<R>) -> Result<Magic, PartStop>
     requires empty { front_of front.old ≡ [] }
     ensures magic { ReadsMagic result (front_of front.new) (R.remaining (device_of input.old)) (R.remaining (device_of input.new)) }
     ensures failures { FailedIn result input.old input.new }
@@ -50,103 +70,41 @@ fn read_magic<R: Read>(
     }
 }
 
-/// Reads the head of a pcap.
-pub(crate) fn read_head<R: Read>(
-    front: &mut Front,
-    input: &mut Counted<R>,
-) -> Result<PcapHead, PartStop>
-    requires empty { front_of front.old ≡ [] }
-    ensures head { ReadsHead result (R.remaining (device_of input.old)) (R.remaining (device_of input.new)) }
-    ensures failures { FailedIn result input.old input.new }
-{
-    let (order, unit) = read_magic(front, input)?;
-    front.want(8, input)?;
-    if !is_pcap_version(order, front.octets()) {
-        return Err(PartStop::Fault(CaptureFault::Version, 4));
-    }
-    front.want(PCAP_HEAD, input)?;
-    let link = (order.u32_at(front.octets(), 20) % 65_536) as u16;
-    Ok(PcapHead { order, unit, link })
-}
-
-/// The packet of these octets, of which those that nobody looks at are left away.
-fn packet_in(head: PcapHead, octets: &[u8]) -> Packet<'_>
-    requires least { 16 ≤ length octets.now }
-    requires most { length octets.now ≤ 16 + 65536 }
-    ensures { packet_of result ≡ packet_at
-        (pcap_time head.unit (number32 head.order octets.now 0) (number32 head.order octets.now 4))
-        pcap_interface head.link (drop 16 octets.now) }
-{
-    let PcapHead { order, unit, link } = head;
-    let Some(time) = pcap_time(unit, order.u32_at(octets, 0), order.u32_at(octets, 4)) else {
-        return Packet::Timeless;
-    };
-    Packet::Captured(Captured {
-        interface: Interface {
-            place: 0,
-            name: None,
-        },
-        time,
-        link,
-        octets: &octets[PACKET_HEAD..],
-    })
-}
-
-/// Passes over the rest of a packet.
-fn pass_rest<R: Read>(count: u32, input: &mut Counted<R>) -> Result<(), PartStop>
-    ensures passed { PassesRest count result (R.remaining (device_of input.old)) (R.remaining (device_of input.new)) }
-    ensures failures { FailedIn result input.old input.new }
-{
-    if count == 0 {
-        return Ok(());
-    }
-    match pass_over(u64::from(count), input) {
-        Ok(true) => Ok(()),
-        Ok(false) => Err(PartStop::CUT_OFF),
-        Err(_) => Err(PartStop::Read),
-    }
-}
-
-/// Reads what stands in front of the octets of a packet. Answers whether there is one.
-fn read_packet_head<R: Read>(front: &mut Front, input: &mut Counted<R>) -> Result<bool, PartStop>
-    requires empty { front_of front.old ≡ [] }
-    ensures head { ReadsPacketHead result (front_of front.new) (R.remaining (device_of input.old)) (R.remaining (device_of input.new)) }
-    ensures failures { FailedIn result input.old input.new }
-{
-    match front.fill_to(PACKET_HEAD, input) {
-        Ok(true) => Ok(true),
-        Ok(false) if front.octets().is_empty() => Ok(false),
-        Ok(false) => Err(PartStop::CUT_OFF),
-        Err(_) => Err(PartStop::Read),
-    }
-}
-
-/// Reads the next packet of a pcap; None at the end.
-pub(crate) fn read_packet<'a, R: Read>(
-    head: PcapHead,
+/// Reads the head of a pcap, or the first section header of a pcapng.
+fn read_start<'a, R: Read>(
+    alloc: Global,
+    form: &mut Form,
     front: &'a mut Front,
     input: &mut Counted<R>,
 ) -> Result<Option<Part<'a>>, PartStop>
     requires empty { front_of front.old ≡ [] }
-    ensures part { ReadsPart (Pcap (pcap_of head)) (Pcap (pcap_of head)) result
+    requires start { form_of form.old ≡ Start }
+    ensures part { ReadsPart Start (form_of form.new) result
         (R.remaining (device_of input.old)) (R.remaining (device_of input.new)) }
     ensures failures { FailedIn result input.old input.new }
 {
-    if !read_packet_head(front, input)? {
-        return Ok(None);
+    match read_magic(front, input)? {
+        Magic::Pcap(order, unit) => {
+            *form = Form::Pcap(read_pcap_head(order, unit, front, input)?);
+            Ok(Some(Part {
+                size: PCAP_HEAD as u64,
+                packet: None,
+            }))
+        }
+        Magic::Section => {
+            let (order, total) = read_section_header(front, input)?;
+            *form = Form::Section(Section::new(alloc, order));
+            Ok(Some(Part {
+                size: u64::from(total),
+                packet: None,
+            }))
+        }
     }
-    let captured = head.order.u32_at(front.octets(), 8);
-    let kept = captured.min(PACKET_LIMIT as u32);
-    front.want(PACKET_HEAD + kept as usize, input)?;
-    pass_rest(captured - kept, input)?;
-    Ok(Some(Part {
-        size: PACKET_HEAD as u64 + u64::from(captured),
-        packet: Some(packet_in(head, front.octets())),
-    }))
 }
 
 /// Reads the next part of a capture; None at the end.
 pub(crate) fn read_part<'a, R: Read>(
+    alloc: Global,
     form: &mut Form,
     front: &'a mut Front,
     input: &mut Counted<R>,
@@ -156,14 +114,9 @@ pub(crate) fn read_part<'a, R: Read>(
     ensures failures { FailedIn result input.old input.new }
 {
     front.clear();
-    match *form {
-        Form::Start => {
-            *form = Form::Pcap(read_head(front, input)?);
-            Ok(Some(Part {
-                size: PCAP_HEAD as u64,
-                packet: None,
-            }))
-        }
-        Form::Pcap(head) => read_packet(head, front, input),
+    match form {
+        Form::Start => read_start(alloc, form, front, input),
+        Form::Pcap(head) => read_packet(*head, front, input),
+        Form::Section(section) => read_block(alloc, section, front, input),
     }
 }

@@ -125,7 +125,7 @@ pub fn answer_packets<T: PacketTask, R: Read, W: Write>(
     };
     let mut form = Form::Start;
     loop {
-        match read_part(&mut form, &mut front, input) {
+        match read_part(alloc, &mut form, &mut front, input) {
             Ok(Some(part)) => progress = take_part(task, &part, progress, output)?,
             Ok(None) => break,
             Err(stop) => return Err(progress.stop_part(stop)),

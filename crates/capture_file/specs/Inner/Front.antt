@@ -5,3 +5,7 @@ use Rattle.capture_file.specs.declared.front.Front.{Front}
 -- these octets
 abbrev pub front_of : Front → List ℕ
 front_of front = take front.size front.room.items
+
+-- the name that is kept
+abbrev pub name_of : Front → List ℕ
+name_of front = front.name.items

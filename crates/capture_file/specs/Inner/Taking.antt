@@ -22,6 +22,7 @@ pub record IsBehind (progress : Progress) (size : ℕ) (packet : Option PacketOf
 -- what it says that the next part isn't read
 abbrev pub StopsIn : {F : Type 0} → Progress → PartStop → CaptureStop F → Type 0
 StopsIn progress stops.Read stop = stop ≡ record { packets = progress.packets; octet = progress.octets; what = Read }
+StopsIn progress stops.Memory stop = stop ≡ record { packets = progress.packets; octet = progress.octets; what = Memory }
 StopsIn progress (stops.Fault fault place) stop = stop ≡ record {
   packets = progress.packets;
   octet = min (progress.octets + place) greatest_count;

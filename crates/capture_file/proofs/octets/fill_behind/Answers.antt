@@ -1,4 +1,4 @@
-use Rattle.std.proofs.Common.{rules, ◌≡◌, ◌≤◌, ◌++◌, length, take}
+use Rattle.std.proofs.Common.{rules, ◌≤◌, ◌++◌, length, take}
 use Rattle.std.proofs.KnownBytes.{Consumes-trans}
 use Rattle.capture_file.proofs.Reading.{front_more}
 use Rattle.capture_file.proofs.octets.fill_behind.Goals as goal

@@ -1,5 +1,5 @@
 -- What isn't left any more was passed over, and no read failed.
-use Rattle.std.proofs.Common.{◌≡◌, ℕ, ◌+◌, ◌≤◌, List, length}
+use Rattle.std.proofs.Common.{◌≡◌, ℕ, ◌+◌, List, length}
 use Rattle.std.specs.Io.KnownBytes.{Consumes}
 use Rattle.text_lines.specs.Counted.{device_of, HasNotFailed}
 use Rattle.capture_file.proofs.octets.pass_over.Given as goal

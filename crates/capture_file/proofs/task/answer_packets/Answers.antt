@@ -1,6 +1,5 @@
-use Rattle.std.proofs.Common.{rules, ◌≡◌, ◌+◌, ◌^◌, ◌<◌, List, ℕ, length, Err, Ok, subst, sym, Result}
-use Rattle.text_lines.specs.Counted.{device_of, HasNotFailed}
-use Rattle.capture_file.specs.Inner.Reading.{form_of, packet_in}
+use Rattle.std.proofs.Common.{rules}
+use Rattle.capture_file.specs.Inner.Reading.{form_of}
 use Rattle.capture_file.proofs.Taking.{next, read_is, end_is, stops_reading, stops_taking, answers_stop, ends, stops_at_end, stops_before}
 use Rattle.capture_file.proofs.task.answer_packets.Goals as goal
 

@@ -1,13 +1,12 @@
-use Rattle.std.proofs.Common.{rules, ◌≡◌, ◌≤◌, ◌<◌, ◌+◌, ◌-◌, List, ℕ, length, arith, Err, ◌∙◌, sym, ap, min, [], ◌++◌, refl}
+use Rattle.std.proofs.Common.{rules, ◌≡◌, ◌≤◌, ◌+◌, ◌-◌, arith, ◌∙◌, min, ◌++◌, refl}
 use Rattle.std.proofs.Common.{length-append}
 use Rattle.std.proofs.KnownBytes.{Consumes-trans}
-use Rattle.text_lines.specs.Counted.{device_of}
 use Rattle.capture_file.specs.Order.{number32}
 use Rattle.capture_file.specs.Inner.Front.{front_of}
 use Rattle.capture_file.specs.Inner.Reading.{pcap_of, packet_of}
 use Rattle.capture_file.proofs.Fronts.{number32_front}
 use Rattle.capture_file.proofs.Packets.{head_is, packet_stops, rest_stops, reads_no_part, is_packet}
-use Rattle.capture_file.proofs.reader.read_packet.Goals as goal
+use Rattle.capture_file.proofs.pcap_reading.read_packet.Goals as goal
 
 pub returns-in_err-want-clause-part : goal.returns-in_err-want-clause-part
 returns-in_err-want-clause-part g c =
