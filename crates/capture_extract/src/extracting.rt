@@ -1,10 +1,9 @@
 //! The packets of a capture, each of which gives the line of its datagram.
-ghost use Rattle.std.specs.Prelude.{◌≡◌, ℕ, List, ◌≤◌, length, MatchResult};
-ghost use Rattle.std.specs.Io.KnownBytes.{Appends};
+ghost use Rattle.std.specs.Prelude.{◌≡◌, ◌≤◌, length, MatchResult};
 ghost use Rattle.text_lines.specs.Counted.{device_of, HasFailedIf, HasNotFailed};
 ghost use Rattle.text_lines.specs.Fault.{is_write};
 ghost use Rattle.capture_file.specs.Task.{FailedAt};
-ghost use Rattle.capture_file.specs.Packet.{InterfaceOf, Captured};
+ghost use Rattle.capture_file.specs.Inner.Reading.{packet_of};
 ghost use Rattle.capture_frame.specs.Found.{datagram_limit};
 ghost use Rattle.capture_extract.specs.Line.{line_text};
 ghost use Rattle.capture_extract.specs.Extracted.{ExtractsAnswer, extract_rules};
@@ -28,6 +27,8 @@ struct Extracting {
 }
 
 impl PacketTask for Extracting {
+    ghost use Rattle.capture_extract.specs.declared.line.LineForm.{LineForm};
+
     type Answer = u64;
 
     type Fault = LineFault;
@@ -104,8 +105,7 @@ impl Extracting {
         captured: &Captured<'_>,
         output: &mut Counted<W>,
     ) -> Result<(), LineFault>
-        ensures written { (interface : InterfaceOf) → GoesOf result self.old.form
-            (Captured interface captured.now.time captured.now.link captured.now.octets.now)
+        ensures written { GoesOf result self.old.form (packet_of (Packet.Captured captured.now))
             (W.contents (device_of output.old)) (W.contents (device_of output.new)) }
         ensures form { self.new.form ≡ self.old.form }
         ensures failures { MatchResult result
@@ -142,29 +142,4 @@ pub fn extract<R: Read, W: Write>(
     let mut task = Extracting::new(alloc, form);
     let answer = answer_packets(alloc, &mut task, input, output);
     (answer, task.summary)
-}
-
-#[cfg(test)]
-mod tests {
-    use super::*;
-    use std::test::Fail;
-
-    /// The head of a pcap of Ethernet, with times in nanoseconds.
-    const HEAD: &[u8] = b"\xa1\xb2\x3c\x4d\0\x02\0\x04\0\0\0\0\0\0\0\0\0\0\xff\xff\0\0\0\x01";
-
-    /// A packet at 1.000000002 s with a datagram of three octets.
-    const PACKET: &[u8] =
-        b"\0\0\0\x01\0\0\0\x02\0\0\0\x11\0\0\0\x11\x01\x1b\x19\0\0\0\x02\0\0\0\0\x01\x88\xf7PTP";
-
-    #[test]
-    fn writes_a_line(rt: HostRuntime) -> Result<(), Fail> {
-        let mut octets = HEAD.to_vec(rt.alloc())?;
-        octets.extend_from_slice(PACKET)?;
-        let mut input = Counted::new(octets.as_slice());
-        let mut output = Counted::new(Vec::new(rt.alloc()));
-        let (answer, _) = extract(rt.alloc(), LineForm::Timed, &mut input, &mut output);
-        assert_eq!(rt; answer, Ok(1));
-        assert_eq!(rt; output.into_inner().as_slice(), b"1.000000002 505450\n".as_slice());
-        Ok(())
-    }
 }

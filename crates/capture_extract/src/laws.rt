@@ -1,5 +1,5 @@
 //! What follows from the definitions alone, for any octets.
-ghost use Rattle.std.specs.Prelude.{◌≡◌, ℕ, List, ◌∷◌, ◌++◌, ◌↔◌, ◌≤◌, [], length, Ok, Some};
+ghost use Rattle.std.specs.Prelude.{◌≡◌, ◌≤◌, ◌↔◌, ℕ, List, [], ◌∷◌, ◌++◌, length, Ok, Some};
 ghost use Rattle.hex.specs.Hex.{decode_of, encode_lower};
 ghost use Rattle.datagram_text.specs.Shown.{stamp_text};
 ghost use Rattle.ptp_units.specs.Moment.{moment};
@@ -14,12 +14,18 @@ ghost use Rattle.capture_extract.specs.Extracted.{HasNoDatagram, extract_rules};
 use crate::line::LineForm;
 use ptp_units::Timestamp;
 
-/// A line with a time, as `measure` reads it, tells exactly this time, and digits that are the datagram's octets.
-pub fn timed_lines_are_read_back(time: Timestamp, datagram: &[u8])
+/// What is written of a datagram is one line, which is read whole: `show` and `measure` read no line of more octets. One with a time
+/// tells exactly this time, and digits that are the datagram's octets.
+pub fn lines_are_read_back(form: LineForm, time: Timestamp, datagram: &[u8])
+    ensures line { lines_of (line_text form time datagram.now) ≡ line_of form time datagram.now ∷ [] }
+    ensures whole { without_cr (line_of form time datagram.now) ≡ line_of form time datagram.now }
+    ensures fits { length datagram.now ≤ datagram_limit → length (line_of form time datagram.now) ≤ line_limit }
     ensures parts { timed_in (line_of LineForm.Timed time datagram.now)
         ≡ Some (line_parts (stamp_text time) (moment time 0) (encode_lower datagram.now)) }
     ensures digits { decode_of (encode_lower datagram.now) ≡ Ok datagram.now }
-{}
+{
+    let _ = (time.seconds(), time.nanos());
+}
 
 /// What is written of a packet that carries no datagram is nothing: without it the same is written.
 pub fn what_is_no_ptp_changes_nothing()

@@ -1,8 +1,9 @@
 //! The line of a datagram.
-ghost use Rattle.std.specs.Prelude.{◌≡◌, ◌++◌, ◌≤◌, length, OnOk};
+ghost use Rattle.std.specs.Prelude.{◌≡◌, ◌++◌, ◌≤◌, length, codes, OnOk};
 ghost use Rattle.std.specs.String.{string_bytes};
 ghost use Rattle.hex.specs.Hex.{encode_lower};
 ghost use Rattle.capture_frame.specs.Found.{datagram_limit};
+ghost use Rattle.datagram_text.specs.Shown.{stamp_text};
 ghost use Rattle.capture_extract.specs.Line.{line_text};
 
 use capture_frame::DATAGRAM_LIMIT;
@@ -31,6 +32,13 @@ fn push_digits(text: &mut String, octets: &[u8]) -> Result<(), AllocError>
     text.push_str(str::from_utf8(digits).unwrap())
 }
 
+/// Appends a time, and a blank behind it.
+fn push_time(text: &mut String, time: Timestamp) -> Result<(), AllocError>
+    ensures { OnOk result (string_bytes text.new ≡ string_bytes text.old ++ stamp_text time ++ codes " ") }
+{
+    write!(text, "{}.{:09} ", time.seconds(), time.nanos())
+}
+
 /// Puts the line of a datagram, with its LF, in place of what `text` holds.
 pub(crate) fn make_line(
     text: &mut String,
@@ -42,9 +50,8 @@ pub(crate) fn make_line(
     ensures { OnOk result (string_bytes text.new ≡ line_text form time datagram.now) }
 {
     text.clear();
-    match form {
-        LineForm::Octets => {}
-        LineForm::Timed => write!(text, "{}.{:09} ", time.seconds(), time.nanos())?,
+    if form == LineForm::Timed {
+        push_time(text, time)?;
     }
     push_digits(text, datagram)?;
     text.push('\n')
