@@ -10,7 +10,7 @@ use Rattle.text_lines.specs.Fault.{is_write}
 use Rattle.capture_file.specs.declared.fault.CaptureStop.{CaptureStop}
 use Rattle.capture_file.specs.Packet.{PacketOf, Captured, Timeless, Simple}
 use Rattle.capture_file.specs.Task.{PacketRules, Answers}
-use Rattle.capture_frame.specs.Found.{Answer, Datagram, IsFound}
+use Rattle.capture_frame.specs.Found.{Datagram, IsFound}
 use Rattle.capture_extract.specs.declared.line.LineForm.{LineForm}
 use Rattle.capture_extract.specs.Line.{line_text}
 

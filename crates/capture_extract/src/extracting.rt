@@ -113,7 +113,10 @@ impl Extracting {
             (λ fault. HasFailedIf (is_write fault) output.old output.new) }
     {
         let Captured {
-            time, link, octets, ..
+            time,
+            link,
+            octets,
+            ..
         } = *captured;
         let found = find_datagram(link, octets);
         if let Found::Datagram(datagram) = found {

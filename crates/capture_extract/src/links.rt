@@ -49,7 +49,11 @@ impl Links {
     /// Tells them, in lines. What can't be written is lost.
     pub(crate) fn tell<E: Write>(&self, errors: &mut E) {
         for known in self.counts.iter().flatten() {
-            let packets = if known.count == 1 { "packet" } else { "packets" };
+            let packets = if known.count == 1 {
+                "packet"
+            } else {
+                "packets"
+            };
             let _ = writeln!(
                 errors,
                 "ptpx: {} {packets} of link type {}, in which PTP isn't looked for",

@@ -124,12 +124,19 @@ impl Summary {
 
     /// Tells how many packets there were, and how many gave a line.
     fn tell_packets<E: Write>(&self, errors: &mut E) {
-        let packets = if self.packets == 1 { "packet" } else { "packets" };
+        let packets = if self.packets == 1 {
+            "packet"
+        } else {
+            "packets"
+        };
         let _ = match (self.packets, self.lines) {
             (0, _) => writeln!(errors, "ptpx: no packet"),
             (count, 0) => writeln!(errors, "ptpx: {count} {packets}, of which none has PTP"),
             (count, 1) => writeln!(errors, "ptpx: {count} {packets}, of which 1 has PTP"),
-            (count, lines) => writeln!(errors, "ptpx: {count} {packets}, of which {lines} have PTP"),
+            (count, lines) => writeln!(
+                errors,
+                "ptpx: {count} {packets}, of which {lines} have PTP"
+            ),
         };
     }
 }

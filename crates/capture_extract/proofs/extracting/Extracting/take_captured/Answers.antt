@@ -10,16 +10,19 @@ returns-clause-written g c =
     let time = c.args.captured.now.time in
     elim c.match-found.branch [
       | in-Datagram+in_ok-write_line w ↦
-      rw w.output-is (
-        line_text c.args.self.now.form time w.in-Datagram.datagram.now,
-        inl (time, w.in-Datagram.datagram.now, (refl, w.in-Datagram.ensures.found), refl),
-        w.in_ok-write_line.ensures.written,
-      )
+          rw w.output-is (
+            line_text c.args.self.now.form time w.in-Datagram.datagram.now,
+            inl (time, w.in-Datagram.datagram.now, (refl, w.in-Datagram.ensures.found), refl),
+            w.in_ok-write_line.ensures.written,
+          )
       | in_default w ↦
-      rw w.output-is (
-        [],
-        inr (λ at datagram carries. carries_none c.find_datagram-found.result c.args.captured.now.link c.args.captured.now.octets.now datagram c.find_datagram-found.ensures.only w.in_default.not-Datagram
-        carries.1, refl),
-        Appends-nil _,
-      )
+          rw w.output-is (
+            [],
+            inr (
+              λ at datagram carries. carries_none c.find_datagram-found.result c.args.captured.now.link c.args.captured.now.octets.now datagram c.find_datagram-found.ensures.only w.in_default.not-Datagram
+                  carries.1,
+              refl,
+            ),
+            Appends-nil _,
+          )
     ]
