@@ -11,7 +11,7 @@ use Rattle.capture_frame.specs.declared.found.Found.TheVariants as found
 use Rattle.capture_frame.specs.Found.{Answer, Datagram, IsFound, answer_of}
 use Rattle.capture_extract.specs.declared.line.LineForm.{LineForm}
 use Rattle.capture_extract.specs.Extracted.{IsExtract, StopsExtracting}
-use Rattle.capture_extract.specs.Inner.{GoesOf}
+use Rattle.capture_extract.specs.Inner.Going.{GoesOf}
 
 pub taken : {T : Type 0} (r : Result T LineFault) (form state later : LineForm) (packet : PacketOf)
     (before after : Option (List ℕ)) → GoesOf r form packet before after → form ≡ state → later ≡ form

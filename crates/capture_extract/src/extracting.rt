@@ -7,7 +7,7 @@ ghost use Rattle.capture_file.specs.Inner.Reading.{packet_of};
 ghost use Rattle.capture_frame.specs.Found.{datagram_limit};
 ghost use Rattle.capture_extract.specs.Line.{line_text};
 ghost use Rattle.capture_extract.specs.Extracted.{ExtractsAnswer, extract_rules};
-ghost use Rattle.capture_extract.specs.Inner.{Goes, GoesOf};
+ghost use Rattle.capture_extract.specs.Inner.Going.{Goes, GoesOf};
 
 use crate::line::{LineForm, make_line};
 use crate::summary::Summary;

@@ -137,7 +137,11 @@ fn run_extract<R: Read, W: Write, E: Write>(
 ) -> u8
     ensures { RunsExtract R.remaining W.contents options result input.old input.new output.old output.new }
 {
-    let form = if options.octets { LineForm::Octets } else { LineForm::Timed };
+    let form = if options.octets {
+        LineForm::Octets
+    } else {
+        LineForm::Timed
+    };
     let (answer, summary) = extract(alloc, form, input, output);
     let status = finish_extract(errors, answer);
     summary.tell(errors);
