@@ -1,0 +1,263 @@
+"""Makes captures, and knows what was put into them, without reading them again.
+
+A packet is made from the inside out: `bare` is a datagram, and each function around it puts a header in front. A `Capture` grows by its
+packets, and keeps what is owed for them: lines, counts, and where its fields of lengths stand."""
+import collections
+import typing
+
+SECOND = 10**9
+END_OF_TIMES = 2**48 * SECOND
+
+# The longest datagram that is told, and how many octets of a packet are looked at.
+LONGEST, LOOKED_AT = 2_035, 65_536
+
+ETHERNET, COOKED, COOKED_2, NULL, LOOP, RAW, RAW_4, RAW_6 = 1, 113, 276, 0, 108, 101, 228, 229
+PTP, IPV4, IPV6 = 0x88f7, 0x0800, 0x86dd
+
+
+class Piece(typing.NamedTuple):
+    """Octets, between which of them a datagram stands, and why it isn't told where it isn't."""
+    octets: bytes
+    first: int
+    last: int
+    why: str = 'datagram'
+
+    def hidden(self, why='none'):
+        """The same octets where whoever reads them finds no datagram. What hid it first, from the outside in, is why."""
+        return self._replace(why=why)
+
+    def behind(self, head, tail=b''):
+        return Piece(head + self.octets + tail, self.first + len(head), self.last + len(head), self.why)
+
+    def ended(self, last):
+        """The same octets, of which only those before the last are the packet's, as a header says."""
+        return self._replace(last=min(self.last, last)) if self.first <= last else self.hidden()
+
+    def cut(self, size):
+        """What a snap length leaves. Headers that it cuts hide the datagram, and what it hides it from is the first header alone."""
+        cut = self.ended(min(size, LOOKED_AT))
+        return cut._replace(octets=self.octets[:size])
+
+    def outcome(self):
+        """Why there is no datagram, or 'datagram'."""
+        return 'long' if self.why == 'datagram' and self.last - self.first > LONGEST else self.why
+
+    def datagram(self):
+        return self.octets[self.first:self.last]
+
+
+def number(value, size, order='big'):
+    return value.to_bytes(size, order, signed=value < 0)
+
+
+def bare(datagram):
+    return Piece(datagram, 0, len(datagram))
+
+
+def udp(piece, port=319, length=None, source=319):
+    """A datagram of UDP. A length below 8 is none; one that is greater than what is there does no harm."""
+    length = 8 + len(piece.octets) if length is None else length
+    piece = piece.ended(length - 8) if length >= 8 else piece.hidden()
+    piece = piece if port in (319, 320) else piece.hidden()
+    return piece.behind(number(source, 2) + number(port, 2) + number(length, 2) + b'\xab\xcd')
+
+
+def ipv4(piece, options=b'', total=None, fragment=0x4000, protocol=17, version=4):
+    """A packet of IPv4. The total length 0 is that of all there is. `fragment` has the flags and the offset."""
+    size = 20 + len(options)
+    total = size + len(piece.octets) if total is None else total
+    if fragment & 0x3fff:
+        piece = piece.hidden('fragment')
+    if total:
+        piece = piece.ended(total - size)
+    if protocol != 17 or version != 4:
+        piece = piece.hidden()
+    head = [bytes([16 * version + size // 4, 0]), number(total, 2), b'\x12\x34', number(fragment, 2), bytes([64, protocol]), bytes(2)]
+    return piece.behind(b''.join(head) + bytes([10, 0, 0, 1, 224, 0, 1, 129]) + options)
+
+
+def extended(piece, kinds, kind=17):
+    """Headers of IPv6 before what is there, and the number of the first. Each is its number and its octets, of which the first is another's."""
+    for head, octets in reversed(kinds):
+        if head == 44 and int.from_bytes(octets[2:4], 'big') & 0xfff9:
+            piece = piece.hidden('fragment')
+        piece, kind = piece.behind(bytes([kind]) + octets[1:]), head
+    return piece, kind
+
+
+def ipv6(piece, kinds=(), length=None, protocol=17, version=6):
+    """A packet of IPv6, behind whose header others may stand. The payload length 0 is no datagram's."""
+    if protocol != 17:
+        piece = piece.hidden()
+    piece, kind = extended(piece, kinds, protocol)
+    length = len(piece.octets) if length is None else length
+    piece = piece.ended(length) if length and version == 6 else piece.hidden()
+    return piece.behind(bytes([16 * version, 0, 0, 0]) + number(length, 2) + bytes([kind, 1]) + bytes(15) + b'\1' + bytes(15) + b'\2')
+
+
+def tagged(piece, kind, tags):
+    """Tags before what is there, and the type of the first. Each is its type and the octets between this and the next."""
+    if kind not in (PTP, IPV4, IPV6):
+        piece = piece.hidden()
+    for tag, octets in reversed(tags):
+        piece, kind = piece.behind(octets + number(kind, 2)), tag
+    return piece, kind
+
+
+def ethernet(piece, kind, tags=(), padding=b''):
+    """A frame. The datagram of a frame of PTP has the padding, too."""
+    if kind == PTP:
+        piece, padding = Piece(piece.octets + padding, piece.first, piece.last + len(padding), piece.why), b''
+    piece, kind = tagged(piece, kind, tags)
+    return piece.behind(bytes.fromhex('011b19000000 020000000001') + number(kind, 2), padding)
+
+
+def cooked(piece, kind, tags=()):
+    piece, kind = tagged(piece, kind, tags)
+    return piece.behind(bytes.fromhex('0000 0001 0006 020000000001 0000') + number(kind, 2))
+
+
+def cooked_2(piece, kind, tags=()):
+    piece, kind = tagged(piece, kind, tags)
+    return piece.behind(number(kind, 2) + bytes.fromhex('0000 00000003 0001 00 06 020000000001 0000'))
+
+
+def loopback(piece, family, order='big'):
+    """What a loopback has: the family in front, in the order of octets of whoever captured it."""
+    return piece.behind(number(family, 4, order))
+
+
+class Capture:
+    """A capture as it grows, and what is owed for it."""
+
+    def __init__(self, order):
+        self.order = order
+        self.octets = bytearray()
+        # of each datagram that is told the time, the interface's name and the octets
+        self.told = []
+        self.packets = 0
+        self.counts = collections.Counter()
+        # where the fields of lengths begin, and the order of their octets; and the same of the fields of lengths of 16 bits
+        self.lengths = []
+        self.short_lengths = []
+
+    def number(self, value, size):
+        return number(value, size, self.order)
+
+    def count(self, what):
+        self.packets += 1
+        self.counts[what] += 1
+
+    def tell(self, name, time, piece):
+        """A packet with or without a time was put in."""
+        outcome = 'no time' if time is None else piece.outcome()
+        self.count(outcome)
+        if outcome == 'datagram':
+            self.told.append((time, name, piece.datagram()))
+
+    def lines(self, name=None):
+        """The times and datagrams that are owed, of all interfaces or of those of this name."""
+        return [(time, datagram) for time, called, datagram in self.told if name in (None, called)]
+
+
+class Pcap(Capture):
+    def __init__(self, order='little', unit=1000, link=ETHERNET, high=0):
+        super().__init__(order)
+        self.unit = unit
+        magic = self.number(0xa1b2c3d4 if unit == 1000 else 0xa1b23c4d, 4)
+        # the time zone, the accuracy and the snap length aren't looked at, and neither is what stands above the link type
+        self.octets += magic + self.number(2, 2) + self.number(4, 2) + bytes.fromhex('deadbeef 01020304 00000001') + self.number(link + 2**16 * high, 4)
+
+    def packet(self, time, piece, snap=2**32, beyond=0):
+        """A packet. Where its fraction is to be so many nanoseconds beyond a second, it has no time."""
+        cut = piece.cut(snap)
+        seconds, fraction = divmod(time, SECOND)
+        fraction = (fraction + beyond) // self.unit
+        self.octets += self.number(seconds, 4) + self.number(fraction, 4)
+        self.lengths.append((len(self.octets), self.order))
+        self.octets += self.number(len(cut.octets), 4) + self.number(len(piece.octets), 4) + cut.octets
+        self.tell('if0', None if fraction * self.unit >= SECOND else time - time % self.unit, cut)
+
+
+class Clock(typing.NamedTuple):
+    """How an interface counts: the octet of its resolution, and the seconds that are added."""
+    resolution: int = 6
+    offset: int = 0
+
+    def step(self):
+        """A number of nanoseconds of which each whole multiple can be told."""
+        if self.resolution < 128:
+            return 10 ** max(9 - self.resolution, 0)
+        # a second is 2^9 times a whole number of nanoseconds
+        return SECOND // 2 ** min(self.resolution - 128, 9)
+
+    def units(self, time, finer=0):
+        """The units of a time, a multiple of the step. Where the resolution is finer than nanoseconds, `finer`, from 0 to below 1, says by how much
+        the time is past it."""
+        time -= self.offset * SECOND
+        exponent = self.resolution % 128
+        if self.resolution < 128:
+            return time // self.step() if exponent <= 9 else time * 10 ** (exponent - 9) + int(finer * 10 ** (exponent - 9))
+        # the least number of units that isn't before the time
+        return -(-time * 2**exponent // SECOND)
+
+
+class Pcapng(Capture):
+    """Blocks. A section comes first, and its interfaces before their packets."""
+
+    def block(self, kind, body, shorts=()):
+        """A block whose body has fields of lengths at these places, and others of 16 bits."""
+        length = self.number(12 + len(body), 4)
+        self.lengths += [(len(self.octets) + 4, self.order), (len(self.octets) + 8 + len(body), self.order)]
+        self.octets += self.number(kind, 4) + length + body + length
+
+    def option(self, code, value):
+        return self.number(code, 2) + self.number(len(value), 2) + value + bytes(-len(value) % 4)
+
+    def section(self, order=None, minor=0, length=-1, options=()):
+        """Begins a section. Whatever it says of its own length isn't looked at."""
+        self.order = order or self.order
+        self.interfaces = []
+        options = b''.join(self.option(*option) for option in options)
+        magic = self.number(0x1a2b3c4d, 4)
+        self.block(0x0a0d0d0a, magic + self.number(1, 2) + self.number(minor, 2) + self.number(length, 8) + options)
+
+    def interface(self, link=ETHERNET, name=None, clock=Clock(), called=None, before=(), behind=(), after_end=b''):
+        """Describes an interface, with options before and behind those of its own. Answers its place. Its packets are told as `called`, or else as
+        its name, or else by its place."""
+        place = len(self.interfaces)
+        options = list(before)
+        if name is not None:
+            options.append((2, name.encode()))
+        if clock.resolution != 6:
+            options.append((9, bytes([clock.resolution])))
+        if clock.offset:
+            options.append((14, self.number(clock.offset, 8)))
+        body = self.number(link, 2) + bytes.fromhex('beef 00000001')
+        for option in [*options, *behind]:
+            self.short_lengths.append((len(self.octets) + 8 + len(body) + 2, self.order))
+            body += self.option(*option)
+        self.block(1, body + after_end)
+        self.interfaces.append((called or name or f'if{place}', clock))
+        return place
+
+    def enhanced(self, place, time, piece, snap=2**32, options=(), finer=0):
+        """A packet. A time that an interface can't have makes one without a time."""
+        name, clock = self.interfaces[place]
+        units, cut = clock.units(time, finer), piece.cut(snap)
+        high, low = divmod(units, 2**32)
+        captured = self.number(len(cut.octets), 4)
+        self.lengths.append((len(self.octets) + 20, self.order))
+        self.block(6, b''.join([
+            self.number(place, 4), self.number(high, 4), self.number(low, 4), captured, self.number(len(piece.octets), 4),
+            cut.octets, b'\xee' * (-len(cut.octets) % 4), *(self.option(*option) for option in options)]))
+        self.tell(name, time if 0 <= time < END_OF_TIMES else None, cut)
+
+    def simple(self, piece):
+        self.block(3, self.number(len(piece.octets), 4) + piece.octets + bytes(-len(piece.octets) % 4))
+        self.count('simple')
+
+    def old(self, place, piece):
+        head = self.number(place, 2) + bytes(10) + 2 * self.number(len(piece.octets), 4)
+        self.block(2, head + piece.octets + bytes(-len(piece.octets) % 4))
+        self.count('old')
