@@ -12,35 +12,38 @@ END_OF_TIMES = 2**48 * SECOND
 LONGEST, LOOKED_AT = 2_035, 65_536
 
 ETHERNET, COOKED, COOKED_2, NULL, LOOP, RAW, RAW_4, RAW_6 = 1, 113, 276, 0, 108, 101, 228, 229
+# Behind all octets.
+NO_END = 2**32
+
 PTP, IPV4, IPV6 = 0x88f7, 0x0800, 0x86dd
 
 
 class Piece(typing.NamedTuple):
-    """Octets, between which of them a datagram stands, and why it isn't told where it isn't."""
+    """Octets, at which of them a datagram begins, before which it ends by what headers say, and why it isn't told where it isn't."""
     octets: bytes
     first: int
     last: int
     why: str = 'datagram'
 
     def hidden(self, why='none'):
-        """The same octets where whoever reads them finds no datagram. What hid it first, from the outside in, is why."""
+        """The same octets, in which no datagram is found. The outermost header that hides it says why."""
         return self._replace(why=why)
 
     def behind(self, head, tail=b''):
         return Piece(head + self.octets + tail, self.first + len(head), self.last + len(head), self.why)
 
     def ended(self, last):
-        """The same octets, of which only those before the last are the packet's, as a header says."""
+        """The same octets, of which a header says that only so many belong to the packet."""
         return self._replace(last=min(self.last, last)) if self.first <= last else self.hidden()
 
     def cut(self, size):
-        """What a snap length leaves. Headers that it cuts hide the datagram, and what it hides it from is the first header alone."""
-        cut = self.ended(min(size, LOOKED_AT))
+        """What a snap length leaves."""
+        cut = self.ended(min(size, LOOKED_AT)) if self.why == 'datagram' else self
         return cut._replace(octets=self.octets[:size])
 
     def outcome(self):
         """Why there is no datagram, or 'datagram'."""
-        return 'long' if self.why == 'datagram' and self.last - self.first > LONGEST else self.why
+        return 'long' if self.why == 'datagram' and len(self.datagram()) > LONGEST else self.why
 
     def datagram(self):
         return self.octets[self.first:self.last]
@@ -51,7 +54,8 @@ def number(value, size, order='big'):
 
 
 def bare(datagram):
-    return Piece(datagram, 0, len(datagram))
+    """A datagram, which ends where the packet does as long as no header says that it ends before."""
+    return Piece(datagram, 0, NO_END)
 
 
 def udp(piece, port=319, length=None, source=319):
@@ -105,9 +109,7 @@ def tagged(piece, kind, tags):
 
 
 def ethernet(piece, kind, tags=(), padding=b''):
-    """A frame. The datagram of a frame of PTP has the padding, too."""
-    if kind == PTP:
-        piece, padding = Piece(piece.octets + padding, piece.first, piece.last + len(padding), piece.why), b''
+    """A frame. Without a header of IP or UDP the padding is the datagram's, too."""
     piece, kind = tagged(piece, kind, tags)
     return piece.behind(bytes.fromhex('011b19000000 020000000001') + number(kind, 2), padding)
 
@@ -168,7 +170,7 @@ class Pcap(Capture):
         # the time zone, the accuracy and the snap length aren't looked at, and neither is what stands above the link type
         self.octets += magic + self.number(2, 2) + self.number(4, 2) + bytes.fromhex('deadbeef 01020304 00000001') + self.number(link + 2**16 * high, 4)
 
-    def packet(self, time, piece, snap=2**32, beyond=0):
+    def packet(self, time, piece, snap=NO_END, beyond=0):
         """A packet. Where its fraction is to be so many nanoseconds beyond a second, it has no time."""
         cut = piece.cut(snap)
         seconds, fraction = divmod(time, SECOND)
@@ -188,8 +190,14 @@ class Clock(typing.NamedTuple):
         """A number of nanoseconds of which each whole multiple can be told."""
         if self.resolution < 128:
             return 10 ** max(9 - self.resolution, 0)
-        # a second is 2^9 times a whole number of nanoseconds
-        return SECOND // 2 ** min(self.resolution - 128, 9)
+        # a second is 2^9 times a whole number of nanoseconds, and 2^-30 s is less than one
+        exponent = self.resolution - 128
+        return 1 if exponent >= 30 else SECOND // 2 ** min(exponent, 9)
+
+    def most(self):
+        """How many seconds it can count, but for an hour."""
+        base, exponent = (10, self.resolution) if self.resolution < 128 else (2, self.resolution - 128)
+        return 2**64 // base**exponent - 3601
 
     def units(self, time, finer=0):
         """The units of a time, a multiple of the step. Where the resolution is finer than nanoseconds, `finer`, from 0 to below 1, says by how much
@@ -241,7 +249,7 @@ class Pcapng(Capture):
         self.interfaces.append((called or name or f'if{place}', clock))
         return place
 
-    def enhanced(self, place, time, piece, snap=2**32, options=(), finer=0):
+    def enhanced(self, place, time, piece, snap=NO_END, options=(), finer=0):
         """A packet. A time that an interface can't have makes one without a time."""
         name, clock = self.interfaces[place]
         units, cut = clock.units(time, finer), piece.cut(snap)
