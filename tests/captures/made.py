@@ -219,7 +219,7 @@ def moment(rng, clock):
 
 def other_block(rng, capture):
     """A block that is passed over: of names, statistics, secrets, of anyone's own, and of types that nobody has given."""
-    capture.block(rng.choice([0, 4, 5, 7, 10, 0x0bad, 0x40000bad, 0x80000006, 0xffffffff]), rng.randbytes(4 * rng.choice([0, 1, 5, 30])))
+    capture.other(rng.choice([0, 4, 5, 7, 10, 0x0bad, 0x40000bad, 0x80000006, 0xffffffff]), rng.randbytes(4 * rng.choice([0, 1, 5, 30])))
 
 
 def section(rng, capture, order, odd, packets):
@@ -236,7 +236,7 @@ def section(rng, capture, order, odd, packets):
         capture.enhanced(place, moment(rng, clock), piece, snap(rng, piece, odd), options(rng, [1, 2, 4]) if odd else [],
                          finer=rng.choice([0, 0.5, 0.999]))
         if rng.random() < 0.2:
-            other_block(rng, capture) if odd else capture.block(5, bytes(12))
+            other_block(rng, capture) if odd else capture.other(5, bytes(12))
         if odd and rng.random() < 0.1:
             capture.simple(piece)
         if odd and rng.random() < 0.1:
@@ -244,7 +244,7 @@ def section(rng, capture, order, odd, packets):
 
 
 def pcapng(rng, odd, packets):
-    capture = making.Pcapng('little')
+    capture = making.Pcapng()
     for _ in range(rng.choice([1, 1, 2, 3])):
         section(rng, capture, rng.choice(['big', 'little']), odd, rng.randint(0, packets) if odd else packets)
     return capture

@@ -129,6 +129,12 @@ def loopback(piece, family, order='big'):
     return piece.behind(number(family, 4, order))
 
 
+class Length(typing.NamedTuple):
+    """A field of a length."""
+    value: int
+    size: int = 4
+
+
 class Capture:
     """A capture as it grows, and what is owed for it."""
 
@@ -139,16 +145,28 @@ class Capture:
         self.told = []
         self.packets = 0
         self.counts = collections.Counter()
-        # where the fields of lengths begin, and the order of their octets; and the same of the fields of lengths of 16 bits
+        # of each field of a length where it begins, how many octets it has, and their order
         self.lengths = []
-        self.short_lengths = []
+        # of the head, of each packet and of each block the octet behind it, and how many packets and lines there are so far
+        self.ends = []
 
     def number(self, value, size):
         return number(value, size, self.order)
 
+    def put(self, *parts):
+        """Adds octets and fields of lengths."""
+        for part in parts:
+            if isinstance(part, Length):
+                self.lengths.append((len(self.octets), part.size, self.order))
+                part = self.number(*part)
+            self.octets += part
+
     def count(self, what):
         self.packets += 1
         self.counts[what] += 1
+
+    def end(self):
+        self.ends.append((len(self.octets), self.packets, len(self.told)))
 
     def tell(self, name, time, piece):
         """A packet with or without a time was put in."""
@@ -166,19 +184,20 @@ class Pcap(Capture):
     def __init__(self, order='little', unit=1000, link=ETHERNET, high=0):
         super().__init__(order)
         self.unit = unit
+        self.named = {(0, 'if0')}
         magic = self.number(0xa1b2c3d4 if unit == 1000 else 0xa1b23c4d, 4)
         # the time zone, the accuracy and the snap length aren't looked at, and neither is what stands above the link type
-        self.octets += magic + self.number(2, 2) + self.number(4, 2) + bytes.fromhex('deadbeef 01020304 00000001') + self.number(link + 2**16 * high, 4)
+        self.put(magic, self.number(2, 2), self.number(4, 2), bytes.fromhex('deadbeef 01020304 00000001'), self.number(link + 2**16 * high, 4))
+        self.end()
 
     def packet(self, time, piece, snap=NO_END, beyond=0):
         """A packet. Where its fraction is to be so many nanoseconds beyond a second, it has no time."""
         cut = piece.cut(snap)
         seconds, fraction = divmod(time, SECOND)
         fraction = (fraction + beyond) // self.unit
-        self.octets += self.number(seconds, 4) + self.number(fraction, 4)
-        self.lengths.append((len(self.octets), self.order))
-        self.octets += self.number(len(cut.octets), 4) + self.number(len(piece.octets), 4) + cut.octets
+        self.put(self.number(seconds, 4), self.number(fraction, 4), Length(len(cut.octets)), self.number(len(piece.octets), 4), cut.octets)
         self.tell('if0', None if fraction * self.unit >= SECOND else time - time % self.unit, cut)
+        self.end()
 
 
 class Clock(typing.NamedTuple):
@@ -213,22 +232,34 @@ class Clock(typing.NamedTuple):
 class Pcapng(Capture):
     """Blocks. A section comes first, and its interfaces before their packets."""
 
-    def block(self, kind, body, shorts=()):
-        """A block whose body has fields of lengths at these places, and others of 16 bits."""
-        length = self.number(12 + len(body), 4)
-        self.lengths += [(len(self.octets) + 4, self.order), (len(self.octets) + 8 + len(body), self.order)]
-        self.octets += self.number(kind, 4) + length + body + length
+    def __init__(self, order='little'):
+        super().__init__(order)
+        # the places and names of all interfaces, of all sections
+        self.named = set()
+
+    def block(self, kind, *parts):
+        length = Length(12 + sum(part.size if isinstance(part, Length) else len(part) for part in parts))
+        self.put(self.number(kind, 4), length, *parts, length)
+
+    def other(self, kind, body):
+        """A block that is passed over."""
+        self.block(kind, body)
+        self.end()
 
     def option(self, code, value):
-        return self.number(code, 2) + self.number(len(value), 2) + value + bytes(-len(value) % 4)
+        """The parts of an option."""
+        return [self.number(code, 2), Length(len(value), 2), value + bytes(-len(value) % 4)]
+
+    def options(self, options):
+        return [part for option in options for part in self.option(*option)]
 
     def section(self, order=None, minor=0, length=-1, options=()):
         """Begins a section. Whatever it says of its own length isn't looked at."""
         self.order = order or self.order
         self.interfaces = []
-        options = b''.join(self.option(*option) for option in options)
-        magic = self.number(0x1a2b3c4d, 4)
-        self.block(0x0a0d0d0a, magic + self.number(1, 2) + self.number(minor, 2) + self.number(length, 8) + options)
+        head = self.number(0x1a2b3c4d, 4) + self.number(1, 2) + self.number(minor, 2) + self.number(length, 8)
+        self.block(0x0a0d0d0a, head, *self.options(options))
+        self.end()
 
     def interface(self, link=ETHERNET, name=None, clock=Clock(), called=None, before=(), behind=(), after_end=b''):
         """Describes an interface, with options before and behind those of its own. Answers its place. Its packets are told as `called`, or else as
@@ -241,12 +272,11 @@ class Pcapng(Capture):
             options.append((9, bytes([clock.resolution])))
         if clock.offset:
             options.append((14, self.number(clock.offset, 8)))
-        body = self.number(link, 2) + bytes.fromhex('beef 00000001')
-        for option in [*options, *behind]:
-            self.short_lengths.append((len(self.octets) + 8 + len(body) + 2, self.order))
-            body += self.option(*option)
-        self.block(1, body + after_end)
+        head = self.number(link, 2) + bytes.fromhex('beef 00000001')
+        self.block(1, head, *self.options([*options, *behind]), after_end)
         self.interfaces.append((called or name or f'if{place}', clock))
+        self.named.add((place, self.interfaces[place][0]))
+        self.end()
         return place
 
     def enhanced(self, place, time, piece, snap=NO_END, options=(), finer=0):
@@ -254,18 +284,18 @@ class Pcapng(Capture):
         name, clock = self.interfaces[place]
         units, cut = clock.units(time, finer), piece.cut(snap)
         high, low = divmod(units, 2**32)
-        captured = self.number(len(cut.octets), 4)
-        self.lengths.append((len(self.octets) + 20, self.order))
-        self.block(6, b''.join([
-            self.number(place, 4), self.number(high, 4), self.number(low, 4), captured, self.number(len(piece.octets), 4),
-            cut.octets, b'\xee' * (-len(cut.octets) % 4), *(self.option(*option) for option in options)]))
+        self.block(6, self.number(place, 4), self.number(high, 4), self.number(low, 4), Length(len(cut.octets)), self.number(len(piece.octets), 4),
+                   cut.octets + b'\xee' * (-len(cut.octets) % 4), *self.options(options))
         self.tell(name, time if 0 <= time < END_OF_TIMES else None, cut)
+        self.end()
 
     def simple(self, piece):
         self.block(3, self.number(len(piece.octets), 4) + piece.octets + bytes(-len(piece.octets) % 4))
         self.count('simple')
+        self.end()
 
     def old(self, place, piece):
         head = self.number(place, 2) + bytes(10) + 2 * self.number(len(piece.octets), 4)
         self.block(2, head + piece.octets + bytes(-len(piece.octets) % 4))
         self.count('old')
+        self.end()
