@@ -38,8 +38,8 @@ def up_to_length(datagram):
     return datagram[:int.from_bytes(datagram[2:4], 'big')]
 
 
-# What editcap makes of a capture, by its options; what stands behind a `/` is of mergecap.
-EDITS = ['-F pcap', '-F nsecpcap', '-F pcapng', '-F nsecpcap -s 60', '-F pcapng -s 48', '-F pcapng -t 0.5', '-F pcap -t -3600', '-F pcapng -A 2026-11-22T06:32:40Z']
+# What editcap and mergecap make, by their options. Of fewer octets of a message than these leave tshark makes nothing.
+EDITS = ['-F pcap', '-F nsecpcap', '-F pcapng', '-F nsecpcap -s 60', '-F pcapng -s 64', '-F pcapng -t 0.5', '-F pcap -t -3600', '-F pcapng -A 2026-11-22T06:32:40Z']
 MERGES = ['-F pcapng', '-F pcapng -I none', '-F pcapng -a', '-F nsecpcap', '-F pcap -s 70']
 
 
