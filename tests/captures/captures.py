@@ -1,7 +1,7 @@
 """Holds what `ptpx extract` writes of captures against what was put into them, against reading.py, a reader that was written apart from it,
 and where they are there against tshark, on what editcap and mergecap make, too.
 
-- Rows of frames.tsv and captures.tsv were worked by hand.
+- Rows of frames.tsv, captures.tsv and interfaces.tsv were worked by hand.
 - Captures of every form are made by a seed, by making.py, which says what is owed for them, also at one interface, and without times.
 - Small captures are cut at each octet, and each of their lengths is set to 0, to 1, to its greatest and to others.
 - 10,000 captures are bent and broken by a seed, and so are the headers of 40,000 packets.
@@ -250,6 +250,17 @@ def try_rows():
     return len(rows)
 
 
+def try_interfaces():
+    """Each row of interfaces.tsv."""
+    rows = list(tables.interfaces())
+    for place, octets, name, datagrams in rows:
+        found = [datagram for _, datagram in reading.read(octets, name.encode()).datagrams]
+        if found != datagrams:
+            fail(f'interfaces.tsv:{place}: the reader has {[datagram.hex() for datagram in found]}')
+        try_case_named(f'interfaces.tsv:{place}', Case(octets, interface=name, is_timed=False))
+    return len(rows)
+
+
 def try_tshark(number):
     """A capture that tshark reads alike."""
     octets = bytes(made.capture(number, odd=False, packets=60).octets)
@@ -371,7 +382,7 @@ def try_large(is_pcapng):
 
 
 def main():
-    frames, rows = try_frames(), try_rows()
+    frames, rows = try_frames(), try_rows() + try_interfaces()
     print(f'captures: {frames} packets and {rows} captures that were worked by hand')
     try_example()
     seen = collections.Counter()

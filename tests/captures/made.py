@@ -22,7 +22,7 @@ NOW = 1_795_329_143
 OFFSETS = [0, 0, 1, NOW, NOW - 1, 3600]
 ODD_OFFSETS = [0, NOW, -1, -NOW, 2**47, 2**48 - 2, 2**48, 2**63 - 1, -2**63]
 
-NAMES = [None, None, 'eth0', 'a', 'eth1.100', 'with a blank', 'Ethernet-Schnittstelle über Funk']
+NAMES = [None, None, 'eth0', 'eth', 'eth0.100', 'with a blank', 'Ethernet-Schnittstelle über Funk']
 
 
 def message(rng):

@@ -1,4 +1,4 @@
-"""Reads the tables of frames and of captures that were worked by hand."""
+"""Reads the tables of frames, captures and interfaces that were worked by hand."""
 import pathlib
 import re
 
@@ -47,3 +47,9 @@ def captures():
         number, *at, packets = fault.split()
         text = '' if lines == 'nothing' else lines.replace('; ', '\n') + '\n'
         yield place, octets(capture, words), (int(number), int(at[0]), int(packets)) if at else None, int(packets), text.encode()
+
+
+def interfaces():
+    """Of each row its place, the capture, the interface's name, and the datagrams."""
+    for place, (capture, name, lines, _), words in rows('interfaces.tsv'):
+        yield place, octets(capture, words), name, [bytes.fromhex(line) for line in lines.split('; ')]
