@@ -1,4 +1,5 @@
-"""Bends and breaks captures by a seed: their octets, their numbers, their blocks, and the headers of their packets."""
+"""Bends and breaks captures by a seed: their octets, their numbers, their blocks, and the headers of their packets. Of what comes of that
+nobody but a reader says what is owed."""
 import pathlib
 import random
 import sys
@@ -84,7 +85,7 @@ def bent_packet(rng, link):
 
 
 def bent_packets(seed, count):
-    """A capture of packets of every link type whose headers were bent. What it says that is owed for them isn't."""
+    """A capture of packets of every link type whose headers were bent, at an interface for each."""
     rng = random.Random(f'bent packets {seed}')
     capture = making.Pcapng()
     capture.section()
