@@ -90,20 +90,22 @@ def try_example():
 
 
 def try_case(kind, number):
-    """What was seen of a case, and the memory that a run took at the most."""
-    seen = see(f'{kind}, number {number}', KINDS[kind][0](number))
-    return seen, resource.getrusage(resource.RUSAGE_CHILDREN).ru_maxrss
+    """Tries a case, in little memory, and answers what was seen."""
+    name, case = f'{kind}, number {number}', KINDS[kind][0](number)
+    seen = see(name, case)
+    # the most that any run took so far
+    memory = resource.getrusage(resource.RUSAGE_CHILDREN).ru_maxrss
+    if memory > pausing.MEMORY:
+        fail(f'{name}: a run took {memory} KiB', case.octets)
+    return seen
 
 
 def try_kind(pool, kind):
     """Tries all cases of a kind, and answers what was seen."""
     count = KINDS[kind][1]()
-    total, most = collections.Counter(), 0
-    for seen, memory in pool.map(functools.partial(try_case, kind), range(count), chunksize=20):
+    total = collections.Counter()
+    for seen in pool.map(functools.partial(try_case, kind), range(count), chunksize=20):
         total += seen
-        most = max(most, memory)
-    if most > pausing.MEMORY:
-        fail(f'{kind}: a run took {most} KiB')
     print(f'captures: {count} {kind}')
     return total
 

@@ -8,13 +8,11 @@ import typing
 SECOND = 10**9
 END_OF_TIMES = 2**48 * SECOND
 
-# The longest datagram that is told, and how many octets of a packet are looked at.
-LONGEST, LOOKED_AT = 2_035, 65_536
+# The longest datagram that is told, how many octets of a packet are looked at, and more than any packet has.
+LONGEST, LOOKED_AT, NO_END = 2_035, 65_536, 2**32
 
+# Link types, and types of what is on a network.
 ETHERNET, COOKED, COOKED_2, NULL, LOOP, RAW, RAW_4, RAW_6 = 1, 113, 276, 0, 108, 101, 228, 229
-# Behind all octets.
-NO_END = 2**32
-
 PTP, IPV4, IPV6 = 0x88f7, 0x0800, 0x86dd
 
 

@@ -40,6 +40,7 @@ class Fault(Exception):
 
 
 class Interface(typing.NamedTuple):
+    """Where packets were captured, and how it counts time: the octet of its resolution, and the seconds that are added."""
     name: bytes
     link: int
     resolution: int
@@ -63,8 +64,8 @@ class Answer:
         self.counts = collections.Counter()
         self.fault = None
 
-    def take(self, interface, time, octets):
-        """Judges a packet, of which there may be no time."""
+    def outcome(self, interface, time, octets):
+        """What becomes of a packet, of which there may be no time."""
         if self.interface is not None and interface.name != self.interface:
             return 'another interface'
         if time is None:
@@ -74,6 +75,9 @@ class Answer:
         except unwrapping.Nothing as nothing:
             return str(nothing)
         return 'datagram'
+
+    def take(self, interface, time, octets):
+        self.count(self.outcome(interface, time, octets))
 
     def count(self, what):
         self.packets += 1
@@ -104,8 +108,8 @@ class Input:
         self.place += size
         return self.octets[self.place - size:self.place]
 
-    def number(self, size, is_signed=False):
-        return int.from_bytes(self.take(size), self.order, signed=is_signed)
+    def number(self, size):
+        return int.from_bytes(self.take(size), self.order)
 
     def version(self, known):
         """Reads the two numbers of a version, which is one that is known."""
@@ -123,7 +127,7 @@ def read_pcap(octets, answer):
         seconds, fraction, captured, _ = [octets.number(4) for _ in range(4)]
         packet = octets.take(captured)
         time = seconds * SECOND + fraction * unit
-        answer.count(answer.take(interface, time if fraction * unit < SECOND else None, packet))
+        answer.take(interface, time if fraction * unit < SECOND else None, packet)
 
 
 class Block:
@@ -213,7 +217,7 @@ def read_pcapng(octets, answer):
             packet = read_enhanced(octets, block, interfaces)
         block.end()
         if packet:
-            answer.count(answer.take(*packet))
+            answer.take(*packet)
         elif kind in (SIMPLE, OLD):
             answer.count('simple' if kind == SIMPLE else 'old')
 
