@@ -1,4 +1,4 @@
-"""Makes captures by a seed: of each form, with packets of each kind. What isn't `odd` tshark reads alike."""
+"""Makes captures by a seed: of each form, with packets of each kind. What isn't `odd` tshark reads as `ptpx extract` does."""
 import random
 
 import making
@@ -6,7 +6,7 @@ from making import COOKED, COOKED_2, ETHERNET, IPV4, IPV6, LOOP, NULL, PTP, RAW,
 
 LINKS = [ETHERNET, COOKED, COOKED_2, NULL, LOOP, RAW, RAW_4, RAW_6]
 
-# A link type that isn't known: Ethernet's number with one more octet, and those of nothing and of a raw packet elsewhere.
+# Link types that aren't known, of which 257 has the low octet of Ethernet's.
 OTHER_LINKS = [2, 12, 14, 147, 257, 65535]
 
 # Tags, and how many octets of each stand between its type and the next.
@@ -197,7 +197,7 @@ def describe(rng, capture, taken, odd):
         clock = Clock(rng.choice([3, 6, 9, 138]), rng.choice(ODD_OFFSETS))
     place = len(capture.interfaces)
     called = f'if{place}' if name is None or name in taken else name
-    # the name of what another interface is called by its place would be that of two
+    # of options that are given twice the first counts, so another name may stand behind this one
     behind = options(rng, [2, 3, 8, 12, 2988]) if odd and name is not None else []
     if odd and rng.random() < 0.1:
         behind += [(9, b'\x03'), (14, bytes(8))] if clock.resolution != 6 and clock.offset else []
