@@ -14,7 +14,10 @@ import reading
 TOP = pathlib.Path(__file__).resolve().parents[2]
 PROGRAM = None if '--reader' in sys.argv[1:] else os.environ.get('PTPX', TOP / 'crates/ptpx/out/ptpx')
 
-FAULT = re.compile(rb'^ptpx: (\d+) at octet (\d+), after (\d+) packets?: .+\n', re.M)
+# With --pcap the program is asked for captures of that kind alone, and for no interface.
+PCAP_ALONE = '--pcap' in sys.argv[1:]
+
+FAULT = re.compile(rb'^ptpx: fault (\d+) at octet (\d+), after (\d+) packets?: .+\n', re.M)
 
 
 class Case(typing.NamedTuple):
@@ -25,6 +28,11 @@ class Case(typing.NamedTuple):
     fault: tuple | None = None
     interface: str | None = None
     is_timed: bool = True
+
+
+def is_asked(case):
+    """Whether the program is asked for a case."""
+    return PROGRAM and not (PCAP_ALONE and (case.octets[:4] == reading.SECTION_TYPE or case.interface is not None))
 
 
 def misread(case, answer):
@@ -61,7 +69,7 @@ def answers(case):
     """What is wrong with the answers to a case, in words, and what was seen."""
     answer = reading.read(case.octets, None if case.interface is None else case.interface.encode())
     wrong = list(misread(case, answer))
-    if PROGRAM and not wrong:
+    if is_asked(case) and not wrong:
         wrong = list(misanswered(case, answer))
     seen = collections.Counter(answer.counts)
     seen[f'fault {answer.fault[0]}' if answer.fault else 'no fault'] += 1

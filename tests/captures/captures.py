@@ -7,8 +7,8 @@ and where they are there against tshark, on what editcap and mergecap make, too.
 - 10,000 captures are bent and broken by a seed, and so are the headers of 40,000 packets.
 - A capture that comes bit by bit is answered packet by packet, and one of 200 MiB in little memory.
 
-Compared are the lines, the status, and of a fault its number, its octet and the count of packets on standard error. With `--reader` the program
-isn't asked: that holds reading.py to the hand's, the maker's and tshark's answers."""
+Compared are the lines, the status, and of a fault its number, its octet and the count of packets on standard error. With `--pcap` the program is asked for
+captures of that kind alone, and with `--reader` for none: that holds reading.py to the hand's, the maker's and tshark's answers."""
 import collections
 import concurrent.futures
 import functools
@@ -21,7 +21,7 @@ import pausing
 import reading
 import tables
 import unwrapping
-from asking import PROGRAM, TOP, Case, fail, see
+from asking import PCAP_ALONE, PROGRAM, TOP, Case, fail, is_asked, see
 from cases import KINDS, SMALL
 from making import SECOND
 
@@ -30,7 +30,7 @@ AT_ONCE = 4
 LARGE = 200 * 2**20
 
 # What must have been seen.
-SEEN = [*(f'fault {number}' for number in range(811, 817)), 'no fault', 'datagram', 'none', 'no time', 'long', 'fragment', 'simple', 'old', 'link 147']
+SEEN = [*(f'fault {number}' for number in range(1001, 1007)), 'no fault', 'datagram', 'none', 'no time', 'long', 'fragment', 'simple', 'old', 'link 147']
 
 
 def read_packet(link, packet):
@@ -41,8 +41,18 @@ def read_packet(link, packet):
         return None, str(nothing)
 
 
+def try_frames_of(link, rows):
+    """All rows of a link type as packets of a pcap."""
+    capture = making.Pcap(link=link)
+    for place, of, packet, *_ in rows:
+        if of == link:
+            capture.packet(place * SECOND, making.bare(packet))
+    # what is owed for them is the reader's, which was held against each row
+    see(f'frames.tsv: link type {link}', Case(bytes(capture.octets)))
+
+
 def try_frames():
-    """Each row of frames.tsv by the reader, and all of them as packets of one capture, with an interface for each link type."""
+    """Each row of frames.tsv by the reader, and all of them as packets of one capture, with an interface for each link type, and of a pcap each."""
     capture, told, counts = making.Pcapng(), [], collections.Counter()
     capture.section()
     rows = list(tables.frames())
@@ -58,6 +68,8 @@ def try_frames():
         if datagram is not None:
             told.append((place * SECOND, datagram))
     see('frames.tsv', Case(bytes(capture.octets), told, counts))
+    for link in links:
+        try_frames_of(link, rows)
     return len(rows)
 
 
@@ -145,12 +157,14 @@ def try_others(pool):
 
 
 def try_pipes():
-    for capture in SMALL:
+    small = [it for it in SMALL if is_asked(Case(bytes(it.octets)))]
+    for capture in small:
         pausing.try_pauses(capture)
         pausing.try_octet_by_octet(capture)
-    for is_pcapng in (False, True):
+    kinds = [False] if PCAP_ALONE else [False, True]
+    for is_pcapng in kinds:
         pausing.try_large(is_pcapng, LARGE)
-    print(f'captures: {len(SMALL)} bit by bit, and 2 of 200 MiB')
+    print(f'captures: {len(small)} bit by bit, and {len(kinds)} of 200 MiB')
 
 
 def main():

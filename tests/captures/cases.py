@@ -60,7 +60,7 @@ SMALL = [small_pcap('little', 1000), small_pcap('big', 1), small_pcapng('little'
 def cut(capture, size):
     """So many octets of a capture."""
     end, packets, lines = max(it for it in [(0, 0, 0), *capture.ends] if it[0] <= size)
-    fault = (811, 0, 0) if size < 4 else (816, size, packets) if size != end else None
+    fault = (1001, 0, 0) if size < 4 else (1006, end, packets) if size != end else None
     return Case(bytes(capture.octets[:size]), capture.lines()[:lines], fault=fault)
 
 

@@ -98,13 +98,18 @@ class Input:
 
     def __init__(self, octets):
         self.octets, self.place, self.order = octets, 0, 'big'
+        # where the head, the packet or the block begins that is read
+        self.part = 0
+
+    def begin_part(self):
+        self.part = self.place
 
     def is_at_end(self):
         return self.place == len(self.octets)
 
     def take(self, size):
         if len(self.octets) - self.place < size:
-            raise Fault(816, len(self.octets))
+            raise Fault(1006, self.part)
         self.place += size
         return self.octets[self.place - size:self.place]
 
@@ -115,7 +120,7 @@ class Input:
         """Reads the two numbers of a version, which is one that is known."""
         place = self.place
         if (self.number(2), self.number(2)) not in known:
-            raise Fault(812, place)
+            raise Fault(1002, place)
 
 
 def read_pcap(octets, answer):
@@ -124,6 +129,7 @@ def read_pcap(octets, answer):
     octets.take(12)
     interface = Interface(b'if0', octets.number(4) % 2**16, 9, 0)
     while not octets.is_at_end():
+        octets.begin_part()
         seconds, fraction, captured, _ = [octets.number(4) for _ in range(4)]
         packet = octets.take(captured)
         time = seconds * SECOND + fraction * unit
@@ -135,7 +141,7 @@ class Block:
 
     def __init__(self, octets, first, kind, length):
         if length % 4 or length < LEAST.get(kind, LEAST_OF_OTHERS):
-            raise Fault(814, first + 4)
+            raise Fault(1004, first + 4)
         self.octets, self.length = octets, length
         # where its second length stands
         self.last = first + length - 4
@@ -146,7 +152,7 @@ class Block:
     def end(self):
         self.octets.take(self.rest())
         if self.octets.number(4) != self.length:
-            raise Fault(814, self.last)
+            raise Fault(1004, self.last)
 
 
 def begin_block(octets):
@@ -157,7 +163,7 @@ def begin_block(octets):
         return kind, Block(octets, first, kind, octets.number(4))
     length, magic = octets.take(4), octets.take(4)
     if magic not in BYTE_ORDERS:
-        raise Fault(813, first + 8)
+        raise Fault(1003, first + 8)
     octets.order = BYTE_ORDERS[magic]
     return kind, Block(octets, first, kind, int.from_bytes(length, octets.order))
 
@@ -172,7 +178,7 @@ def read_options(octets, block):
         place, length = octets.place, octets.number(2)
         padded = length + -length % 4
         if padded > block.rest() or length != LENGTHS.get(code, length):
-            raise Fault(814, place)
+            raise Fault(1004, place)
         options.setdefault(code, octets.take(padded)[:length])
     return options
 
@@ -193,12 +199,12 @@ def read_enhanced(octets, block, interfaces):
     """The interface, the time and the octets of a packet."""
     place, interface = octets.place, octets.number(4)
     if interface >= len(interfaces):
-        raise Fault(815, place)
+        raise Fault(1005, place)
     units = octets.number(4) * 2**32 + octets.number(4)
     place, captured = octets.place, octets.number(4)
     # the original length stands before the captured octets, which are padded as the block's length is
     if captured > block.rest() - 4:
-        raise Fault(814, place)
+        raise Fault(1004, place)
     octets.take(4)
     return interfaces[interface], interfaces[interface].time(units), octets.take(captured)
 
@@ -206,6 +212,7 @@ def read_enhanced(octets, block, interfaces):
 def read_pcapng(octets, answer):
     interfaces = []
     while not octets.is_at_end():
+        octets.begin_part()
         packet = None
         kind, block = begin_block(octets)
         if kind == SECTION:
@@ -231,7 +238,7 @@ def read(octets, interface=None):
         elif octets[:4] in PCAP:
             read_pcap(Input(octets), answer)
         else:
-            raise Fault(811, 0)
+            raise Fault(1001, 0)
     except Fault as fault:
         answer.fault = fault.number, fault.octet, answer.packets
     return answer
