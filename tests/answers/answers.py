@@ -3,7 +3,8 @@
 A row has, with tabs between them, the arguments, of which the first is the program's own name, the input, the output, what is said on
 standard error, and the status. In a field
 
-- `%` and two hexadecimal digits stand for an octet that can't be seen, and for `%`, `*` and `@`; `%{4096 x}` for so many of one;
+- `%` and two hexadecimal digits stand for an octet that can't be seen, and for `%`, `*` and `@`; `%{4096 x}` for so many of one,
+  and `%[d4c3 b2a1]` for octets in hexadecimal;
 - a star in what is wanted stands for any text;
 - `@exchange.schedule.jsonl` stands for that file of examples/, or with `..4` behind it for its first four lines; with `5 => TEXT` for the
   file with this text as its line 5, and with `5 OLD => NEW` for the file with one text in the place of another in that line."""
@@ -17,13 +18,19 @@ HERE = Path(__file__).resolve().parent
 TOP = HERE.parents[1]
 PROGRAM = os.environ.get('PTPX', TOP / 'crates/ptpx/out/ptpx')
 
-ESCAPE = re.compile(r'%\{(\d+) (.)\}|%([0-9a-f]{2})')
+ESCAPE = re.compile(r'%\{(\d+) (.)\}|%([0-9a-f]{2})|%\[([0-9a-f ]+)\]')
 EXAMPLE = re.compile(r'@(\S+)(?: \.\.(\d+)| (\d+) (?:(.+) )?=> (.*))?')
 
 
 def octets(text):
     """The octets that a text of a row stands for."""
-    return ESCAPE.sub(lambda it: int(it[1]) * it[2] if it[1] else chr(int(it[3], 16)), text).encode('latin-1')
+    return ESCAPE.sub(octets_of_escape, text).encode('latin-1')
+
+
+def octets_of_escape(it):
+    """The octets that what follows a `%` stands for."""
+    count, octet, number, numbers = it.groups()
+    return int(count) * octet if count else bytes.fromhex(number or numbers).decode('latin-1')
 
 
 def example(name, first, place, old, new):

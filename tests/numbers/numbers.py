@@ -1,8 +1,8 @@
 #!/usr/bin/env python3
 """Compares what docs/NUMBERS.md, the help of ptpx and the header for C say of each number with what the code says.
 
-The code's texts are those of the types whose `code` answers numbers: the attribute `error` of each variant, and of FaultKind, which
-shows its number alone, the words beside it. In docs/NUMBERS.md each number has one row, in the order in which the types try
+The code's texts are those of the types whose `code` answers numbers: the attribute `error` of each variant, of FaultKind, which
+shows its number alone, the words beside it, and of CaptureFault those that the program tells. In docs/NUMBERS.md each number has one row, in the order in which the types try
 them, and the row says what to do. In the help a number stands in front of its text, which may go on in the lines below; what is said of 806 there is each
 subcommand's own, and 807 is followed by the refusals of a network. It has to say each number but those that calls alone
 answer. The manual page is made of the help.
@@ -15,10 +15,11 @@ from pathlib import Path
 TOP = Path(__file__).resolve().parents[2]
 SOURCES = sorted(it for it in TOP.glob("crates/*/src/**/*.rt") if "tests" not in it.parts[-3:-1])
 VARIANT = re.compile(r'#\[error\("((?:[^"\\]|\\.)*)"\)\]\s*(\w+)')
-ARM = re.compile(r"(\w+)::(\w+)(?:\([^)]*\))? => (\d{3}),")
+ARM = re.compile(r"(\w+)::(\w+)(?:\([^)]*\))? => (\d{3,4}),")
+TOLD = re.compile(r'(CaptureFault)::(\w+) => "([^"]*)"')
 WORDS = re.compile(r'FaultKind::(\w+)(?:\(\w+\))? => (?:\{\s*)?(?:f\.write_str\("([^"]*)"\)|write!)')
-ROW = re.compile(r"^\| (\d{3}) \| ([^|]*) \| ([^|]*) \|$", re.M)
-SAID = re.compile(r"^ +(?:refused )?\(?(\d{3})\)?(?: type \d+)? +(\S.*(?:\n {7,}(?!refused|\(?\d{3}\)? |sync |ignored)\S.*)*)", re.M)
+ROW = re.compile(r"^\| (\d{3,4}) \| ([^|]*) \| ([^|]*) \|$", re.M)
+SAID = re.compile(r"^ +(?:refused )?\(?(\d{3,4})\)?(?: type \d+)? +(\S.*(?:\n {7,}(?!refused|\(?\d{3}\)? |sync |ignored)\S.*)*)", re.M)
 DECLARED = re.compile(r"^ +PTPX_\w+ = (\d{3}),? +/\* (.*) \*/$", re.M)
 OWN = {806, 807}
 # What the inline functions of the header answer.
@@ -30,13 +31,14 @@ OF_CALLS = {101, 102, 103, 104, 211, 212, 301, 302, 305, 401, 501, 609, 709} | s
 def texts_of_code():
     """The text of each number, as the types show it."""
     texts = {}
-    for path in SOURCES:
-        source = path.read_text()
+    sources = [path.read_text() for path in SOURCES]
+    told = {(kind, name): text for source in sources for kind, name, text in TOLD.findall(source)}
+    for source in sources:
         said = {name: text for text, name in VARIANT.findall(source)}
         said.update({name: text for name, text in WORDS.findall(source)})
         for kind, name, number in ARM.findall(source):
-            if name in said:
-                texts[int(number)] = said[name]
+            if (kind, name) in told or name in said:
+                texts[int(number)] = told.get((kind, name)) or said[name]
     return texts
 
 
@@ -78,7 +80,7 @@ def main():
               for n in sorted(code.keys() & page.keys()) if n not in OWN and page[n] != code[n]]
     wrong += [f"ptpx.h says of {n}: {text}\n  and the code: {code.get(n)}"
               for n, text in header.items() if text != without_value(code.get(n, ""))]
-    wrong += [f"ptpx.h doesn't have {n}" for n in sorted(code.keys() - header.keys()) if n < 600 and n != 104 or n > 900]
+    wrong += [f"ptpx.h doesn't have {n}" for n in sorted(code.keys() - header.keys()) if n < 600 and n != 104 or 900 < n < 1000]
     helped = list(texts_of_help())
     wrong += [f"help says of {n}: {text}\n  and the code: {code.get(n)}"
               for n, text in helped if n not in OWN and not is_same(text, code.get(n, ""))]

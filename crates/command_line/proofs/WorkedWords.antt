@@ -11,7 +11,7 @@ use Rattle.clap.specs.declared.error.kind.ErrorKind.TheVariants as kind
 use Rattle.command_line.specs.Arguments.{HasHelpFlag, Names, NamesNothing, faults_in, named_in}
 use Rattle.command_line.specs.Number.{domain_of}
 use Rattle.command_line.specs.PortText.{port_identity_of}
-use Rattle.command_line.specs.declared.commands.Subcommand.TheVariants.{Show, Replay, Check, Measure, Explain}
+use Rattle.command_line.specs.declared.commands.Subcommand.TheVariants.{Show, Replay, Check, Extract, Measure, Explain}
 
 -- ---- words of the program
 
@@ -48,6 +48,10 @@ explained_whole : Names (codes "ptpx" ∷ codes "explain" ∷ [])
     (Explain (record { first = false; json = false }))
 unfolding clap_on_literals walk_fault walked hex_on_literals chars faults_in named_in
 explained_whole = (refl, refl)
+
+extracted : Names (codes "ptpx" ∷ codes "extract" ∷ codes "--octets" ∷ []) (Extract (record { octets = true }))
+unfolding clap_on_literals walk_fault walked hex_on_literals chars faults_in named_in
+extracted = (refl, refl)
 
 second_name : Names (codes "ptpx" ∷ codes "replay" ∷ []) Replay
 unfolding clap_on_literals walk_fault walked hex_on_literals chars faults_in named_in

@@ -5,8 +5,9 @@ use Rattle.clap.specs.Simple.{App}
 use Rattle.clap.specs.Walk as matches
 use Rattle.clap.specs.Walk.{Text}
 use Rattle.command_line.specs.declared.commands.Subcommand.{Subcommand}
-use Rattle.command_line.specs.declared.commands.Subcommand.TheVariants.{Show, Replay, Check, Measure, Explain}
+use Rattle.command_line.specs.declared.commands.Subcommand.TheVariants.{Show, Replay, Check, Extract, Measure, Explain}
 use Rattle.command_line.specs.declared.commands.explain.ExplainOptions.{ExplainOptions}
+use Rattle.command_line.specs.declared.commands.extract.ExtractOptions.{ExtractOptions}
 use Rattle.command_line.specs.declared.commands.measure.MeasureOptions.{MeasureOptions}
 use Rattle.command_line.specs.Number.{domain_of}
 use Rattle.command_line.specs.Options.{is_used, said}
@@ -19,12 +20,17 @@ subcommands =
     (codes "show", [])
     ∷ (codes "replay", [])
     ∷ (codes "check", [])
+    ∷ (codes "extract", flag (codes "octets") ∷ [])
     ∷ (
       codes "measure",
       with_value (codes "slave") ∷ with_value (codes "master") ∷ with_value (codes "domain") ∷ flag (codes "csv") ∷ [],
     )
     ∷ (codes "explain", flag (codes "first") ∷ flag (codes "json") ∷ [])
     ∷ []
+
+-- the options of `extract`
+abbrev pub extract_options_of : List matches.Row → ExtractOptions
+extract_options_of rows = record { octets = is_used (codes "octets") rows }
 
 -- the options of `measure`, where each value is one
 abbrev pub measure_options_of : List matches.Row → Option MeasureOptions
@@ -44,6 +50,7 @@ chosen name rows =
     if bytes_eq name (codes "show") then Some Show
     else if bytes_eq name (codes "replay") then Some Replay
     else if bytes_eq name (codes "check") then Some Check
+    else if bytes_eq name (codes "extract") then Some (Extract (extract_options_of rows))
     else if bytes_eq name (codes "measure") then option_map (λ options. Measure options) (measure_options_of rows)
     else if bytes_eq name (codes "explain") then Some (Explain (explain_options_of rows))
     else None

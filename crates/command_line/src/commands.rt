@@ -7,20 +7,23 @@ ghost use Rattle.command_line.specs.Program.{row_of};
 
 mod check;
 pub mod explain;
+pub mod extract;
 pub mod measure;
 mod replay;
 mod show;
 
 use crate::commands::explain::{ExplainOptions, explain_options};
+use crate::commands::extract::{ExtractOptions, extract_options};
 use crate::commands::measure::{MeasureOptions, measure_options};
 use crate::options::WrongValue;
 use crate::table::SubcommandRow;
 use clap::ArgMatches;
 
-static SUBCOMMANDS: [SubcommandRow; 5] = [
+static SUBCOMMANDS: [SubcommandRow; 6] = [
     show::ROW,
     replay::ROW,
     check::ROW,
+    extract::ROW,
     measure::ROW,
     explain::ROW,
 ];
@@ -34,6 +37,8 @@ pub enum Subcommand {
     Replay,
     /// Print the verdict on the transcript that standard input gives.
     Check,
+    /// Print what the capture that standard input gives has of PTP.
+    Extract(ExtractOptions),
     /// Print what the datagrams that standard input gives, recorded at a slave, say of its clock.
     Measure(MeasureOptions),
     /// Print what is wrong with the transcript or the schedule that standard input gives.
@@ -57,6 +62,7 @@ pub(crate) fn chosen<'a>(matches: &ArgMatches<'a>) -> Result<Option<Subcommand>,
         Some(("show", _)) => Subcommand::Show,
         Some(("replay", _)) => Subcommand::Replay,
         Some(("check", _)) => Subcommand::Check,
+        Some(("extract", options)) => Subcommand::Extract(extract_options(options)),
         Some(("measure", options)) => Subcommand::Measure(measure_options(options)?),
         Some(("explain", options)) => Subcommand::Explain(explain_options(options)),
         _ => return Ok(None),

@@ -1,5 +1,5 @@
 -- What the program answers: its exit status, by what the arguments ask for.
-use Rattle.std.specs.Prelude.{◌≡◌, ◌⊎◌, ℕ, Bool, true, false, List, Option, Result, Ok, Err, MatchResult, if◌then◌else◌}
+use Rattle.std.specs.Prelude.{◌≡◌, ◌⊎◌, ℕ, Bool, true, false, List, Option, Result, Ok, Err, MatchResult, ⊤, if◌then◌else◌}
 use Rattle.std.specs.Io.KnownBytes.{Appends}
 use Rattle.text_lines.specs.declared.counted.Counted.{Counted}
 use Rattle.text_lines.specs.Counted.{device_of, HasFailed, HasNotFailed}
@@ -8,7 +8,8 @@ use Rattle.transcript_text.specs.declared.fault.Fault.{Fault}
 use Rattle.trace_model.specs.declared.verdict.Verdict.{Verdict}
 use Rattle.trace_model.specs.declared.verdict.Verdict.TheVariants.{Accepted, Refused}
 use Rattle.command_line.specs.declared.commands.Subcommand.{Subcommand}
-use Rattle.command_line.specs.declared.commands.Subcommand.TheVariants.{Show, Replay, Check, Measure, Explain}
+use Rattle.command_line.specs.declared.commands.Subcommand.TheVariants.{Show, Replay, Check, Extract, Measure, Explain}
+use Rattle.command_line.specs.declared.commands.extract.ExtractOptions.{ExtractOptions}
 use Rattle.command_line.specs.declared.commands.measure.MeasureOptions.{MeasureOptions}
 use Rattle.command_line.specs.declared.commands.explain.ExplainOptions.{ExplainOptions}
 use Rattle.exchange_explain.specs.declared.explaining.Explained.{Explained}
@@ -20,6 +21,11 @@ use Rattle.exchange_explain.specs.Explained.{ExplainsAnswer, ExplainFailedWith}
 use Rattle.exchange_explain.specs.Judgements.{JudgesAnswer, judgement_rules}
 use Rattle.text_lines.specs.declared.fault.Cause.{Cause}
 use Rattle.text_lines.specs.declared.fault.Stopped.{Stopped}
+use Rattle.capture_file.specs.declared.fault.CaptureStop.{CaptureStop}
+use Rattle.capture_file.specs.Task as capture
+use Rattle.capture_extract.specs.declared.line.LineForm.{LineForm}
+use Rattle.capture_extract.specs.declared.line.LineForm.TheVariants.{Octets, Timed}
+use Rattle.capture_extract.specs.Extracted.{ExtractsAnswer, extract_rules}
 use Rattle.capture_measure.specs.declared.measuring.Form.{Form}
 use Rattle.capture_measure.specs.declared.measuring.Form.TheVariants.{Json, Table}
 use Rattle.text_lines.specs.declared.line_fault.LineFault.{LineFault}
@@ -40,6 +46,25 @@ abbrev pub check_status : Result Verdict Fault → ℕ
 check_status (Ok (Accepted count)) = 0
 check_status (Ok (Refused number why)) = 1
 check_status (Err fault) = 3
+
+-- how the lines of `extract` are asked for
+abbrev pub line_form_of : ExtractOptions → LineForm
+line_form_of options = if options.octets then Octets else Timed
+
+-- which of the two devices failed at this answer of `extract`
+abbrev pub ExtractFailedWith : {R W : Type 0} → Result ℕ (CaptureStop LineFault)
+    → (input input' : Counted R) (output output' : Counted W) → Type 0
+ExtractFailedWith answer input input' output output' = MatchResult answer
+    (λ _. HasNotFailed input input' × HasNotFailed output output')
+    (λ stop. capture.FailedAt extract_rules stop.what input input' output output')
+
+-- `extract` ran by these options: its answer gave the status, and says what was read and written
+abbrev pub RunsExtract : {R W : Type 0} → (R → Option (List ℕ)) → (W → Option (List ℕ)) → ExtractOptions → ℕ
+    → (input input' : Counted R) (output output' : Counted W) → Type 0
+RunsExtract remaining contents options status input input' output output' =
+    (answer : Result ℕ (CaptureStop LineFault)) × (status ≡ status_of answer)
+    × ExtractFailedWith answer input input' output output'
+    × ExtractsAnswer (line_form_of options) remaining contents answer input input' output output'
 
 -- whom `measure` is asked to watch
 abbrev pub wanted_of : MeasureOptions → Wanted
@@ -122,8 +147,15 @@ abbrev pub Runs : {R W : Type 0} → (R → Option (List ℕ)) → (W → Option
 Runs remaining contents Show = EndsIn status_of (ShowsAnswer remaining contents)
 Runs remaining contents Replay = EndsIn status_of (ReplaysAnswer remaining contents)
 Runs remaining contents Check = EndsIn check_status (ChecksAnswer remaining contents)
+Runs remaining contents (Extract options) = RunsExtract remaining contents options
 Runs remaining contents (Measure options) = RunsMeasure remaining contents options
 Runs remaining contents (Explain options) = RunsExplain remaining contents options
+
+-- the input of a subcommand has a limit: that of `extract` and that of `measure` have none
+abbrev pub IsLimited : Subcommand → Type 0
+IsLimited (Extract options) = ⊥
+IsLimited (Measure options) = ⊥
+IsLimited s = ⊤
 
 -- memory was refused before a subcommand ran
 abbrev pub EndsBefore : {R W : Type 0} → ℕ → (input input' : Counted R) (output output' : Counted W) → Type 0

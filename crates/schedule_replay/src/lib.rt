@@ -2,6 +2,7 @@
 //! whole program over its arguments.
 #![tactic(auto)]
 
+mod capture_faults;
 mod hints;
 pub mod laws;
 mod program;

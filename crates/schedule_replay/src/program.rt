@@ -1,24 +1,24 @@
 ghost use Rattle.std.specs.Prelude.{◌≡◌, ◌≢◌, ◌⊎◌, map, string_bytes};
-ghost use Rattle.command_line.specs.declared.commands.measure.MeasureOptions.{MeasureOptions};
-ghost use Rattle.command_line.specs.declared.commands.Subcommand.TheVariants.{Measure};
-ghost use Rattle.schedule_replay.specs.Program.{EndsBefore, EndsUnread, Runs, RunsMeasure, RunsExplain};
+ghost use Rattle.schedule_replay.specs.Program.{EndsBefore, EndsUnread, IsLimited, Runs, RunsExtract, RunsMeasure, RunsExplain};
 ghost use Rattle.schedule_replay.specs.Program.{check_status, found_status, status_of};
 ghost use Rattle.command_line.specs.Arguments.{AsksNothing, HasHelpFlag, Names, NamesNothing};
-ghost use Rattle.capture_measure.specs.Measure.{measure_rules};
-ghost use Rattle.schedule_replay.specs.Inner.Allowed.{lines_allowed};
 ghost use Rattle.text_lines.specs.Lines.{input_limit, lines_limit, GivesWithin};
 
+use crate::capture_faults::report_capture;
 use crate::hints::Hints;
 use crate::showing::show;
+use capture_extract::{LineForm, extract};
+use capture_file::CaptureStop;
 use capture_measure::{Form, Wanted, measure};
 use command_line::commands::explain::ExplainOptions;
+use command_line::commands::extract::ExtractOptions;
 use command_line::commands::measure::MeasureOptions;
 use command_line::{Invocation, Subcommand, parse};
 use exchange_check::Verdict;
 use exchange_explain::{Explained, Found, explain, write_judgements};
 use std::alloc::Global;
 use std::io::{Read, Write};
-use text_lines::{Counted, Numbered, Stopped};
+use text_lines::{Counted, LineFault, Numbered, Stopped};
 use transcript_text::{Fault, FaultKind, check_text, replay};
 
 /// The whole program over its arguments, of which the first is its own name: runs the subcommand that
@@ -41,8 +41,9 @@ pub fn command<R: Read, W: Write, E: Write>(
     ensures runs { (s : Subcommand) → Names (map string_bytes words.now) s →
         Runs R.remaining W.contents s result input.old input.new output.old output.new
         ⊎ EndsBefore result input.old input.new output.old output.new }
-    // Of any reader only so much is read, whatever the arguments and the writer are, unless these name `measure`.
-    ensures bounded { ((options : MeasureOptions) → Names (map string_bytes words.now) (Measure options) → ⊥) →
+    // Of any reader only so much is read, whatever the arguments and the writer are, unless these name a subcommand whose
+    // input has no limit.
+    ensures bounded { ((s : Subcommand) → Names (map string_bytes words.now) s → IsLimited s) →
         GivesWithin R.remaining (input_limit lines_limit) input.old input.new }
     // Other arguments read nothing. Which text help is, and what comes of arguments that begin with `help`, is clap's.
     ensures unread { NamesNothing (map string_bytes words.now) →
@@ -80,12 +81,13 @@ fn run<R: Read, W: Write, E: Write>(
     hints: Hints,
 ) -> u8
     ensures runs { Runs R.remaining W.contents subcommand result input.old input.new output.old output.new }
-    ensures bounded { GivesWithin R.remaining (input_limit (lines_allowed subcommand)) input.old input.new }
+    ensures bounded { IsLimited subcommand → GivesWithin R.remaining (input_limit lines_limit) input.old input.new }
 {
     match subcommand {
         Subcommand::Show => finish_hinted(errors, hints, show(alloc, input, output)),
         Subcommand::Replay => finish_hinted(errors, hints, replay(alloc, input, output)),
         Subcommand::Check => finish_check(errors, hints, check_text(alloc, input, output)),
+        Subcommand::Extract(options) => run_extract(alloc, options, input, output, errors),
         Subcommand::Measure(options) => run_measure(alloc, options, input, output, errors),
         Subcommand::Explain(options) => run_explain(alloc, options, input, output, errors),
     }
@@ -125,6 +127,27 @@ fn found_status(found: Found) -> u8
     }
 }
 
+/// Writes what a capture has of PTP, tells what came of its packets, and answers the exit status.
+fn run_extract<R: Read, W: Write, E: Write>(
+    alloc: Global,
+    options: ExtractOptions,
+    input: &mut Counted<R>,
+    output: &mut Counted<W>,
+    errors: &mut E,
+) -> u8
+    ensures { RunsExtract R.remaining W.contents options result input.old input.new output.old output.new }
+{
+    let form = if options.octets {
+        LineForm::Octets
+    } else {
+        LineForm::Timed
+    };
+    let (answer, summary) = extract(alloc, form, input, output);
+    let status = finish_extract(errors, answer);
+    summary.tell(errors);
+    status
+}
+
 /// Measures a recording, tells what came of it beside the reports, and answers the exit status.
 fn run_measure<R: Read, W: Write, E: Write>(
     alloc: Global,
@@ -133,8 +156,7 @@ fn run_measure<R: Read, W: Write, E: Write>(
     output: &mut Counted<W>,
     errors: &mut E,
 ) -> u8
-    ensures runs { RunsMeasure R.remaining W.contents options result input.old input.new output.old output.new }
-    ensures bounded { GivesWithin R.remaining (input_limit measure_rules.lines_limit) input.old input.new }
+    ensures { RunsMeasure R.remaining W.contents options result input.old input.new output.old output.new }
 {
     let wanted = Wanted {
         slave: options.slave,
@@ -170,6 +192,16 @@ fn finish_hinted<E: Write>(errors: &mut E, hints: Hints, answer: Result<u64, Fau
     match answer {
         Ok(_) => 0,
         Err(fault) => report_hinted(errors, hints, fault),
+    }
+}
+
+/// Answers the exit status of `extract`, and says its fault.
+fn finish_extract<E: Write>(errors: &mut E, answer: Result<u64, CaptureStop<LineFault>>) -> u8
+    ensures { result ≡ status_of answer }
+{
+    match answer {
+        Ok(_) => 0,
+        Err(stop) => report_capture(errors, stop),
     }
 }
 

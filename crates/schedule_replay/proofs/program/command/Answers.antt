@@ -1,12 +1,7 @@
-use Rattle.std.proofs.Common.{◌≡◌, ℕ, List, map, inl, refl, subst}
+use Rattle.std.proofs.Common.{map, inl, subst}
 use Rattle.std.specs.Prelude.{string_bytes}
 use Rattle.command_line.specs.declared.commands.Subcommand.{Subcommand}
 use Rattle.command_line.proofs.Invocations.{flag_asks_help, named_asks_no_help, names_one}
-use Rattle.command_line.specs.Arguments.{Names}
-use Rattle.command_line.specs.declared.commands.Subcommand.TheVariants.{Measure}
-use Rattle.command_line.specs.declared.commands.measure.MeasureOptions.{MeasureOptions}
-use Rattle.text_lines.specs.Lines.{input_limit, lines_limit, GivesWithin}
-use Rattle.schedule_replay.specs.Inner.Allowed.{lines_allowed}
 use Rattle.schedule_replay.specs.Program.{Runs}
 use Rattle.schedule_replay.proofs.program.command.Goals as goal
 
@@ -27,15 +22,9 @@ pub returns-in-Ok-Help-clause-runs : goal.returns-in-Ok-Help-clause-runs
 returns-in-Ok-Help-clause-runs g c = λ s named.
     absurd (named_asks_no_help (map string_bytes c.args.words.now) s named (rw c.in-Ok-Help.field-0-is at c.in-Ok-Help.ensures.asked))
 
--- arguments that don't name `measure` name a subcommand with the usual limit of lines
-allowed : (words : List (List ℕ)) (s : Subcommand) → Names words s → ((options : MeasureOptions) → Names words (Measure options) → ⊥) → lines_allowed s ≡ lines_limit
-allowed words (Measure options) named none = absurd (none options named)
-allowed words s named none = refl
-
 pub returns-in-Ok-Run-clause-bounded : goal.returns-in-Ok-Run-clause-bounded
-returns-in-Ok-Run-clause-bounded g c = λ none.
-    let usual = allowed (map string_bytes c.args.words.now) c.in-Ok-Run.subcommand (rw c.in-Ok-Run.field-0-is at c.in-Ok-Run.ensures.asked) none in
-    subst (λ (n : ℕ). GivesWithin g.R.Read.remaining (input_limit n) c.args.input.now c.run.new.input) usual c.run.ensures.bounded
+returns-in-Ok-Run-clause-bounded g c = λ limited.
+    c.run.ensures.bounded (limited c.in-Ok-Run.subcommand (rw c.in-Ok-Run.field-0-is at c.in-Ok-Run.ensures.asked))
 
 pub returns-in-Ok-Run-clause-unread : goal.returns-in-Ok-Run-clause-unread
 returns-in-Ok-Run-clause-unread g c = λ nothing.

@@ -9,8 +9,8 @@ use Rattle.schedule_replay.proofs.program.run_measure.Goals.{then-options, else-
 abbrev by_flag : Bool → Form
 by_flag csv = if csv then Table else Json
 
-pub returns-clause-runs : goal.returns-clause-runs
-returns-clause-runs g c =
+pub returns : goal.returns
+returns g c =
     let form : c.if-options.form ≡ form_of c.args.options = elim c.if-options.branch [
       | then-options w ↦ w.form-is ∙ sym (ap by_flag w.if-options.true)
       | else-options w ↦ w.form-is ∙ sym (ap by_flag w.if-options.false)

@@ -1,0 +1,12 @@
+//! What a capture has of PTP, as lines: a datagram each, in hexadecimal, with the time of its packet.
+#![tactic(auto)]
+
+mod extracting;
+pub mod laws;
+mod line;
+mod links;
+mod summary;
+
+pub use extracting::extract;
+pub use line::LineForm;
+pub use summary::Summary;

@@ -1,0 +1,142 @@
+//! How many packets there were, and how many gave no line, by why they gave none.
+
+use crate::links::Links;
+use capture_frame::Found;
+use ptp_units::Timestamp;
+use std::io::Write;
+
+/// How many reasons there are.
+const REASONS: usize = 5;
+
+/// Why a packet of a known link type gave no line.
+#[derive(Clone, Copy, Debug, PartialEq, Eq)]
+enum Why {
+    Other,
+    Fragment,
+    TooLong,
+    Timeless,
+    Simple,
+}
+
+/// Every reason, in the order of the summary.
+const ALL_REASONS: [Why; REASONS] = [
+    Why::Other,
+    Why::Fragment,
+    Why::TooLong,
+    Why::Timeless,
+    Why::Simple,
+];
+
+impl Why {
+    /// What the summary says after a count of one.
+    fn name(self) -> &'static str {
+        match self {
+            Why::Other => "packet without PTP",
+            Why::Fragment => "fragment of IP, which isn't put together",
+            Why::TooLong => "datagram of more than 2035 octets",
+            Why::Timeless => "packet with a time that can't be",
+            Why::Simple => "packet of a kind that has no time",
+        }
+    }
+
+    /// What it says after any other.
+    fn names(self) -> &'static str {
+        match self {
+            Why::Other => "packets without PTP",
+            Why::Fragment => "fragments of IP, which aren't put together",
+            Why::TooLong => "datagrams of more than 2035 octets",
+            Why::Timeless => "packets with a time that can't be",
+            Why::Simple => "packets of a kind that has no time",
+        }
+    }
+}
+
+/// How many packets of a capture gave a line, and how many gave none. Counts stay at 2^64 - 1.
+#[derive(Clone, Copy, Debug)]
+pub struct Summary {
+    packets: u64,
+    lines: u64,
+    counts: [u64; REASONS],
+    links: Links,
+    /// Whether all times are of whole microseconds; None where no line was written.
+    whole: Option<bool>,
+}
+
+impl Summary {
+    /// No packet came.
+    pub(crate) fn new() -> Summary {
+        Summary {
+            packets: 0,
+            lines: 0,
+            counts: [0; REASONS],
+            links: Links::new(),
+            whole: None,
+        }
+    }
+
+    fn count(&mut self, why: Why) {
+        let count = &mut self.counts[usize::from(why as u8)];
+        *count = count.saturating_add(1);
+    }
+
+    /// Counts a packet that was captured at this time, with this link type.
+    pub(crate) fn count_captured(&mut self, time: Timestamp, link: u16, found: Found<'_>) {
+        self.packets = self.packets.saturating_add(1);
+        match found {
+            Found::Datagram(_) => {
+                self.lines = self.lines.saturating_add(1);
+                self.whole = Some(self.whole.unwrap_or(true) && time.nanos() % 1000 == 0);
+            }
+            Found::Fragment => self.count(Why::Fragment),
+            Found::TooLong => self.count(Why::TooLong),
+            Found::OtherLink => self.links.count(link),
+            Found::Other => self.count(Why::Other),
+        }
+    }
+
+    /// Counts a packet whose time is none.
+    pub(crate) fn count_timeless(&mut self) {
+        self.packets = self.packets.saturating_add(1);
+        self.count(Why::Timeless);
+    }
+
+    /// Counts a packet of a kind that has no time.
+    pub(crate) fn count_simple(&mut self) {
+        self.packets = self.packets.saturating_add(1);
+        self.count(Why::Simple);
+    }
+
+    /// Tells it, in lines. What can't be written is lost.
+    pub fn tell<E: Write>(&self, errors: &mut E) {
+        self.tell_packets(errors);
+        for why in ALL_REASONS {
+            let _ = match self.counts[usize::from(why as u8)] {
+                0 => Ok(()),
+                1 => writeln!(errors, "ptpx: 1 {}", why.name()),
+                count => writeln!(errors, "ptpx: {count} {}", why.names()),
+            };
+        }
+        self.links.tell(errors);
+        if self.whole == Some(true) {
+            let _ = writeln!(errors, "ptpx: all times are of whole microseconds");
+        }
+    }
+
+    /// Tells how many packets there were, and how many gave a line.
+    fn tell_packets<E: Write>(&self, errors: &mut E) {
+        let packets = if self.packets == 1 {
+            "packet"
+        } else {
+            "packets"
+        };
+        let _ = match (self.packets, self.lines) {
+            (0, _) => writeln!(errors, "ptpx: no packet"),
+            (count, 0) => writeln!(errors, "ptpx: {count} {packets}, of which none has PTP"),
+            (count, 1) => writeln!(errors, "ptpx: {count} {packets}, of which 1 has PTP"),
+            (count, lines) => writeln!(
+                errors,
+                "ptpx: {count} {packets}, of which {lines} have PTP"
+            ),
+        };
+    }
+}

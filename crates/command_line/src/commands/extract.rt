@@ -1,0 +1,79 @@
+//! `ptpx extract`: its options and its help.
+ghost use Rattle.std.specs.Prelude.{◌≡◌};
+ghost use Rattle.clap.specs.Matches.{found_of};
+ghost use Rattle.clap.specs.Walk.{rows_of};
+ghost use Rattle.command_line.specs.Commands.{extract_options_of};
+
+use crate::options::is_used;
+use crate::table::{OptionRow, SubcommandRow};
+use clap::ArgMatches;
+
+/// The options of `extract`.
+const OPTIONS: [OptionRow; 1] = [OptionRow {
+    name: "octets",
+    value: None,
+    about: "Write the octets alone, without times, as 'ptpx show' reads them",
+}];
+
+/// The row of `extract`.
+pub(crate) const ROW: SubcommandRow = SubcommandRow {
+    name: "extract",
+    about: "Print what the capture that standard input gives has of PTP, one datagram a line",
+    help: HELP,
+    options: &OPTIONS,
+};
+
+/// The options of `extract`.
+#[derive(Clone, Copy, Debug, PartialEq, Eq)]
+pub struct ExtractOptions {
+    /// Whether the octets are written alone, without times.
+    pub octets: bool,
+}
+
+/// The options that were met.
+pub(crate) fn extract_options(matches: &ArgMatches<'_>) -> ExtractOptions
+    ensures { result ≡ extract_options_of (rows_of (found_of matches.now)) }
+{
+    ExtractOptions {
+        octets: is_used(matches, "octets"),
+    }
+}
+
+/// What the help of `extract` says below its usage.
+const HELP: &str = "\
+Standard input is a capture: a pcap with times in microseconds or nanoseconds, in either order of octets.
+Standard output has a line for each packet that carries a datagram of PTP, before the next packet is
+read: the packet's time, a blank, and the datagram's octets in lower case hexadecimal. The time is seconds
+since the beginning of the capture's timescale, a point and nine decimals. The line
+  1795328934.357259633 0012002c00000200000000000000000000000000001122fffe334455000100010100...
+is cut short here. 'ptpx measure' reads such lines: 'ptpx extract < capture.pcap | ptpx measure'. With
+--octets time and blank are left away, as 'ptpx show' reads lines.
+
+PTP is what UDP carries to port 319 or 320, over IPv4 or IPv6, and what Ethernet carries in packets of
+type 0x88f7, behind any VLAN tags. Link types are Ethernet (1), Linux cooked captures (113, 276), raw IP
+(101, 228, 229) and loopbacks (0, 108). Of a datagram all is written that was captured of it, over Ethernet
+with what stands behind messageLength. IP that was cut in fragments isn't put together.
+
+At the end standard error tells how many packets there are, how many of them have PTP, and why others
+gave no line.
+
+Faults, each of which ends the run with 'ptpx: fault 1006 at octet 6300, after 41 packets: the capture
+ends within a packet or a block' on standard error. Octets count from 0, and what was written for the
+packets before stands.
+   801  the input can't be read
+   802  the output can't be written
+   808  memory was refused
+  1001  the input doesn't begin as a capture does
+  1002  the version of the capture isn't known
+  1003  the octets that tell the order of numbers are none
+  1004  a length can't be
+  1005  a packet is of an interface that wasn't described
+  1006  the capture ends within a packet or a block
+
+Exit statuses:
+  0  each packet was read
+  2  the arguments aren't a command
+  3  a fault
+
+Limits: of a packet the first 65536 octets are looked at, and a datagram of more than 2035 octets gives no
+line. There may be any number of packets, of any length.";

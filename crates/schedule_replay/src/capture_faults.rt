@@ -1,0 +1,53 @@
+//! How a fault of a capture is told.
+ghost use Rattle.std.specs.Prelude.{◌≡◌};
+
+use capture_file::{CaptureCause, CaptureFault, CaptureStop};
+use std::io::Write;
+use text_lines::{LineFault, Numbered, ReadingFault};
+
+/// What is wrong with a capture.
+fn words_of(fault: CaptureFault) -> &'static str {
+    match fault {
+        CaptureFault::NoCapture => "the input doesn't begin as a capture does",
+        CaptureFault::Version => "the version of the capture isn't known",
+        CaptureFault::ByteOrderMagic => "the octets that tell the order of numbers are none",
+        CaptureFault::Length => "a length can't be",
+        CaptureFault::Interface => "a packet is of an interface that wasn't described",
+        CaptureFault::CutOff => "the capture ends within a packet or a block",
+    }
+}
+
+/// The number of what stopped the reading of a capture.
+fn number_of(cause: CaptureCause<LineFault>) -> u16 {
+    match cause {
+        CaptureCause::Read => ReadingFault::Read.number(),
+        CaptureCause::Memory => LineFault::Memory.number(),
+        CaptureCause::Capture(fault) => fault.number(),
+        CaptureCause::Task(fault) => fault.number(),
+    }
+}
+
+/// Says a fault, and answers the exit status.
+pub(crate) fn report_capture<E: Write>(errors: &mut E, stop: CaptureStop<LineFault>) -> u8
+    ensures { result ≡ 3 }
+{
+    let CaptureStop {
+        packets,
+        octet,
+        what,
+    } = stop;
+    let number = number_of(what);
+    let name = if packets == 1 { "packet" } else { "packets" };
+    let _ = match what {
+        CaptureCause::Capture(fault) => writeln!(
+            errors,
+            "ptpx: fault {number} at octet {octet}, after {packets} {name}: {}",
+            words_of(fault)
+        ),
+        _ => writeln!(
+            errors,
+            "ptpx: fault {number} at octet {octet}, after {packets} {name}"
+        ),
+    };
+    3
+}

@@ -1,0 +1,96 @@
+"""Asks the reader and the program for a capture's lines, and says what is wrong with what they answer."""
+import collections
+import itertools
+import os
+import pathlib
+import re
+import subprocess
+import sys
+import tempfile
+import typing
+
+import reading
+
+TOP = pathlib.Path(__file__).resolve().parents[2]
+PROGRAM = None if '--reader' in sys.argv[1:] else os.environ.get('PTPX', TOP / 'crates/ptpx/out/ptpx')
+
+# With --pcap the program is asked for captures of that kind alone, and for no interface.
+PCAP_ALONE = '--pcap' in sys.argv[1:]
+
+FAULT = re.compile(rb'^ptpx: fault (\d+) at octet (\d+), after (\d+) packets?: .+\n', re.M)
+
+
+class Case(typing.NamedTuple):
+    """A capture, and what is owed for it where its maker knows: times and datagrams with the fault, and what became of its packets."""
+    octets: bytes
+    told: list | None = None
+    counts: dict | None = None
+    fault: tuple | None = None
+    interface: str | None = None
+    is_timed: bool = True
+
+
+def is_asked(case):
+    """Whether the program is asked for a case."""
+    return PROGRAM and not (PCAP_ALONE and (case.octets[:4] == reading.SECTION_TYPE or case.interface is not None))
+
+
+def misread(case, answer):
+    """What is wrong with the reader's answer, in words."""
+    if case.told is not None and (answer.datagrams, answer.fault) != (case.told, case.fault):
+        yield f'the reader has {len(answer.datagrams)} lines, fault {answer.fault}, and {len(case.told)} lines, fault {case.fault} are owed'
+    if case.counts is not None and answer.counts != case.counts:
+        yield f'the reader counts {dict(answer.counts)}, and {dict(case.counts)} were put in'
+
+
+def misanswered(case, answer):
+    """What is wrong with the program's answer, in words."""
+    options = ([] if case.is_timed else ['--octets']) + ([] if case.interface is None else ['--interface', case.interface.encode()])
+    ended = subprocess.run([PROGRAM, 'extract', *options], input=case.octets, capture_output=True, timeout=60)
+    owed = answer.text(case.is_timed)
+    if ended.stdout != owed:
+        yield difference(ended.stdout, owed)
+    if ended.returncode != (3 if answer.fault else 0):
+        yield f'status {ended.returncode}'
+    faults = [tuple(int(number) for number in it) for it in FAULT.findall(ended.stderr)]
+    if faults != ([answer.fault] if answer.fault else []):
+        yield f'standard error has {ended.stderr[:300]!r}, and the fault is {answer.fault}'
+
+
+def difference(written, owed):
+    """Where two texts differ first."""
+    pairs = enumerate(itertools.zip_longest(written.split(b'\n'), owed.split(b'\n')), 1)
+    place, (one, other) = next((place, pair) for place, pair in pairs if pair[0] != pair[1])
+    said = ['nothing' if line is None else repr(line[:200]) for line in (one, other)]
+    return f'line {place} is {said[0]}, and {said[1]} is owed'
+
+
+def answers(case):
+    """What is wrong with the answers to a case, in words, and what was seen."""
+    answer = reading.read(case.octets, None if case.interface is None else case.interface.encode())
+    wrong = list(misread(case, answer))
+    if is_asked(case) and not wrong:
+        wrong = list(misanswered(case, answer))
+    seen = collections.Counter(answer.counts)
+    seen[f'fault {answer.fault[0]}' if answer.fault else 'no fault'] += 1
+    return wrong, seen
+
+
+def fail(text, octets=None):
+    """Ends with what is wrong, and keeps the capture."""
+    if octets is not None:
+        with tempfile.NamedTemporaryFile(prefix='capture-', delete=False) as file:
+            file.write(octets)
+        text += f'; the capture is {file.name}'
+    raise SystemExit(f'captures: {text}')
+
+
+def see(name, case):
+    """Ends where the answers to a case are wrong. Else answers what was seen."""
+    try:
+        wrong, seen = answers(case)
+    except subprocess.TimeoutExpired:
+        wrong, seen = ['no end within a minute'], None
+    if wrong:
+        fail(f'{name}: {"; ".join(wrong)}', case.octets)
+    return seen

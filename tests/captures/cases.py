@@ -1,0 +1,86 @@
+"""Cases by kind and number, which a process makes that is given these alone."""
+import functools
+import random
+
+import bending
+import made
+import making
+from asking import Case
+from making import SECOND
+
+# How many headers a capture has that are bent.
+BENT = 400
+
+
+def case_made(number):
+    """A capture of some form; one in four at one interface, one in four without times."""
+    capture, rng = made.capture(number), random.Random(f'case {number}')
+    octets, kind = bytes(capture.octets), rng.randrange(4)
+    names = [name for _, name in capture.named]
+    # a name at two places, in two sections, is that of two interfaces
+    single = sorted(name for name in names if names.count(name) == 1)
+    if kind == 0 and single:
+        name = rng.choice(single)
+        return Case(octets, capture.lines(name), interface=name)
+    return Case(octets, capture.lines(), capture.counts, is_timed=kind != 1)
+
+
+# What the small captures have at their interfaces: a frame, and a packet of whose datagram the snap length leaves two octets.
+FRAME = making.ethernet(making.bare(b'\xca\xfe'), making.PTP)
+CUT = making.cooked(making.ipv4(making.udp(making.bare(b'\xbe\xef\0'))), making.IPV4), 46
+
+
+def small_pcap(order, unit):
+    capture = making.Pcap(order, unit)
+    for time in (0, 1000 * SECOND + 1000, SECOND):
+        capture.packet(time, FRAME)
+    return capture
+
+
+def small_pcapng(order, other_order):
+    """All blocks that have a number or say something, with options, and two sections."""
+    capture = making.Pcapng(order)
+    capture.section(options=[(4, b'made')])
+    capture.interface(name='eth0', clock=making.Clock(9, 5), before=[(1, b'')], after_end=bytes(4))
+    capture.enhanced(0, 6 * SECOND, FRAME, options=[(2, bytes(4))])
+    capture.other(5, bytes(4))
+    capture.interface(making.COOKED)
+    capture.simple(FRAME)
+    capture.old(0, FRAME)
+    capture.enhanced(1, 7 * SECOND, *CUT)
+    capture.section(other_order)
+    capture.interface()
+    capture.enhanced(0, 8 * SECOND, FRAME)
+    return capture
+
+
+SMALL = [small_pcap('little', 1000), small_pcap('big', 1), small_pcapng('little', 'big'), small_pcapng('big', 'little')]
+
+
+def cut(capture, size):
+    """So many octets of a capture."""
+    end, packets, lines = max(it for it in [(0, 0, 0), *capture.ends] if it[0] <= size)
+    fault = (1001, 0, 0) if size < 4 else (1006, end, packets) if size != end else None
+    return Case(bytes(capture.octets[:size]), capture.lines()[:lines], fault=fault)
+
+
+@functools.cache
+def cuts():
+    """Each small capture with each number of its octets."""
+    return [cut(capture, size) for capture in SMALL for size in range(len(capture.octets) + 1)]
+
+
+@functools.cache
+def lengths():
+    """Each small capture with other values for each of its lengths."""
+    return [Case(octets) for capture in SMALL for octets in bending.all_lengths(capture)]
+
+
+# Of each kind how a case is made of its number, and how many there are.
+KINDS = {
+    'made': (case_made, lambda: 600),
+    'cut': (lambda number: cuts()[number], lambda: len(cuts())),
+    'with another length': (lambda number: lengths()[number], lambda: len(lengths())),
+    'bent': (lambda number: Case(bending.bent(number)), lambda: 10_000),
+    f'of {BENT} bent packets each': (lambda number: Case(bending.bent_packets(number, BENT)), lambda: 100),
+}
