@@ -3,7 +3,7 @@ ghost use Rattle.std.specs.Prelude.{◌≡◌, ◌≤◌, length, MatchResult};
 ghost use Rattle.text_lines.specs.Counted.{device_of, HasFailedIf, HasNotFailed};
 ghost use Rattle.text_lines.specs.Fault.{is_write};
 ghost use Rattle.capture_file.specs.Task.{FailedAt};
-ghost use Rattle.capture_file.specs.Inner.Reading.{packet_of};
+ghost use Rattle.capture_file.specs.Packet.{packet_of};
 ghost use Rattle.capture_frame.specs.Found.{datagram_limit};
 ghost use Rattle.capture_extract.specs.Line.{line_text};
 ghost use Rattle.capture_extract.specs.Extracted.{ExtractsAnswer, extract_rules};

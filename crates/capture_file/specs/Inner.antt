@@ -1,3 +1,4 @@
+pub mod Fault
 pub mod Octets
 pub mod Front
 pub mod Clock

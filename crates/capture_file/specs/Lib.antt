@@ -7,6 +7,5 @@ pub mod Options
 pub mod Section
 pub mod Parts
 pub mod Wrong
-pub mod Fault
 pub mod Task
 pub mod Inner

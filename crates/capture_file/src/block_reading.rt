@@ -8,7 +8,8 @@ ghost use Rattle.capture_file.specs.Order.{number32};
 ghost use Rattle.capture_file.specs.Packet.{packet_at};
 ghost use Rattle.capture_file.specs.Inner.Front.{front_of, name_of};
 ghost use Rattle.capture_file.specs.Inner.Section.{section_in, described_in};
-ghost use Rattle.capture_file.specs.Inner.Reading.{packet_of, IsBlockHead, ReadsBlock, ReadsBlockHead, ReadsPart, FailedIn};
+ghost use Rattle.capture_file.specs.Inner.Reading.{IsBlockHead, ReadsBlock, ReadsBlockHead, ReadsPart, FailedIn};
+ghost use Rattle.capture_file.specs.Packet.{packet_of};
 ghost use Rattle.capture_file.specs.Parts as parts;
 
 use crate::block::{

@@ -1,7 +1,7 @@
 //! Faults of a capture, and what stops the answering of its packets.
 ghost use Rattle.std.specs.Prelude.{◌≡◌};
 ghost use Rattle.text_lines.specs.Fault.{no_refusal};
-ghost use Rattle.capture_file.specs.Fault.{fault_number};
+ghost use Rattle.capture_file.specs.Inner.Fault.{fault_number};
 
 use text_lines::Numbered;
 

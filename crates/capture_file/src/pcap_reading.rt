@@ -8,7 +8,8 @@ ghost use Rattle.capture_file.specs.Pcap.{unit_of, pcap_time, pcap_interface};
 ghost use Rattle.std.specs.Io.KnownBytes.{prepend_known};
 ghost use Rattle.capture_file.specs.Inner.Front.{front_of};
 ghost use Rattle.capture_file.specs.Inner.Octets.{Fills};
-ghost use Rattle.capture_file.specs.Inner.Reading.{packet_of, pcap_of, ReadsHead, ReadsPacketHead, ReadsPart, PassesRest, FailedIn};
+ghost use Rattle.capture_file.specs.Inner.Reading.{pcap_of, ReadsHead, ReadsPacketHead, ReadsPart, PassesRest, FailedIn};
+ghost use Rattle.capture_file.specs.Packet.{packet_of};
 
 use crate::fault::CaptureFault;
 use crate::front::Front;

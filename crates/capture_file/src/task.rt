@@ -5,7 +5,8 @@ ghost use Rattle.std.specs.Io.KnownBytes.{Appends};
 ghost use Rattle.text_lines.specs.Counted.{device_of, HasNotFailed, HasFailedIf};
 ghost use Rattle.text_lines.specs.Task.{WentOut};
 ghost use Rattle.capture_file.specs.Task.{PacketRules, Answers, FailedAt, is_of_writer};
-ghost use Rattle.capture_file.specs.Inner.Reading.{packet_of, packet_in};
+ghost use Rattle.capture_file.specs.Inner.Reading.{packet_in};
+ghost use Rattle.capture_file.specs.Packet.{packet_of};
 ghost use Rattle.capture_file.specs.Inner.Taking.{IsBehind, TakesPart, StopsTaking};
 
 use crate::fault::{CaptureCause, CaptureStop};

@@ -20,23 +20,13 @@ use Rattle.capture_file.specs.Pcapng.{BeginsSection, IsSection, is_length_of}
 use Rattle.capture_file.specs.Section.{SectionOf}
 use Rattle.capture_file.specs.Inner.Section.{section_in}
 use Rattle.capture_file.specs.declared.reader.Form.TheVariants as readers
-use Rattle.capture_file.specs.Packet.{InterfaceOf, PacketOf, Captured, Timeless, Simple}
+use Rattle.capture_file.specs.Packet.{PacketOf, packet_of}
 use Rattle.capture_file.specs.Order.{number32}
 use Rattle.capture_file.specs.declared.order.ByteOrder.{ByteOrder}
 use Rattle.capture_file.specs.Pcap.{PcapOf, unit_of, IsPcapHead}
 use Rattle.capture_file.specs.Parts.{Form, Start, Pcap, Section, IsPart}
 use Rattle.capture_file.specs.Wrong.{IsFault, IsSectionFault, IsBlockFault}
 use Rattle.capture_file.specs.Inner.Octets.{Fills}
-
--- an interface without where its name lies in memory
-abbrev pub interface_of : Interface → InterfaceOf
-interface_of interface = record { place = interface.place; name = option_map (λ name. name.now) interface.name }
-
--- a packet without where its octets lie in memory
-abbrev pub packet_of : Packet → PacketOf
-packet_of (packets.Captured p) = Captured (interface_of p.interface) p.time p.link p.octets.now
-packet_of packets.Timeless = Timeless
-packet_of packets.Simple = Simple
 
 -- the packet that a part is, if it is one
 abbrev pub packet_in : Part → Option PacketOf

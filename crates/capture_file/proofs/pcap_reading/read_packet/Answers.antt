@@ -3,7 +3,8 @@ use Rattle.std.proofs.Common.{length-append}
 use Rattle.std.proofs.KnownBytes.{Consumes-trans}
 use Rattle.capture_file.specs.Order.{number32}
 use Rattle.capture_file.specs.Inner.Front.{front_of}
-use Rattle.capture_file.specs.Inner.Reading.{pcap_of, packet_of}
+use Rattle.capture_file.specs.Inner.Reading.{pcap_of}
+use Rattle.capture_file.specs.Packet.{packet_of}
 use Rattle.capture_file.proofs.Fronts.{number32_front}
 use Rattle.capture_file.proofs.Packets.{head_is, packet_stops, rest_stops, reads_no_part, is_packet}
 use Rattle.capture_file.proofs.pcap_reading.read_packet.Goals as goal
