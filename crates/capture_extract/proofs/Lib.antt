@@ -1,3 +1,4 @@
 pub mod Taking
 pub mod Nothing
 pub mod Lines
+pub mod Worked
