@@ -29,7 +29,7 @@ least_of kind =
     if kind == section_type then 28
     else if kind == description_type then 20
     else if kind == simple_packet_type then 16
-    else if kind == old_packet_type || kind == enhanced_packet_type then 32
+    else if kind == enhanced_packet_type then 32
     else 12
 
 -- a total length that a block of a type may have

@@ -27,7 +27,7 @@ pub(crate) fn least_of(kind: u32) -> u32
         SECTION => 28,
         DESCRIPTION => 20,
         SIMPLE_PACKET => 16,
-        OLD_PACKET | ENHANCED_PACKET => 32,
+        ENHANCED_PACKET => 32,
         _ => 12,
     }
 }
