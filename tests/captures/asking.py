@@ -14,7 +14,7 @@ import reading
 TOP = pathlib.Path(__file__).resolve().parents[2]
 PROGRAM = None if '--reader' in sys.argv[1:] else os.environ.get('PTPX', TOP / 'crates/ptpx/out/ptpx')
 
-# With --pcap the program is asked for captures of that kind alone, and for no interface.
+# With --pcap the program is asked for captures of that kind alone.
 PCAP_ALONE = '--pcap' in sys.argv[1:]
 
 FAULT = re.compile(rb'^ptpx: fault (\d+) at octet (\d+), after (\d+) packets?: .+\n', re.M)
@@ -31,8 +31,8 @@ class Case(typing.NamedTuple):
 
 
 def is_asked(case):
-    """Whether the program is asked for a case."""
-    return PROGRAM and not (PCAP_ALONE and (case.octets[:4] == reading.SECTION_TYPE or case.interface is not None))
+    """Whether the program is asked for a case. It has no option for an interface yet."""
+    return PROGRAM and case.interface is None and not (PCAP_ALONE and case.octets[:4] == reading.SECTION_TYPE)
 
 
 def misread(case, answer):
