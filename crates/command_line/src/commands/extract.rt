@@ -42,9 +42,10 @@ pub(crate) fn extract_options(matches: &ArgMatches<'_>) -> ExtractOptions
 /// What the help of `extract` says below its usage.
 const HELP: &str = "\
 Standard input is a capture: a pcap, with times in microseconds or nanoseconds, or a pcapng, with any
-sections and interfaces. Standard output has a line for each packet that carries a datagram of PTP, before the
-next packet is read: the packet's time, a blank, and the datagram's octets in lower case hexadecimal. The
-time is seconds since the beginning of the capture's timescale, a point and nine decimals. The line
+sections and interfaces. Standard output has a line for each packet that carries a datagram of PTP,
+before the next packet is read: the packet's time, a blank, and the datagram's octets in lower case
+hexadecimal. The time is seconds since the beginning of the capture's timescale, a point and nine
+decimals. The line
   1795328934.357259633 0012002c00000200000000000000000000000000001122fffe334455000100010100...
 is cut short here. 'ptpx measure' reads such lines: 'ptpx extract < capture.pcap | ptpx measure'. With
 --octets time and blank are left away, as 'ptpx show' reads lines.
