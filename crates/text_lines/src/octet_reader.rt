@@ -1,4 +1,4 @@
-ghost use Rattle.std.specs.Prelude.{◌≡◌, ◌≢◌, ◌<◌, ◌≤◌, [], ◌∷◌, OnOk, IsOk};
+ghost use Rattle.std.specs.Prelude.{◌≡◌, ◌≢◌, ◌<◌, ◌≤◌, ◌-◌, min, [], ◌∷◌, length, take, OnOk, IsOk};
 ghost use Rattle.std.specs.Io.{ReadsAtMost};
 ghost use Rattle.std.specs.Io.KnownBytes.{Consumes, IsAtEnd, Keeps, ReadConsumes};
 
@@ -8,8 +8,8 @@ use std::io::Read;
 /// How many octets are asked for at once.
 const CAPACITY: usize = 8192;
 
-/// A reader that asks its source for many octets at once and gives them out one at a time, for
-/// callers that read octet by octet: of a longer buffer only the first octet is filled.
+/// A reader that asks its source for many octets at once, for callers that read octet by octet. A
+/// longer buffer is filled with as many octets as were read ahead.
 #[derive(Drop)]
 pub struct OctetReader<R> {
     source: R,
@@ -63,6 +63,19 @@ impl<R: Read> OctetReader<R> {
         self.next += 1;
         octet
     }
+
+    /// Fills the buffer with octets that were read ahead, as far as it has room and there are any. Answers how many.
+    fn next_octets(&mut self, buf: &mut [u8]) -> usize
+        ensures count { result ≡ min (length buf.old) (self.old.end - self.old.next) }
+        ensures bytes { Consumes (remaining_of R.remaining self.old) (remaining_of R.remaining self.new)
+            (take result buf.new) }
+        ensures source { source_of self.new ≡ source_of self.old }
+    {
+        let count = buf.len().min(self.end - self.next);
+        buf[..count].copy_from_slice(&self.octets[self.next..self.next + count]);
+        self.next += count;
+        count
+    }
 }
 
 impl<R: Read> Read for OctetReader<R> {
@@ -70,7 +83,8 @@ impl<R: Read> Read for OctetReader<R> {
 
     ghost remaining = { remaining_of R.remaining };
 
-    /// Gives the next octet. The source is asked only where none is left, and so an error comes only then.
+    /// Gives as many of the next octets as the buffer has room for and were read ahead. The source is asked, once, only
+    /// where none was, and so an error comes only then.
     fn read(&mut self, buf: &mut [u8]) -> io::Result<usize>
         ensures bound { ReadsAtMost result buf.new }
         ensures bytes { ReadConsumes (remaining_of R.remaining self.old) (remaining_of R.remaining self.new)
@@ -78,16 +92,21 @@ impl<R: Read> Read for OctetReader<R> {
         ensures ahead { ahead_of self.old ≢ [] → source_of self.new ≡ source_of self.old }
         ensures given { ahead_of self.old ≢ [] → IsOk result }
     {
-        let Some(room) = buf.first_mut() else {
-            return Ok(0);
-        };
         if self.next == self.end {
+            if buf.is_empty() {
+                return Ok(0);
+            }
             self.fill()?;
             if self.next == self.end {
                 return Ok(0);
             }
         }
-        *room = self.next_octet();
-        Ok(1)
+        match buf {
+            [room] => {
+                *room = self.next_octet();
+                Ok(1)
+            }
+            _ => Ok(self.next_octets(buf)),
+        }
     }
 }
