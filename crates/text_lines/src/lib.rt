@@ -17,5 +17,5 @@ pub use line_fault::LineFault;
 pub use lines::{LINE_LIMIT, LINES_LIMIT};
 pub use numbered::Numbered;
 pub use octet_reader::OctetReader;
-pub use task::{LineTask, answer_lines};
+pub use task::{LineTask, answer_lines, answer_lines_behind};
 pub use writing::{WriteFailed, write_octets, write_text};

@@ -1,7 +1,7 @@
-ghost use Rattle.std.specs.Prelude.{◌≡◌, ℕ, List, false, IsTrue, ◌+◌, ◌≤◌, ◌<◌, if◌then◌else◌, [], ◌∷◌, IfOk};
+ghost use Rattle.std.specs.Prelude.{◌≡◌, ◌≢◌, All, ℕ, List, false, IsTrue, ◌+◌, ◌≤◌, ◌<◌, if◌then◌else◌, [], ◌∷◌, IfOk};
 ghost use Rattle.std.specs.Prelude.{MatchResult, MatchOption, length, take};
 ghost use Rattle.std.specs.Option.{ForSome};
-ghost use Rattle.std.specs.Io.KnownBytes.{Consumes, IsAtEnd, Keeps};
+ghost use Rattle.std.specs.Io.KnownBytes.{Consumes, IsAtEnd, Keeps, prepend_known};
 ghost use Rattle.text_lines.specs.Counted.{device_of, greatest_count, HasFailed, HasNotFailed};
 ghost use Rattle.text_lines.specs.Lines.{line_limit, room_of, without_cr, GivesWithin};
 ghost use Rattle.text_lines.specs.Inner.Reading.{ReadsLine};
@@ -25,12 +25,18 @@ pub(crate) struct Lines {
     octets: [u8; LINE_LIMIT],
     /// How many of the octets are the line.
     size: usize,
+    /// How many of the octets begin the next line; they were read before.
+    begun: usize,
     count: u64,
     limit: u64,
     ended: bool,
     ghost fits: { size ≤ 4096 },
     ghost within: { count ≤ limit },
     ghost counted: { limit < greatest_count },
+    ghost start_fits: { begun ≤ 4096 },
+    ghost unended: { All (λ x. x ≢ 10) (take begun octets) },
+    ghost allowed: { 0 < begun → count < limit },
+    ghost before_end: { 0 < begun → ended ≡ false },
 }
 
 /// The next octet, or None at the end of the input.
@@ -56,16 +62,24 @@ fn read_octet<R: Read>(input: &mut Counted<R>) -> Result<Option<u8>, ReadingFaul
 }
 
 impl Lines {
-    /// No line was read yet, of at most so many.
-    pub(crate) fn new(limit: u64) -> Lines
-        requires { limit < greatest_count }
+    /// No line was read yet, of at most so many, but this start of the first.
+    pub(crate) fn new(start: &[u8], limit: u64) -> Lines
+        requires counted { limit < greatest_count }
+        requires within { length start.now ≤ line_limit }
+        requires unended { All (λ x. x ≢ 10) start.now }
+        requires allowed { 0 < length start.now → 0 < limit }
+        ensures start { take result.begun result.octets ≡ start.now }
         ensures count { result.count ≡ 0 }
         ensures limit { result.limit ≡ limit }
         ensures ended { result.ended ≡ false }
     {
+        let begun = start.len();
+        let mut octets = [0; LINE_LIMIT];
+        octets[..begun].copy_from_slice(start);
         Lines {
-            octets: [0; LINE_LIMIT],
+            octets,
             size: 0,
+            begun,
             count: 0,
             limit,
             ended: false,
@@ -90,16 +104,16 @@ impl Lines {
         }
     }
 
-    /// Reads the next line, and answers whether there was one. A fault stands at that line, which
-    /// is partly read then; no more than one octet after the limits is read. Once the input ended in
-    /// place of an LF, the reader isn't asked again; after the LF of the last line that is allowed,
-    /// each call asks it for the end.
+    /// Reads the next line, behind what was read of it before, and answers whether there was one. A
+    /// fault stands at that line, which is partly read then; no more than one octet after the limits
+    /// is read. Once the input ended in place of an LF, the reader isn't asked again; after the LF of
+    /// the last line that is allowed, each call asks it for the end.
     pub(crate) fn read_next<R: Read>(
         &mut self,
         input: &mut Counted<R>,
     ) -> Result<bool, Stopped<ReadingFault>>
         requires { IsTrue self.old.ended → IsAtEnd (R.remaining (device_of input.old)) }
-        ensures next { ForSome (R.remaining (device_of input.old)) (λ octets.
+        ensures next { ForSome (prepend_known (take self.old.begun self.old.octets) (R.remaining (device_of input.old))) (λ octets.
             let left = R.remaining (device_of input.new) in
             MatchResult result
             (λ found. ReadsLine found self.old.limit (self.old.count + 1) (take self.new.size self.new.octets) self.new.ended octets left)
@@ -107,6 +121,7 @@ impl Lines {
         ensures count { MatchResult result
             (λ found. self.new.count ≡ (if found then self.old.count + 1 else self.old.count))
             (λ stop. stop.line ≡ self.old.count + 1) }
+        ensures begun { self.new.begun ≡ 0 }
         ensures limit { self.new.limit ≡ self.old.limit }
         ensures ended { IsTrue self.new.ended → IsAtEnd (R.remaining (device_of input.new)) }
         ensures before_end { MatchResult result
@@ -137,12 +152,13 @@ impl Lines {
     fn read_line<R: Read>(&mut self, input: &mut Counted<R>) -> Result<bool, ReadingFault>
         requires within { self.old.count < self.old.limit }
         requires before_end { self.old.ended ≡ false }
-        ensures next { ForSome (R.remaining (device_of input.old)) (λ octets.
+        ensures next { ForSome (prepend_known (take self.old.begun self.old.octets) (R.remaining (device_of input.old))) (λ octets.
             let left = R.remaining (device_of input.new) in
             MatchResult result
             (λ found. ReadsLine found self.old.limit (self.old.count + 1) (take self.new.size self.new.octets) self.new.ended octets left)
             (λ kind. StopsReading kind self.old.limit (self.old.count + 1) octets left)) }
         ensures count { self.new.count ≡ self.old.count }
+        ensures begun { self.new.begun ≡ 0 }
         ensures limit { self.new.limit ≡ self.old.limit }
         ensures ended { IsTrue self.new.ended → IsAtEnd (R.remaining (device_of input.new)) }
         ensures given { GivesWithin R.remaining (line_limit + 1) input.old input.new }
@@ -150,7 +166,9 @@ impl Lines {
             (λ _. HasNotFailed input.old input.new)
             (λ kind. IsFromReading kind input.old input.new) }
     {
-        let (size, stop) = input.read_octets(&mut self.octets);
+        let begun = self.begun;
+        self.begun = 0;
+        let (size, stop) = input.read_octets(&mut self.octets, begun);
         self.size = size;
         match stop {
             Stop::LineFeed => Ok(true),

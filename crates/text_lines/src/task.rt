@@ -1,4 +1,4 @@
-ghost use Rattle.std.specs.Prelude.{◌≡◌, ◌≤◌, ◌<◌, List, ℕ, length, MatchResult};
+ghost use Rattle.std.specs.Prelude.{◌≡◌, ◌≢◌, ◌≤◌, ◌<◌, ◌++◌, All, List, ℕ, length, MatchResult};
 ghost use Rattle.std.specs.Option.{ForSome};
 ghost use Rattle.std.specs.Io.KnownBytes.{Appends};
 ghost use Rattle.text_lines.specs.Counted.{device_of, greatest_count, HasNotFailed, HasFailedIf};
@@ -85,7 +85,32 @@ pub fn answer_lines<T: LineTask, R: Read, W: Write>(
         (λ _. HasNotFailed input.old input.new × HasNotFailed output.old output.new)
         (λ stop. FailedAt T.rules stop.what input.old input.new output.old output.new) }
 {
-    let mut lines = Lines::new(T::lines_limit());
+    answer_lines_behind(&[], task, input, output)
+}
+
+/// Takes all lines of octets that were read already, at most 4096 and none an LF, and of the input
+/// behind them, in turn, and ends after the last. A line is taken before the next one is read. The
+/// task is left as its calls left it.
+pub fn answer_lines_behind<T: LineTask, R: Read, W: Write>(
+    start: &[u8],
+    task: &mut T,
+    input: &mut Counted<R>,
+    output: &mut Counted<W>,
+) -> Result<T::Answer, Stopped<Cause<T::Fault>>>
+    requires stands { (state : T.State) × T.is_at task.old state }
+    requires unended { All (λ x. x ≢ 10) start.now }
+    requires within { length start.now ≤ line_limit }
+    requires allowed { 0 < length start.now → 0 < T.rules.lines_limit }
+    ensures answered { (state : T.State) → T.is_at task.old state → ForSome (R.remaining (device_of input.old)) (λ octets.
+        Answers T.rules state (start.now ++ octets) (R.remaining (device_of input.new))
+        (W.contents (device_of output.old)) (W.contents (device_of output.new)) result) }
+    // Of any reader only so much is read, whatever the writer is.
+    ensures bounded { GivesWithin R.remaining (input_limit T.rules.lines_limit) input.old input.new }
+    ensures failures { MatchResult result
+        (λ _. HasNotFailed input.old input.new × HasNotFailed output.old output.new)
+        (λ stop. FailedAt T.rules stop.what input.old input.new output.old output.new) }
+{
+    let mut lines = Lines::new(start, T::lines_limit());
     loop {
         match lines.read_next(input) {
             Ok(true) => {

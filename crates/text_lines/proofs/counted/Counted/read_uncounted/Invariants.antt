@@ -1,6 +1,6 @@
 -- What was read is in the line, no LF is, and no read failed.
 use Rattle.std.proofs.Common.{◌≡◌, ◌-◌, ◌≤◌, length, take}
-use Rattle.std.specs.Io.KnownBytes.{Consumes}
+use Rattle.std.specs.Io.KnownBytes.{Consumes, prepend_known}
 use Rattle.text_lines.specs.Counted.{device_of, given_of, HasNotFailed}
 use Rattle.text_lines.specs.Lines.{line_limit}
 use Rattle.text_lines.specs.Inner.Reading.{IsUnended}
@@ -8,8 +8,9 @@ use Rattle.text_lines.proofs.counted.Counted.read_uncounted.Given as goal
 
 abbrev pub invariant-loop-room : goal.invariant-loop-room
 invariant-loop-room g l = record {
-  read : Consumes (g.R.Read.remaining (device_of l.initial.self)) (g.R.Read.remaining (device_of l.self)) (take l.count l.room);
+  read : Consumes (prepend_known (take l.begun l.initial.room) (g.R.Read.remaining (device_of l.initial.self))) (g.R.Read.remaining (device_of l.self)) (take l.count l.room);
   unended : IsUnended (take l.count l.room);
+  begun : l.begun ≤ l.count;
   within : l.count ≤ line_limit;
   octet : length l.octet ≡ 1;
   room : length l.room ≡ 4096;

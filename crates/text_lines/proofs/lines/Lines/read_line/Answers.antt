@@ -1,4 +1,5 @@
 use Rattle.std.proofs.Common.{rules}
+use Rattle.text_lines.proofs.Bounds.{gives_line}
 use Rattle.text_lines.proofs.Reading.{line_ended, line_last, line_too_long, line_failed}
 use Rattle.text_lines.proofs.lines.Lines.read_line.Goals as goal
 
@@ -23,3 +24,18 @@ pub returns-in-Failed-clause-next : goal.returns-in-Failed-clause-next
 returns-in-Failed-clause-next g c = λ octets known.
     let read = c.read_octets-size.ensures in
     line_failed _ _ _ _ _ octets (rw c.in-Failed.is at read.stop) read.unended (search rules) c.requires.within known
+
+pub returns-in-LineFeed-clause-given : goal.returns-in-LineFeed-clause-given
+returns-in-LineFeed-clause-given g c =
+    let read = c.read_octets-size.ensures in
+    gives_line _ _ _ _ _ _ _ read.stop (search rules) (search rules) (search rules) read.given
+
+pub returns-in-TooLong-clause-given : goal.returns-in-TooLong-clause-given
+returns-in-TooLong-clause-given g c =
+    let read = c.read_octets-size.ensures in
+    gives_line _ _ _ _ _ _ _ read.stop (search rules) (search rules) (search rules) read.given
+
+pub returns-in-Failed-clause-given : goal.returns-in-Failed-clause-given
+returns-in-Failed-clause-given g c =
+    let read = c.read_octets-size.ensures in
+    gives_line _ _ _ _ _ _ _ read.stop (search rules) (search rules) (search rules) read.given
