@@ -270,9 +270,9 @@ undescribed a b s total octets i least none = (
 )
 
 -- captured octets that don't fit
-pub does_not_fit : (a b : Option (List ℕ)) (s : SectionOf) (total : ℕ) (octets : List ℕ) → IsInBlock a b s enhanced_packet_type total octets → 24 ≤ length octets
-    → total < 32 + padded (number32 s.order octets 20) → StopsBy (IsBlockFault s) (Fault Length 20) a b
-does_not_fit a b s total octets i least long = (
+pub does_not_fit : (a b : Option (List ℕ)) (s : SectionOf) (total : ℕ) (octets : List ℕ) (d : DescriptionOf) → IsInBlock a b s enhanced_packet_type total octets → 24 ≤ length octets
+    → slice_get s.interfaces (number32 s.order octets 8) ≡ Some d → total < 32 + padded (number32 s.order octets 20) → StopsBy (IsBlockFault s) (Fault Length 20) a b
+does_not_fit a b s total octets d i least found long = (
   (octets, i.read),
   λ all known.
       let (rest, left, split) = Consumes-known a b octets all i.read known in
@@ -281,6 +281,7 @@ does_not_fit a b s total octets i least long = (
       rw split (inr (inl (
         begun_of a b s enhanced_packet_type total octets rest i,
         rw (length-append octets rest) (omega (arith, least)),
+        (d, ap (slice_get s.interfaces) (number32_front s.order octets rest 8 (omega (arith, least))) ∙ found),
         rw (captured, whole) long,
         refl,
       ))),

@@ -52,11 +52,18 @@ AreFirst order left octets (option ∷ earlier) left' rest =
     × IsOption order before option behind × (left' + option_length option ≡ before)
     × (rest ≡ drop (option_length option) behind)
 
--- no option is looked at any more: none is left, or one of code 0 ends them, or the next isn't there whole
+-- the next option isn't there whole, though it fits and has the length that it has to have
+pub record IsCutOption (order : ByteOrder) (left : ℕ) (octets : List ℕ) : Type 0 where
+  pub head : 4 ≤ length octets
+  pub fits : 4 + padded (number16 order octets 2) ≤ left
+  pub size_fits : is_size_of (number16 order octets 0) (number16 order octets 2) ≡ true
+  pub cut : length octets < 4 + padded (number16 order octets 2)
+
+-- no option is looked at any more: none is left, or its head isn't there, or one of code 0 ends them, or the next is cut
 abbrev pub EndsOptions : ByteOrder → (left : ℕ) → List ℕ → Type 0
 EndsOptions order left octets =
     (left ≡ 0) ⊎ ((length octets < 4)
-    ⊎ ((number16 order octets 0 ≡ 0) ⊎ (length octets < 4 + padded (number16 order octets 2))))
+    ⊎ (((4 ≤ length octets) × (number16 order octets 0 ≡ 0)) ⊎ IsCutOption order left octets))
 
 -- these are the options
 abbrev pub AreOptions : ByteOrder → (left : ℕ) → List OptionOf → List ℕ → Type 0

@@ -105,6 +105,8 @@ HasWrongLength section octets place =
     ((8 ≤ length octets) × (BeginsSection octets → ⊥)
     × (is_length_of (kind_of section.order octets) (total_of section.order octets) ≡ false) × (place ≡ 4))
     ⊎ ((IsBegun section.order enhanced_packet_type octets × (24 ≤ length octets)
+    × ((interface : DescriptionOf)
+    × (slice_get section.interfaces (number32 section.order octets 8) ≡ Some interface))
     × (total_of section.order octets < 32 + padded (number32 section.order octets 20)) × (place ≡ 20))
     ⊎ ((IsBegun section.order description_type octets × (16 ≤ length octets) × (within : ℕ)
     × HasWrongOption section.order (total_of section.order octets - 20)

@@ -56,7 +56,7 @@ returns-then-from-padded-clause-block g c =
     let next-2 = in_block_filled _ _ _ s enhanced_packet_type total _ _ next fills-2 in
     let found-2 = found_more _ _ s (front_of c.want.new.self) (front_of c.want-2.new.self) d (omega (arith, size)) fills-2 found in
     let long : total < 32 + padded (number32 s.order (front_of c.want-2.new.self) 20) = search rules in
-    does_not_fit _ _ s total (front_of c.want-2.new.self) next-2 (omega (arith, size-2)) long
+    does_not_fit _ _ s total (front_of c.want-2.new.self) d next-2 (omega (arith, size-2)) found-2 long
 
 pub returns-in_err-want-3-clause-block : goal.returns-in_err-want-3-clause-block
 returns-in_err-want-3-clause-block g c =
