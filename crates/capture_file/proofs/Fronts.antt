@@ -1,5 +1,5 @@
 -- Octets in front of others, and numbers in them.
-use Rattle.std.proofs.Common.{◌≡◌, ℕ, ◌+◌, ◌-◌, ◌≤◌, List, [], ◌++◌, length, take, drop, sym, ap, ◌∙◌, arith, Option, Some, None, refl, subst, append-nil}
+use Rattle.std.proofs.Common.{◌≡◌, ℕ, ◌+◌, ◌-◌, ◌≤◌, List, [], ◌++◌, length, take, drop, sym, ap, ◌∙◌, arith, Bool, Option, Some, None, Ok, refl, subst, append-nil}
 use Rattle.std.specs.Prelude.{slice_range}
 use Rattle.std.proofs.lemmas.List.{take-append-le, drop-append-le, length-drop}
 use Rattle.std.specs.Int.{w16, w32}
@@ -8,7 +8,9 @@ use Rattle.std.specs.Io.KnownBytes.{Consumes, IsAtEnd, prepend_known}
 use Rattle.capture_file.specs.declared.part.PartStop.{PartStop}
 use Rattle.capture_file.specs.declared.part.PartStop.TheVariants.{Read, Memory, Fault}
 use Rattle.capture_file.specs.declared.fault.CaptureFault.{CaptureFault}
+use Rattle.capture_file.specs.Inner.Octets.{Fills, FillsTo}
 use Rattle.capture_file.specs.Inner.Reading.{StopsBy}
+use Rattle.std.proofs.KnownBytes.{Consumes-trans}
 use Rattle.text_lines.proofs.KnownOctets.{Consumes-known}
 use Rattle.capture_file.specs.declared.order.ByteOrder.{ByteOrder}
 use Rattle.capture_file.specs.Order.{number_of, number16, number32}
@@ -43,6 +45,15 @@ all_read a c front octets read end known =
 pub consumes_front : (b : Option (List ℕ)) (front : List ℕ) → Consumes (prepend_known front b) b front
 consumes_front None front = tt
 consumes_front (Some xs) front = refl
+
+-- so are those that were read behind them
+pub fills_front : (b c : Option (List ℕ)) (old new : List ℕ) → Fills old new b c → Consumes (prepend_known old b) c new
+fills_front b c old new (more, is, next) = rw is (Consumes-trans (prepend_known old b) b c old more (consumes_front b old) next)
+
+-- whether so many are there
+pub filled_is : (size : ℕ) (there known : Bool) (old new : List ℕ) (b c : Option (List ℕ)) → there ≡ known → FillsTo size (Ok there) old new b c
+    → FillsTo size (Ok known) old new b c
+filled_is size there known old new b c is filled = subst (λ (t : Bool). FillsTo size (Ok t) old new b c) is filled
 
 -- what is consumed of both is consumed
 pub consumes_from : (a b c : Option (List ℕ)) (front octets : List ℕ) → Consumes a b front → Consumes (prepend_known front b) c octets → Consumes a c octets

@@ -1,7 +1,12 @@
 -- What one more read brings.
-use Rattle.std.proofs.Common.{◌≡◌, ℕ, ◌+◌, ◌≤◌, List, ◌++◌, length, take, drop, sym, ap, ◌∙◌}
+use Rattle.std.proofs.Common.{◌≡◌, ℕ, ◌+◌, ◌-◌, ◌≤◌, List, ◌++◌, length, take, drop, sym, ap, ◌∙◌, subst, arith, Option}
 use Rattle.std.proofs.Common.{append_assoc, take-append-drop, length-append}
 use Rattle.std.proofs.lemmas.List.{take_at, length-take-le}
+use Rattle.std.specs.Io.KnownBytes.{Consumes}
+use Rattle.text_lines.specs.declared.counted.Counted.{Counted}
+use Rattle.text_lines.specs.Counted.{device_of, HasGiven}
+use Rattle.text_lines.specs.Lines.{GivesWithin}
+use Rattle.text_lines.proofs.Bounds.{gives_read, gives_more, gives_less}
 
 -- a read into the room behind the front lengthens it by what was read
 front_grows : (room buf post : List ℕ) (size count : ℕ) → size ≤ length room → count ≤ length buf
@@ -21,3 +26,16 @@ pub front_more : (start more room buf post : List ℕ) (size count : ℕ) → si
     → take (size + count) (take size room ++ (buf ++ post)) ≡ start ++ (more ++ take count buf)
 front_more start more room buf post size count fits read there =
     front_grows room buf post size count fits read ∙ ap (λ f. f ++ take count buf) there ∙ append_assoc start more (take count buf)
+
+-- so many more were given
+pub gives_front : {R : Type 0} (remaining : R → Option (List ℕ)) (x y z : Counted R) (from size count : ℕ) (buf : List ℕ) → from ≤ size → count ≤ length buf
+    → GivesWithin remaining (size - from) x y → Consumes (remaining (device_of y)) (remaining (device_of z)) (take count buf) → HasGiven count y z
+    → GivesWithin remaining (size + count - from) x z
+gives_front remaining x y z from size count buf behind within gives read counted =
+    gives_less remaining (size - from + count) (size + count - from) x z (gives_more remaining (size - from) count x y z gives last) (omega (arith, behind))
+  where
+    counts : length (take count buf) ≡ count
+    counts = length-take-le count buf within
+
+    last : GivesWithin remaining count y z
+    last = subst (λ (n : ℕ). GivesWithin remaining n y z) counts (gives_read remaining y z (take count buf) read (subst (λ (n : ℕ). HasGiven n y z) (sym counts) counted))

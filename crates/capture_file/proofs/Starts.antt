@@ -1,20 +1,53 @@
 -- What the next part comes to, by what was read of its front.
-use Rattle.std.proofs.Common.{◌≡◌, ℕ, ◌≤◌, List, ◌++◌, length, false, sym, ◌∙◌, refl, inl, inr, arith, Option}
+use Rattle.std.proofs.Common.{◌≡◌, ◌≢◌, ℕ, ◌≤◌, ◌<◌, List, ◌++◌, length, false, sym, ap, ◌∙◌, refl, inl, inr, arith, Option, Some, None, Result}
 use Rattle.std.proofs.Common.{length-append}
-use Rattle.std.specs.Io.KnownBytes.{Consumes, prepend_known}
+use Rattle.std.specs.Prelude.{MatchOption}
+use Rattle.std.specs.Option.{ok_or}
+use Rattle.std.specs.Io.KnownBytes.{Consumes, IsAtEnd, prepend_known}
 use Rattle.text_lines.proofs.KnownOctets.{Consumes-known}
 use Rattle.capture_file.specs.declared.fault.CaptureFault.{CaptureFault}
 use Rattle.capture_file.specs.declared.fault.CaptureFault.TheVariants.{NoCapture, Version, ByteOrderMagic, Length, Interface, CutOff}
-use Rattle.capture_file.specs.declared.order.ByteOrder.TheVariants.{Big}
+use Rattle.capture_file.specs.declared.order.ByteOrder.TheVariants.{Big, Little}
 use Rattle.capture_file.specs.declared.part.PartStop.{PartStop}
 use Rattle.capture_file.specs.declared.part.PartStop.TheVariants.{Fault}
+use Rattle.capture_file.specs.declared.reader.Magic.{Magic}
 use Rattle.capture_file.specs.Order.{number32}
-use Rattle.capture_file.specs.Pcapng.{BeginsSection, is_length_of}
+use Rattle.capture_file.specs.Pcap.{unit_of}
+use Rattle.capture_file.specs.Pcapng.{BeginsSection, section_type, is_length_of}
 use Rattle.capture_file.specs.Section.{SectionOf}
 use Rattle.capture_file.specs.Parts.{Start, Section}
 use Rattle.capture_file.specs.Wrong.{IsFault, IsSectionFault, IsBlockFault}
-use Rattle.capture_file.specs.Inner.Reading.{StopsBy, StopsPart}
-use Rattle.capture_file.proofs.Fronts.{number32_front, stops_from}
+use Rattle.capture_file.specs.Inner.Reading.{StopsBy, StopsPart, TellsMagic, ReadsMagic}
+use Rattle.capture_file.proofs.Fronts.{number32_front, all_read, stops_from}
+
+-- what the first four octets tell, or that they are no magic
+tells_magic : (a b : Option (List ℕ)) (front : List ℕ) (told : Option Magic) → Consumes a b front → length front ≡ 4
+    → MatchOption told ((unit_of (number32 Big front 0) ≡ None) × (unit_of (number32 Little front 0) ≡ None) × (number32 Big front 0 ≢ section_type))
+    (λ magic. TellsMagic magic front) → ReadsMagic (ok_or told (Fault NoCapture 0)) front a b
+tells_magic a b front None read size (big, little, other) = (
+  (front, read),
+  λ octets known.
+      let (rest, left, split) = Consumes-known a b front octets read known in
+      rw split (
+        refl,
+        inr (
+          ap unit_of (number32_front Big front rest 0 (omega (arith, size))) ∙ big,
+          ap unit_of (number32_front Little front rest 0 (omega (arith, size))) ∙ little,
+          λ begins. other (sym (number32_front Big front rest 0 (omega (arith, size))) ∙ begins),
+        ),
+      ),
+)
+tells_magic a b front (Some magic) read size tells = (read, size, tells)
+
+pub reads_magic : (a b : Option (List ℕ)) (front : List ℕ) (told : Option Magic) (r : Result Magic PartStop) → r ≡ ok_or told (Fault NoCapture 0) → Consumes a b front
+    → length front ≡ 4
+    → MatchOption told ((unit_of (number32 Big front 0) ≡ None) × (unit_of (number32 Little front 0) ≡ None) × (number32 Big front 0 ≢ section_type))
+    (λ magic. TellsMagic magic front) → ReadsMagic r front a b
+reads_magic a b front told r is read size tells = rw is (tells_magic a b front told read size tells)
+
+-- there are fewer
+pub reads_no_magic : (a b : Option (List ℕ)) (front : List ℕ) → Consumes a b front → length front < 4 → IsAtEnd b → StopsPart Start (Fault NoCapture 0) a b
+reads_no_magic a b front read short end = ((front, read), λ octets known. rw (all_read a b front octets read end known) (refl, inl short))
 
 begins_front : (front rest : List ℕ) → 4 ≤ length front → BeginsSection front → BeginsSection (front ++ rest)
 begins_front front rest least begins = number32_front Big front rest 0 least ∙ begins

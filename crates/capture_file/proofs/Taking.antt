@@ -1,9 +1,9 @@
 -- How far a capture was taken: from part to part, and where it stops.
-use Rattle.std.proofs.Common.{◌≡◌, ◌≢◌, ℕ, ◌+◌, ◌^◌, ◌<◌, min, List, [], ◌∷◌, ◌++◌, length, sym, ap, ◌∙◌, subst, refl, inl, inr, Bool, true, false, arith, Option, Some, None, Result, Ok, Err}
+use Rattle.std.proofs.Common.{◌≡◌, ◌≢◌, ℕ, ◌+◌, ◌^◌, ◌<◌, ◌≤◌, min, List, [], ◌∷◌, ◌++◌, length, sym, ap, ◌∙◌, subst, refl, inl, inr, Bool, true, false, arith, Option, Some, None, Result, Ok, Err}
 use Rattle.std.proofs.Common.{append-nil, length-append}
 use Rattle.std.specs.Prelude.{option_to_list}
-use Rattle.std.specs.Io.KnownBytes.{Appends, Consumes, IsAtEnd}
-use Rattle.std.proofs.KnownBytes.{Consumes-trans, Appends-trans}
+use Rattle.std.specs.Io.KnownBytes.{Appends, Consumes, IsAtEnd, prepend_known}
+use Rattle.std.proofs.KnownBytes.{Consumes-trans, Appends-trans, prepend_known-nil}
 use Rattle.text_lines.specs.Counted.{greatest_count}
 use Rattle.text_lines.specs.Task.{WentOut}
 use Rattle.text_lines.proofs.KnownOctets.{Consumes-known}
@@ -15,10 +15,10 @@ use Rattle.capture_file.specs.declared.part.PartStop.TheVariants.{Read, Memory, 
 use Rattle.capture_file.specs.declared.part.Part as parts
 use Rattle.capture_file.specs.declared.progress.Progress.{Progress}
 use Rattle.capture_file.specs.Packet.{PacketOf}
-use Rattle.capture_file.specs.Parts.{Form, Start, IsPart, form_behind, octets_of, packets_of}
+use Rattle.capture_file.specs.Parts.{Form, Start, Pcap, Section, IsPart, form_behind, octets_of, packets_of}
 use Rattle.capture_file.specs.Wrong.{IsFault}
 use Rattle.capture_file.specs.Task.{PacketRules, TakesPackets, AnswersCapture, AnswersUntil, Answers}
-use Rattle.capture_file.specs.Inner.Reading.{packet_in, IsRead, IsEnd, StopsPart, ReadsPart}
+use Rattle.capture_file.specs.Inner.Reading.{packet_in, begun_with, IsRead, IsEnd, StopsPart, ReadsPart}
 use Rattle.capture_file.specs.Inner.Taking.{IsBehind, IsTaken, StopsIn, TakesPart, StopsTaking, StopsTakingFor}
 
 -- ---- from part to part
@@ -46,6 +46,30 @@ begin rules start progress i b packets octets = record {
   wrote = nothing_written b;
 }
 
+-- behind a part nothing is there of the next
+none_begun : (old new : Form) (octets kept : List ℕ) (packet : Option PacketOf) → IsPart old octets packet new → begun_with new kept ≡ []
+none_begun old (Pcap pcap) octets kept packet is = refl
+none_begun old (Section section) octets kept packet is = refl
+none_begun Start Start octets kept None is = absurd is
+none_begun Start Start octets kept (Some packet) is = absurd is
+none_begun (Pcap pcap) Start octets kept None is = absurd is
+none_begun (Pcap pcap) Start octets kept (Some packet) (same, is) = absurd cc
+none_begun (Section section) Start octets kept None (inl (order, is, same)) = absurd cc
+none_begun (Section section) Start octets kept None (inr (inl (d, is, same))) = absurd cc
+none_begun (Section section) Start octets kept None (inr (inr (is, same))) = absurd cc
+none_begun (Section section) Start octets kept (Some packet) (is, same) = absurd cc
+
+pub begun_within : (old new : Form) (part : parts.Part) (l l' : Option (List ℕ)) (kept : List ℕ) → IsRead old new part l l' → length (begun_with new kept) ≤ 4
+begun_within old new part l l' kept (octets, read, size, is_part) = rw (none_begun old new octets kept (packet_in part) is_part) (omega arith)
+
+-- so what is left is what the input has
+left_is : (l : Option (List ℕ)) (begun : List ℕ) → begun ≡ [] → prepend_known begun l ≡ l
+left_is l begun none = ap (λ b. prepend_known b l) none ∙ prepend_known-nil l
+
+-- what the input had and what was read before are known together
+pub all_known : (i : Option (List ℕ)) (before octets : List ℕ) → i ≡ Some octets → prepend_known before i ≡ Some (before ++ octets)
+all_known i before octets known = ap (prepend_known before) known
+
 -- one more part
 taken_more : {S A F : Type 0} (rules : PacketRules S A F) (start state later : S) (packets : List PacketOf) (packet : Option PacketOf) (text written : List ℕ) (number : ℕ)
     → number ≡ length packets + 1 → TakesPackets rules start packets state text → TakesPart rules number packet state later written
@@ -56,13 +80,15 @@ taken_more rules start state later packets (Some packet) text written number is 
     (state, text, written, taken, subst (λ (n : ℕ). rules.Takes n packet state later written) is takes, refl)
 
 pub next : {S A F : Type 0} (rules : PacketRules S A F) (start state later : S) (form form' : Form) (progress behind : Progress) (part : parts.Part) (i l l' b n n' : Option (List ℕ))
-    (written : List ℕ) → IsTaken rules start form progress i l b n state → IsRead form form' part l l' → IsBehind progress part.size (packet_in part) behind
-    → TakesPart rules (progress.packets + 1) (packet_in part) state later written → Appends n n' written → IsTaken rules start form' behind i l' b n' later
-next rules start state later form form' progress behind part i l l' b n n' written t (octets, read, size, is_part) counted takes wrote = record {
+    (written kept : List ℕ) → IsTaken rules start form progress i l b n state → IsRead form form' part l l' → IsBehind progress part.size (packet_in part) behind
+    → TakesPart rules (progress.packets + 1) (packet_in part) state later written → Appends n n' written
+    → IsTaken rules start form' behind i (prepend_known (begun_with form' kept) l') b n' later
+next rules start state later form form' progress behind part i l l' b n n' written kept t (octets, read, size, is_part) counted takes wrote = record {
   parts = record { octets = octets; packet = packet_in part; later = form' } ∷ t.parts;
   are = (t.are, subst (λ (f : Form). IsPart f octets (packet_in part) form') t.form_is is_part);
   form_is = refl;
-  read = Consumes-trans i l l' (octets_of t.parts) octets t.read read;
+  read = subst (λ (left : Option (List ℕ)). Consumes i left (octets_of t.parts ++ octets)) (sym (left_is l' (begun_with form' kept) (none_begun form form' octets kept (packet_in part) is_part)))
+      (Consumes-trans i l l' (octets_of t.parts) octets t.read read);
   packets = counted.packets ∙ (let before = t.packets in let lengths = length-append (option_to_list (packet_in part)) (packets_of t.parts) in omega arith);
   octets = counted.octets ∙ (let before = t.octets in let lengths = length-append (octets_of t.parts) octets in omega (arith, size));
   text = t.text ++ written;
@@ -288,12 +314,12 @@ stops_at_end rules start state form form' progress i l l' b n n' fault answer wr
       input = left';
     })
 
--- nothing could be read for want of memory
-pub stops_before : {S A F : Type 0} (rules : PacketRules S A F) (start : S) (i b : Option (List ℕ)) (octets : List ℕ) (answer : CaptureStop F)
-    → answer ≡ record { packets = 0; octet = 0; what = causes.Memory } → i ≡ Some octets → AnswersUntil rules start octets i b b answer
-stops_before rules start i b octets answer is known = rw is (record {
+-- nothing could be read for want of memory, behind what was read before
+pub stops_before : {S A F : Type 0} (rules : PacketRules S A F) (start : S) (i b : Option (List ℕ)) (before octets : List ℕ) (answer : CaptureStop F)
+    → answer ≡ record { packets = 0; octet = 0; what = causes.Memory } → i ≡ Some octets → AnswersUntil rules start (before ++ octets) i b b answer
+stops_before rules start i b before octets answer is known = rw is (record {
   parts = [];
-  rest = octets;
+  rest = before ++ octets;
   state = start;
   text = [];
   taken = record { are = tt; split = refl; taken = (refl, refl) };
@@ -303,7 +329,7 @@ stops_before rules start i b octets answer is known = rw is (record {
   last = [];
   stops = (refl, refl);
   output = nothing_written b;
-  seen = [];
+  seen = before;
   unread = octets;
   read = refl;
   input = known;

@@ -8,4 +8,5 @@ pub mod Section
 pub mod Parts
 pub mod Wrong
 pub mod Task
+pub mod Beginning
 pub mod Inner

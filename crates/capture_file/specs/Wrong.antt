@@ -128,6 +128,10 @@ IsBlockFault section octets ByteOrderMagic place = ⊥
 
 -- ---- any part
 
+-- the magic of a capture stands in front
+abbrev pub HasMagic : List ℕ → Type 0
+HasMagic octets = ((order : ByteOrder) × IsPcapMagic order octets) ⊎ IsSectionMagic octets
+
 -- no magic stands in front
 abbrev pub HasNoMagic : List ℕ → Type 0
 HasNoMagic octets =

@@ -1,5 +1,5 @@
 //! The octets of a part of a capture, as far as they were read.
-ghost use Rattle.std.specs.Prelude.{◌≡◌, ◌≤◌, length};
+ghost use Rattle.std.specs.Prelude.{◌≡◌, ◌≤◌, length, take};
 
 use crate::octets::{ReadFailed, fill_behind};
 use crate::packet::PACKET_LIMIT;
@@ -10,6 +10,15 @@ use text_lines::Counted;
 
 /// The most octets that are kept of a part: those of a packet, and what stands in front of them.
 pub(crate) const FRONT_LIMIT: usize = PACKET_LIMIT + 64;
+
+/// Puts these octets in front of those that are there.
+fn put_in_front(room: &mut [u8], octets: &[u8])
+    requires { length octets.now ≤ length room.old }
+    ensures put { take (length octets.now) room.new ≡ octets.now }
+    ensures length { length room.new ≡ length room.old }
+{
+    room[..octets.len()].copy_from_slice(octets);
+}
 
 /// The first octets of a part of a capture, and the name of the interface of a packet.
 #[derive(Drop)]
@@ -22,19 +31,22 @@ pub(crate) struct Front {
 }
 
 impl Front {
-    ghost use Rattle.std.specs.Prelude.{[], MatchResult, OnOk};
+    ghost use Rattle.std.specs.Prelude.{[], IfOk, MatchResult, OnOk};
     ghost use Rattle.text_lines.specs.Counted.{device_of, HasFailed, HasNotFailed};
     ghost use Rattle.capture_file.specs.Inner.Front.{front_of, name_of};
     ghost use Rattle.capture_file.specs.Inner.Octets.{FillsTo};
     ghost use Rattle.capture_file.specs.Inner.Reading.{Wants, FailedIn};
 
-    /// No octet was read yet.
-    pub(crate) fn new(alloc: Global) -> Result<Front, AllocError>
-        ensures { MatchResult result (λ front. front_of front ≡ []) (λ _. Unit {0}) }
+    /// These octets were read before.
+    pub(crate) fn behind(alloc: Global, start: &[u8]) -> Result<Front, AllocError>
+        requires { length start.now ≤ 65600 }
+        ensures { IfOk result (λ front. front_of front ≡ start.now) }
     {
+        let mut room = vec![in alloc; 0; FRONT_LIMIT]?;
+        put_in_front(&mut room, start);
         Ok(Front {
-            room: vec![in alloc; 0; FRONT_LIMIT]?,
-            size: 0,
+            room,
+            size: start.len(),
             name: Vec::new(alloc),
         })
     }

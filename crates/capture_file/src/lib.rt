@@ -1,6 +1,7 @@
 //! Captures: the octets of pcap and pcapng, from any reader, and the packets that they are.
 #![tactic(auto)]
 
+mod beginning;
 mod block;
 mod block_reading;
 mod fault;
@@ -19,6 +20,8 @@ mod section;
 mod section_reading;
 mod task;
 
+pub use beginning::Beginning;
 pub use fault::{CaptureCause, CaptureFault, CaptureStop};
+pub use octets::ReadFailed;
 pub use packet::{Captured, Interface, PACKET_LIMIT, Packet};
-pub use task::{PacketTask, answer_packets};
+pub use task::{PacketTask, answer_packets, answer_packets_behind};

@@ -1,6 +1,7 @@
 //! Octets that are read into the room behind those that are there, and octets that nobody looks at.
-ghost use Rattle.std.specs.Prelude.{◌≡◌, ◌≤◌, length, take, MatchResult};
+ghost use Rattle.std.specs.Prelude.{◌≡◌, ◌≤◌, ◌<◌, ◌-◌, length, take, MatchResult, OnErr};
 ghost use Rattle.text_lines.specs.Counted.{device_of, HasFailed, HasNotFailed};
+ghost use Rattle.text_lines.specs.Lines.{GivesWithin};
 ghost use Rattle.capture_file.specs.Inner.Octets.{FillsTo, PassesOver};
 
 use std::io::Read;
@@ -10,8 +11,8 @@ use text_lines::Counted;
 const PASSED_AT_ONCE: usize = 4096;
 
 /// The reader failed.
-#[derive(Clone, Copy, Debug)]
-pub(crate) struct ReadFailed;
+#[derive(Clone, Copy, Debug, PartialEq, Eq)]
+pub struct ReadFailed;
 
 /// Reads behind the first `from` octets of the room, until `to` are there, and not one more. Answers how many there are,
 /// and whether these are so many.
@@ -26,6 +27,8 @@ pub(crate) fn fill_behind<R: Read>(
     ensures filled { FillsTo to result.1 (take from room.old) (take result.0 room.new)
         (R.remaining (device_of input.old)) (R.remaining (device_of input.new)) }
     ensures within { result.0 ≤ length room.new }
+    ensures short { OnErr result.1 (result.0 < to) }
+    ensures given { from ≤ to → GivesWithin R.remaining (to - from) input.old input.new }
     ensures room { length room.new ≡ length room.old }
     ensures failures { MatchResult result.1
         (λ _. HasNotFailed input.old input.new)

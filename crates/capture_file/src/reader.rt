@@ -1,12 +1,13 @@
 //! The next part of a capture, from a reader.
-ghost use Rattle.std.specs.Prelude.{◌≡◌, ◌≢◌, ◌≤◌, [], None, Some, length, MatchOption};
+ghost use Rattle.std.specs.Prelude.{◌≡◌, ◌≢◌, ◌≤◌, None, Some, length, MatchOption};
+ghost use Rattle.std.specs.Io.KnownBytes.{prepend_known};
 ghost use Rattle.text_lines.specs.Counted.{device_of};
 ghost use Rattle.capture_file.specs.Order.{number32};
 ghost use Rattle.capture_file.specs.Pcap.{unit_of};
 ghost use Rattle.capture_file.specs.Pcapng.{section_type};
 ghost use Rattle.capture_file.specs.Parts.{Start};
 ghost use Rattle.capture_file.specs.Inner.Front.{front_of};
-ghost use Rattle.capture_file.specs.Inner.Reading.{form_of, TellsMagic, ReadsMagic, ReadsPart, FailedIn};
+ghost use Rattle.capture_file.specs.Inner.Reading.{form_of, begun_with, TellsMagic, ReadsMagic, ReadsPart, FailedIn};
 
 use crate::block::SECTION;
 use crate::block_reading::read_block;
@@ -43,7 +44,7 @@ pub(crate) enum Magic {
 }
 
 /// What these octets tell, where they are a magic.
-fn magic_in(octets: &[u8]) -> Option<Magic>
+pub(crate) fn magic_in(octets: &[u8]) -> Option<Magic>
     requires { 4 ≤ length octets.now }
     ensures { MatchOption result
         ((unit_of (number32 ByteOrder.Big octets.now 0) ≡ None) × (unit_of (number32 ByteOrder.Little octets.now 0) ≡ None)
@@ -57,10 +58,11 @@ fn magic_in(octets: &[u8]) -> Option<Magic>
     Some(Magic::Pcap(order, unit))
 }
 
-/// Reads the magic that a capture begins with.
+/// Reads the magic that a capture begins with, of which some octets may be there.
 fn read_magic<R: Read>(front: &mut Front, input: &mut Counted<R>) -> Result<Magic, PartStop>
-    requires empty { front_of front.old ≡ [] }
-    ensures magic { ReadsMagic result (front_of front.new) (R.remaining (device_of input.old)) (R.remaining (device_of input.new)) }
+    requires { length (front_of front.old) ≤ 4 }
+    ensures magic { ReadsMagic result (front_of front.new)
+        (prepend_known (front_of front.old) (R.remaining (device_of input.old))) (R.remaining (device_of input.new)) }
     ensures failures { FailedIn result input.old input.new }
 {
     match front.fill_to(4, input) {
@@ -70,17 +72,17 @@ fn read_magic<R: Read>(front: &mut Front, input: &mut Counted<R>) -> Result<Magi
     }
 }
 
-/// Reads the head of a pcap, or the first section header of a pcapng.
+/// Reads the head of a pcap, or the first section header of a pcapng, of which some octets may be there.
 fn read_start<'a, R: Read>(
     alloc: Global,
     form: &mut Form,
     front: &'a mut Front,
     input: &mut Counted<R>,
 ) -> Result<Option<Part<'a>>, PartStop>
-    requires empty { front_of front.old ≡ [] }
+    requires most { length (front_of front.old) ≤ 4 }
     requires start { form_of form.old ≡ Start }
     ensures part { ReadsPart Start (form_of form.new) result
-        (R.remaining (device_of input.old)) (R.remaining (device_of input.new)) }
+        (prepend_known (front_of front.old) (R.remaining (device_of input.old))) (R.remaining (device_of input.new)) }
     ensures failures { FailedIn result input.old input.new }
 {
     match read_magic(front, input)? {
@@ -102,21 +104,28 @@ fn read_start<'a, R: Read>(
     }
 }
 
-/// Reads the next part of a capture; None at the end.
+/// Reads the next part of a capture; None at the end. Of the first one some octets may be there.
 pub(crate) fn read_part<'a, R: Read>(
     alloc: Global,
     form: &mut Form,
     front: &'a mut Front,
     input: &mut Counted<R>,
 ) -> Result<Option<Part<'a>>, PartStop>
+    requires { length (begun_with (form_of form.old) (front_of front.old)) ≤ 4 }
     ensures part { ReadsPart (form_of form.old) (form_of form.new) result
-        (R.remaining (device_of input.old)) (R.remaining (device_of input.new)) }
+        (prepend_known (begun_with (form_of form.old) (front_of front.old)) (R.remaining (device_of input.old)))
+        (R.remaining (device_of input.new)) }
     ensures failures { FailedIn result input.old input.new }
 {
-    front.clear();
     match form {
         Form::Start => read_start(alloc, form, front, input),
-        Form::Pcap(head) => read_packet(*head, front, input),
-        Form::Section(section) => read_block(alloc, section, front, input),
+        Form::Pcap(head) => {
+            front.clear();
+            read_packet(*head, front, input)
+        }
+        Form::Section(section) => {
+            front.clear();
+            read_block(alloc, section, front, input)
+        }
     }
 }

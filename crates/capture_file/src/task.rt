@@ -1,5 +1,5 @@
 //! The one loop over the packets of a capture.
-ghost use Rattle.std.specs.Prelude.{◌≡◌, ◌+◌, List, ℕ, MatchResult, IfOk};
+ghost use Rattle.std.specs.Prelude.{◌≡◌, ◌≤◌, ◌+◌, List, ℕ, ◌++◌, length, MatchResult, IfOk};
 ghost use Rattle.std.specs.Option.{ForSome};
 ghost use Rattle.std.specs.Io.KnownBytes.{Appends};
 ghost use Rattle.text_lines.specs.Counted.{device_of, HasNotFailed, HasFailedIf};
@@ -120,8 +120,29 @@ pub fn answer_packets<T: PacketTask, R: Read, W: Write>(
         (λ _. HasNotFailed input.old input.new × HasNotFailed output.old output.new)
         (λ stop. FailedAt T.rules stop.what input.old input.new output.old output.new) }
 {
+    answer_packets_behind(alloc, &[], task, input, output)
+}
+
+/// The same, where the first octets of the capture, at most four, were read before: by them one tells a capture from other input, as
+/// `Beginning` does. Octets are counted from the first of these.
+pub fn answer_packets_behind<T: PacketTask, R: Read, W: Write>(
+    alloc: Global,
+    start: &[u8],
+    task: &mut T,
+    input: &mut Counted<R>,
+    output: &mut Counted<W>,
+) -> Result<T::Answer, CaptureStop<T::Fault>>
+    requires stands { (state : T.State) × T.is_at task.old state }
+    requires most { length start.now ≤ 4 }
+    ensures answered { (state : T.State) → T.is_at task.old state → ForSome (R.remaining (device_of input.old)) (λ octets.
+        Answers T.rules state (start.now ++ octets) (R.remaining (device_of input.new))
+        (W.contents (device_of output.old)) (W.contents (device_of output.new)) result) }
+    ensures failures { MatchResult result
+        (λ _. HasNotFailed input.old input.new × HasNotFailed output.old output.new)
+        (λ stop. FailedAt T.rules stop.what input.old input.new output.old output.new) }
+{
     let mut progress = Progress::START;
-    let Ok(mut front) = Front::new(alloc) else {
+    let Ok(mut front) = Front::behind(alloc, start) else {
         return Err(progress.stop(CaptureCause::Memory));
     };
     let mut form = Form::Start;

@@ -6,9 +6,7 @@ use Rattle.text_lines.specs.declared.counted.Counted.{Counted}
 use Rattle.text_lines.specs.Counted.{HasFailed, HasNotFailed}
 use Rattle.capture_file.specs.declared.fault.CaptureFault.{CaptureFault}
 use Rattle.capture_file.specs.declared.fault.CaptureFault.TheVariants.{Length, CutOff}
-use Rattle.capture_file.specs.declared.packet.Interface.{Interface}
 use Rattle.capture_file.specs.declared.packet.Packet.{Packet}
-use Rattle.capture_file.specs.declared.packet.Packet.TheVariants as packets
 use Rattle.capture_file.specs.declared.part.Part.{Part}
 use Rattle.capture_file.specs.declared.part.PartStop.{PartStop}
 use Rattle.capture_file.specs.declared.part.PartStop.TheVariants.{Read, Memory, Fault}
@@ -41,6 +39,12 @@ abbrev pub form_of : reader.Form → Form
 form_of readers.Start = Start
 form_of (readers.Pcap head) = Pcap (pcap_of head)
 form_of (readers.Section section) = Section (section_in section)
+
+-- of the octets that are kept those of the next part: a capture may have begun before
+abbrev pub begun_with : Form → List ℕ → List ℕ
+begun_with Start octets = octets
+begun_with (Pcap pcap) octets = []
+begun_with (Section section) octets = []
 
 -- so many octets are there, or the part is cut off
 abbrev pub Wants : {T : Type 0} → ℕ → Result T PartStop → (old new : List ℕ) → (before after : Option (List ℕ)) → Type 0
