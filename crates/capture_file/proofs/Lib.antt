@@ -9,3 +9,4 @@ pub mod Blocks
 pub mod Descriptions
 pub mod Headers
 pub mod Starts
+pub mod Names

@@ -3,6 +3,7 @@ pub mod Octets
 pub mod Front
 pub mod Clock
 pub mod Options
+pub mod Described
 pub mod Section
 pub mod Reading
 pub mod Taking

@@ -1,14 +1,14 @@
 //! What a section of pcapng tells of its packets.
-ghost use Rattle.std.specs.Prelude.{◌≡◌, OnOk, option_map, slice_get};
+ghost use Rattle.std.specs.Prelude.{◌≡◌, ◌++◌, ◌∷◌, [], ◌||◌, ℕ, List, MatchResult};
 ghost use Rattle.std.specs.List.{list_any};
-ghost use Rattle.capture_file.specs.Section.{own_name, has_name, description_of, with_interface, begun};
-ghost use Rattle.capture_file.specs.Inner.Options.{found_of};
-ghost use Rattle.capture_file.specs.Inner.Section.{described_in, section_in, descriptions_in};
+ghost use Rattle.capture_file.specs.Section.{has_name};
+ghost use Rattle.capture_file.specs.Inner.Described.{described_in, descriptions_in, is_among};
 
 use crate::options::Options;
 use crate::order::ByteOrder;
 use crate::resolution::Resolution;
 use std::alloc::{AllocError, Global};
+use std::collections::BTreeSet;
 
 /// An interface.
 #[derive(Drop)]
@@ -23,26 +23,43 @@ pub(crate) struct Described {
     pub(crate) name: Option<Vec<u8>>,
 }
 
-impl Described {
-    /// Whether it has this name.
-    fn has_name(&self, name: &[u8]) -> bool
-        ensures { result ≡ has_name name.now (described_in self.now) }
-    {
-        match &self.name {
-            Some(own) => name == own.as_slice(),
-            None => false,
-        }
-    }
-}
-
-/// A section: the order of its numbers, and the interfaces that were described so far.
+/// A section: the order of its numbers, the interfaces that were described so far, and the names that these have.
 #[derive(Drop)]
 pub(crate) struct Section {
     pub(crate) order: ByteOrder,
     pub(crate) interfaces: Vec<Described>,
+    names: BTreeSet<Vec<u8>>,
+    ghost named: { (name : List ℕ) → is_among name names ≡ list_any (has_name name) (descriptions_in interfaces.items) },
+}
+
+/// One more interface, and its name.
+fn push_described(
+    alloc: Global,
+    interfaces: &mut Vec<Described>,
+    names: &mut BTreeSet<Vec<u8>>,
+    described: Described,
+) -> Result<(), AllocError>
+    ensures interfaces { MatchResult result
+        (λ _. interfaces.new.items ≡ interfaces.old.items ++ described ∷ [])
+        (λ _. interfaces.new.items ≡ interfaces.old.items) }
+    ensures names { (name : List ℕ) → MatchResult result
+        (λ _. is_among name names.new ≡ (has_name name (described_in described) || is_among name names.old))
+        (λ _. is_among name names.new ≡ is_among name names.old) }
+{
+    interfaces.reserve(1)?;
+    if let Some(name) = &described.name {
+        names.insert(Vec::from_slice(alloc, name)?)?;
+    }
+    interfaces.push(described)?;
+    Ok(())
 }
 
 impl Section {
+    ghost use Rattle.std.specs.Prelude.{OnOk, option_map, slice_get};
+    ghost use Rattle.capture_file.specs.Section.{own_name, description_of, with_interface, begun};
+    ghost use Rattle.capture_file.specs.Inner.Options.{found_of};
+    ghost use Rattle.capture_file.specs.Inner.Section.{section_in};
+
     /// Before the first interface.
     pub(crate) fn new(alloc: Global, order: ByteOrder) -> Section
         ensures { section_in result ≡ begun order }
@@ -50,6 +67,7 @@ impl Section {
         Section {
             order,
             interfaces: Vec::new(alloc),
+            names: BTreeSet::new(alloc),
         }
     }
 
@@ -60,24 +78,12 @@ impl Section {
         self.interfaces.get(place as usize)
     }
 
-    /// Whether an interface has this name.
-    fn is_taken(&self, name: &[u8]) -> bool
-        ensures { result ≡ list_any (has_name name.now) (descriptions_in self.now.interfaces.items) }
-    {
-        for described in &self.interfaces {
-            if described.has_name(name) {
-                return true;
-            }
-        }
-        false
-    }
-
     /// A name, where it isn't empty and no interface has it.
     fn own_name<'a>(&self, name: Option<&'a [u8]>) -> Option<&'a [u8]>
         ensures { option_map (λ own. own.now) result ≡ own_name (descriptions_in self.now.interfaces.items) (option_map (λ text. text.now) name.entry) }
     {
         let name = name?;
-        if name.is_empty() || self.is_taken(name) {
+        if name.is_empty() || self.names.contains(name) {
             return None;
         }
         Some(name)
@@ -105,7 +111,6 @@ impl Section {
             offset: options.offset.unwrap_or(0),
             name,
         };
-        self.interfaces.push(described)?;
-        Ok(())
+        push_described(alloc, &mut self.interfaces, &mut self.names, described)
     }
 }

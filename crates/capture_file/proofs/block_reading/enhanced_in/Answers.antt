@@ -2,7 +2,7 @@ use Rattle.std.proofs.Common.{rules, ◌≡◌, Some}
 use Rattle.capture_file.specs.Section.{packet_time}
 use Rattle.capture_file.specs.Order.{number32}
 use Rattle.capture_file.specs.Packet.{interface_of}
-use Rattle.capture_file.specs.Inner.Section.{described_in}
+use Rattle.capture_file.specs.Inner.Described.{described_in}
 use Rattle.capture_file.proofs.Blocks.{enhanced_is}
 use Rattle.capture_file.proofs.block_reading.enhanced_in.Goals as goal
 

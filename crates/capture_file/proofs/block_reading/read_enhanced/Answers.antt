@@ -4,7 +4,8 @@ use Rattle.text_lines.specs.Counted.{device_of}
 use Rattle.capture_file.specs.Order.{number32}
 use Rattle.capture_file.specs.Pcapng.{enhanced_packet_type, padded}
 use Rattle.capture_file.specs.Inner.Front.{front_of}
-use Rattle.capture_file.specs.Inner.Section.{section_in, described_in}
+use Rattle.capture_file.specs.Inner.Described.{described_in}
+use Rattle.capture_file.specs.Inner.Section.{section_in}
 use Rattle.capture_file.proofs.Blocks.{in_block, in_block_filled, block_stops, reads_no_block, least_enhanced, enhanced_head, enhanced_described, found_more, undescribed, does_not_fit, padded_least, sound_more, sound_behind, behind_interface, same_captured, packet_kept, close_stops, in_block_more, is_block, no_memory}
 use Rattle.capture_file.proofs.block_reading.read_enhanced.Goals as goal
 
