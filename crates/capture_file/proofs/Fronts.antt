@@ -16,7 +16,7 @@ use Rattle.capture_file.specs.declared.order.ByteOrder.{ByteOrder}
 use Rattle.capture_file.specs.Order.{number_of, number16, number32}
 use Rattle.capture_file.specs.Pcap.{is_pcap_version}
 
-slice_front : (front rest : List ℕ) (i j : ℕ) → i ≤ j → j ≤ length front → slice_range (front ++ rest) i j ≡ slice_range front i j
+pub slice_front : (front rest : List ℕ) (i j : ℕ) → i ≤ j → j ≤ length front → slice_range (front ++ rest) i j ≡ slice_range front i j
 slice_front front rest i j up within =
     ap (take (j - i)) (drop-append-le i front rest (omega arith))
     ∙ take-append-le (j - i) (drop i front) rest (rw (length-drop i front) (omega arith))

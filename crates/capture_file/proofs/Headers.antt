@@ -21,10 +21,10 @@ use Rattle.capture_file.proofs.Fronts.{number16_front, number32_front, all_read,
 
 -- ---- numbers, where more octets are there
 
-magic_front : (front rest : List ℕ) → 12 ≤ length front → order_of_magic (front ++ rest) ≡ order_of_magic front
+pub magic_front : (front rest : List ℕ) → 12 ≤ length front → order_of_magic (front ++ rest) ≡ order_of_magic front
 magic_front front rest least = rw (number32_front Big front rest 8 least, number32_front Little front rest 8 least) refl
 
-section_version_front : (order : ByteOrder) (front rest : List ℕ) → 16 ≤ length front → is_section_version order (front ++ rest) ≡ is_section_version order front
+pub section_version_front : (order : ByteOrder) (front rest : List ℕ) → 16 ≤ length front → is_section_version order (front ++ rest) ≡ is_section_version order front
 section_version_front order front rest least =
     rw (number16_front order front rest 12 (omega (arith, least)), number16_front order front rest 14 least) refl
 

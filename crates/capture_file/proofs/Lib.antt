@@ -10,3 +10,11 @@ pub mod Descriptions
 pub mod Headers
 pub mod Starts
 pub mod Names
+pub mod FirstFour
+pub mod Next
+pub mod NextHeader
+pub mod NextStart
+pub mod NextOptions
+pub mod NextBlock
+pub mod OneReading
+pub mod OneAnswer

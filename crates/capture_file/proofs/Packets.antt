@@ -60,7 +60,7 @@ captured_is time stamp link octets is most =
 -- ---- a packet that is cut off
 
 -- how many octets it has, where its head is there
-length_is : (order : ByteOrder) (octets : List ℕ) → 16 ≤ length octets → packet_length order octets ≡ 16 + number32 order octets 8
+pub length_is : (order : ByteOrder) (octets : List ℕ) → 16 ≤ length octets → packet_length order octets ≡ 16 + number32 order octets 8
 length_is order octets least = rw (le-ltb (length octets) 16 least) refl
 
 not_empty : (octets : List ℕ) → 16 ≤ length octets → octets ≢ []

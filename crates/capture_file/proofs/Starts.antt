@@ -15,10 +15,24 @@ use Rattle.capture_file.specs.Order.{number32}
 use Rattle.capture_file.specs.Pcap.{unit_of}
 use Rattle.capture_file.specs.Pcapng.{BeginsSection, section_type, is_length_of}
 use Rattle.capture_file.specs.Section.{SectionOf}
-use Rattle.capture_file.specs.Parts.{Start, Section}
+use Rattle.capture_file.specs.Packet.{PacketOf}
+use Rattle.capture_file.specs.Parts.{Form, Start, Pcap, Section, IsPart}
 use Rattle.capture_file.specs.Wrong.{IsFault, IsSectionFault, IsBlockFault}
 use Rattle.capture_file.specs.Inner.Reading.{StopsBy, StopsPart, TellsMagic, ReadsMagic}
 use Rattle.capture_file.proofs.Fronts.{number32_front, all_read, stops_from}
+
+-- behind a part another form stands than at the start
+pub behind_start : (old new : Form) (octets : List ℕ) (packet : Option PacketOf) → IsPart old octets packet new → new ≢ Start
+behind_start old (Pcap pcap) octets packet is start = absurd cc
+behind_start old (Section section) octets packet is start = absurd cc
+behind_start Start Start octets None is start = absurd is
+behind_start Start Start octets (Some packet) is start = absurd is
+behind_start (Pcap pcap) Start octets None is start = absurd is
+behind_start (Pcap pcap) Start octets (Some packet) (same, is) start = absurd cc
+behind_start (Section section) Start octets None (inl (order, is, same)) start = absurd cc
+behind_start (Section section) Start octets None (inr (inl (d, is, same))) start = absurd cc
+behind_start (Section section) Start octets None (inr (inr (is, same))) start = absurd cc
+behind_start (Section section) Start octets (Some packet) (is, same) start = absurd cc
 
 -- what the first four octets tell, or that they are no magic
 tells_magic : (a b : Option (List ℕ)) (front : List ℕ) (told : Option Magic) → Consumes a b front → length front ≡ 4

@@ -19,6 +19,7 @@ use Rattle.capture_file.specs.Parts.{Form, Start, Pcap, Section, IsPart, form_be
 use Rattle.capture_file.specs.Wrong.{IsFault}
 use Rattle.capture_file.specs.Task.{PacketRules, TakesPackets, AnswersCapture, AnswersUntil, Answers}
 use Rattle.capture_file.specs.Inner.Reading.{packet_in, begun_with, IsRead, IsEnd, StopsPart, ReadsPart}
+use Rattle.capture_file.proofs.Starts.{behind_start}
 use Rattle.capture_file.specs.Inner.Taking.{IsBehind, IsTaken, StopsIn, TakesPart, StopsTaking, StopsTakingFor}
 
 -- ---- from part to part
@@ -50,14 +51,7 @@ begin rules start progress i b packets octets = record {
 none_begun : (old new : Form) (octets kept : List ℕ) (packet : Option PacketOf) → IsPart old octets packet new → begun_with new kept ≡ []
 none_begun old (Pcap pcap) octets kept packet is = refl
 none_begun old (Section section) octets kept packet is = refl
-none_begun Start Start octets kept None is = absurd is
-none_begun Start Start octets kept (Some packet) is = absurd is
-none_begun (Pcap pcap) Start octets kept None is = absurd is
-none_begun (Pcap pcap) Start octets kept (Some packet) (same, is) = absurd cc
-none_begun (Section section) Start octets kept None (inl (order, is, same)) = absurd cc
-none_begun (Section section) Start octets kept None (inr (inl (d, is, same))) = absurd cc
-none_begun (Section section) Start octets kept None (inr (inr (is, same))) = absurd cc
-none_begun (Section section) Start octets kept (Some packet) (is, same) = absurd cc
+none_begun old Start octets kept packet is = absurd (behind_start old Start octets packet is refl)
 
 pub begun_within : (old new : Form) (part : parts.Part) (l l' : Option (List ℕ)) (kept : List ℕ) → IsRead old new part l l' → length (begun_with new kept) ≤ 4
 begun_within old new part l l' kept (octets, read, size, is_part) = rw (none_begun old new octets kept (packet_in part) is_part) (omega arith)

@@ -1,8 +1,12 @@
 -- Numbers in the octets of a capture, in the order that its magic tells.
-use Rattle.std.specs.Prelude.{ℕ, ◌+◌, List, slice_range}
+use Rattle.std.specs.Prelude.{ℕ, ◌+◌, ◌<◌, List, slice_range, slice_index, EachIndex}
 use Rattle.std.specs.Int.{Width, w16, w32, from_be_bytes, from_le_bytes}
 use Rattle.capture_file.specs.declared.order.ByteOrder.{ByteOrder}
 use Rattle.capture_file.specs.declared.order.ByteOrder.TheVariants.{Big, Little}
+
+-- these are octets
+abbrev pub AreOctets : List ℕ → Type 0
+AreOctets octets = EachIndex octets (λ k. slice_index octets k < 256)
 
 -- the number of this width that octets are
 abbrev pub number_of : ByteOrder → Width → List ℕ → ℕ

@@ -6,6 +6,7 @@ mod block;
 mod block_reading;
 mod fault;
 mod front;
+pub mod laws;
 mod octets;
 mod options;
 mod order;
