@@ -1,6 +1,6 @@
 -- Octets have one answer by the rules of a task, where a packet has, and the end.
 use Rattle.std.proofs.Common.{◌≡◌, ◌≢◌, ◌⊎◌, ◌∙◌, ℕ, ◌+◌, List, [], ◌∷◌, ◌++◌, Bool, true, false, length, min, Option, Some, Result, Ok, Err, refl, sym, ap, inl, inr, subst, append_assoc}
-use Rattle.std.specs.Prelude.{MatchResult, ⊤, option_to_list}
+use Rattle.std.specs.Prelude.{option_to_list}
 use Rattle.std.specs.Io.KnownBytes.{Appends}
 use Rattle.std.proofs.lemmas.List.{append_cancel_left}
 use Rattle.text_lines.specs.Counted.{greatest_count}
@@ -13,31 +13,9 @@ use Rattle.capture_file.specs.Packet.{PacketOf}
 use Rattle.capture_file.specs.Parts.{Start, Part, AreParts, form_behind, octets_of, packets_of}
 use Rattle.capture_file.specs.Task.{PacketRules, TakesPackets, HasTaken, StopsAt, is_of_writer, AnswersCapture, AnswersUntil, Answers}
 use Rattle.capture_file.specs.Wrong.{IsFault}
+use Rattle.capture_file.specs.OneCourse.{IsOfDevice, HasOneCourse, IsSure}
 use Rattle.capture_file.proofs.OneReading.{one_part, part_or_fault, one_fault, no_part, no_fault_at_end, octets_behind, IsOldest, oldest, meet}
 use Rattle.capture_file.proofs.Starts.{behind_start}
-
--- a fault of a device or of memory, by which of the task's faults are
-abbrev pub IsOfDevice : {F : Type 0} → (F → Type 0) → CaptureCause F → Type 0
-IsOfDevice Device Read = Unit {0}
-IsOfDevice Device Memory = Unit {0}
-IsOfDevice Device (Capture fault) = ⊥
-IsOfDevice Device (Task fault) = Device fault
-
--- A packet does one thing to a state, and the end gives one answer, but for faults of a device or of memory.
-pub record HasOneCourse {S A F : Type 0} (rules : PacketRules S A F) (Device : F → Type 0) : Type 0 where
-  pub one_step : (number : ℕ) (packet : PacketOf) (state one other : S) (text text' : List ℕ) → rules.Takes number packet state one text
-      → rules.Takes number packet state other text' → (other ≡ one) × (text' ≡ text)
-  pub no_fault : (number : ℕ) (packet : PacketOf) (state later : S) (text text' : List ℕ) (fault : F) → (Device fault → ⊥)
-      → rules.Takes number packet state later text → rules.Stops number packet state fault text' → ⊥
-  pub one_fault : (number : ℕ) (packet : PacketOf) (state : S) (text text' : List ℕ) (one other : F) → (Device one → ⊥) → (Device other → ⊥)
-      → rules.Stops number packet state one text → rules.Stops number packet state other text' → (other ≡ one) × (text' ≡ text)
-  pub one_end : (packets : ℕ) (state : S) (text text' : List ℕ) (one other : A) → rules.Ends packets state one text → rules.Ends packets state other text'
-      → (other ≡ one) × (text' ≡ text)
-  pub no_fault_at_end : (packets : ℕ) (state : S) (text text' : List ℕ) (answer : A) (fault : F) → (Device fault → ⊥) → rules.Ends packets state answer text
-      → rules.StopsAtEnd state fault text' → ⊥
-  pub one_fault_at_end : (state : S) (text text' : List ℕ) (one other : F) → (Device one → ⊥) → (Device other → ⊥) → rules.StopsAtEnd state one text
-      → rules.StopsAtEnd state other text' → (other ≡ one) × (text' ≡ text)
-  pub writer : (fault : F) → rules.is_of_writer fault ≡ true → Device fault
 
 -- ---- packets that were taken
 
@@ -306,10 +284,6 @@ course_until rules start Device one octets left before after stop sure until = r
   ends = (sure, until.stops);
   output = known_output rules Device one stop.what _ sure until.output;
 }
-
--- an answer that isn't a fault of a device or of memory
-abbrev pub IsSure : {A F : Type 0} → (F → Type 0) → Result A (CaptureStop F) → Type 0
-IsSure Device answer = MatchResult answer (λ _. ⊤) (λ stop. IsOfDevice Device stop.what → ⊥)
 
 pub answers_one : {S A F : Type 0} (rules : PacketRules S A F) (start : S) (Device : F → Type 0) → HasOneCourse rules Device → (octets : List ℕ) → AreOctets octets
     → (left before after left' before' after' : Option (List ℕ)) (answer answer' : Result A (CaptureStop F)) → Answers rules start octets left before after answer

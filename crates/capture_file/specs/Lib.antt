@@ -8,5 +8,6 @@ pub mod Section
 pub mod Parts
 pub mod Wrong
 pub mod Task
+pub mod OneCourse
 pub mod Beginning
 pub mod Inner

@@ -1,9 +1,15 @@
 //! What follows from the definitions alone, for any octets.
-ghost use Rattle.std.specs.Prelude.{◌≡◌, ℕ, List, ◌++◌};
+ghost use Rattle.std.specs.Prelude.{◌≡◌, ℕ, List, ◌++◌, Bool, Option, Result, IsTrue};
+ghost use Rattle.std.specs.Io.KnownBytes.{Appends};
 ghost use Rattle.capture_file.specs.declared.fault.CaptureFault.{CaptureFault};
+ghost use Rattle.capture_file.specs.declared.fault.CaptureStop.{CaptureStop};
 ghost use Rattle.capture_file.specs.Order.{AreOctets};
+ghost use Rattle.capture_file.specs.OneCourse.{HasOneCourse, IsSure};
 ghost use Rattle.capture_file.specs.Parts.{Form, Part, IsPart, AreParts, octets_of};
+ghost use Rattle.capture_file.specs.Task.{Answers};
 ghost use Rattle.capture_file.specs.Wrong.{IsFault};
+
+use crate::task::PacketTask;
 
 /// Octets have one reading: one part stands next, or one fault is there at one place, and never both. So octets are the parts of one
 /// capture at most.
@@ -17,4 +23,15 @@ pub fn octets_have_one_reading()
         → IsFault form octets one place → IsFault form octets other elsewhere → (other ≡ one) × (elsewhere ≡ place) }
     ensures parts { (octets : List ℕ) (ones others : List Part) → AreOctets octets → AreParts ones → octets ≡ octets_of ones
         → AreParts others → octets ≡ octets_of others → others ≡ ones }
+{}
+
+/// Octets have one answer by a task of which a packet does one thing to a state: two answers over the same octets, of which neither is a
+/// fault of a device or of memory, are the same answer, and have written the same. A fault is the same fault at the same octet then,
+/// behind as many packets. Which faults of the task are of a device is any choice.
+pub fn octets_have_one_answer<T: PacketTask>()
+    ensures { (of_device : T.Fault → Bool) → HasOneCourse T.rules (λ fault. IsTrue (of_device fault))
+        → (start : T.State) (octets : List ℕ) (left before after unread earlier later : Option (List ℕ)) (answer other : Result T.Answer (CaptureStop T.Fault))
+        → AreOctets octets → Answers T.rules start octets left before after answer → Answers T.rules start octets unread earlier later other
+        → IsSure (λ fault. IsTrue (of_device fault)) answer → IsSure (λ fault. IsTrue (of_device fault)) other
+        → (other ≡ answer) × ((text : List ℕ) × Appends before after text × Appends earlier later text) }
 {}
