@@ -3,7 +3,9 @@ ghost use Rattle.std.specs.Prelude.{◌≡◌, ◌≤◌, ◌<◌, ◌-◌, leng
 ghost use Rattle.text_lines.specs.Counted.{device_of, HasFailed, HasNotFailed};
 ghost use Rattle.text_lines.specs.Lines.{GivesWithin};
 ghost use Rattle.capture_file.specs.Inner.Octets.{FillsTo, PassesOver};
+ghost use Rattle.capture_file.specs.Inner.Reading.{PassesRest, FailedIn};
 
+use crate::part::PartStop;
 use std::io::Read;
 use text_lines::Counted;
 
@@ -46,7 +48,7 @@ pub(crate) fn fill_behind<R: Read>(
 }
 
 /// Passes over so many octets. Answers whether so many were there.
-pub(crate) fn pass_over<R: Read>(count: u64, input: &mut Counted<R>) -> Result<bool, ReadFailed>
+fn pass_over<R: Read>(count: u64, input: &mut Counted<R>) -> Result<bool, ReadFailed>
     ensures passed { PassesOver count result (R.remaining (device_of input.old)) (R.remaining (device_of input.new)) }
     ensures failures { MatchResult result
         (λ _. HasNotFailed input.old input.new)
@@ -63,4 +65,19 @@ pub(crate) fn pass_over<R: Read>(count: u64, input: &mut Counted<R>) -> Result<b
         }
     }
     Ok(true)
+}
+
+/// Passes over so many octets. An input that ends before cuts the part off.
+pub(crate) fn pass_rest<R: Read>(count: u32, input: &mut Counted<R>) -> Result<(), PartStop>
+    ensures passed { PassesRest count result (R.remaining (device_of input.old)) (R.remaining (device_of input.new)) }
+    ensures failures { FailedIn result input.old input.new }
+{
+    if count == 0 {
+        return Ok(());
+    }
+    match pass_over(u64::from(count), input) {
+        Ok(true) => Ok(()),
+        Ok(false) => Err(PartStop::CUT_OFF),
+        Err(_) => Err(PartStop::Read),
+    }
 }

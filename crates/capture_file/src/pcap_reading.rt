@@ -7,13 +7,12 @@ ghost use Rattle.capture_file.specs.Parts.{Pcap};
 ghost use Rattle.capture_file.specs.Pcap.{unit_of, pcap_time, pcap_interface};
 ghost use Rattle.std.specs.Io.KnownBytes.{prepend_known};
 ghost use Rattle.capture_file.specs.Inner.Front.{front_of};
-ghost use Rattle.capture_file.specs.Inner.Octets.{Fills};
-ghost use Rattle.capture_file.specs.Inner.Reading.{pcap_of, ReadsHead, ReadsPacketHead, ReadsPart, PassesRest, FailedIn};
+ghost use Rattle.capture_file.specs.Inner.Reading.{pcap_of, ReadsHead, ReadsPacketHead, ReadsPart, FailedIn};
 ghost use Rattle.capture_file.specs.Packet.{packet_of};
 
 use crate::fault::CaptureFault;
 use crate::front::Front;
-use crate::octets::pass_over;
+use crate::octets::pass_rest;
 use crate::order::ByteOrder;
 use crate::packet::{Captured, Interface, PACKET_LIMIT, Packet};
 use crate::part::{Part, PartStop};
@@ -70,21 +69,6 @@ fn packet_in(head: PcapHead, octets: &[u8]) -> Packet<'_>
         link,
         octets: &octets[PACKET_HEAD..],
     })
-}
-
-/// Passes over so many octets.
-pub(crate) fn pass_rest<R: Read>(count: u32, input: &mut Counted<R>) -> Result<(), PartStop>
-    ensures passed { PassesRest count result (R.remaining (device_of input.old)) (R.remaining (device_of input.new)) }
-    ensures failures { FailedIn result input.old input.new }
-{
-    if count == 0 {
-        return Ok(());
-    }
-    match pass_over(u64::from(count), input) {
-        Ok(true) => Ok(()),
-        Ok(false) => Err(PartStop::CUT_OFF),
-        Err(_) => Err(PartStop::Read),
-    }
 }
 
 /// Reads what stands in front of the octets of a packet. Answers whether there is one.

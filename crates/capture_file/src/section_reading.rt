@@ -1,27 +1,17 @@
 //! The blocks of a section of pcapng, from a reader.
-ghost use Rattle.std.specs.Prelude.{◌≡◌, ◌≤◌, ◌<◌, ◌+◌, ◌-◌, [], length, Some};
+ghost use Rattle.std.specs.Prelude.{◌≡◌, ◌≤◌, ◌+◌, ◌-◌, length};
 ghost use Rattle.std.specs.Io.KnownBytes.{prepend_known};
 ghost use Rattle.text_lines.specs.Counted.{device_of};
-ghost use Rattle.capture_file.specs.Order.{number32};
-ghost use Rattle.capture_file.specs.Pcapng.{BeginsSection, description_type, enhanced_packet_type};
+ghost use Rattle.capture_file.specs.Pcapng.{BeginsSection};
 ghost use Rattle.capture_file.specs.Inner.Front.{front_of};
-ghost use Rattle.capture_file.specs.Inner.Section.{section_in};
-ghost use Rattle.capture_file.specs.Inner.Reading.{Closes, ReadsSection, IsBlockHead, ReadsBlock, FailedIn};
+ghost use Rattle.capture_file.specs.Inner.Reading.{Closes, ReadsSection, FailedIn};
 
-use crate::block::{
-    DESCRIPTION, ENHANCED_PACKET, OLD_PACKET, SECTION, SIMPLE_PACKET, is_length_of,
-    is_section_version, order_of_magic, padded,
-};
+use crate::block::{SECTION, is_length_of, is_section_version, order_of_magic};
 use crate::fault::CaptureFault;
 use crate::front::Front;
-use crate::octets::fill_behind;
-use crate::options::options_in;
+use crate::octets::{fill_behind, pass_rest};
 use crate::order::ByteOrder;
-use crate::packet::{Captured, Interface, PACKET_LIMIT, Packet};
-use crate::part::{Part, PartStop};
-use crate::pcap_reading::pass_rest;
-use crate::section::Section;
-use std::alloc::Global;
+use crate::part::PartStop;
 use std::io::Read;
 use text_lines::Counted;
 
