@@ -64,7 +64,7 @@ pub struct Summary {
 
 impl Summary {
     /// No packet came.
-    pub(crate) fn new() -> Summary {
+    pub fn new() -> Summary {
         Summary {
             packets: 0,
             lines: 0,
@@ -80,7 +80,7 @@ impl Summary {
     }
 
     /// Counts a packet that was captured at this time, with this link type.
-    pub(crate) fn count_captured(&mut self, time: Timestamp, link: u16, found: Found<'_>) {
+    pub fn count_captured(&mut self, time: Timestamp, link: u16, found: Found<'_>) {
         self.packets = self.packets.saturating_add(1);
         match found {
             Found::Datagram(_) => {
@@ -95,13 +95,13 @@ impl Summary {
     }
 
     /// Counts a packet whose time is none.
-    pub(crate) fn count_timeless(&mut self) {
+    pub fn count_timeless(&mut self) {
         self.packets = self.packets.saturating_add(1);
         self.count(Why::Timeless);
     }
 
     /// Counts a packet of a kind that has no time.
-    pub(crate) fn count_simple(&mut self) {
+    pub fn count_simple(&mut self) {
         self.packets = self.packets.saturating_add(1);
         self.count(Why::Simple);
     }
@@ -109,6 +109,14 @@ impl Summary {
     /// Tells it, in lines. What can't be written is lost.
     pub fn tell<E: Write>(&self, errors: &mut E) {
         self.tell_packets(errors);
+        if self.whole == Some(true) {
+            let _ = writeln!(errors, "ptpx: all times are of whole microseconds");
+        }
+    }
+
+    /// Tells of the packets alone, and not of their times.
+    pub fn tell_packets<E: Write>(&self, errors: &mut E) {
+        self.tell_counts(errors);
         for why in ALL_REASONS {
             let _ = match self.counts[usize::from(why as u8)] {
                 0 => Ok(()),
@@ -117,13 +125,10 @@ impl Summary {
             };
         }
         self.links.tell(errors);
-        if self.whole == Some(true) {
-            let _ = writeln!(errors, "ptpx: all times are of whole microseconds");
-        }
     }
 
     /// Tells how many packets there were, and how many gave a line.
-    fn tell_packets<E: Write>(&self, errors: &mut E) {
+    fn tell_counts<E: Write>(&self, errors: &mut E) {
         let packets = if self.packets == 1 {
             "packet"
         } else {
