@@ -14,7 +14,8 @@ use Rattle.capture_measure.specs.Row.{Row, IsRow}
 use Rattle.capture_measure.specs.Measured.{report_text, reports_text}
 use Rattle.text_lines.specs.Fault.{is_write}
 use Rattle.capture_measure.specs.Measure.{measure_rules, Recording, with_row, written_of, IsNext}
-use Rattle.capture_measure.specs.Inner.Measuring.{IsOfOutput, Goes, GoesUntil, AreRows, HasRow, StopsAt, IsMeasuring}
+use Rattle.capture_measure.specs.Inner.Hearing.{IsOfOutput, Goes, GoesUntil}
+use Rattle.capture_measure.specs.Inner.Measuring.{AreRows, HasRow, StopsAt, IsMeasuring}
 use Rattle.capture_measure.specs.Inner.Measuring.{IsUnread}
 use Rattle.capture_measure.specs.declared.measuring.Measuring.{Measuring}
 use Rattle.capture_measure.proofs.Rows.{reports_ahead, grows}

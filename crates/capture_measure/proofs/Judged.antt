@@ -1,5 +1,5 @@
 -- What a port becomes by a message of its master, by what the message's number says.
-use Rattle.std.proofs.Common.{◌≡◌, ◌∙◌, ◌⊎◌, ℕ, Bool, true, false, List, [], ◌∷◌, Option, Some, None, Ok, inl, inr, refl}
+use Rattle.std.proofs.Common.{◌≡◌, ◌∙◌, ◌⊎◌, ℕ, Bool, true, false, ◌∷◌, Some, None, Ok, inl, inr, refl}
 use Rattle.std.proofs.Common.{sym, ap, if◌then◌else◌, option_map}
 use Rattle.std.specs.Prelude.{◌&&◌, not, is_some}
 use Rattle.event_codec.specs.declared.port.PortIdentity.{PortIdentity}

@@ -1,5 +1,5 @@
 -- Lines of a recording have one answer, but for faults of the writer and of memory.
-use Rattle.std.proofs.Common.{◌≡◌, ◌∙◌, ℕ, ◌+◌, List, ◌++◌, length, true, refl, sym, ap}
+use Rattle.std.proofs.Common.{◌≡◌, ◌∙◌, ℕ, ◌+◌, List, length, true, refl, sym, ap}
 use Rattle.std.proofs.lemmas.List.{append_cancel_left}
 use Rattle.text_lines.specs.declared.line_fault.LineFault.{LineFault}
 use Rattle.text_lines.specs.declared.line_fault.LineFault.TheVariants.{Write, Field, Memory}

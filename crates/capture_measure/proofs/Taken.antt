@@ -17,7 +17,8 @@ use Rattle.capture_measure.specs.Watch.{watched_in}
 use Rattle.capture_measure.specs.Row.{Row, datagrams, heard}
 use Rattle.capture_measure.specs.Measured.{reports_text, written}
 use Rattle.text_lines.specs.Fault.{is_write}
-use Rattle.capture_measure.specs.Inner.Measuring.{Goes, GoesUntil, AreWithin, AreKept, IsHearing, IsStage}
+use Rattle.capture_measure.specs.Inner.Hearing.{Goes, GoesUntil}
+use Rattle.capture_measure.specs.Inner.Measuring.{AreWithin, AreKept, IsHearing, IsStage}
 use Rattle.capture_measure.proofs.Rows.{heard-few, heard-many, written-known, written-unknown}
 use Rattle.capture_measure.proofs.Told.{watched-stays}
 

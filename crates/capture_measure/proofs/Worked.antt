@@ -17,14 +17,14 @@ use Rattle.capture_measure.specs.Row.{Row, datagrams, heard}
 use Rattle.capture_measure.specs.Measured.{written}
 
 -- a port of this number and domain
-abbrev port : (number domain : ℕ) → PortConfig
+abbrev pub port : (number domain : ℕ) → PortConfig
 port number domain = record {
   identity = record { clock = 0 ∷ 17 ∷ 34 ∷ 255 ∷ 254 ∷ 51 ∷ 68 ∷ 85 ∷ []; port = number };
   domain = domain;
   log = pos 0;
 }
 
-abbrev said : PortConfig → (number : ℕ) → Body → Reading
+abbrev pub said : PortConfig → (number : ℕ) → Body → Reading
 said config number body = Ok (record {
   header = header_of config (0 ∷ 0 ∷ []) (pos 0) number 0 (pos 0);
   body = body;
@@ -32,14 +32,14 @@ said config number body = Ok (record {
 })
 
 -- a line with a time of so many seconds and microseconds
-abbrev row : (number : ℕ) → List ℕ → (nanoseconds : ℕ) → Reading → Row
+abbrev pub row : (number : ℕ) → List ℕ → (nanoseconds : ℕ) → Reading → Row
 row number time nanoseconds reading = record {
   time = time;
   datagram = record { line = number; time = nanoseconds * 65536; said = reading };
 }
 
 -- nobody is asked for
-abbrev anybody : Wanted
+abbrev pub anybody : Wanted
 anybody = record { slave = None; master = None; domain = None }
 
 -- an Announce, the Delay_Req of a slave in another domain, a Sync of the master, and a Delay_Req of the slave

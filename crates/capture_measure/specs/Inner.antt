@@ -2,4 +2,8 @@
 -- it, so nobody has to believe it.
 pub mod Watching
 pub mod Listener
+pub mod Hearing
 pub mod Measuring
+pub mod Recordings
+pub mod Capturing
+pub mod Outcomes

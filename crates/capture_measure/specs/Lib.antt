@@ -3,4 +3,10 @@ pub mod Row
 pub mod Measured
 pub mod Measure
 pub mod Exact
+pub mod Interfaces
+pub mod Chosen
+pub mod Capture
+pub mod ExactCapture
+pub mod AsLines
+pub mod Input
 pub mod Inner

@@ -1,21 +1,15 @@
 -- What `measure` makes of the lines that it reads.
 use Rattle.std.specs.Prelude.{◌≡◌, ℕ, ◌+◌, ◌-◌, ◌^◌, List, [], ◌∷◌, ◌++◌, length, Option, Result}
-use Rattle.std.specs.Prelude.{Err}
-use Rattle.std.specs.Prelude.{◌⊎◌}
-use Rattle.std.specs.Option.{ForSome}
 use Rattle.std.specs.Io.KnownBytes.{Appends}
-use Rattle.text_lines.specs.declared.counted.Counted.{Counted}
 use Rattle.text_lines.specs.declared.fault.Cause.{Cause}
-use Rattle.text_lines.specs.declared.fault.Cause.TheVariants.{Task}
 use Rattle.text_lines.specs.declared.fault.Stopped.{Stopped}
-use Rattle.text_lines.specs.Counted.{device_of, HasFailed}
 use Rattle.text_lines.specs.Fault.{is_write}
 use Rattle.text_lines.specs.Task.{Rules, Answers}
 use Rattle.capture_lines.specs.Measurement.{table_head}
 use Rattle.capture_measure.specs.declared.measuring.Form.{Form}
 use Rattle.capture_measure.specs.declared.measuring.Form.TheVariants.{Json, Table}
 use Rattle.text_lines.specs.declared.line_fault.LineFault.{LineFault}
-use Rattle.text_lines.specs.declared.line_fault.LineFault.TheVariants.{Write, Field, Memory}
+use Rattle.text_lines.specs.declared.line_fault.LineFault.TheVariants.{Field}
 use Rattle.capture_measure.specs.declared.watch.Wanted.{Wanted}
 use Rattle.capture_measure.specs.Row.{Row, IsRow}
 use Rattle.capture_measure.specs.Measured.{written}
@@ -77,21 +71,3 @@ abbrev pub Measures : Form → Wanted → List ℕ → (left before after : Opti
 Measures form w octets left before after answer =
     (headed : Option (List ℕ)) × Appends before headed (head_text form)
     × Answers measure_rules (begun form w) octets left headed after answer
-
--- the head of a table couldn't be written, and nothing was read
-pub record HasNoHead {R W : Type 0} (form : Form) (answer : Result ℕ (Stopped (Cause LineFault)))
-    (input input' : Counted R) (output output' : Counted W) : Type 0 where
-  pub table : form ≡ Table
-  pub stopped : answer ≡ Err (record { line = 0; what = Task Write })
-  pub unread : input' ≡ input
-  pub failed : HasFailed output output'
-
--- what an answer of `measure` says where the reader tells its octets, and where the writer does
-abbrev pub MeasuresAnswer : {R W : Type 0} → Form → Wanted → (R → Option (List ℕ)) → (W → Option (List ℕ))
-    → Result ℕ (Stopped (Cause LineFault))
-    → (input input' : Counted R) (output output' : Counted W) → Type 0
-MeasuresAnswer form w remaining contents answer input input' output output' =
-    HasNoHead form answer input input' output output'
-    ⊎ ForSome (remaining (device_of input)) (λ octets.
-    Measures form w octets (remaining (device_of input')) (contents (device_of output)) (contents (device_of output'))
-    answer)

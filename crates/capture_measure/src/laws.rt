@@ -1,6 +1,8 @@
-//! A law of recordings that are measured: the contract of a function that does nothing.
+//! Laws of recordings and captures that are measured: each is the contract of a function that does nothing.
 
+ghost use Rattle.capture_measure.specs.AsLines.{OneInterfaceIsMeasuredAsLines};
 ghost use Rattle.capture_measure.specs.Exact.{EachMeasurementIsExact};
+ghost use Rattle.capture_measure.specs.ExactCapture.{EachMeasurementOfACaptureIsExact};
 
 use capture_model::laws::each_report_is_exact;
 
@@ -14,3 +16,17 @@ pub fn each_measurement_is_exact()
 {
     each_report_is_exact();
 }
+
+/// The same of a capture: of packets in the place of lines, of which those are heard that carry a datagram and were captured
+/// at the interface that is measured.
+pub fn each_measurement_of_a_capture_is_exact()
+    ensures { EachMeasurementOfACaptureIsExact }
+{
+    each_report_is_exact();
+}
+
+/// Where all packets are of one interface, and nothing is asked for, what is written of a capture is what is written of lines with
+/// the times and datagrams of its packets, numbered as these are.
+pub fn one_interface_is_measured_as_lines()
+    ensures { OneInterfaceIsMeasuredAsLines }
+{}

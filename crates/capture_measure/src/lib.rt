@@ -1,11 +1,18 @@
 //! Offsets and delays from a recording at a slave: a slave port hears the datagrams of each line.
 #![tactic(auto)]
 
+mod input;
+mod interface;
+mod interface_counts;
 pub mod laws;
 mod listener;
 mod measuring;
+mod packets;
+mod recording;
+mod reports;
 mod tally;
 mod watch;
 
-pub use measuring::{Form, Summary, measure};
+pub use input::{Outcome, Summary, measure};
+pub use measuring::Form;
 pub use watch::Wanted;

@@ -8,31 +8,27 @@ ghost use Rattle.std.specs.Io.KnownBytes.{Appends};
 ghost use Rattle.text_lines.specs.Fault.{is_write};
 ghost use Rattle.text_lines.specs.Lines.{line_limit, input_limit, GivesWithin};
 ghost use Rattle.text_lines.specs.Task.{FailedAt};
-ghost use Rattle.event_codec.specs.Reading.{Reading, IsReading};
+ghost use Rattle.event_codec.specs.Reading.{IsReading};
 ghost use Rattle.capture_model.specs.Listening.{after_all};
 ghost use Rattle.capture_lines.specs.Measurement.{measured_of};
 ghost use Rattle.capture_measure.specs.Watch.{watched_in};
 ghost use Rattle.capture_measure.specs.Row.{Row, datagrams, IsRow};
-ghost use Rattle.capture_measure.specs.Measured.{half_of, text_as, report_text, reports_text};
+ghost use Rattle.capture_measure.specs.Measured.{report_text, reports_text};
 ghost use Rattle.capture_measure.specs.Measure.{Recording, begun, head_text, measure_rules};
-ghost use Rattle.capture_measure.specs.Measure.{MeasuresAnswer};
-ghost use Rattle.capture_measure.specs.Inner.Listener.{IsListener, report_by};
+ghost use Rattle.capture_measure.specs.Inner.Listener.{IsListener};
 ghost use Rattle.capture_measure.specs.Inner.Watching.{IsWatch};
-ghost use Rattle.capture_measure.specs.Inner.Measuring.{reading_of, IsLine, NoRow, HasRow, IsUnread, IsRead, IsRowOf};
-ghost use Rattle.capture_measure.specs.Inner.Measuring.{IsOfOutput, StopsAt, Goes, AreRows, AreWithin, AreKept};
+ghost use Rattle.capture_measure.specs.Inner.Hearing.{reading_of, measured_by, IsOfOutput, Goes};
+ghost use Rattle.capture_measure.specs.Inner.Measuring.{IsLine, NoRow, HasRow, IsUnread, IsRead, IsRowOf};
+ghost use Rattle.capture_measure.specs.Inner.Measuring.{StopsAt, AreRows, AreWithin, AreKept};
 ghost use Rattle.capture_measure.specs.Inner.Measuring.{IsHearing, IsStage, IsMeasuring};
 
-use crate::listener::{Became, Listener};
+use crate::listener::Listener;
+use crate::reports::{Completed, Datagram, Reports, message_in};
 use crate::tally::Tally;
 use crate::watch::{Wanted, Watch};
-use capture_lines::{Half, Measurement, Timed, push_json, push_row, read_timed, table_head};
+use capture_lines::{Measurement, Timed, read_timed, table_head};
 use capture_model::Watched;
-use datagram_text::Identity;
-use event_codec::{Body, DecodeRefusal, Message, decode};
-use slave_port::{Heard, Report};
 use std::alloc::Global;
-use std::fmt;
-use std::fmt::{Display, Formatter};
 use std::io::{Read, Write};
 use text_lines::{
     Cause, Counted, LINE_LIMIT, LineFault, LineTask, Stopped, answer_lines, write_text,
@@ -51,16 +47,6 @@ pub enum Form {
     Json,
     /// Rows of a table, below its head, with commas between the columns.
     Table,
-}
-
-/// Which half of a report a message completes.
-fn half_of(body: &Body) -> Half
-    ensures { result ≡ half_of body.now }
-{
-    match body {
-        Body::DelayResp { .. } => Half::Response,
-        _ => Half::Sync,
-    }
 }
 
 /// What is done with a line.
@@ -86,18 +72,9 @@ impl Stage {
     }
 }
 
-/// Where reports go.
-#[derive(Drop)]
-struct Reports {
-    form: Form,
-    /// The line of the last one, in the one text that all share.
-    text: String,
-    tally: Tally,
-}
-
 /// Measures each line of a recording.
 #[derive(Drop)]
-struct Measuring {
+pub(crate) struct Measuring {
     alloc: Global,
     watch: Watch,
     stage: Stage,
@@ -108,22 +85,17 @@ struct Measuring {
 /// A line that was read.
 #[derive(Clone, Copy)]
 struct Line<'line, 'room> {
-    number: u64,
-    timed: Timed<'line>,
-    /// The octets of its datagram.
-    octets: &'room [u8],
-    /// What these say.
-    said: Result<Message<'room>, DecodeRefusal>,
+    /// Its time, as it stands there.
+    text: &'line str,
+    datagram: Datagram<'room>,
 }
 
-/// The message that octets begin with.
-fn message_in(octets: &[u8]) -> Result<Message<'_>, DecodeRefusal>
-    ensures says { IsReading octets.now (reading_of result) }
-    ensures only { (said : Reading) → IsReading octets.now said → said ≡ reading_of result }
-{
-    match decode(octets) {
-        Ok((message, _)) => Ok(message),
-        Err(refusal) => Err(refusal),
+impl Line<'_, '_> {
+    /// What its datagram completed, with its time.
+    fn measured(&self, completed: Completed) -> Measurement<'_>
+        ensures { measured_of result ≡ measured_by completed self.now.text.now self.now.datagram.number }
+    {
+        completed.at(self.datagram.number, self.text)
     }
 }
 
@@ -160,10 +132,13 @@ fn read_line<'line, 'room>(
     let said = message_in(octets);
     match earlier.checked_add(1) {
         Some(number) => Ok(Line {
-            number,
-            timed,
-            octets,
-            said,
+            text: timed.text,
+            datagram: Datagram {
+                number,
+                time: timed.time,
+                octets,
+                said,
+            },
         }),
         None => Err(LineFault::Memory),
     }
@@ -174,59 +149,13 @@ fn notice(watch: &mut Watch, read: &Line<'_, '_>)
     ensures { (w : Wanted) (rows : List Row) (row : Row) → IsRowOf read.now row
         → IsWatch w (datagrams rows) watch.old → IsWatch w (datagrams (row ∷ rows)) watch.new }
 {
-    match &read.said {
-        Ok(message) => watch.notice(read.number, message),
+    match &read.datagram.said {
+        Ok(message) => watch.notice(read.datagram.number, message),
         Err(_) => {}
     }
 }
 
-/// The report in what became of a message.
-fn report_in(became: Became) -> Option<Report>
-    ensures { result ≡ report_by became }
-{
-    match became {
-        Became::Heard(Heard::Report(report)) | Became::HeardAnew(Heard::Report(report)) => {
-            Some(report)
-        }
-        _ => None,
-    }
-}
-
 impl Reports {
-    /// Writes a report, in one write.
-    fn write<W: Write>(
-        &mut self,
-        measured: &Measurement<'_>,
-        output: &mut Counted<W>,
-    ) -> Result<(), LineFault>
-        ensures written { Goes result (text_as self.old.form (measured_of measured.now))
-            (W.contents (device_of output.old)) (W.contents (device_of output.new)) }
-        ensures form { self.new.form ≡ self.old.form }
-        ensures failures { MatchResult result
-            (λ _. HasNotFailed output.old output.new)
-            (λ fault. HasFailedIf (is_write fault) output.old output.new) }
-    {
-        self.text.clear();
-        match self.form {
-            Form::Json => push_json(&mut self.text, measured)?,
-            Form::Table => push_row(&mut self.text, measured)?,
-        }
-        write_text::<W, LineFault>(self.text.as_str(), output)?;
-        self.tally.count_report();
-        Ok(())
-    }
-
-    /// Counts a line by which it isn't known yet whom to watch.
-    fn count_early(&mut self, read: &Line<'_, '_>)
-        ensures { self.new.form ≡ self.old.form }
-    {
-        self.tally.count_time(read.timed.time);
-        match &read.said {
-            Ok(message) => self.tally.count_early(&message.body),
-            Err(refusal) => self.tally.count_refused(*refusal),
-        }
-    }
-
     /// A port hears the datagram of a line, and its report goes out.
     fn hear_line<W: Write>(
         &mut self,
@@ -234,7 +163,7 @@ impl Reports {
         read: &Line<'_, '_>,
         output: &mut Counted<W>,
     ) -> Result<(), LineFault>
-        requires { IsReading read.now.octets.now (reading_of read.now.said) }
+        requires { IsReading read.now.datagram.octets.now (reading_of read.now.datagram.said) }
         ensures heard { (watched : Watched) (earlier : List Row) (row : Row) → IsRowOf read.now row
             → IsListener watched listener.old (after_all watched (datagrams earlier))
             → OnOk result (IsListener watched listener.new (after_all watched (datagrams (row ∷ earlier))))
@@ -246,26 +175,10 @@ impl Reports {
             (λ _. HasNotFailed output.old output.new)
             (λ fault. HasFailedIf (is_write fault) output.old output.new) }
     {
-        self.tally.count_time(read.timed.time);
-        let message = match &read.said {
-            Ok(message) => message,
-            Err(refusal) => {
-                self.tally.count_refused(*refusal);
-                return Ok(());
-            }
-        };
-        let became = listener.hear(read.number, read.timed.time, read.octets, message);
-        self.tally.count_heard(message, listener.domain(), became);
-        let Some(report) = report_in(became) else {
-            return Ok(());
-        };
-        let measured = Measurement {
-            by: half_of(&message.body),
-            line: read.number,
-            time: read.timed.text,
-            report,
-        };
-        self.write(&measured, output)
+        match self.listen(listener, &read.datagram) {
+            Some(completed) => self.write(&read.measured(completed), output),
+            None => Ok(()),
+        }
     }
 
     /// A port hears the datagram of the line after so many, and its report goes out. Answers the line's number.
@@ -297,7 +210,7 @@ impl Reports {
             Err(fault) => return Err(fault),
         };
         self.hear_line(listener, &read, output)?;
-        Ok(read.number)
+        Ok(read.datagram.number)
     }
 
     /// A port hears all lines that were kept, the first of which is that of number 1.
@@ -381,7 +294,7 @@ impl LineTask for Measuring {
             Ok(read) => read,
             Err(fault) => return Err(fault),
         };
-        self.lines = read.number;
+        self.lines = read.datagram.number;
         notice(&mut self.watch, &read);
         match self.watch.watched() {
             Some(watched) => self.begin(watched, &read, output),
@@ -396,8 +309,14 @@ impl LineTask for Measuring {
 }
 
 impl Measuring {
+    /// Tells what is told of a recording beside its reports, in lines. What can't be written is lost.
+    pub(crate) fn tell<E: Write>(&self, errors: &mut E) {
+        self.watch.tell("line", errors);
+        self.reports.tally.tell(errors);
+    }
+
     /// No line came yet.
-    fn new(alloc: Global, wanted: &Wanted, form: Form) -> Measuring
+    pub(crate) fn new(alloc: Global, wanted: &Wanted, form: Form) -> Measuring
         ensures { IsMeasuring result (begun form wanted.now) }
     {
         let watch = Watch::new(wanted);
@@ -406,11 +325,7 @@ impl Measuring {
             alloc,
             watch,
             stage,
-            reports: Reports {
-                form,
-                text: String::new(alloc),
-                tally: Tally::new(),
-            },
+            reports: Reports::new(alloc, form),
             lines: 0,
         }
     }
@@ -419,16 +334,16 @@ impl Measuring {
     fn keep(&mut self, read: &Line<'_, '_>, line: &[u8]) -> Result<(), LineFault>
         requires { length line.now ≤ line_limit }
         ensures kept { (w : Wanted) (rows : List Row) (row : Row) → IsRow (length rows + 1) line.now row
-            → watched_in w (datagrams (row ∷ rows)) ≡ None → read.now.number ≡ length rows + 1
+            → watched_in w (datagrams (row ∷ rows)) ≡ None → read.now.datagram.number ≡ length rows + 1
             → IsStage w rows self.old.stage → OnOk result (IsStage w (row ∷ rows) self.new.stage) }
         ensures memory { MatchResult result (λ _. ⊤) (λ fault. fault ≡ LineFault.Memory) }
         ensures watch { self.new.watch ≡ self.old.watch }
         ensures lines { self.new.lines ≡ self.old.lines }
         ensures form { self.new.reports.form ≡ self.old.reports.form }
     {
-        self.reports.count_early(read);
+        self.reports.tally.count_early(&read.datagram);
         match &mut self.stage {
-            Stage::Kept(kept) if read.number < KEPT_MOST => {
+            Stage::Kept(kept) if read.datagram.number < KEPT_MOST => {
                 let mut copy = Vec::new(self.alloc);
                 copy.extend_from_slice(line)?;
                 kept.push(copy)?;
@@ -447,7 +362,7 @@ impl Measuring {
         read: &Line<'_, '_>,
         output: &mut Counted<W>,
     ) -> Result<(), LineFault>
-        requires says { IsReading read.now.octets.now (reading_of read.now.said) }
+        requires says { IsReading read.now.datagram.octets.now (reading_of read.now.datagram.said) }
         requires kept { AreWithin self.old.stage }
         ensures begun { (earlier : List Row) (row : Row) → IsRowOf read.now row
             → AreKept self.old.stage earlier
@@ -469,73 +384,8 @@ impl Measuring {
     }
 }
 
-/// What is told of a recording beside its reports.
-#[derive(Drop)]
-pub struct Summary {
-    measuring: Measuring,
-}
-
-/// How it is known whom to watch.
-#[derive(Clone, Copy)]
-struct Source(Option<u64>);
-
-impl Display for Source {
-    fn fmt<W: fmt::Write>(&self, f: &mut Formatter<W>) -> fmt::Result {
-        match self.0 {
-            Some(line) => write!(f, "told by line {line}"),
-            None => f.write_str("as asked for"),
-        }
-    }
-}
-
-impl Summary {
-    /// Tells it, in lines. What can't be written is lost.
-    pub fn tell<E: Write>(&self, errors: &mut E) {
-        self.tell_watch(errors);
-        self.measuring.reports.tally.tell(errors);
-    }
-
-    /// Tells whom the recording is of.
-    fn tell_watch<E: Write>(&self, errors: &mut E) {
-        let watch = &self.measuring.watch;
-        let _ = match watch.domain {
-            Some(known) => writeln!(
-                errors,
-                "ptpx: domain {}, {}",
-                known.value,
-                Source(known.line)
-            ),
-            None if watch.master.is_some() => {
-                writeln!(errors, "ptpx: no Sync of the master tells the domain")
-            }
-            None => writeln!(errors, "ptpx: no Sync tells the domain"),
-        };
-        let _ = match watch.master {
-            Some(known) => writeln!(
-                errors,
-                "ptpx: master {}, {}",
-                Identity(&known.value),
-                Source(known.line)
-            ),
-            None if watch.domain.is_some() => {
-                writeln!(errors, "ptpx: no Sync of the domain tells the master")
-            }
-            None => writeln!(errors, "ptpx: no Sync tells the master"),
-        };
-        let _ = match watch.slave {
-            Some(known) => writeln!(
-                errors,
-                "ptpx: slave {}, {}",
-                Identity(&known.value),
-                Source(known.line)
-            ),
-            None => writeln!(errors, "ptpx: no Delay_Req of the domain tells the slave"),
-        };
-    }
-}
-
 /// Writes what stands above all measurements.
-fn write_head<W: Write>(form: Form, output: &mut Counted<W>) -> Result<(), LineFault>
+pub(crate) fn write_head<W: Write>(form: Form, output: &mut Counted<W>) -> Result<(), LineFault>
     ensures written { MatchResult result
         (λ _. Appends (W.contents (device_of output.old)) (W.contents (device_of output.new)) (head_text form))
         (λ fault. (form ≡ Form.Table) × (fault ≡ LineFault.Write)) }
@@ -546,37 +396,5 @@ fn write_head<W: Write>(form: Form, output: &mut Counted<W>) -> Result<(), LineF
     match form {
         Form::Json => Ok(()),
         Form::Table => write_text(table_head(), output),
-    }
-}
-
-/// Measures a recording: lines of a time and a datagram, of which a port hears each, and writes what it reports.
-pub fn measure<R: Read, W: Write>(
-    alloc: Global,
-    wanted: &Wanted,
-    form: Form,
-    input: &mut Counted<R>,
-    output: &mut Counted<W>,
-) -> (Result<u64, Stopped<Cause<LineFault>>>, Summary)
-    ensures measured { MeasuresAnswer form wanted.now R.remaining W.contents result.0
-        input.old input.new output.old output.new }
-    // Of any reader only so much is read, whatever the writer is.
-    ensures bounded { GivesWithin R.remaining (input_limit measure_rules.lines_limit) input.old input.new }
-    ensures failures { MatchResult result.0
-        (λ _. HasNotFailed input.old input.new × HasNotFailed output.old output.new)
-        (λ stop. FailedAt measure_rules stop.what input.old input.new output.old output.new) }
-{
-    let mut measuring = Measuring::new(alloc, wanted, form);
-    match write_head(form, output) {
-        Ok(()) => {
-            let answer = answer_lines(&mut measuring, input, output);
-            (answer, Summary { measuring })
-        }
-        Err(fault) => {
-            let stop = Stopped {
-                line: 0,
-                what: Cause::Task(fault),
-            };
-            (Err(stop), Summary { measuring })
-        }
     }
 }

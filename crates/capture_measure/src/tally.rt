@@ -1,6 +1,7 @@
 //! How many datagrams gave no report, by what they are and by why they gave none.
 
 use crate::listener::Became;
+use crate::reports::Datagram;
 use event_codec::{Body, DecodeRefusal, Message};
 use ptp_units::ScaledTime;
 use slave_port::{Heard, Reason};
@@ -255,9 +256,13 @@ impl Tally {
         }
     }
 
-    /// Counts a message that isn't heard, or not yet, since it isn't known whom to watch.
-    pub(crate) fn count_early(&mut self, body: &Body) {
-        self.count(Kind::of(body), Why::TooEarly);
+    /// Counts a datagram that isn't heard, or not yet, since it isn't known whom to watch.
+    pub(crate) fn count_early(&mut self, datagram: &Datagram<'_>) {
+        self.count_time(datagram.time);
+        match &datagram.said {
+            Ok(message) => self.count(Kind::of(&message.body), Why::TooEarly),
+            Err(refusal) => self.count_refused(*refusal),
+        }
     }
 
     /// Counts what isn't one of the four messages.

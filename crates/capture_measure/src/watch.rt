@@ -8,7 +8,11 @@ ghost use Rattle.capture_measure.specs.Watch.{source_in, domain_from, watched_in
 ghost use Rattle.capture_measure.specs.Inner.Watching.{value_of, request_in, IsWatch};
 
 use capture_model::Watched;
+use datagram_text::Identity;
 use event_codec::{Body, Header, Message, PortIdentity};
+use std::fmt;
+use std::fmt::{Display, Formatter};
+use std::io::Write;
 
 /// Whom to watch, as far as it is asked for.
 #[derive(Clone, Copy, Debug, PartialEq, Eq)]
@@ -57,6 +61,22 @@ fn told<T>(line: u64, value: T) -> Known<T>
     Known {
         value,
         line: Some(line),
+    }
+}
+
+/// How something is known: by the line or packet of a number, if not by what is asked for.
+#[derive(Clone, Copy)]
+struct Source {
+    number: Option<u64>,
+    unit: &'static str,
+}
+
+impl Display for Source {
+    fn fmt<W: fmt::Write>(&self, f: &mut Formatter<W>) -> fmt::Result {
+        match self.number {
+            Some(number) => write!(f, "told by {} {number}", self.unit),
+            None => f.write_str("as asked for"),
+        }
     }
 }
 
@@ -137,5 +157,36 @@ impl Watch {
             master: self.master?.value,
             domain: self.domain?.value,
         })
+    }
+
+    /// Tells in lines whom the recording is of, and which of its lines or packets told that. What can't be written is lost.
+    pub(crate) fn tell<E: Write>(&self, unit: &'static str, errors: &mut E) {
+        let _ = match self.domain {
+            Some(Known { value, line }) => {
+                let source = Source { number: line, unit };
+                writeln!(errors, "ptpx: domain {value}, {source}")
+            }
+            None if self.master.is_some() => {
+                writeln!(errors, "ptpx: no Sync of the master tells the domain")
+            }
+            None => writeln!(errors, "ptpx: no Sync tells the domain"),
+        };
+        let _ = match self.master {
+            Some(Known { value, line }) => {
+                let source = Source { number: line, unit };
+                writeln!(errors, "ptpx: master {}, {source}", Identity(&value))
+            }
+            None if self.domain.is_some() => {
+                writeln!(errors, "ptpx: no Sync of the domain tells the master")
+            }
+            None => writeln!(errors, "ptpx: no Sync tells the master"),
+        };
+        let _ = match self.slave {
+            Some(Known { value, line }) => {
+                let source = Source { number: line, unit };
+                writeln!(errors, "ptpx: slave {}, {source}", Identity(&value))
+            }
+            None => writeln!(errors, "ptpx: no Delay_Req of the domain tells the slave"),
+        };
     }
 }

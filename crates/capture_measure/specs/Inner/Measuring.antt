@@ -1,15 +1,11 @@
 -- What is kept while a recording is measured, and what goes out of it.
-use Rattle.std.specs.Prelude.{◌≡◌, ℕ, ◌+◌, ◌<◌, ◌≤◌, ◌/◌, ⊤, List, [], ◌∷◌, ◌++◌, length, take, map, Some, None, Ok}
-use Rattle.std.specs.Prelude.{Err, Option, Result, MatchResult}
+use Rattle.std.specs.Prelude.{◌≡◌, ℕ, ◌+◌, ◌<◌, ◌≤◌, ◌/◌, ⊤, List, [], ◌∷◌, length, take, map, Some, None, Ok}
+use Rattle.std.specs.Prelude.{Option}
 use Rattle.std.specs.List.{All}
 use Rattle.std.specs.Io.KnownBytes.{Appends}
 use Rattle.hex.specs.Hex.{decode_of}
-use Rattle.event_codec.specs.declared.message.Message.{Message}
-use Rattle.event_codec.specs.declared.refusal.DecodeRefusal.{DecodeRefusal}
-use Rattle.event_codec.specs.Packet.{contents}
 use Rattle.event_codec.specs.Reading.{Reading, IsReading}
 use Rattle.text_lines.specs.Lines.{line_limit}
-use Rattle.text_lines.specs.Task.{WentOut}
 use Rattle.capture_lines.specs.Timed.{parts_of, timed_in}
 use Rattle.capture_lines.specs.declared.timed.Timed.{Timed}
 use Rattle.capture_model.specs.declared.watched.Watched.{Watched}
@@ -23,8 +19,8 @@ use Rattle.capture_measure.specs.declared.measuring.Stage.TheVariants.{Kept, Pas
 use Rattle.capture_measure.specs.declared.watch.Wanted.{Wanted}
 use Rattle.capture_measure.specs.Watch.{watched_in}
 use Rattle.capture_measure.specs.Row.{Row, datagrams, kept_most, heard, IsRow}
-use Rattle.text_lines.specs.Fault.{is_write}
 use Rattle.capture_measure.specs.Measure.{Recording}
+use Rattle.capture_measure.specs.Inner.Hearing.{reading_of, recorded_of}
 use Rattle.capture_measure.specs.Inner.Listener.{IsListener}
 use Rattle.capture_measure.specs.Inner.Watching.{IsWatch}
 
@@ -33,11 +29,6 @@ pub record IsLine (line room : List ℕ) (timed : Timed) : Type 0 where
   pub there : timed_in line ≡ Some (parts_of timed)
   pub within : length timed.digits.now / 2 ≤ length room
   pub decoded : decode_of timed.digits.now ≡ Ok (take (length timed.digits.now / 2) room)
-
--- what octets say, by the message or the refusal that was read of them
-abbrev pub reading_of : Result Message DecodeRefusal → Reading
-reading_of (Ok message) = Ok (contents message)
-reading_of (Err refusal) = Err refusal
 
 -- the row of a line with these parts, whose octets say this
 abbrev pub row_of : (number : ℕ) → Timed → Reading → Row
@@ -48,17 +39,16 @@ row_of number timed said = record {
 
 -- a row has what was read of a line
 pub record IsRowOf (read : Line) (row : Row) : Type 0 where
-  pub time : row.time ≡ read.timed.text.now
-  pub numbered : row.datagram.line ≡ read.number
-  pub moment : row.datagram.time ≡ read.timed.time
-  pub said : row.datagram.said ≡ reading_of read.said
+  pub time : row.time ≡ read.text.now
+  pub datagram : row.datagram ≡ recorded_of read.datagram
 
 -- this was read of the line of this number, and whatever row it has is that
 pub record IsRead (number : ℕ) (line : List ℕ) (read : Line) : Type 0 where
-  pub numbered : read.number ≡ number
-  pub row : IsRow number line (row_of number read.timed (reading_of read.said))
-  pub only : (row : Row) → IsRow number line row → IsRowOf read row
-  pub says : IsReading read.octets.now (reading_of read.said)
+  pub numbered : read.datagram.number ≡ number
+  pub row : Row
+  pub is_row : IsRow number line row
+  pub only : (other : Row) → IsRow number line other → IsRowOf read other
+  pub says : IsReading read.datagram.octets.now (reading_of read.datagram.said)
 
 -- a line of this number is one of a recording
 abbrev pub HasRow : (number : ℕ) → List ℕ → Type 0
@@ -74,28 +64,11 @@ IsUnread Write number line = ⊥
 IsUnread Field number line = NoRow line
 IsUnread Memory number line = HasRow number line
 
--- a fault of what is written, not of a line
-abbrev pub IsOfOutput : LineFault → Type 0
-IsOfOutput Write = ⊤
-IsOfOutput Field = ⊥
-IsOfOutput Memory = ⊤
-
--- a part of a text went out before this fault
-abbrev pub GoesUntil : LineFault → List ℕ → (before after : Option (List ℕ)) → Type 0
-GoesUntil fault text before after =
-    IsOfOutput fault × (out : List ℕ) × (rest : List ℕ) × (text ≡ out ++ rest)
-    × WentOut (is_write fault) (Appends before after out)
-
 -- why a port stops at the line of this number: where it is none of a recording nothing goes out
 abbrev pub StopsAt : LineFault → (number : ℕ) → List ℕ → (before after : Option (List ℕ)) → Type 0
 StopsAt Write number line before after = HasRow number line
 StopsAt Field number line before after = NoRow line × Appends before after []
 StopsAt Memory number line before after = HasRow number line
-
--- a text went out, or a part of it before a fault
-abbrev pub Goes : {T : Type 0} → Result T LineFault → List ℕ → (before after : Option (List ℕ)) → Type 0
-Goes result text before after =
-    MatchResult result (λ _. Appends before after text) (λ fault. GoesUntil fault text before after)
 
 -- after these rows come such lines up to those rows; lists of rows have the newest in front
 abbrev pub AreRows : (earlier : List Row) → List (List ℕ) → List Row → Type 0

@@ -1,14 +1,13 @@
-use Rattle.std.proofs.Common.{◌≡◌, ◌∙◌, ◌∷◌, ℕ, Bool, true, false, Option, Some, None, Ok, refl, sym, ap, subst, option_map}
+use Rattle.std.proofs.Common.{◌≡◌, ◌∙◌, ◌∷◌, true, false, Option, Some, Ok, refl, sym, ap, subst, option_map}
 use Rattle.event_codec.specs.Packet.{Contents, contents}
 use Rattle.pairing.specs.Marked.{entry}
-use Rattle.sync_watch.specs.declared.judgement.Judgement.TheVariants.{Newer, Repeated, BeganAnew}
-use Rattle.sync_watch.specs.Told.{Arrival, Sync, FollowUp, known}
+use Rattle.sync_watch.specs.Told.{known}
 use Rattle.event_codec.specs.Port.{is_same_port}
 use Rattle.std.specs.Prelude.{◌&&◌, is_some}
-use Rattle.slave_port.specs.History.{Call, Event, General}
+use Rattle.slave_port.specs.History.{Call, General}
 use Rattle.capture_model.specs.declared.watched.Watched.{Watched}
-use Rattle.capture_model.specs.Listening.{Listening, setup_in, table_capacity, is_of, is_stale, arrival_of, told}
-use Rattle.capture_model.specs.Listening.{with_count, answer_in, hears_ready}
+use Rattle.capture_model.specs.Listening.{Listening, setup_in, table_capacity, is_of}
+use Rattle.capture_model.specs.Listening.{answer_in, hears_ready}
 use Rattle.capture_measure.specs.Inner.Listener.{IsListener}
 use Rattle.capture_measure.proofs.Listeners.{IsListener-told}
 use Rattle.capture_measure.proofs.Judged.{response-other, response-judged, says-newer, says-repeated}

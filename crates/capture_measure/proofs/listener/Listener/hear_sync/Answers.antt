@@ -1,13 +1,9 @@
-use Rattle.std.proofs.Common.{◌≡◌, ◌∙◌, ℕ, Bool, true, false, Option, Some, None, Ok, refl, sym, ap, subst, option_map}
+use Rattle.std.proofs.Common.{◌≡◌, ◌∙◌, true, false, Some, Ok, refl, sym, ap, subst}
 use Rattle.event_codec.specs.Packet.{Contents, contents}
-use Rattle.pairing.specs.Marked.{entry}
 use Rattle.sync_watch.specs.declared.judgement.Judgement.TheVariants.{Newer, Repeated, BeganAnew}
-use Rattle.sync_watch.specs.Told.{Arrival, Sync, FollowUp, known}
-use Rattle.sync_watch.specs.Judged.{judged_sync, judged_refused, is_repeated}
-use Rattle.slave_port.specs.History.{Call, Event, General}
+use Rattle.slave_port.specs.History.{Call, Event}
 use Rattle.capture_model.specs.declared.watched.Watched.{Watched}
-use Rattle.capture_model.specs.Listening.{Listening, setup_in, table_capacity, is_of, is_stale, arrival_of, told}
-use Rattle.capture_model.specs.Listening.{with_count, answer_in, hears_ready}
+use Rattle.capture_model.specs.Listening.{setup_in, is_of}
 use Rattle.capture_measure.specs.Inner.Listener.{IsListener}
 use Rattle.capture_measure.proofs.Listeners.{IsListener-told}
 use Rattle.capture_measure.proofs.Judged.{sync-other, sync-other-answer, sync-judged, sync-judged-answer, with_sync-judged, sync-anew}

@@ -1,4 +1,4 @@
-use Rattle.std.proofs.Common.{◌≡◌, ◌∙◌, Bool, ap, subst}
+use Rattle.std.proofs.Common.{◌∙◌, Bool, ap, subst}
 use Rattle.sync_watch.specs.Told.{arrival}
 use Rattle.sync_watch.specs.Judged.{judged_follow_up, after_follow_up}
 use Rattle.sync_watch.specs.StandsFor.{StandsFor}

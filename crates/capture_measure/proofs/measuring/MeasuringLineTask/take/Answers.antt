@@ -6,7 +6,8 @@ use Rattle.capture_measure.specs.declared.measuring.Stage.TheVariants.{Hearing}
 use Rattle.capture_measure.specs.Row.{Row, IsRow, datagrams, heard}
 use Rattle.capture_measure.specs.Measure.{with_row}
 use Rattle.capture_measure.specs.Measured.{report_text, reports_text}
-use Rattle.capture_measure.specs.Inner.Measuring.{reading_of, row_of, Goes, StopsAt, IsUnread, IsStage}
+use Rattle.capture_measure.specs.Inner.Hearing.{Goes}
+use Rattle.capture_measure.specs.Inner.Measuring.{StopsAt, IsUnread, IsStage}
 use Rattle.capture_measure.specs.Inner.Watching.{IsWatch}
 use Rattle.capture_measure.proofs.Goes.{answered, stopped, unread}
 use Rattle.capture_measure.proofs.Rows.{heard-known, written-more}
@@ -67,9 +68,9 @@ begin-requires g c =
 pub returns-in-Some : goal.returns-in-Some
 returns-in-Some g c = record {
   taken = λ r at.
-      let row : Row = row_of (c.args.self.now.lines + 1) c.in-Ok.read.timed (reading_of c.in-Ok.read.said) in
-      let of = c.in-Ok.ensures.only row c.in-Ok.ensures.row in
-      let next = subst (λ (n : ℕ). IsRow (n + 1) c.args.line.now row) at.counted c.in-Ok.ensures.row in
+      let row : Row = c.in-Ok.ensures.row in
+      let of = c.in-Ok.ensures.only row c.in-Ok.ensures.is_row in
+      let next = subst (λ (n : ℕ). IsRow (n + 1) c.args.line.now row) at.counted c.in-Ok.ensures.is_row in
       let still = not_known r.wanted r.rows c.args.self.now.stage at.stage c.in_default.not-Hearing in
       let watch = c.notice.ensures r.wanted r.rows row of (at.watch still) in
       let known = sym (c.watched.ensures r.wanted (datagrams (row ∷ r.rows)) watch) ∙ c.in-Some.is in
@@ -96,9 +97,9 @@ returns-in-Some g c = record {
 pub returns-in-None : goal.returns-in-None
 returns-in-None g c = record {
   taken = λ r at.
-      let row : Row = row_of (c.args.self.now.lines + 1) c.in-Ok.read.timed (reading_of c.in-Ok.read.said) in
-      let of = c.in-Ok.ensures.only row c.in-Ok.ensures.row in
-      let next = subst (λ (n : ℕ). IsRow (n + 1) c.args.line.now row) at.counted c.in-Ok.ensures.row in
+      let row : Row = c.in-Ok.ensures.row in
+      let of = c.in-Ok.ensures.only row c.in-Ok.ensures.is_row in
+      let next = subst (λ (n : ℕ). IsRow (n + 1) c.args.line.now row) at.counted c.in-Ok.ensures.is_row in
       let still = not_known r.wanted r.rows c.args.self.now.stage at.stage c.in_default.not-Hearing in
       let watch = c.notice.ensures r.wanted r.rows row of (at.watch still) in
       let unknown = sym (c.watched.ensures r.wanted (datagrams (row ∷ r.rows)) watch) ∙ c.in-None.is in

@@ -1,0 +1,138 @@
+-- What is written of the packets of a capture is the texts of reports that are exact.
+use Rattle.std.proofs.Common.{◌≡◌, ◌∙◌, inl, inr, ℕ, suc, ◌+◌, ◌-◌, ◌≤◌, nat_le, Bool, true, false, List, [], ◌∷◌, ◌++◌, length}
+use Rattle.std.proofs.Common.{Option, Some, None, sym, ap, subst, arith}
+use Rattle.std.specs.Prelude.{⊤, if◌then◌else◌}
+use Rattle.std.specs.Option.{option_map_or}
+use Rattle.std.proofs.lemmas.List.{append-nil}
+use Rattle.capture_file.specs.Packet.{InterfaceOf, PacketOf, Captured, Timeless, Simple}
+use Rattle.capture_file.specs.Task.{TakesPackets}
+use Rattle.capture_model.specs.declared.watched.Watched.{Watched}
+use Rattle.capture_model.specs.Told.{AreNumbered}
+use Rattle.capture_model.specs.Exact.{IsExact, EachReportIsExact}
+use Rattle.capture_measure.specs.declared.measuring.Form.{Form}
+use Rattle.capture_measure.specs.declared.watch.Wanted.{Wanted}
+use Rattle.capture_measure.specs.Row.{Row, datagrams, kept_most}
+use Rattle.capture_measure.specs.Measured.{measurements, reports_text}
+use Rattle.capture_measure.specs.Interfaces.{InterfaceRow, is_same_interface, rows_at}
+use Rattle.capture_measure.specs.Chosen.{chosen, heard_with, heard_at, capture_watched, capture_written}
+use Rattle.capture_measure.specs.Capture.{Capture, IsPacketRow, capture_begun, capture_text, capture_rules}
+use Rattle.capture_measure.specs.Exact.{texts_as}
+use Rattle.capture_measure.specs.ExactCapture.{EachMeasurementOfACaptureIsExact}
+use Rattle.capture_measure.proofs.Exact.{all_measured, texts_measured}
+
+-- ---- the numbers of rows rise
+abbrev AreRising : (most : ℕ) → List Row → Type 0
+AreRising most [] = ⊤
+AreRising most (row ∷ rows) = (row.datagram.line ≤ most) × (1 ≤ row.datagram.line) × AreRising (row.datagram.line - 1) rows
+
+abbrev pub ArePackets : (most : ℕ) → List InterfaceRow → Type 0
+ArePackets most [] = ⊤
+ArePackets most (r ∷ rows) = (r.row.datagram.line ≤ most) × (1 ≤ r.row.datagram.line) × ArePackets (r.row.datagram.line - 1) rows
+
+rising_more : (n m : ℕ) (rows : List Row) → n ≤ m → AreRising n rows → AreRising m rows
+rising_more n m [] less rising = tt
+rising_more n m (row ∷ rows) less rising = (omega (arith, less, rising.0), rising.1, rising.2)
+
+pub packets_more : (n m : ℕ) (rows : List InterfaceRow) → n ≤ m → ArePackets n rows → ArePackets m rows
+packets_more n m [] less rising = tt
+packets_more n m (r ∷ rows) less rising = (omega (arith, less, rising.0), rising.1, rising.2)
+
+rising_if : (n : ℕ) (row : Row) (rows : List Row) (same : Bool) → row.datagram.line ≤ n → 1 ≤ row.datagram.line
+    → AreRising (row.datagram.line - 1) rows → AreRising n (if same then row ∷ rows else rows)
+rising_if n row rows true most least rising = (most, least, rising)
+rising_if n row rows false most least rising = rising_more (row.datagram.line - 1) n rows (omega (arith, most, least)) rising
+
+rows_rising : (n : ℕ) (interface : InterfaceOf) (rows : List InterfaceRow) → ArePackets n rows → AreRising n (rows_at interface rows)
+rows_rising n interface [] rising = tt
+rows_rising n interface (r ∷ rows) rising =
+    rising_if n r.row (rows_at interface rows) (is_same_interface interface r.interface) rising.0 rising.1
+    (rows_rising (r.row.datagram.line - 1) interface rows rising.2)
+
+few_rising : (n : ℕ) (row : Row) (rows : List Row) (few : Bool) → row.datagram.line ≤ n → 1 ≤ row.datagram.line → AreRising n rows
+    → AreRising n (if few then rows else row ∷ [])
+few_rising n row rows true most least rising = rising
+few_rising n row rows false most least rising = (most, least, tt)
+
+with_rising : (n : ℕ) (before now : Option InterfaceOf) (r : InterfaceRow) (rows : List InterfaceRow) (heard : List Row)
+    → ArePackets n (r ∷ rows) → AreRising (r.row.datagram.line - 1) heard → AreRising n (heard_with before now r rows heard)
+with_rising n (Some interface) now r rows heard rising those =
+    rising_if n r.row heard (is_same_interface interface r.interface) rising.0 rising.1 those
+with_rising n None None r rows heard rising those = tt
+with_rising n None (Some interface) r rows heard rising those =
+    few_rising n r.row (rows_at interface (r ∷ rows)) (nat_le (length (r ∷ rows)) kept_most) rising.0 rising.1
+    (rows_rising n interface (r ∷ rows) rising)
+
+heard_rising : (n : ℕ) (w : Wanted) (rows : List InterfaceRow) → ArePackets n rows → AreRising n (heard_at w rows)
+heard_rising n w [] rising = tt
+heard_rising n w (r ∷ rows) rising =
+    with_rising n (chosen w rows) (chosen w (r ∷ rows)) r rows (heard_at w rows) rising
+    (heard_rising (r.row.datagram.line - 1) w rows rising.2)
+
+numbered : (n : ℕ) (rows : List Row) → AreRising n rows → AreNumbered (datagrams rows)
+numbered n [] rising = tt
+numbered n (row ∷ []) rising = tt
+numbered n (row ∷ before ∷ rows) rising =
+    (omega (arith, rising.1, rising.2.0), numbered (row.datagram.line - 1) (before ∷ rows) rising.2)
+
+-- ---- packets that were read took a capture on
+pub record HasReadOn (k read : Capture) (text : List ℕ) (most : ℕ) : Type 0 where
+  pub form : read.form ≡ k.form
+  pub wanted : read.wanted ≡ k.wanted
+  pub written : capture_text read ≡ capture_text k ++ text
+  pub rising : ArePackets most read.rows
+
+row_number : (number : ℕ) (packet : PacketOf) (r : InterfaceRow) → IsPacketRow number packet r → r.row.datagram.line ≡ number
+row_number number (Captured interface time link octets) r is = is.3.numbered
+row_number number Timeless r is = absurd is
+row_number number Simple r is = absurd is
+
+pub read_on : (form : Form) (wanted : Wanted) (packets : List PacketOf) (read : Capture) (text : List ℕ)
+    → TakesPackets capture_rules (capture_begun form wanted) packets read text
+    → HasReadOn (capture_begun form wanted) read text (length packets)
+read_on form wanted [] read text (same, nothing) = record {
+  form = ap (λ (x : Capture). x.form) same;
+  wanted = ap (λ (x : Capture). x.wanted) same;
+  written = ap capture_text same ∙ sym nothing;
+  rising = subst (λ (x : Capture). ArePackets 0 x.rows) (sym same) tt;
+}
+read_on form wanted (packet ∷ earlier) read text (state, before, out, taken, inl (r, row, on, added), all) =
+    let so_far = read_on form wanted earlier state before taken in
+    let number = row_number (length earlier + 1) packet r row in record {
+      form = ap (λ (x : Capture). x.form) on ∙ so_far.form;
+      wanted = ap (λ (x : Capture). x.wanted) on ∙ so_far.wanted;
+      written = added ∙ ap (λ (t : List ℕ). t ++ out) so_far.written ∙ sym all;
+      rising = subst (λ (x : Capture). ArePackets (suc (length earlier)) x.rows) (sym on)
+          (omega (arith, number), omega (arith, number), packets_more (length earlier) (r.row.datagram.line - 1) state.rows (omega (arith, number)) so_far.rising);
+    }
+read_on form wanted (packet ∷ earlier) read text (state, before, out, taken, inr (none, same, nothing), all) =
+    let so_far = read_on form wanted earlier state before taken in record {
+      form = ap (λ (x : Capture). x.form) same ∙ so_far.form;
+      wanted = ap (λ (x : Capture). x.wanted) same ∙ so_far.wanted;
+      written = ap capture_text same ∙ so_far.written ∙ sym (append-nil before) ∙ ap (λ (t : List ℕ). before ++ t) (sym nothing) ∙ sym all;
+      rising = subst (λ (x : Capture). ArePackets (suc (length earlier)) x.rows) (sym same)
+          (packets_more (length earlier) (suc (length earlier)) state.rows (omega arith) so_far.rising);
+    }
+
+written_exactly : (form : Form) (wanted : Wanted) (w : Watched) (read : Capture) (text : List ℕ) (most : ℕ)
+    → HasReadOn (capture_begun form wanted) read text most → capture_watched wanted read.rows ≡ Some w
+    → text ≡ texts_as form (measurements w (heard_at wanted read.rows))
+written_exactly form wanted w read text most on known =
+    sym on.written
+    ∙ (λ i. capture_written (on.form i) (on.wanted i) read.rows)
+    ∙ ap (λ (o : Option Watched). option_map_or (λ v. reports_text form v (heard_at wanted read.rows)) o []) known
+    ∙ texts_measured form w (heard_at wanted read.rows)
+
+pub each_measurement : EachReportIsExact → EachMeasurementOfACaptureIsExact
+each_measurement each_report network run slave master w form wanted packets read text accepted watches taken known tells
+    fresh ticked missing =
+    let on = read_on form wanted packets read text taken in
+    let those = heard_at wanted read.rows in record {
+      written = written_exactly form wanted w read text (length packets) on known;
+      exact = all_measured (IsExact master tells) w those
+          (each_report network run slave master w (datagrams those) accepted watches tells (record {
+            numbered = numbered (length packets) those (heard_rising (length packets) wanted read.rows on.rising);
+            fresh = fresh;
+            ticked = ticked;
+            missing = missing;
+          }));
+    }

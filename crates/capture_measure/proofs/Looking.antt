@@ -1,0 +1,171 @@
+-- A datagram by which it isn't known yet whom to watch, or by which that is known.
+use Rattle.std.proofs.Common.{◌≡◌, ◌∙◌, ◌⊎◌, inl, inr, ℕ, ◌+◌, ◌≤◌, ◌<◌, nat_le, nat_lt, min, Bool, true, false, List, [], ◌∷◌, ◌++◌, length, get_or}
+use Rattle.std.proofs.Common.{Option, Some, None, Result, Ok, Err, refl, sym, ap, subst, arith}
+use Rattle.std.specs.Prelude.{if◌then◌else◌, MatchResult}
+use Rattle.std.specs.Io.KnownBytes.{Appends}
+use Rattle.std.proofs.lemmas.Bool.{cases_lt, lt-ltb, le-ltb, ltb-true, ltb-false, le-leb, lt-leb}
+use Rattle.text_lines.specs.declared.line_fault.LineFault.{LineFault}
+use Rattle.text_lines.specs.declared.line_fault.LineFault.TheVariants.{Write, Field, Memory}
+use Rattle.text_lines.specs.Fault.{is_write}
+use Rattle.text_lines.specs.Task.{WentOut}
+use Rattle.capture_file.specs.Packet.{InterfaceOf, PacketOf}
+use Rattle.capture_model.specs.declared.watched.Watched.{Watched}
+use Rattle.capture_model.specs.Listening.{after_all}
+use Rattle.capture_measure.specs.declared.listener.Listener.{Listener}
+use Rattle.capture_measure.specs.declared.measuring.Form.{Form}
+use Rattle.capture_measure.specs.declared.packets.CaptureMeasuring.{CaptureMeasuring}
+use Rattle.capture_measure.specs.declared.packets.Stage.{Stage}
+use Rattle.capture_measure.specs.declared.packets.Stage.TheVariants.{Looking, Hearing}
+use Rattle.capture_measure.specs.declared.recording.Recording.{Recording}
+use Rattle.capture_measure.specs.declared.watch.Wanted.{Wanted}
+use Rattle.capture_measure.specs.Row.{Row, datagrams, kept_most}
+use Rattle.capture_measure.specs.Measured.{report_text}
+use Rattle.capture_measure.specs.Interfaces.{InterfaceRow, is_same_interface, rows_at, is_among, interfaces_in}
+use Rattle.capture_measure.specs.Chosen.{watched_at, chosen, heard_at, capture_watched, capture_written}
+use Rattle.capture_measure.specs.Capture.{Capture, IsPacketRow, TakesPacket, StopsAtPacket, with_packet, capture_text}
+use Rattle.capture_measure.specs.Inner.Capturing.{IsCapturing, IsCaptureStage, IsHearingAt, AddsRow}
+use Rattle.capture_measure.specs.Inner.Listener.{IsListener}
+use Rattle.capture_measure.specs.Inner.Recordings.{interface_in, AreKeptRows, AreRecordings, BeginsWith, IsFoundAt, IsNoticed}
+use Rattle.capture_measure.proofs.KeptRows.{one_there}
+use Rattle.capture_measure.proofs.Chosen.{chosen-stays, capture-stays, heard-known, written-more, written-other}
+use Rattle.capture_measure.proofs.Chosen.{chosen-after, unlooked, unknown, known_there, capture-first, heard-first, written-unknown}
+
+-- it isn't known yet
+pub still_looking : (task : CaptureMeasuring) (k : Capture) (r : InterfaceRow) (count : ℕ) → task.reports.reports.form ≡ k.form
+    → task.wanted ≡ k.wanted → task.stage ≡ Looking count → count ≡ min (length k.rows + 1) kept_most
+    → chosen k.wanted (r ∷ k.rows) ≡ None → AreRecordings k.wanted (r ∷ k.rows) task.recordings.recordings.items
+    → IsCapturing task (with_packet r k)
+still_looking task k r count form wanted stage counted none are = record {
+  form = form;
+  wanted = wanted;
+  stage = subst (IsCaptureStage k.wanted (r ∷ k.rows) task.recordings.recordings.items) (sym stage) (none, are, omega (arith, counted));
+}
+
+-- what one more row adds, whatever it is
+pub adds_all : (k : Capture) (r : InterfaceRow) → chosen k.wanted k.rows ≡ None
+    → capture_text (with_packet r k) ≡ capture_text k ++ capture_text (with_packet r k)
+adds_all k r none = ap (λ (t : List ℕ). t ++ capture_text (with_packet r k)) (sym (written-unknown k.form k.wanted k.rows none))
+
+-- an interface that isn't looked at
+pub unlooked_still : (w : Wanted) (rows : List InterfaceRow) (r : InterfaceRow) → chosen w rows ≡ None
+    → is_among r.interface (interfaces_in (r ∷ rows)) ≡ false → chosen w (r ∷ rows) ≡ None
+unlooked_still w rows r none other = chosen-after w rows r none ∙ unlooked w rows r other
+
+module _ (w : Wanted) (rows : List InterfaceRow) (r : InterfaceRow) (recordings : List Recording) (place : ℕ)
+    (are : AreRecordings w (r ∷ rows) recordings) (within : place < length recordings)
+    (there : (d : Recording) → interface_in (get_or recordings place d) ≡ r.interface) where
+  -- what is known at the interface of the datagram
+  pub noticed_there : (d : Recording) → IsNoticed w (datagrams (rows_at r.interface (r ∷ rows))) (get_or recordings place d)
+  noticed_there d = subst (λ (i : InterfaceOf). IsNoticed w (datagrams (rows_at i (r ∷ rows))) (get_or recordings place d)) (there d)
+      (are.each place d within).noticed
+
+  pub kept_there : (d : Recording) → length rows < kept_most
+      → AreKeptRows [] (get_or recordings place d).kept.items (rows_at r.interface (r ∷ rows))
+  kept_there d few = subst (λ (i : InterfaceOf). AreKeptRows [] (get_or recordings place d).kept.items (rows_at i (r ∷ rows))) (there d)
+      ((are.each place d within).kept (omega (arith, few)))
+
+  pub begins_with : (is_kept : Bool) (newest : Row) → is_kept ≡ nat_lt (length rows) kept_most → r.row ≡ newest
+      → BeginsWith is_kept recordings place newest (if is_kept then rows_at r.interface (r ∷ rows) else r.row ∷ [])
+  begins_with true newest few is = λ d. kept_there d (ltb-true (length rows) kept_most (sym few))
+  begins_with false newest few is = ap (λ (row : Row). row ∷ []) is
+
+-- whether few rows came before is whether these and the newest are few enough
+few_enough : (is_kept : Bool) (rows : List InterfaceRow) (r : InterfaceRow) → is_kept ≡ nat_lt (length rows) kept_most
+    → nat_le (length (r ∷ rows)) kept_most ≡ is_kept
+few_enough true rows r is = let few = ltb-true (length rows) kept_most (sym is) in le-leb (length (r ∷ rows)) kept_most (omega (arith, few))
+few_enough false rows r is = let many = ltb-false (length rows) kept_most (sym is) in lt-leb (length (r ∷ rows)) kept_most (omega (arith, many))
+
+-- from this datagram on a port hears them
+pub chosen_now : (w : Wanted) (rows : List InterfaceRow) (r : InterfaceRow) (watched : Watched) → chosen w rows ≡ None
+    → is_among r.interface (interfaces_in (r ∷ rows)) ≡ true → watched_at w (datagrams (rows_at r.interface (r ∷ rows))) ≡ Some watched
+    → chosen w (r ∷ rows) ≡ Some r.interface
+chosen_now w rows r watched none among known = chosen-after w rows r none ∙ known_there w rows r watched among known
+
+pub unknown_still : (w : Wanted) (rows : List InterfaceRow) (r : InterfaceRow) → chosen w rows ≡ None
+    → watched_at w (datagrams (rows_at r.interface (r ∷ rows))) ≡ None → chosen w (r ∷ rows) ≡ None
+unknown_still w rows r none not_known = chosen-after w rows r none ∙ unknown w rows r not_known
+
+pub heard_now : (w : Wanted) (rows : List InterfaceRow) (r : InterfaceRow) (is_kept : Bool) → chosen w rows ≡ None
+    → chosen w (r ∷ rows) ≡ Some r.interface → is_kept ≡ nat_lt (length rows) kept_most
+    → heard_at w (r ∷ rows) ≡ (if is_kept then rows_at r.interface (r ∷ rows) else r.row ∷ [])
+heard_now w rows r is_kept none is few = heard-first w rows r r.interface is_kept none is (few_enough is_kept rows r few)
+
+pub began : (w : Wanted) (rows : List InterfaceRow) (r : InterfaceRow) (recordings : List Recording) (place : ℕ) (watched : Watched)
+    (heard : List Row) (stage : Stage) → place < length recordings
+    → ((d : Recording) → interface_in (get_or recordings place d) ≡ r.interface) → chosen w (r ∷ rows) ≡ Some r.interface
+    → watched_at w (datagrams (rows_at r.interface (r ∷ rows))) ≡ Some watched → heard_at w (r ∷ rows) ≡ heard
+    → IsHearingAt watched place heard stage → IsCaptureStage w (r ∷ rows) recordings stage
+began w rows r recordings place watched heard (Looking count) within there is known same hearing = absurd hearing
+began w rows r recordings place watched heard (Hearing at listener) within there is known same (here, listens) = (
+  watched,
+  subst (λ (n : ℕ). n < length recordings) (sym here) within,
+  λ d. is ∙ ap Some (sym (ap (λ (n : ℕ). interface_in (get_or recordings n d)) here ∙ there d)),
+  capture-first w rows r watched is known,
+  subst (λ (rs : List Row). IsListener watched listener (after_all watched (datagrams rs))) (sym same) listens,
+)
+
+-- an interface that wasn't found isn't among them
+pub not_found : (interface : InterfaceOf) (known : List InterfaceOf) (found : Option ℕ) (recordings : List Recording)
+    → IsFoundAt interface known found recordings → ((place : ℕ) → found ≡ Some place → ⊥) → is_among interface known ≡ false
+not_found interface known None recordings is none = is
+not_found interface known (Some place) recordings is none = absurd (none place refl)
+
+-- ---- once it is known, those at the interface are heard, and no others
+module _ (w : Wanted) (rows : List InterfaceRow) (r : InterfaceRow) (recordings : List Recording) (place : ℕ) (watched : Watched)
+    (within : place < length recordings) (is : (d : Recording) → chosen w rows ≡ Some (interface_in (get_or recordings place d)))
+    (known : capture_watched w rows ≡ Some watched) where
+  pub hears_more : (listener : Listener) → ((d : Recording) → is_same_interface (interface_in (get_or recordings place d)) r.interface ≡ true)
+      → IsListener watched listener (after_all watched (datagrams (r.row ∷ heard_at w rows)))
+      → IsCaptureStage w (r ∷ rows) recordings (Hearing place listener)
+  hears_more listener same listens = (
+    watched,
+    within,
+    λ d. chosen-stays w rows r (interface_in (get_or recordings place d)) (is d),
+    one_there recordings place within (λ d. capture-stays w rows r (interface_in (get_or recordings place d)) watched (is d) known),
+    one_there recordings place within (λ d. subst (λ (rs : List Row). IsListener watched listener (after_all watched (datagrams rs)))
+        (sym (heard-known w rows r (interface_in (get_or recordings place d)) true (is d) (same d))) listens),
+  )
+
+  pub hears_other : (listener : Listener) → ((d : Recording) → is_same_interface (interface_in (get_or recordings place d)) r.interface ≡ false)
+      → IsListener watched listener (after_all watched (datagrams (heard_at w rows)))
+      → IsCaptureStage w (r ∷ rows) recordings (Hearing place listener)
+  hears_other listener other listens = (
+    watched,
+    within,
+    λ d. chosen-stays w rows r (interface_in (get_or recordings place d)) (is d),
+    one_there recordings place within (λ d. capture-stays w rows r (interface_in (get_or recordings place d)) watched (is d) known),
+    one_there recordings place within (λ d. subst (λ (rs : List Row). IsListener watched listener (after_all watched (datagrams rs)))
+        (sym (heard-known w rows r (interface_in (get_or recordings place d)) false (is d) (other d))) listens),
+  )
+
+  pub writes_more : (form : Form) → ((d : Recording) → is_same_interface (interface_in (get_or recordings place d)) r.interface ≡ true)
+      → capture_written form w (r ∷ rows) ≡ capture_written form w rows ++ report_text form watched (heard_at w rows) r.row
+  writes_more form same = one_there recordings place within
+      (λ d. written-more form w rows r (interface_in (get_or recordings place d)) watched (is d) known (same d))
+
+  pub writes_nothing : (form : Form) → ((d : Recording) → is_same_interface (interface_in (get_or recordings place d)) r.interface ≡ false)
+      → capture_written form w (r ∷ rows) ≡ capture_written form w rows ++ []
+  writes_nothing form other = one_there recordings place within
+      (λ d. written-other form w rows r (interface_in (get_or recordings place d)) watched (is d) known (other d))
+
+-- whether few came is whether the count of them is small
+pub few_by : (count rows most : ℕ) → count ≡ min rows most → nat_lt count most ≡ nat_lt rows most
+few_by count rows most is = go (cases_lt rows most)
+  where
+    go : (rows < most) ⊎ (most ≤ rows) → nat_lt count most ≡ nat_lt rows most
+    go (inl below) = lt-ltb count most (omega (arith, is, below)) ∙ sym (lt-ltb rows most below)
+    go (inr above) = le-ltb count most (omega (arith, is, above)) ∙ sym (le-ltb rows most above)
+
+-- ---- a packet that carries a datagram
+pub taken_row : {T : Type 0} (result : Result T LineFault) (number : ℕ) (packet : PacketOf) (k : Capture) (r : InterfaceRow)
+    (new : CaptureMeasuring) (a b : Option (List ℕ)) → IsPacketRow number packet r → AddsRow result k r new a b
+    → MatchResult result
+    (λ _. (later : Capture) × (out : List ℕ) × IsCapturing new later × TakesPacket number packet k later out × Appends a b out)
+    (λ fault. (out : List ℕ) × StopsAtPacket number packet k fault out × WentOut (is_write fault) (Appends a b out))
+taken_row (Ok x) number packet k r new a b row (is, text, grown, goes) =
+    (with_packet r k, text, is, inl (r, row, refl, grown), goes)
+taken_row (Err Write) number packet k r new a b row (is, text, grown, (of_output, out, rest, split, known)) =
+    (out, (r, row, rest, grown ∙ ap (λ (t : List ℕ). capture_text k ++ t) split), known)
+taken_row (Err Field) number packet k r new a b row (is, text, grown, goes) = absurd goes.0
+taken_row (Err Memory) number packet k r new a b row (is, text, grown, (of_output, out, rest, split, known)) =
+    (out, (r, row, rest, grown ∙ ap (λ (t : List ℕ). capture_text k ++ t) split), known)

@@ -1,0 +1,33 @@
+use Rattle.std.proofs.Common.{inr, refl}
+use Rattle.capture_file.specs.Beginning.{first_octets}
+use Rattle.capture_measure.specs.Capture.{capture_begun}
+use Rattle.capture_measure.specs.Measure.{begun}
+use Rattle.capture_measure.proofs.Inputs.{captured, lined, short, failed_ahead}
+use Rattle.capture_measure.proofs.input.measure.Goals as goal
+
+pub returns-in_default-read-clause-measured : goal.returns-in_default-read-clause-measured
+returns-in_default-read-clause-measured g c =
+    let (seen, read, few) = c.in_default-read.ensures.read in
+    rw c.stopped-in_default-read.ensures
+    (inr (failed_ahead c.args.form c.args.wanted.now _ _ _ _ seen read few c.in_default.ensures.written))
+
+pub returns-then-is_capture-clause-measured : goal.returns-then-is_capture-clause-measured
+returns-then-is_capture-clause-measured g c =
+    let (read, first) = c.in-Ok.ensures.read in
+    let told = c.measure_packets.ensures.answered (capture_begun c.args.form c.args.wanted.now) c.new-capture.ensures in
+    inr (captured c.args.form c.args.wanted.now _ _ _ _ _ _ (first_octets c.in-Ok.beginning) c.measure_packets.result.0 read first
+    (c.if-is_capture.ensures.magic.0 refl) c.in_default.ensures.written (rw c.octets-start.ensures.octets at told))
+
+pub returns-then-has_lf-clause-measured : goal.returns-then-has_lf-clause-measured
+returns-then-has_lf-clause-measured g c =
+    let (read, first) = c.in-Ok.ensures.read in
+    rw c.stopped-then-has_lf.ensures (inr (short c.args.form c.args.wanted.now _ _ _ _ (first_octets c.in-Ok.beginning) read first
+    (c.if-is_capture.ensures.none.0 refl) (rw c.octets-start.ensures.octets at (c.if-has_lf.ensures.some refl))
+    c.in_default.ensures.written))
+
+pub returns-clause-measured : goal.returns-clause-measured
+returns-clause-measured g c =
+    let (read, first) = c.in-Ok.ensures.read in
+    let told = c.measure_lines.ensures.answered (begun c.args.form c.args.wanted.now) c.new-lines.ensures in
+    inr (lined c.args.form c.args.wanted.now _ _ _ _ _ _ (first_octets c.in-Ok.beginning) c.measure_lines.result.0 read first
+    (c.if-is_capture.ensures.none.0 refl) c.in_default.ensures.written (rw c.octets-start.ensures.octets at told))

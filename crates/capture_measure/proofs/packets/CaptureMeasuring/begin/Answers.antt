@@ -1,0 +1,50 @@
+use Rattle.std.proofs.Common.{◌≡◌, List, [], ◌∷◌, refl, sym, subst}
+use Rattle.std.proofs.lemmas.Result.{err_from_is_err_and}
+use Rattle.std.specs.Io.KnownBytes.{Appends}
+use Rattle.text_lines.specs.Counted.{device_of}
+use Rattle.capture_model.specs.Listening.{after_all}
+use Rattle.capture_measure.specs.declared.recording.Kept.{Kept}
+use Rattle.capture_measure.specs.Row.{Row, datagrams}
+use Rattle.capture_measure.specs.Measured.{reports_text}
+use Rattle.capture_measure.specs.Inner.Listener.{IsListener}
+use Rattle.capture_measure.specs.Inner.Recordings.{row_at, AreKeptRows}
+use Rattle.capture_measure.proofs.KeptRows.{those_kept, alone, one_there}
+use Rattle.capture_measure.proofs.packets.CaptureMeasuring.begin.Goals as goal
+use Rattle.capture_measure.proofs.packets.CaptureMeasuring.begin.Goals.{then-is_kept+in_ok-hear_kept, else-is_kept+in_ok-hear}
+
+pub returns-in_err-hear_kept-clause-begun : goal.returns-in_err-hear_kept-clause-begun
+returns-in_err-hear_kept-clause-begun g c = λ rows begins.
+    let e = err_from_is_err_and c.from_residual.result c.from_residual.ensures.1 in
+    let recordings = c.args.self.now.recordings.recordings.items in
+    let kept = those_kept c.args.is_kept recordings c.args.place (row_at c.args.time c.args.datagram.now) rows c.if-is_kept.true begins in
+    let heard = c.in_err-hear_kept.ensures.heard c.args.watched rows
+    (one_there recordings c.args.place c.requires.place (λ d. subst (λ (k : List Kept). AreKeptRows [] k rows) (sym (c.kept.ensures d)) (kept d)))
+    c.new-listener.ensures in
+    rw (e.1, e.2) (tt, heard.1)
+
+pub returns-in_err-hear-clause-begun : goal.returns-in_err-hear-clause-begun
+returns-in_err-hear-clause-begun g c = λ rows begins.
+    let e = err_from_is_err_and c.from_residual-in_err-hear.result c.from_residual-in_err-hear.ensures.1 in
+    let row : Row = row_at c.args.time c.args.datagram.now in
+    let same : rows ≡ row ∷ [] = alone c.args.is_kept c.args.self.now.recordings.recordings.items c.args.place row rows c.if-is_kept.false begins in
+    let heard = c.in_err-hear.ensures.heard c.args.watched [] c.new-listener.ensures in
+    rw (e.1, e.2, same) (tt, heard.1)
+
+pub returns-clause-begun : goal.returns-clause-begun
+returns-clause-begun g c = λ rows begins.
+    let recordings = c.args.self.now.recordings.recordings.items in
+    let row : Row = row_at c.args.time c.args.datagram.now in
+    let before = g.W.Write.contents (device_of c.args.output.now) in
+    let heard : IsListener c.args.watched c.if-is_kept.listener (after_all c.args.watched (datagrams rows))
+    × Appends before (g.W.Write.contents (device_of c.if-is_kept.output)) (reports_text c.args.self.now.reports.reports.form c.args.watched rows) =
+    elim c.if-is_kept.branch [
+      | then-is_kept+in_ok-hear_kept w ↦
+          let kept = those_kept c.args.is_kept recordings c.args.place row rows w.if-is_kept.true begins in
+          rw (w.listener-is, w.output-is) (w.in_ok-hear_kept.ensures.heard c.args.watched rows
+          (one_there recordings c.args.place c.requires.place
+          (λ d. subst (λ (k : List Kept). AreKeptRows [] k rows) (sym (w.kept.ensures d)) (kept d))) c.new-listener.ensures)
+      | else-is_kept+in_ok-hear w ↦
+          let same : rows ≡ row ∷ [] = alone c.args.is_kept recordings c.args.place row rows w.if-is_kept.false begins in
+          rw (w.listener-is, w.output-is, same) (w.in_ok-hear.ensures.heard c.args.watched [] c.new-listener.ensures)
+    ] in
+    ((refl, heard.0), heard.1)

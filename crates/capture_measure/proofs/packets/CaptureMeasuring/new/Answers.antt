@@ -1,0 +1,9 @@
+use Rattle.std.proofs.Common.{refl}
+use Rattle.capture_measure.proofs.packets.CaptureMeasuring.new.Goals as goal
+
+pub returns : goal.returns
+returns c = record {
+  form = c.new-2.ensures;
+  wanted = refl;
+  stage = (refl, c.new.ensures c.args.wanted.now, refl);
+}

@@ -1,0 +1,23 @@
+-- The port heard the datagrams so far, and their reports went out.
+use Rattle.std.proofs.Common.{◌≡◌, List, [], drop}
+use Rattle.std.specs.Io.KnownBytes.{Appends}
+use Rattle.text_lines.specs.Counted.{device_of, HasNotFailed}
+use Rattle.capture_model.specs.declared.watched.Watched.{Watched}
+use Rattle.capture_model.specs.Listening.{after_all}
+use Rattle.capture_measure.specs.Row.{Row, datagrams}
+use Rattle.capture_measure.specs.Measured.{reports_text}
+use Rattle.capture_measure.specs.Inner.Listener.{IsListener}
+use Rattle.capture_measure.specs.Inner.Recordings.{AreKeptRows}
+use Rattle.capture_measure.proofs.packets.PacketReports.hear_kept.Given as goal
+
+abbrev pub invariant-loop-it : goal.invariant-loop-it
+invariant-loop-it g l = record {
+  heard : (watched : Watched) (rows : List Row) → AreKeptRows [] l.kept rows
+      → IsListener watched l.fn.listener (after_all watched [])
+      → (earlier : List Row) × AreKeptRows earlier (drop l.it-index l.kept) rows
+      × IsListener watched l.listener (after_all watched (datagrams earlier))
+      × Appends (g.W.Write.contents (device_of l.fn.output)) (g.W.Write.contents (device_of l.output))
+      (reports_text l.fn.self.reports.form watched earlier);
+  form : l.self.reports.form ≡ l.fn.self.reports.form;
+  writer : HasNotFailed l.fn.output l.output;
+}

@@ -1,0 +1,65 @@
+use Rattle.std.proofs.Common.{◌∙◌, ◌≤◌, ℕ, List, ◌∷◌, length, Option, Some, sym, ap, subst, arith}
+use Rattle.std.proofs.lemmas.Bool.{ltb-false}
+use Rattle.capture_file.specs.Packet.{InterfaceOf, interface_of}
+use Rattle.capture_model.specs.Recorded.{Recorded}
+use Rattle.capture_measure.specs.Row.{Row, kept_most}
+use Rattle.capture_measure.specs.Capture.{IsDatagramRow}
+use Rattle.capture_measure.specs.declared.recording.Recording.{Recording}
+use Rattle.capture_measure.specs.Inner.Recordings.{interface_in, place_of, HasAdded, IsMet, IsNoticed}
+use Rattle.capture_measure.specs.Inner.Hearing.{recorded_of}
+use Rattle.capture_measure.specs.Inner.Watching.{IsWatch}
+use Rattle.capture_measure.proofs.Recordings.{added_taken, added_nowhere, keeps_row}
+use Rattle.capture_measure.proofs.recording.Recordings.take.Goals as goal
+
+pub returns-in_ok-keep-clause-taken : goal.returns-in_ok-keep-clause-taken
+returns-in_ok-keep-clause-taken c = λ rows r at row few are.
+    let was = c.index_mut-recording.result.now in
+    let x : Recording = c.keep.new.self in
+    let old = c.args.self.now.recordings.items in
+    let new = c.find_or_add.new.self.recordings.items in
+    let has : HasAdded c.args.wanted.now r.interface (Some c.in-Some.place) old new =
+    subst (λ (i : InterfaceOf). HasAdded c.args.wanted.now i (Some c.in-Some.place) old new) (sym at)
+    (subst (λ (found : Option ℕ). HasAdded c.args.wanted.now (interface_of c.args.captured.now.interface) found old new) c.in-Some.is
+    c.in_ok-found.ensures) in
+    added_taken c.args.wanted.now rows r c.in-Some.place old new was x are has c.index_mut-recording.ensures.value
+    (ap interface_in c.keep.ensures.others ∙ ap interface_in c.count_early.ensures ∙ ap place_of c.notice.ensures.place)
+    (λ ds is.
+    let noticed = c.notice.ensures.noticed ds is in
+    let ds' : List Recorded = recorded_of c.args.datagram.now ∷ ds in
+    subst (λ (d : Row). IsNoticed c.args.wanted.now (d.datagram ∷ ds) x) (sym row) (record {
+      watch = subst (IsWatch c.args.wanted.now ds') (sym (ap (λ (it : Recording). it.watch) c.keep.ensures.others ∙ ap (λ (it : Recording). it.watch) c.count_early.ensures)) noticed.watch;
+      met = subst (IsMet c.args.wanted.now ds') (sym (ap (λ (it : Recording). it.met) c.keep.ensures.others ∙ ap (λ (it : Recording). it.met) c.count_early.ensures)) noticed.met;
+    }))
+    (λ short rs kept. keeps_row rs r.row was.kept.items x.kept.items c.args.datagram.now.number c.args.captured.now.time
+    c.args.datagram.now.octets.now (rw (ap (λ (it : Recording). it.kept) c.count_early.ensures, c.notice.ensures.kept) at c.in_ok-keep.ensures.kept)
+    (subst (IsDatagramRow c.args.datagram.now.number c.args.captured.now.time c.args.datagram.now.octets.now) (sym row) c.requires) kept)
+
+pub returns-else-is_kept-clause-taken : goal.returns-else-is_kept-clause-taken
+returns-else-is_kept-clause-taken c = λ rows r at row few are.
+    let was = c.index_mut-recording.result.now in
+    let x : Recording = c.count_early.new.self in
+    let old = c.args.self.now.recordings.items in
+    let new = c.find_or_add.new.self.recordings.items in
+    let has : HasAdded c.args.wanted.now r.interface (Some c.in-Some.place) old new =
+    subst (λ (i : InterfaceOf). HasAdded c.args.wanted.now i (Some c.in-Some.place) old new) (sym at)
+    (subst (λ (found : Option ℕ). HasAdded c.args.wanted.now (interface_of c.args.captured.now.interface) found old new) c.in-Some.is
+    c.in_ok-found.ensures) in
+    let many : kept_most ≤ length rows = ltb-false (length rows) kept_most (sym few ∙ c.if-is_kept.false) in
+    added_taken c.args.wanted.now rows r c.in-Some.place old new was x are has c.index_mut-recording.ensures.value
+    (ap interface_in c.count_early.ensures ∙ ap place_of c.notice.ensures.place)
+    (λ ds is.
+    let noticed = c.notice.ensures.noticed ds is in
+    let ds' : List Recorded = recorded_of c.args.datagram.now ∷ ds in
+    subst (λ (d : Row). IsNoticed c.args.wanted.now (d.datagram ∷ ds) x) (sym row) (record {
+      watch = subst (IsWatch c.args.wanted.now ds') (sym (ap (λ (it : Recording). it.watch) c.count_early.ensures)) noticed.watch;
+      met = subst (IsMet c.args.wanted.now ds') (sym (ap (λ (it : Recording). it.met) c.count_early.ensures)) noticed.met;
+    }))
+    (λ short rs kept. absurd (omega (arith, many, short)))
+
+pub returns-in_default-clause-taken : goal.returns-in_default-clause-taken
+returns-in_default-clause-taken c = λ rows r at row few are.
+    let old = c.args.self.now.recordings.items in
+    let new = c.find_or_add.new.self.recordings.items in
+    added_nowhere c.args.wanted.now rows r c.in_ok-found.found old new are
+    (subst (λ (i : InterfaceOf). HasAdded c.args.wanted.now i c.in_ok-found.found old new) (sym at) c.in_ok-found.ensures)
+    c.in_default.not-Some

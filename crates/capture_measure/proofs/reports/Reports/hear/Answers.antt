@@ -1,0 +1,30 @@
+use Rattle.std.proofs.Common.{◌+◌}
+use Rattle.std.proofs.lemmas.Result.{err_from_is_err_and}
+use Rattle.capture_measure.proofs.Goes.{unread_until, stops_unread, stops_read}
+use Rattle.capture_measure.proofs.reports.Reports.hear.Goals as goal
+
+pub returns-in-Err-clause-heard : goal.returns-in-Err-clause-heard
+returns-in-Err-clause-heard g c = λ watched before row is listens.
+    (tt, unread_until c.in-Err.fault (c.args.earlier + 1) c.args.line.now row _ _ is c.in-Err.ensures)
+
+pub returns-in-Err-clause-answered : goal.returns-in-Err-clause-answered
+returns-in-Err-clause-answered g c = stops_unread c.in-Err.fault (c.args.earlier + 1) c.args.line.now _ c.in-Err.ensures
+
+pub returns-in_err-hear_line-clause-heard : goal.returns-in_err-hear_line-clause-heard
+returns-in_err-hear_line-clause-heard g c = λ watched before row is listens.
+    let e = err_from_is_err_and c.from_residual.result c.from_residual.ensures.1 in
+    let heard = c.in_err-hear_line.ensures.heard watched before row (c.in-Ok.ensures.only row is) listens in
+    rw (e.1, e.2) (tt, heard.1)
+
+pub returns-in_err-hear_line-clause-answered : goal.returns-in_err-hear_line-clause-answered
+returns-in_err-hear_line-clause-answered g c =
+    let e = err_from_is_err_and c.from_residual.result c.from_residual.ensures.1 in
+    rw (e.1, e.2) (stops_read c.in_err-hear_line.field-0.0 (c.args.earlier + 1) c.args.line.now _ _
+    c.in_err-hear_line.ensures.of_output (_, c.in-Ok.ensures.is_row))
+
+pub returns-clause-heard : goal.returns-clause-heard
+returns-clause-heard g c = λ watched before row is listens.
+    c.in_ok-hear_line.ensures.heard watched before row (c.in-Ok.ensures.only row is) listens
+
+pub returns-clause-answered : goal.returns-clause-answered
+returns-clause-answered g c = (c.in-Ok.ensures.numbered, (_, c.in-Ok.ensures.is_row))

@@ -1,0 +1,25 @@
+-- The port heard the lines so far, and their reports went out.
+use Rattle.std.proofs.Common.{◌≡◌, List, [], length, map, drop}
+use Rattle.std.specs.Io.KnownBytes.{Appends}
+use Rattle.text_lines.specs.Counted.{device_of, HasNotFailed}
+use Rattle.capture_model.specs.declared.watched.Watched.{Watched}
+use Rattle.capture_model.specs.Listening.{after_all}
+use Rattle.capture_measure.specs.Row.{Row, datagrams}
+use Rattle.capture_measure.specs.Measured.{reports_text}
+use Rattle.capture_measure.specs.Inner.Listener.{IsListener}
+use Rattle.capture_measure.specs.Inner.Measuring.{AreRows}
+use Rattle.capture_measure.proofs.reports.Reports.hear_kept.Given as goal
+
+abbrev pub invariant-loop-line : goal.invariant-loop-line
+invariant-loop-line g l = record {
+  heard : (watched : Watched) (rows : List Row) → AreRows [] (map (λ line. line.items) l.kept) rows
+      → IsListener watched l.fn.listener (after_all watched [])
+      → (earlier : List Row) × AreRows earlier (map (λ line. line.items) (drop l.line-index l.kept)) rows
+      × (length earlier ≡ l.line-index)
+      × IsListener watched l.listener (after_all watched (datagrams earlier))
+      × Appends (g.W.Write.contents (device_of l.fn.output)) (g.W.Write.contents (device_of l.output))
+      (reports_text l.fn.self.form watched earlier);
+  number : l.number ≡ l.line-index;
+  form : l.self.form ≡ l.fn.self.form;
+  writer : HasNotFailed l.fn.output l.output;
+}

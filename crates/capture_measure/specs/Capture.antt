@@ -1,0 +1,78 @@
+-- What `measure` makes of the packets of a capture.
+use Rattle.std.specs.Prelude.{◌≡◌, ◌⊎◌, ℕ, List, [], ◌∷◌, ◌++◌}
+use Rattle.ptp_units.specs.Moment.{Stamp, moment}
+use Rattle.event_codec.specs.Reading.{IsReading}
+use Rattle.datagram_text.specs.Shown.{stamp_text}
+use Rattle.text_lines.specs.declared.line_fault.LineFault.{LineFault}
+use Rattle.text_lines.specs.declared.line_fault.LineFault.TheVariants.{Field}
+use Rattle.text_lines.specs.Fault.{is_write}
+use Rattle.capture_file.specs.Packet.{PacketOf, Captured, Timeless, Simple}
+use Rattle.capture_file.specs.Task.{PacketRules}
+use Rattle.capture_frame.specs.Found.{Datagram, IsFound}
+use Rattle.capture_measure.specs.declared.measuring.Form.{Form}
+use Rattle.capture_measure.specs.declared.watch.Wanted.{Wanted}
+use Rattle.capture_measure.specs.Row.{Row}
+use Rattle.capture_measure.specs.Interfaces.{InterfaceRow}
+use Rattle.capture_measure.specs.Chosen.{capture_written}
+
+-- the row of this datagram, which a packet of this number and time carries
+pub record IsDatagramRow (number : ℕ) (time : Stamp) (datagram : List ℕ) (row : Row) : Type 0 where
+  pub time_is : row.time ≡ stamp_text time
+  pub numbered : row.datagram.line ≡ number
+  pub moment_is : row.datagram.time ≡ moment time 0
+  pub said : IsReading datagram row.datagram.said
+
+-- the packet of this number carries a datagram, and this is its row
+abbrev pub IsPacketRow : (number : ℕ) → PacketOf → InterfaceRow → Type 0
+IsPacketRow number (Captured interface time link octets) r =
+    (datagram : List ℕ) × IsFound link octets (Datagram datagram) × (r.interface ≡ interface)
+    × IsDatagramRow number time datagram r.row
+IsPacketRow number Timeless r = ⊥
+IsPacketRow number Simple r = ⊥
+
+-- the packet of this number carries no datagram
+abbrev pub HasNoRow : (number : ℕ) → PacketOf → Type 0
+HasNoRow number packet = (r : InterfaceRow) → IsPacketRow number packet r → ⊥
+
+-- what is asked for, and the rows that were read, newest first
+pub record Capture : Type 0 where
+  pub form : Form
+  pub wanted : Wanted
+  pub rows : List InterfaceRow
+
+-- before the first packet
+abbrev pub capture_begun : Form → Wanted → Capture
+capture_begun form w = record { form = form; wanted = w; rows = [] }
+
+-- all that is written once these packets were read
+abbrev pub capture_text : Capture → List ℕ
+capture_text c = capture_written c.form c.wanted c.rows
+
+-- after one more row
+abbrev pub with_packet : InterfaceRow → Capture → Capture
+with_packet r c = record c { rows = r ∷ c.rows }
+
+-- A packet that carries a datagram is one more row, and what this adds to all that is written goes out; any other changes
+-- nothing.
+abbrev pub TakesPacket : (number : ℕ) → PacketOf → Capture → Capture → List ℕ → Type 0
+TakesPacket number packet c later out =
+    ((r : InterfaceRow) × IsPacketRow number packet r × (later ≡ with_packet r c)
+    × (capture_text later ≡ capture_text c ++ out))
+    ⊎ (HasNoRow number packet × (later ≡ c) × (out ≡ []))
+
+-- why a packet that carries a datagram isn't taken: memory or the writer failed; then a part of what it adds went out
+abbrev pub StopsAtPacket : (number : ℕ) → PacketOf → Capture → LineFault → List ℕ → Type 0
+StopsAtPacket number packet c Field out = ⊥
+StopsAtPacket number packet c fault out =
+    (r : InterfaceRow) × IsPacketRow number packet r × (rest : List ℕ)
+    × (capture_text (with_packet r c) ≡ capture_text c ++ (out ++ rest))
+
+-- each packet that carries a datagram adds to a capture, and the number of packets is answered at the end
+abbrev pub capture_rules : PacketRules Capture ℕ LineFault
+capture_rules = record {
+  Takes = TakesPacket;
+  Stops = StopsAtPacket;
+  Ends = λ packets c answer out. (answer ≡ packets) × (out ≡ []);
+  StopsAtEnd = λ c fault out. ⊥;
+  is_of_writer = is_write;
+}

@@ -1,0 +1,77 @@
+-- Whom a capture is of, and at which of its interfaces: the first at which that is known.
+use Rattle.std.specs.Prelude.{ℕ, nat_le, Bool, true, false, ◌==◌, ◌&&◌, List, [], ◌∷◌, length, if◌then◌else◌, is_some}
+use Rattle.std.specs.Prelude.{Option, Some, None, option_and_then}
+use Rattle.std.specs.List.{list_any}
+use Rattle.std.specs.Option.{option_or, option_map_or}
+use Rattle.std.specs.Result.{result_ok}
+use Rattle.event_codec.specs.declared.message.Header.{Header}
+use Rattle.event_codec.specs.declared.port.PortIdentity.{PortIdentity}
+use Rattle.event_codec.specs.Port.{is_same_port}
+use Rattle.capture_file.specs.Packet.{InterfaceOf}
+use Rattle.capture_model.specs.declared.watched.Watched.{Watched}
+use Rattle.capture_model.specs.Recorded.{Recorded}
+use Rattle.capture_measure.specs.declared.measuring.Form.{Form}
+use Rattle.capture_measure.specs.declared.watch.Wanted.{Wanted}
+use Rattle.capture_measure.specs.Watch.{watched_in}
+use Rattle.capture_measure.specs.Row.{Row, datagrams, kept_most}
+use Rattle.capture_measure.specs.Measured.{reports_text}
+use Rattle.capture_measure.specs.Interfaces.{InterfaceRow, is_same_interface, rows_at, is_among, interfaces_in}
+
+-- a datagram is a message whose header is so
+abbrev pub tells : (Header → Bool) → Recorded → Bool
+tells is d = option_map_or (λ m. is m.header) (result_ok d.said) false
+
+-- a message of the domain that is asked for, if one is
+abbrev pub is_domain_met : Option ℕ → List Recorded → Bool
+is_domain_met None ds = true
+is_domain_met (Some domain) ds = list_any (tells (λ header. header.domain == domain)) ds
+
+-- a message from the port that is asked for, if one is
+abbrev pub is_port_met : Option PortIdentity → List Recorded → Bool
+is_port_met None ds = true
+is_port_met (Some port) ds = list_any (tells (λ header. is_same_port header.source port)) ds
+
+-- all that is asked for was met
+abbrev pub is_met : Wanted → List Recorded → Bool
+is_met w ds = is_domain_met w.domain ds && (is_port_met w.master ds && is_port_met w.slave ds)
+
+-- whom the datagrams at an interface are of, where all that is asked for was met there
+abbrev pub watched_at : Wanted → List Recorded → Option Watched
+watched_at w ds = if is_met w ds then watched_in w ds else None
+
+-- the interface of the newest of these rows, where it is looked at and it is known whom its datagrams are of
+abbrev pub chosen_by : Wanted → InterfaceRow → (earlier : List InterfaceRow) → Option InterfaceOf
+chosen_by w r earlier =
+    if is_among r.interface (interfaces_in (r ∷ earlier))
+    && is_some (watched_at w (datagrams (rows_at r.interface (r ∷ earlier))))
+    then Some r.interface else None
+
+-- the interface that is measured
+abbrev pub chosen : Wanted → List InterfaceRow → Option InterfaceOf
+chosen w [] = None
+chosen w (r ∷ earlier) = option_or (chosen w earlier) (chosen_by w r earlier)
+
+-- The rows that are heard with one more: those at the interface that is measured. Once that is known, and not too many
+-- rows came before, those before are heard, too.
+abbrev pub heard_with : (before now : Option InterfaceOf) → InterfaceRow → (earlier : List InterfaceRow)
+    → (heard : List Row) → List Row
+heard_with (Some interface) now r earlier heard =
+    if is_same_interface interface r.interface then r.row ∷ heard else heard
+heard_with None None r earlier heard = []
+heard_with None (Some interface) r earlier heard =
+    if nat_le (length (r ∷ earlier)) kept_most then rows_at interface (r ∷ earlier) else r.row ∷ []
+
+-- the rows that are heard
+abbrev pub heard_at : Wanted → List InterfaceRow → List Row
+heard_at w [] = []
+heard_at w (r ∷ earlier) = heard_with (chosen w earlier) (chosen w (r ∷ earlier)) r earlier (heard_at w earlier)
+
+-- whom the capture is of
+abbrev pub capture_watched : Wanted → List InterfaceRow → Option Watched
+capture_watched w rows =
+    option_and_then (λ interface. watched_at w (datagrams (rows_at interface rows))) (chosen w rows)
+
+-- all that is written once these rows were read
+abbrev pub capture_written : Form → Wanted → List InterfaceRow → List ℕ
+capture_written form w rows =
+    option_map_or (λ watched. reports_text form watched (heard_at w rows)) (capture_watched w rows) []

@@ -1,0 +1,57 @@
+-- What becomes of a datagram that a port hears, and what goes out of it.
+use Rattle.std.specs.Prelude.{◌≡◌, ℕ, ⊤, List, ◌++◌, Ok, Err, Option, Result, MatchResult, option_map}
+use Rattle.std.specs.Option.{option_map_or}
+use Rattle.std.specs.Result.{result_ok}
+use Rattle.std.specs.Io.KnownBytes.{Appends}
+use Rattle.event_codec.specs.declared.message.Message.{Message}
+use Rattle.event_codec.specs.declared.refusal.DecodeRefusal.{DecodeRefusal}
+use Rattle.event_codec.specs.Packet.{contents}
+use Rattle.event_codec.specs.Reading.{Reading}
+use Rattle.text_lines.specs.declared.line_fault.LineFault.{LineFault}
+use Rattle.text_lines.specs.declared.line_fault.LineFault.TheVariants.{Write, Field, Memory}
+use Rattle.text_lines.specs.Fault.{is_write}
+use Rattle.text_lines.specs.Task.{WentOut}
+use Rattle.capture_lines.specs.declared.measurement.Half.TheVariants as halves
+use Rattle.capture_lines.specs.Measurement.{Measured}
+use Rattle.capture_model.specs.declared.watched.Watched.{Watched}
+use Rattle.capture_model.specs.Recorded.{Recorded}
+use Rattle.capture_model.specs.Listening.{report_at}
+use Rattle.capture_measure.specs.declared.reports.Completed.{Completed}
+use Rattle.capture_measure.specs.declared.reports.Datagram.{Datagram}
+use Rattle.capture_measure.specs.Measured.{half_of}
+
+-- what octets say, by the message or the refusal that was read of them
+abbrev pub reading_of : Result Message DecodeRefusal → Reading
+reading_of (Ok message) = Ok (contents message)
+reading_of (Err refusal) = Err refusal
+
+-- a datagram without where its octets lie
+abbrev pub recorded_of : Datagram → Recorded
+recorded_of d = record { line = d.number; time = d.time; said = reading_of d.said }
+
+-- the report that a datagram completes, after those before it
+abbrev pub completion : Watched → List Recorded → Recorded → Option Completed
+completion watched earlier d = option_map
+    (λ report. record { by = option_map_or (λ m. half_of m.body) (result_ok d.said) halves.Sync; report = report })
+    (report_at watched earlier d)
+
+-- the measurement of a datagram of this number and time, which completed this
+abbrev pub measured_by : Completed → (time : List ℕ) → (number : ℕ) → Measured
+measured_by completed time number = record { by = completed.by; line = number; time = time; report = completed.report }
+
+-- a fault of what is written, not of a line
+abbrev pub IsOfOutput : LineFault → Type 0
+IsOfOutput Write = ⊤
+IsOfOutput Field = ⊥
+IsOfOutput Memory = ⊤
+
+-- a part of a text went out before this fault
+abbrev pub GoesUntil : LineFault → List ℕ → (before after : Option (List ℕ)) → Type 0
+GoesUntil fault text before after =
+    IsOfOutput fault × (out : List ℕ) × (rest : List ℕ) × (text ≡ out ++ rest)
+    × WentOut (is_write fault) (Appends before after out)
+
+-- a text went out, or a part of it before a fault
+abbrev pub Goes : {T : Type 0} → Result T LineFault → List ℕ → (before after : Option (List ℕ)) → Type 0
+Goes result text before after =
+    MatchResult result (λ _. Appends before after text) (λ fault. GoesUntil fault text before after)

@@ -1,0 +1,144 @@
+//! An input that is measured: a recording of lines, or a capture.
+
+ghost use Rattle.std.specs.Prelude.{◌≡◌, ◌≢◌, ◌≤◌, ◌<◌, ◌++◌, length, Err, IsTrue, IsFalse};
+ghost use Rattle.std.specs.List.{All};
+ghost use Rattle.std.specs.Option.{ForSome};
+ghost use Rattle.text_lines.specs.Counted.{device_of};
+ghost use Rattle.text_lines.specs.Lines.{line_limit, lfs_in};
+ghost use Rattle.capture_measure.specs.Measure.{Recording};
+ghost use Rattle.capture_measure.specs.Capture.{Capture};
+ghost use Rattle.capture_measure.specs.Input.{MeasuresInput, OutcomeFailed};
+ghost use Rattle.capture_measure.specs.Inner.Capturing.{IsCapturing};
+ghost use Rattle.capture_measure.specs.Inner.Measuring.{IsMeasuring};
+ghost use Rattle.capture_measure.specs.Inner.Outcomes.{LinesAnswer, PacketsAnswer};
+
+use crate::measuring::{Form, Measuring, write_head};
+use crate::packets::CaptureMeasuring;
+use crate::watch::Wanted;
+use capture_file::{Beginning, CaptureStop, answer_packets_behind};
+use std::alloc::Global;
+use std::io::{Read, Write};
+use text_lines::{Cause, Counted, LineFault, ReadingFault, Stopped, answer_lines_behind};
+
+/// What came of an input that was measured.
+#[derive(Clone, Copy, Debug)]
+pub enum Outcome {
+    /// It was lines: how many there were, or at which one it stopped, and why.
+    Lines(Result<u64, Stopped<Cause<LineFault>>>),
+    /// It was a capture: how many packets there were, or where it stopped, and why.
+    Capture(Result<u64, CaptureStop<LineFault>>),
+}
+
+/// What is told of an input beside its reports.
+#[derive(Drop)]
+pub struct Summary {
+    of: Measured,
+}
+
+/// What was measured.
+#[derive(Drop)]
+enum Measured {
+    Lines(Measuring),
+    Capture(CaptureMeasuring),
+}
+
+impl Summary {
+    /// Tells it, in lines. What can't be written is lost.
+    pub fn tell<E: Write>(&self, errors: &mut E) {
+        match &self.of {
+            Measured::Lines(lines) => lines.tell(errors),
+            Measured::Capture(capture) => capture.tell(errors),
+        }
+    }
+}
+
+/// Measures an input, and writes what a slave port reports that hears its datagrams. An input whose first four octets are a
+/// magic of a capture is one, and each packet that carries a datagram of PTP is one of a recording, where it was captured at the
+/// interface that is measured. Any other is lines, each of a time and a datagram.
+///
+/// What a packet or line brings goes out before an octet behind it is read; but where one of the first four octets is an LF,
+/// four are read.
+pub fn measure<R: Read, W: Write>(
+    alloc: Global,
+    wanted: &Wanted,
+    form: Form,
+    input: &mut Counted<R>,
+    output: &mut Counted<W>,
+) -> (Outcome, Summary)
+    ensures measured { MeasuresInput form wanted.now R.remaining W.contents result.0
+        input.old input.new output.old output.new }
+    ensures failures { OutcomeFailed result.0 input.old input.new output.old output.new }
+{
+    let lines = Measuring::new(alloc, wanted, form);
+    if let Err(fault) = write_head(form, output) {
+        return stopped(lines, 0, Cause::Task(fault));
+    }
+    let Ok(beginning) = Beginning::read(input) else {
+        return stopped(lines, 1, Cause::Reading(ReadingFault::Read));
+    };
+    let start = beginning.octets();
+    if beginning.is_capture() {
+        let capture = CaptureMeasuring::new(alloc, wanted, form);
+        return measure_packets(alloc, capture, start, input, output);
+    }
+    if has_lf(start) {
+        return stopped(lines, 1, Cause::Task(LineFault::Field));
+    }
+    measure_lines(lines, start, input, output)
+}
+
+/// Whether an LF is among these octets.
+fn has_lf(octets: &[u8]) -> bool
+    ensures some { IsTrue result → 0 < lfs_in octets.now }
+    ensures none { IsFalse result → All (λ x. x ≢ 10) octets.now }
+{
+    octets.contains(&b'\n')
+}
+
+/// What came of lines where one stops them early.
+fn stopped(lines: Measuring, line: u64, what: Cause<LineFault>) -> (Outcome, Summary)
+    ensures { result.0 ≡ Outcome.Lines (Err (record { line = line; what = what })) }
+{
+    let of = Measured::Lines(lines);
+    (Outcome::Lines(Err(Stopped { line, what })), Summary { of })
+}
+
+/// Measures lines, of which these octets were read.
+fn measure_lines<R: Read, W: Write>(
+    mut lines: Measuring,
+    start: &[u8],
+    input: &mut Counted<R>,
+    output: &mut Counted<W>,
+) -> (Outcome, Summary)
+    requires unended { All (λ x. x ≢ 10) start.now }
+    requires within { length start.now ≤ line_limit }
+    requires stands { (r : Recording) × IsMeasuring lines r }
+    ensures answered { (r : Recording) → IsMeasuring lines r → ForSome (R.remaining (device_of input.old)) (λ octets.
+        LinesAnswer r (start.now ++ octets) (R.remaining (device_of input.new))
+        (W.contents (device_of output.old)) (W.contents (device_of output.new)) result.0) }
+    ensures failures { OutcomeFailed result.0 input.old input.new output.old output.new }
+{
+    let answer = answer_lines_behind(start, &mut lines, input, output);
+    let of = Measured::Lines(lines);
+    (Outcome::Lines(answer), Summary { of })
+}
+
+/// Measures a capture, of which these octets were read.
+fn measure_packets<R: Read, W: Write>(
+    alloc: Global,
+    mut capture: CaptureMeasuring,
+    start: &[u8],
+    input: &mut Counted<R>,
+    output: &mut Counted<W>,
+) -> (Outcome, Summary)
+    requires most { length start.now ≤ 4 }
+    requires stands { (c : Capture) × IsCapturing capture c }
+    ensures answered { (c : Capture) → IsCapturing capture c → ForSome (R.remaining (device_of input.old)) (λ octets.
+        PacketsAnswer c (start.now ++ octets) (R.remaining (device_of input.new))
+        (W.contents (device_of output.old)) (W.contents (device_of output.new)) result.0) }
+    ensures failures { OutcomeFailed result.0 input.old input.new output.old output.new }
+{
+    let answer = answer_packets_behind(alloc, start, &mut capture, input, output);
+    let of = Measured::Capture(capture);
+    (Outcome::Capture(answer), Summary { of })
+}

@@ -1,0 +1,404 @@
+//! A capture that is measured packet by packet.
+
+ghost use Rattle.std.specs.Prelude.{◌≡◌, ◌∷◌, ◌<◌, ℕ, List, [], length, MatchResult, OnOk, ⊤};
+ghost use Rattle.std.specs.String.{string_bytes};
+ghost use Rattle.std.specs.Io.KnownBytes.{Appends};
+ghost use Rattle.datagram_text.specs.Shown.{stamp_text};
+ghost use Rattle.text_lines.specs.Counted.{device_of, HasNotFailed, HasFailedIf};
+ghost use Rattle.text_lines.specs.Fault.{is_write};
+ghost use Rattle.text_lines.specs.Task.{WentOut};
+ghost use Rattle.event_codec.specs.Reading.{IsReading};
+ghost use Rattle.capture_file.specs.Packet.{packet_of, interface_of};
+ghost use Rattle.capture_model.specs.Listening.{after_all};
+ghost use Rattle.capture_measure.specs.Row.{Row, datagrams};
+ghost use Rattle.capture_measure.specs.Measured.{report_text, reports_text};
+ghost use Rattle.capture_measure.specs.Interfaces.{InterfaceRow};
+ghost use Rattle.capture_measure.specs.Capture.{Capture, capture_begun, capture_rules, IsDatagramRow, TakesPacket, StopsAtPacket};
+ghost use Rattle.capture_measure.specs.Inner.Hearing.{reading_of, recorded_of, IsOfOutput, Goes};
+ghost use Rattle.capture_measure.specs.Inner.Listener.{IsListener};
+ghost use Rattle.capture_measure.specs.Inner.Recordings.{row_at, AreKeptRows, BeginsWith};
+ghost use Rattle.capture_measure.specs.Inner.Capturing.{IsCapturing, IsLooking, IsHearingAt, AddsRow, row_of_packet};
+
+use crate::interface_counts::InterfaceCounts;
+use crate::listener::Listener;
+use crate::measuring::Form;
+use crate::recording::{Kept, Recordings, datagram_of};
+use crate::reports::{Datagram, Reports};
+use crate::watch::Wanted;
+use capture_extract::Summary as PacketCounts;
+use capture_file::{Captured, Packet, PacketTask};
+use capture_frame::{Found, find_datagram};
+use capture_model::Watched;
+use ptp_units::Timestamp;
+use std::alloc::{AllocError, Global};
+use std::fmt;
+use std::fmt::{Display, Formatter, Write as _};
+use std::io::Write;
+use text_lines::{Counted, LineFault};
+
+/// How many datagrams are kept until it is known whom to watch.
+const KEPT_MOST: u64 = 1024;
+
+/// What is done with a datagram.
+#[derive(Drop)]
+enum Stage {
+    /// It is kept, as all before it, until it is known at an interface whom to watch. So many came before, or more.
+    Looking(u64),
+    /// A port hears it, where it is at the interface of this place.
+    Hearing(usize, Listener),
+}
+
+/// Where the reports of packets go.
+#[derive(Drop)]
+struct PacketReports {
+    reports: Reports,
+    /// The time of the last one, in the one text that all share.
+    time: String,
+}
+
+/// Puts the text of a time in place of what `text` holds: seconds, a point, and nine decimals.
+fn write_time(text: &mut String, time: Timestamp) -> Result<(), AllocError>
+    ensures { OnOk result (string_bytes text.new ≡ stamp_text time) }
+{
+    text.clear();
+    write!(text, "{}.{:09}", time.seconds(), time.nanos())
+}
+
+impl PacketReports {
+    /// A port hears the datagram of a packet of this time, and its report goes out.
+    fn hear<W: Write>(
+        &mut self,
+        listener: &mut Listener,
+        time: Timestamp,
+        datagram: &Datagram<'_>,
+        output: &mut Counted<W>,
+    ) -> Result<(), LineFault>
+        requires { IsReading datagram.now.octets.now (reading_of datagram.now.said) }
+        ensures heard { (watched : Watched) (earlier : List Row)
+            → IsListener watched listener.old (after_all watched (datagrams earlier))
+            → OnOk result (IsListener watched listener.new (after_all watched (datagrams (row_at time datagram.now ∷ earlier))))
+            × Goes result (report_text self.old.reports.form watched earlier (row_at time datagram.now))
+            (W.contents (device_of output.old)) (W.contents (device_of output.new)) }
+        ensures of_output { MatchResult result (λ _. ⊤) IsOfOutput }
+        ensures form { self.new.reports.form ≡ self.old.reports.form }
+        ensures failures { MatchResult result
+            (λ _. HasNotFailed output.old output.new)
+            (λ fault. HasFailedIf (is_write fault) output.old output.new) }
+    {
+        let Some(completed) = self.reports.listen(listener, datagram) else {
+            return Ok(());
+        };
+        write_time(&mut self.time, time)?;
+        self.reports
+            .write(&completed.at(datagram.number, self.time.as_str()), output)
+    }
+
+    /// A port hears all datagrams that were kept.
+    fn hear_kept<W: Write>(
+        &mut self,
+        listener: &mut Listener,
+        kept: &[Kept],
+        output: &mut Counted<W>,
+    ) -> Result<(), LineFault>
+        ensures heard { (watched : Watched) (rows : List Row) → AreKeptRows [] kept.now rows
+            → IsListener watched listener.old (after_all watched [])
+            → OnOk result (IsListener watched listener.new (after_all watched (datagrams rows)))
+            × Goes result (reports_text self.old.reports.form watched rows)
+            (W.contents (device_of output.old)) (W.contents (device_of output.new)) }
+        ensures of_output { MatchResult result (λ _. ⊤) IsOfOutput }
+        ensures form { self.new.reports.form ≡ self.old.reports.form }
+        ensures failures { MatchResult result
+            (λ _. HasNotFailed output.old output.new)
+            (λ fault. HasFailedIf (is_write fault) output.old output.new) }
+    {
+        for it in kept {
+            let datagram = datagram_of(it.number, it.time, it.octets.as_slice());
+            self.hear(listener, it.time, &datagram, output)?;
+        }
+        Ok(())
+    }
+}
+
+/// Measures each packet of a capture.
+#[derive(Drop)]
+pub(crate) struct CaptureMeasuring {
+    alloc: Global,
+    wanted: Wanted,
+    recordings: Recordings,
+    stage: Stage,
+    reports: PacketReports,
+    packets: PacketCounts,
+    interfaces: InterfaceCounts,
+}
+
+impl PacketTask for CaptureMeasuring {
+    type Answer = u64;
+
+    type Fault = LineFault;
+
+    ghost State = { Capture };
+
+    ghost rules = { capture_rules };
+
+    ghost is_at = { IsCapturing };
+
+    fn take<W: Write>(
+        &mut self,
+        number: u64,
+        packet: &Packet<'_>,
+        output: &mut Counted<W>,
+    ) -> Result<(), LineFault> {
+        match packet {
+            Packet::Captured(captured) => self.take_captured(number, captured, output),
+            Packet::Timeless => {
+                self.packets.count_timeless();
+                Ok(())
+            }
+            Packet::Simple => {
+                self.packets.count_simple();
+                Ok(())
+            }
+        }
+    }
+
+    /// How many packets there were.
+    fn finish<W: Write>(
+        &mut self,
+        packets: u64,
+        _output: &mut Counted<W>,
+    ) -> Result<u64, LineFault> {
+        Ok(packets)
+    }
+}
+
+impl CaptureMeasuring {
+    /// No packet came yet.
+    pub(crate) fn new(alloc: Global, wanted: &Wanted, form: Form) -> CaptureMeasuring
+        ensures { IsCapturing result (capture_begun form wanted.now) }
+    {
+        CaptureMeasuring {
+            alloc,
+            wanted: *wanted,
+            recordings: Recordings::new(alloc),
+            stage: Stage::Looking(0),
+            reports: PacketReports {
+                reports: Reports::new(alloc, form),
+                time: String::new(alloc),
+            },
+            packets: PacketCounts::new(),
+            interfaces: InterfaceCounts::new(),
+        }
+    }
+
+    /// Takes a packet, if it carries a datagram.
+    fn take_captured<W: Write>(
+        &mut self,
+        number: u64,
+        captured: &Captured<'_>,
+        output: &mut Counted<W>,
+    ) -> Result<(), LineFault>
+        requires { (c : Capture) × IsCapturing self.old c }
+        ensures taken { (c : Capture) → IsCapturing self.old c →
+            let packet = packet_of (Packet.Captured captured.now) in
+            let before = W.contents (device_of output.old) in
+            let after = W.contents (device_of output.new) in
+            MatchResult result
+            (λ _. (later : Capture) × (out : List ℕ) × IsCapturing self.new later
+            × TakesPacket number packet c later out × Appends before after out)
+            (λ fault. (out : List ℕ) × StopsAtPacket number packet c fault out
+            × WentOut (is_write fault) (Appends before after out)) }
+        ensures failures { MatchResult result
+            (λ _. HasNotFailed output.old output.new)
+            (λ fault. HasFailedIf (is_write fault) output.old output.new) }
+    {
+        let found = find_datagram(captured.link, captured.octets);
+        if let Found::Datagram(octets) = found {
+            let datagram = datagram_of(number, captured.time, octets);
+            self.take_datagram(captured, &datagram, output)?;
+        }
+        self.packets
+            .count_captured(captured.time, captured.link, found);
+        Ok(())
+    }
+
+    /// Takes a datagram, and what it adds to all that is written goes out.
+    fn take_datagram<W: Write>(
+        &mut self,
+        captured: &Captured<'_>,
+        datagram: &Datagram<'_>,
+        output: &mut Counted<W>,
+    ) -> Result<(), LineFault>
+        requires stands { (c : Capture) × IsCapturing self.old c }
+        requires row { IsDatagramRow datagram.now.number captured.now.time datagram.now.octets.now
+            (row_at captured.now.time datagram.now) }
+        ensures taken { (c : Capture) → IsCapturing self.old c →
+            AddsRow result c (row_of_packet captured.now datagram.now) self.new
+            (W.contents (device_of output.old)) (W.contents (device_of output.new)) }
+        ensures failures { MatchResult result
+            (λ _. HasNotFailed output.old output.new)
+            (λ fault. HasFailedIf (is_write fault) output.old output.new) }
+    {
+        match &mut self.stage {
+            Stage::Looking(count) => {
+                let is_kept = *count < KEPT_MOST;
+                if is_kept {
+                    *count += 1;
+                }
+                self.look(captured, datagram, is_kept, output)
+            }
+            Stage::Hearing(place, listener) => {
+                if self.recordings.is_at(*place, &captured.interface) {
+                    self.reports.hear(listener, captured.time, datagram, output)
+                } else {
+                    self.interfaces
+                        .count(self.recordings.find(&captured.interface));
+                    Ok(())
+                }
+            }
+        }
+    }
+
+    /// Takes a datagram by which it isn't known yet whom to watch. Where it tells that, a port hears those at its interface.
+    fn look<W: Write>(
+        &mut self,
+        captured: &Captured<'_>,
+        datagram: &Datagram<'_>,
+        is_kept: bool,
+        output: &mut Counted<W>,
+    ) -> Result<(), LineFault>
+        requires { IsDatagramRow datagram.now.number captured.now.time datagram.now.octets.now
+            (row_at captured.now.time datagram.now) }
+        ensures taken { (c : Capture) → IsLooking self.old c is_kept →
+            AddsRow result c (row_of_packet captured.now datagram.now) self.new
+            (W.contents (device_of output.old)) (W.contents (device_of output.new)) }
+        ensures failures { MatchResult result
+            (λ _. HasNotFailed output.old output.new)
+            (λ fault. HasFailedIf (is_write fault) output.old output.new) }
+    {
+        let found = self
+            .recordings
+            .take(self.alloc, &self.wanted, captured, datagram, is_kept)?;
+        self.interfaces.count(found);
+        let Some(place) = found else {
+            return Ok(());
+        };
+        match self.recordings.watched(place) {
+            Some(watched) => self.begin(watched, place, is_kept, captured.time, datagram, output),
+            None => Ok(()),
+        }
+    }
+
+    /// From this datagram on a port hears those at its interface. It hears those first that were kept, this one among them.
+    fn begin<W: Write>(
+        &mut self,
+        watched: Watched,
+        place: usize,
+        is_kept: bool,
+        time: Timestamp,
+        datagram: &Datagram<'_>,
+        output: &mut Counted<W>,
+    ) -> Result<(), LineFault>
+        requires says { IsReading datagram.now.octets.now (reading_of datagram.now.said) }
+        requires place { place < length self.old.recordings.recordings.items }
+        ensures begun { (rows : List Row)
+            → BeginsWith is_kept self.old.recordings.recordings.items place (row_at time datagram.now) rows
+            → OnOk result (IsHearingAt watched place rows self.new.stage)
+            × Goes result (reports_text self.old.reports.reports.form watched rows)
+            (W.contents (device_of output.old)) (W.contents (device_of output.new)) }
+        ensures form { self.new.reports.reports.form ≡ self.old.reports.reports.form }
+        ensures wanted { self.new.wanted ≡ self.old.wanted }
+        ensures recordings { self.new.recordings ≡ self.old.recordings }
+        ensures failures { MatchResult result
+            (λ _. HasNotFailed output.old output.new)
+            (λ fault. HasFailedIf (is_write fault) output.old output.new) }
+    {
+        let mut listener = Listener::new(watched);
+        if is_kept {
+            self.reports
+                .hear_kept(&mut listener, self.recordings.kept(place), output)?;
+        } else {
+            self.reports.reports.tally = self.recordings.early(place);
+            self.reports.hear(&mut listener, time, datagram, output)?;
+        }
+        self.stage = Stage::Hearing(place, listener);
+        Ok(())
+    }
+}
+
+impl CaptureMeasuring {
+    /// Tells what is told of a capture beside its reports, in lines. What can't be written is lost.
+    pub(crate) fn tell<E: Write>(&self, errors: &mut E) {
+        self.packets.tell_packets(errors);
+        match self.stage {
+            Stage::Hearing(measured, _) => self.tell_measured(measured, errors),
+            Stage::Looking(_) => self.tell_unknown(errors),
+        }
+    }
+
+    /// Tells what was measured at the interface of this place, and what was passed over at others.
+    fn tell_measured<E: Write>(&self, measured: usize, errors: &mut E) {
+        let recordings = self.recordings.all();
+        let Some(recording) = recordings.get(measured) else {
+            return;
+        };
+        if self.has_others() {
+            let _ = writeln!(errors, "ptpx: measured at {}", recording.place);
+        }
+        recording.watch.tell("packet", errors);
+        self.reports.reports.tally.tell(errors);
+        for (place, other) in recordings.iter().enumerate() {
+            if place != measured {
+                let count = self.interfaces.at(place);
+                let _ = writeln!(
+                    errors,
+                    "ptpx: {} at {}, which isn't measured",
+                    Datagrams(count),
+                    other.place
+                );
+            }
+        }
+        self.tell_others(errors);
+    }
+
+    /// Tells what is known at each interface, where that isn't enough.
+    fn tell_unknown<E: Write>(&self, errors: &mut E) {
+        for recording in self.recordings.all() {
+            if self.has_others() {
+                let _ = writeln!(errors, "ptpx: at {}:", recording.place);
+            }
+            recording.watch.tell("packet", errors);
+            recording.early.tell(errors);
+        }
+        self.tell_others(errors);
+    }
+
+    /// Whether there were several interfaces.
+    fn has_others(&self) -> bool {
+        self.recordings.all().len() > 1 || self.interfaces.others() > 0
+    }
+
+    /// Tells how many datagrams there were at interfaces that weren't looked at, if any were.
+    fn tell_others<E: Write>(&self, errors: &mut E) {
+        let count = self.interfaces.others();
+        if count > 0 {
+            let _ = writeln!(
+                errors,
+                "ptpx: {} at other interfaces, which weren't looked at",
+                Datagrams(count)
+            );
+        }
+    }
+}
+
+/// So many datagrams, in words.
+#[derive(Clone, Copy)]
+struct Datagrams(u64);
+
+impl Display for Datagrams {
+    fn fmt<W: fmt::Write>(&self, f: &mut Formatter<W>) -> fmt::Result {
+        match self.0 {
+            1 => f.write_str("1 datagram"),
+            count => write!(f, "{count} datagrams"),
+        }
+    }
+}

@@ -1,0 +1,298 @@
+//! What is known of the interfaces of a capture while it isn't known whom to watch.
+
+ghost use Rattle.std.specs.Prelude.{◌≡◌, ◌<◌, ◌&&◌, ◌||◌, ◌==◌, ℕ, nat_lt, false, List, [], ◌∷◌, length, map, get_or, IfOk, IfSome, OnOk};
+ghost use Rattle.std.specs.Option.{option_map_or};
+ghost use Rattle.event_codec.specs.Port.{is_same_port};
+ghost use Rattle.event_codec.specs.Reading.{IsReading};
+ghost use Rattle.capture_file.specs.Packet.{interface_of};
+ghost use Rattle.capture_model.specs.Recorded.{Recorded};
+ghost use Rattle.capture_measure.specs.Row.{Row, kept_most};
+ghost use Rattle.capture_measure.specs.Interfaces.{InterfaceRow, interfaces_in, is_same_interface};
+ghost use Rattle.capture_measure.specs.Chosen.{watched_at};
+ghost use Rattle.capture_measure.specs.Capture.{IsDatagramRow};
+ghost use Rattle.capture_measure.specs.Inner.Hearing.{reading_of, recorded_of};
+ghost use Rattle.capture_measure.specs.Inner.Recordings.{interface_in, row_at, IsMet, IsNoticed, IsFresh, AreRecordings};
+ghost use Rattle.capture_measure.specs.Inner.Recordings.{IsFoundAt, HasAdded, KeepsMore};
+
+use crate::interface::Place;
+use crate::reports::{Datagram, message_in};
+use crate::tally::Tally;
+use crate::watch::{Wanted, Watch};
+use capture_file::{Captured, Interface};
+use capture_model::Watched;
+use event_codec::{Header, PortIdentity};
+use ptp_units::{ScaledTime, Timestamp};
+use std::alloc::{AllocError, Global};
+
+/// How many interfaces are looked at.
+const INTERFACES_MOST: usize = 16;
+
+/// The datagram of a packet of this number and time.
+pub(crate) fn datagram_of(number: u64, time: Timestamp, octets: &[u8]) -> Datagram<'_>
+    ensures row { IsDatagramRow number time octets.now (row_at time result) }
+    ensures only { (row : Row) → IsDatagramRow number time octets.now row → row ≡ row_at time result }
+    ensures says { IsReading result.octets.now (reading_of result.said) }
+{
+    Datagram {
+        number,
+        time: ScaledTime::join(time, 0),
+        octets,
+        said: message_in(octets),
+    }
+}
+
+/// A datagram that is kept, and the number and the time of its packet.
+#[derive(Drop)]
+pub(crate) struct Kept {
+    pub(crate) number: u64,
+    pub(crate) time: Timestamp,
+    pub(crate) octets: Vec<u8>,
+}
+
+/// Of what is asked for, what was met at an interface, or wasn't asked for.
+#[derive(Clone, Copy)]
+struct Met {
+    domain: bool,
+    master: bool,
+    slave: bool,
+}
+
+/// Whether a port is the one that is asked for.
+fn is_wanted(wanted: Option<PortIdentity>, port: PortIdentity) -> bool
+    ensures { result ≡ option_map_or (is_same_port port) wanted false }
+{
+    wanted.is_some_and(|wanted| port == wanted)
+}
+
+impl Met {
+    /// Before any datagram.
+    fn new(wanted: &Wanted) -> Met
+        ensures { IsMet wanted.now [] result }
+    {
+        Met {
+            domain: wanted.domain.is_none(),
+            master: wanted.master.is_none(),
+            slave: wanted.slave.is_none(),
+        }
+    }
+
+    /// Takes the header of a message.
+    fn notice(&mut self, wanted: &Wanted, header: &Header)
+        ensures domain { self.new.domain ≡ (self.old.domain || option_map_or (λ domain. header.now.domain == domain) wanted.now.domain false) }
+        ensures master { self.new.master ≡ (self.old.master || option_map_or (is_same_port header.now.source) wanted.now.master false) }
+        ensures slave { self.new.slave ≡ (self.old.slave || option_map_or (is_same_port header.now.source) wanted.now.slave false) }
+    {
+        self.domain = self.domain || wanted.domain.is_some_and(|domain| header.domain == domain);
+        self.master = self.master || is_wanted(wanted.master, header.source);
+        self.slave = self.slave || is_wanted(wanted.slave, header.source);
+    }
+
+    /// Whether all was met.
+    fn is_all(&self) -> bool
+        ensures { result ≡ (self.now.domain && self.now.master && self.now.slave) }
+    {
+        self.domain && self.master && self.slave
+    }
+}
+
+/// What is known of an interface.
+#[derive(Drop)]
+pub(crate) struct Recording {
+    pub(crate) place: Place,
+    pub(crate) watch: Watch,
+    met: Met,
+    pub(crate) kept: Vec<Kept>,
+    /// What came before it was known whom to watch.
+    pub(crate) early: Tally,
+}
+
+impl Recording {
+    /// Before its first datagram.
+    fn new(
+        alloc: Global,
+        wanted: &Wanted,
+        interface: &Interface<'_>,
+    ) -> Result<Recording, AllocError>
+        ensures { IfOk result (λ recording. IsFresh wanted.now (interface_of interface.now) recording) }
+    {
+        Ok(Recording {
+            place: Place::new(alloc, interface)?,
+            watch: Watch::new(wanted),
+            met: Met::new(wanted),
+            kept: Vec::new(alloc),
+            early: Tally::new(),
+        })
+    }
+
+    /// Takes what a datagram tells of whom to watch.
+    pub(crate) fn notice(&mut self, wanted: &Wanted, datagram: &Datagram<'_>)
+        ensures noticed { (ds : List Recorded) → IsNoticed wanted.now ds self.old
+            → IsNoticed wanted.now (recorded_of datagram.now ∷ ds) self.new }
+        ensures place { self.new.place ≡ self.old.place }
+        ensures kept { self.new.kept ≡ self.old.kept }
+    {
+        if let Ok(message) = &datagram.said {
+            self.watch.notice(datagram.number, message);
+            self.met.notice(wanted, &message.header);
+        }
+    }
+
+    /// Whom its datagrams are of, where that is known and all that is asked for was met.
+    pub(crate) fn watched(&self) -> Option<Watched>
+        ensures { (w : Wanted) (ds : List Recorded) → IsNoticed w ds self.now → result ≡ watched_at w ds }
+    {
+        if self.met.is_all() {
+            self.watch.watched()
+        } else {
+            None
+        }
+    }
+
+    /// Counts a datagram by which it isn't known yet whom its datagrams are of.
+    fn count_early(&mut self, datagram: &Datagram<'_>)
+        ensures { self.new ≡ record self.old { early = self.new.early } }
+    {
+        if self.watched().is_none() {
+            self.early.count_early(datagram);
+        }
+    }
+
+    /// Keeps a datagram.
+    fn keep(
+        &mut self,
+        alloc: Global,
+        time: Timestamp,
+        datagram: &Datagram<'_>,
+    ) -> Result<(), AllocError>
+        ensures kept { OnOk result
+            (KeepsMore self.old.kept.items self.new.kept.items datagram.now.number time datagram.now.octets.now) }
+        ensures others { self.new ≡ record self.old { kept = self.new.kept } }
+    {
+        let octets = Vec::from_slice(alloc, datagram.octets)?;
+        self.kept.push(Kept {
+            number: datagram.number,
+            time,
+            octets,
+        })?;
+        Ok(())
+    }
+}
+
+/// What is known of the interfaces that are looked at, in the order in which they were met.
+#[derive(Drop)]
+pub(crate) struct Recordings {
+    recordings: Vec<Recording>,
+}
+
+impl Recordings {
+    /// Before any datagram.
+    pub(crate) fn new(alloc: Global) -> Recordings
+        ensures { (w : Wanted) → AreRecordings w [] result.recordings.items }
+    {
+        Recordings {
+            recordings: Vec::new(alloc),
+        }
+    }
+
+    /// Which of them is that of an interface.
+    pub(crate) fn find(&self, interface: &Interface<'_>) -> Option<usize>
+        ensures { IsFoundAt (interface_of interface.now) (map interface_in self.now.recordings.items) result self.now.recordings.items }
+    {
+        for place in 0..self.recordings.len() {
+            if self.recordings[place].place.is(interface) {
+                return Some(place);
+            }
+        }
+        None
+    }
+
+    /// The same, with one more where there is none and there aren't enough.
+    fn find_or_add(
+        &mut self,
+        alloc: Global,
+        wanted: &Wanted,
+        interface: &Interface<'_>,
+    ) -> Result<Option<usize>, AllocError>
+        ensures { IfOk result (λ found. HasAdded wanted.now (interface_of interface.now) found
+            self.old.recordings.items self.new.recordings.items) }
+    {
+        if let Some(place) = self.find(interface) {
+            return Ok(Some(place));
+        }
+        let place = self.recordings.len();
+        if place >= INTERFACES_MOST {
+            return Ok(None);
+        }
+        self.recordings
+            .push(Recording::new(alloc, wanted, interface)?)?;
+        Ok(Some(place))
+    }
+
+    /// Takes a datagram, and keeps it where this is asked for. Answers the place of its interface.
+    pub(crate) fn take(
+        &mut self,
+        alloc: Global,
+        wanted: &Wanted,
+        captured: &Captured<'_>,
+        datagram: &Datagram<'_>,
+        is_kept: bool,
+    ) -> Result<Option<usize>, AllocError>
+        requires { IsDatagramRow datagram.now.number captured.now.time datagram.now.octets.now
+            (row_at captured.now.time datagram.now) }
+        ensures within { IfOk result (λ found. IfSome found (λ place. place < length self.new.recordings.items)) }
+        ensures taken { (rows : List InterfaceRow) (r : InterfaceRow) → r.interface ≡ interface_of captured.now.interface
+            → r.row ≡ row_at captured.now.time datagram.now → is_kept ≡ nat_lt (length rows) kept_most
+            → AreRecordings wanted.now rows self.old.recordings.items
+            → IfOk result (λ found. AreRecordings wanted.now (r ∷ rows) self.new.recordings.items
+            × IsFoundAt r.interface (interfaces_in (r ∷ rows)) found self.new.recordings.items) }
+    {
+        let found = self.find_or_add(alloc, wanted, &captured.interface)?;
+        if let Some(place) = found {
+            let recording = &mut self.recordings[place];
+            recording.notice(wanted, datagram);
+            recording.count_early(datagram);
+            if is_kept {
+                recording.keep(alloc, captured.time, datagram)?;
+            }
+        }
+        Ok(found)
+    }
+
+    /// Whom the datagrams at the interface of this place are of, where that is known.
+    pub(crate) fn watched(&self, place: usize) -> Option<Watched>
+        requires { place < length self.now.recordings.items }
+        ensures { (w : Wanted) (ds : List Recorded) (d : Recording) → IsNoticed w ds (get_or self.now.recordings.items place d)
+            → result ≡ watched_at w ds }
+    {
+        self.recordings[place].watched()
+    }
+
+    /// Whether this place is that of an interface.
+    pub(crate) fn is_at(&self, place: usize, interface: &Interface<'_>) -> bool
+        requires { place < length self.now.recordings.items }
+        ensures { (d : Recording) → result
+            ≡ is_same_interface (interface_in (get_or self.now.recordings.items place d)) (interface_of interface.now) }
+    {
+        self.recordings[place].place.is(interface)
+    }
+
+    /// What was kept at the interface of this place.
+    pub(crate) fn kept(&self, place: usize) -> &[Kept]
+        requires { place < length self.now.recordings.items }
+        ensures { (d : Recording) → result.now ≡ (get_or self.now.recordings.items place d).kept.items }
+    {
+        &self.recordings[place].kept
+    }
+
+    /// What came at the interface of this place before it was known whom to watch.
+    pub(crate) fn early(&self, place: usize) -> Tally
+        requires { place < length self.now.recordings.items }
+    {
+        self.recordings[place].early
+    }
+
+    /// The interfaces, and what is known at each.
+    pub(crate) fn all(&self) -> &[Recording] {
+        &self.recordings
+    }
+}

@@ -1,0 +1,164 @@
+//! Datagrams that a port hears, and what goes out of its reports.
+
+ghost use Rattle.std.specs.Prelude.{◌≡◌, ◌∷◌, List, MatchResult};
+ghost use Rattle.text_lines.specs.Counted.{device_of, HasNotFailed, HasFailedIf};
+ghost use Rattle.text_lines.specs.Fault.{is_write};
+ghost use Rattle.event_codec.specs.Reading.{Reading, IsReading};
+ghost use Rattle.capture_model.specs.Listening.{after_all};
+ghost use Rattle.capture_model.specs.Recorded.{Recorded};
+ghost use Rattle.capture_lines.specs.Measurement.{measured_of};
+ghost use Rattle.capture_measure.specs.Measured.{half_of, text_as};
+ghost use Rattle.capture_measure.specs.Inner.Listener.{IsListener, report_by};
+ghost use Rattle.capture_measure.specs.Inner.Hearing.{reading_of, recorded_of, completion, measured_by, Goes};
+
+use crate::listener::{Became, Listener};
+use crate::measuring::Form;
+use crate::tally::Tally;
+use capture_lines::{Half, Measurement, push_json, push_row};
+use capture_model::Watched;
+use event_codec::{Body, DecodeRefusal, Message, decode};
+use ptp_units::ScaledTime;
+use slave_port::{Heard, Report};
+use std::alloc::Global;
+use std::io::Write;
+use text_lines::{Counted, LineFault, write_text};
+
+/// A datagram that a port may hear.
+#[derive(Clone, Copy)]
+pub(crate) struct Datagram<'room> {
+    /// The number of the line or packet that told it.
+    pub(crate) number: u64,
+    /// When the slave's port sent or received it.
+    pub(crate) time: ScaledTime,
+    pub(crate) octets: &'room [u8],
+    /// What the octets say.
+    pub(crate) said: Result<Message<'room>, DecodeRefusal>,
+}
+
+/// A report, and which half of it a datagram completed.
+#[derive(Clone, Copy)]
+pub(crate) struct Completed {
+    by: Half,
+    report: Report,
+}
+
+impl Completed {
+    /// The measurement of the datagram of this number, whose time is written so.
+    pub(crate) fn at(self, line: u64, time: &str) -> Measurement<'_>
+        ensures { measured_of result ≡ measured_by self time.now line }
+    {
+        Measurement {
+            by: self.by,
+            line,
+            time,
+            report: self.report,
+        }
+    }
+}
+
+/// The message that octets begin with.
+pub(crate) fn message_in(octets: &[u8]) -> Result<Message<'_>, DecodeRefusal>
+    ensures says { IsReading octets.now (reading_of result) }
+    ensures only { (said : Reading) → IsReading octets.now said → said ≡ reading_of result }
+{
+    match decode(octets) {
+        Ok((message, _)) => Ok(message),
+        Err(refusal) => Err(refusal),
+    }
+}
+
+/// Which half of a report a message completes.
+fn half_of(body: &Body) -> Half
+    ensures { result ≡ half_of body.now }
+{
+    match body {
+        Body::DelayResp { .. } => Half::Response,
+        _ => Half::Sync,
+    }
+}
+
+/// The report in what became of a message.
+fn report_in(became: Became) -> Option<Report>
+    ensures { result ≡ report_by became }
+{
+    match became {
+        Became::Heard(Heard::Report(report)) | Became::HeardAnew(Heard::Report(report)) => {
+            Some(report)
+        }
+        _ => None,
+    }
+}
+
+/// Where reports go.
+#[derive(Drop)]
+pub(crate) struct Reports {
+    pub(crate) form: Form,
+    /// The line of the last one, in the one text that all share.
+    text: String,
+    pub(crate) tally: Tally,
+}
+
+impl Reports {
+    /// No report came yet.
+    pub(crate) fn new(alloc: Global, form: Form) -> Reports
+        ensures { result.form ≡ form }
+    {
+        Reports {
+            form,
+            text: String::new(alloc),
+            tally: Tally::new(),
+        }
+    }
+
+    /// A port hears a datagram. Answers the report that this completes.
+    pub(crate) fn listen(
+        &mut self,
+        listener: &mut Listener,
+        datagram: &Datagram<'_>,
+    ) -> Option<Completed>
+        requires { IsReading datagram.now.octets.now (reading_of datagram.now.said) }
+        ensures heard { (watched : Watched) (earlier : List Recorded)
+            → IsListener watched listener.old (after_all watched earlier)
+            → IsListener watched listener.new (after_all watched (recorded_of datagram.now ∷ earlier))
+            × (result ≡ completion watched earlier (recorded_of datagram.now)) }
+        ensures form { self.new.form ≡ self.old.form }
+    {
+        self.tally.count_time(datagram.time);
+        let message = match &datagram.said {
+            Ok(message) => message,
+            Err(refusal) => {
+                self.tally.count_refused(*refusal);
+                return None;
+            }
+        };
+        let became = listener.hear(datagram.number, datagram.time, datagram.octets, message);
+        self.tally.count_heard(message, listener.domain(), became);
+        Some(Completed {
+            by: half_of(&message.body),
+            report: report_in(became)?,
+        })
+    }
+
+    /// Writes a report, in one write.
+    pub(crate) fn write<W: Write>(
+        &mut self,
+        measured: &Measurement<'_>,
+        output: &mut Counted<W>,
+    ) -> Result<(), LineFault>
+        ensures written { Goes result (text_as self.old.form (measured_of measured.now))
+            (W.contents (device_of output.old)) (W.contents (device_of output.new)) }
+        ensures form { self.new.form ≡ self.old.form }
+        ensures failures { MatchResult result
+            (λ _. HasNotFailed output.old output.new)
+            (λ fault. HasFailedIf (is_write fault) output.old output.new) }
+    {
+        self.text.clear();
+        match self.form {
+            Form::Json => push_json(&mut self.text, measured)?,
+            Form::Table => push_row(&mut self.text, measured)?,
+        }
+        write_text::<W, LineFault>(self.text.as_str(), output)?;
+        self.tally.count_report();
+        Ok(())
+    }
+}
