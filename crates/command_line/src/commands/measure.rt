@@ -37,7 +37,7 @@ const OPTIONS: [OptionRow; 4] = [
 /// The row of `measure`.
 pub(crate) const ROW: SubcommandRow = SubcommandRow {
     name: "measure",
-    about: "Print the offsets and delays in a recording of the datagrams at a slave",
+    about: "Print the offsets and delays in a capture at a slave, or in a recording of its datagrams",
     help: HELP,
     options: &OPTIONS,
 };
@@ -71,47 +71,62 @@ pub(crate) fn measure_options<'a>(
 
 /// What the help of `measure` says below its usage.
 const HELP: &str =
-    r#"Standard input is what was recorded at a slave, one datagram a line: the time at which its port sent
-or received it, a blank, and its octets in hexadecimal digits of either case. The time is seconds, then
-nothing, or a point and 1 to 9 digits. Standard output has a line for each report of the slave, before
-the next line is read. It is
+    r#"Standard input is what was recorded at a slave: a capture, as 'ptpx extract' reads it, or lines, one
+datagram each; the first four octets tell which. A line is the time at which the slave's port sent or
+received the datagram, a blank, and its octets in hexadecimal digits of either case. The time is seconds,
+then nothing, or a point and 1 to 9 digits. Standard output has a line for each report of the slave,
+before the next line or packet is read. It is
   {"by":"sync","line":17,"offset":"-12.5","offset2":"-1638400","path":"1000","path2":"131072000",
   "tags":[12,13,9,11],"time":"1795328934.357259633"}
 in one line, or with --csv, below the head time,offset_ns,path_ns,by,line,
   1795328934.357259633,-12.5,1000,sync,17
 offset is offsetFromMaster and path meanPathDelay, in nanoseconds; offset2 and path2 are twice these, in
 units of 2^-16 ns. All four are exact. by says which half completed the report, sync or response, line which
-line did, and time is the time of that line. tags are the lines of Sync, Follow_Up, Delay_Req and
-Delay_Resp; that of Follow_Up is null where the Sync is a one-step one. Lines count from 1.
+line or packet did, and time is the time of that one, of a packet with nine decimals. tags are the lines or
+packets of Sync, Follow_Up, Delay_Req and Delay_Resp; that of Follow_Up is null where the Sync is a one-step
+one. Lines count from 1, and so do packets, those without PTP, too.
 
 A PORT is a portIdentity: 16 hexadecimal digits, '/' and the number, as 'ptpx show' writes it, or as pmc
 of linuxptp does, 00aabb.fffe.ccddee-1. Number and domain may have zeros in front.
 
 Unless they are asked for, the domain is that of the first Sync, of the master that is asked for if one
-is; the master sent the first Sync of the domain, and the slave its first Delay_Req. Up to 1024 lines are
-kept until all three are known.
+is; the master sent the first Sync of the domain, and the slave its first Delay_Req. Up to 1024 lines or
+datagrams are kept until all three are known.
 
-The results are exact for the times in the lines. A capture on the slave's own host stamps what the slave
+Each interface of a capture is a recording of its own, and one alone is measured: the first at which all
+three are known. What is asked for is known at an interface once a message of that domain, or from that port,
+was met there. Interfaces of one place and name are one, also in several sections. Of more than 16 the
+first 16 at which PTP was met are looked at.
+
+The results are exact for the times in the input. A capture on the slave's own host stamps what the slave
 sends before it leaves, so that the offset comes out too low and the path too high by half of that: use
 hardware stamps or a tap. Taken at the master's host, both come near 0. A capture in UTC of a master
 in TAI gives an offset of -37 s. A Sync takes the last delay, however old, up to two ticks, of which there
 is one after each 4096 Syncs.
 
-At the end standard error tells the domain, the master and the slave, how many reports there are, and
-which datagrams gave none, and why.
+At the end standard error tells of a capture how many packets there are, how many of them have PTP, and at
+which interface it was measured, if there are several. Then it tells the domain, the master and the slave,
+how many reports there are, and which datagrams gave none, and why.
 
-Faults, each of which ends the run with 'ptpx: fault 806 at line 3' on standard error. Lines count
-from 1, and what was written for those before stands. Line 0 is before all lines.
-  801  the input can't be read
-  802  the output can't be written
-  803  the line has more than 4096 octets
-  806  the line isn't a time, a blank and pairs of hexadecimal digits
-  808  memory was refused
+Faults, each of which ends the run with 'ptpx: fault 806 at line 3' on standard error, or of a capture with
+'ptpx: fault 1006 at octet 6300, after 41 packets: the capture ends within a packet or a block'. Lines count
+from 1 and octets from 0, and what was written before stands. Line 0 is before all lines.
+   801  the input can't be read
+   802  the output can't be written
+   803  the line has more than 4096 octets
+   806  the line isn't a time, a blank and pairs of hexadecimal digits
+   808  memory was refused
+  1002  the version of the capture isn't known
+  1003  the octets that tell the order of numbers are none
+  1004  a length can't be
+  1005  a packet is of an interface that wasn't described
+  1006  the capture ends within a packet or a block
 
 Exit statuses:
-  0  each line was read
+  0  each line or packet was read
   2  the arguments aren't a command
   3  a fault
 
 Limits: a line has 4096 octets before its LF at the most, and there may be any number of lines. Of a line
-that ends in CR this one CR isn't read. The last line may lack its LF."#;
+that ends in CR this one CR isn't read. The last line may lack its LF. Where an LF is among the first four
+octets, the first line has fault 806. Of a capture the limits are those of 'ptpx extract'."#;
