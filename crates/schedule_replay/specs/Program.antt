@@ -31,7 +31,9 @@ use Rattle.capture_measure.specs.declared.measuring.Form.TheVariants.{Json, Tabl
 use Rattle.text_lines.specs.declared.line_fault.LineFault.{LineFault}
 use Rattle.capture_measure.specs.declared.watch.Wanted.{Wanted}
 use Rattle.text_lines.specs.Task.{FailedAt}
-use Rattle.capture_measure.specs.Measure.{MeasuresAnswer, measure_rules}
+use Rattle.capture_measure.specs.declared.input.Outcome.{Outcome}
+use Rattle.capture_measure.specs.declared.input.Outcome.TheVariants.{Lines, Capture}
+use Rattle.capture_measure.specs.Input.{MeasuresInput, OutcomeFailed}
 use Rattle.schedule_replay.specs.Show.{ShowsAnswer}
 use Rattle.transcript_text.specs.Replay.{ReplaysAnswer}
 use Rattle.transcript_text.specs.CheckText.{ChecksAnswer}
@@ -74,20 +76,18 @@ wanted_of options = record { slave = options.slave; master = options.master; dom
 abbrev pub form_of : MeasureOptions → Form
 form_of options = if options.csv then Table else Json
 
--- which of the two devices failed at this answer of `measure`
-abbrev pub MeasureFailedWith : {R W : Type 0} → Result ℕ (Stopped (Cause LineFault))
-    → (input input' : Counted R) (output output' : Counted W) → Type 0
-MeasureFailedWith answer input input' output output' = MatchResult answer
-    (λ _. HasNotFailed input input' × HasNotFailed output output')
-    (λ stop. FailedAt measure_rules stop.what input input' output output')
+-- the exit status of `measure`, by what came of its input
+abbrev pub outcome_status : Outcome → ℕ
+outcome_status (Lines answer) = status_of answer
+outcome_status (Capture answer) = status_of answer
 
--- `measure` ran by these options: its answer gave the status, and says what was read and written
+-- `measure` ran by these options: what came of its input gave the status, and says what was read and written
 abbrev pub RunsMeasure : {R W : Type 0} → (R → Option (List ℕ)) → (W → Option (List ℕ)) → MeasureOptions → ℕ
     → (input input' : Counted R) (output output' : Counted W) → Type 0
 RunsMeasure remaining contents options status input input' output output' =
-    (answer : Result ℕ (Stopped (Cause LineFault))) × (status ≡ status_of answer)
-    × MeasureFailedWith answer input input' output output'
-    × MeasuresAnswer (form_of options) (wanted_of options) remaining contents answer input input' output output'
+    (outcome : Outcome) × (status ≡ outcome_status outcome)
+    × OutcomeFailed outcome input input' output output'
+    × MeasuresInput (form_of options) (wanted_of options) remaining contents outcome input input' output output'
 
 -- the exit status of `explain` over a whole input: that of `check` or of `replay`
 abbrev pub found_status : Found → ℕ

@@ -1,6 +1,6 @@
 ghost use Rattle.std.specs.Prelude.{◌≡◌, ◌≢◌, ◌⊎◌, map, string_bytes};
 ghost use Rattle.schedule_replay.specs.Program.{EndsBefore, EndsUnread, IsLimited, Runs, RunsExtract, RunsMeasure, RunsExplain};
-ghost use Rattle.schedule_replay.specs.Program.{check_status, found_status, status_of};
+ghost use Rattle.schedule_replay.specs.Program.{check_status, found_status, outcome_status, status_of};
 ghost use Rattle.command_line.specs.Arguments.{AsksNothing, HasHelpFlag, Names, NamesNothing};
 ghost use Rattle.text_lines.specs.Lines.{input_limit, lines_limit, GivesWithin};
 
@@ -9,7 +9,7 @@ use crate::hints::Hints;
 use crate::showing::show;
 use capture_extract::{LineForm, extract};
 use capture_file::CaptureStop;
-use capture_measure::{Form, Wanted, measure};
+use capture_measure::{Form, Outcome, Wanted, measure};
 use command_line::commands::explain::ExplainOptions;
 use command_line::commands::extract::ExtractOptions;
 use command_line::commands::measure::MeasureOptions;
@@ -143,12 +143,12 @@ fn run_extract<R: Read, W: Write, E: Write>(
         LineForm::Timed
     };
     let (answer, summary) = extract(alloc, form, input, output);
-    let status = finish_extract(errors, answer);
+    let status = finish_packets(errors, answer);
     summary.tell(errors);
     status
 }
 
-/// Measures a recording, tells what came of it beside the reports, and answers the exit status.
+/// Measures a recording or a capture, tells what came of it beside the reports, and answers the exit status.
 fn run_measure<R: Read, W: Write, E: Write>(
     alloc: Global,
     options: MeasureOptions,
@@ -164,8 +164,8 @@ fn run_measure<R: Read, W: Write, E: Write>(
         domain: options.domain,
     };
     let form = if options.csv { Form::Table } else { Form::Json };
-    let (answer, summary) = measure(alloc, &wanted, form, input, output);
-    let status = finish(errors, answer);
+    let (outcome, summary) = measure(alloc, &wanted, form, input, output);
+    let status = finish_outcome(errors, outcome);
     summary.tell(errors);
     status
 }
@@ -195,13 +195,23 @@ fn finish_hinted<E: Write>(errors: &mut E, hints: Hints, answer: Result<u64, Fau
     }
 }
 
-/// Answers the exit status of `extract`, and says its fault.
-fn finish_extract<E: Write>(errors: &mut E, answer: Result<u64, CaptureStop<LineFault>>) -> u8
+/// Answers the exit status of a subcommand that took packets, and says its fault.
+fn finish_packets<E: Write>(errors: &mut E, answer: Result<u64, CaptureStop<LineFault>>) -> u8
     ensures { result ≡ status_of answer }
 {
     match answer {
         Ok(_) => 0,
         Err(stop) => report_capture(errors, stop),
+    }
+}
+
+/// Answers the exit status of `measure`, and says its fault.
+fn finish_outcome<E: Write>(errors: &mut E, outcome: Outcome) -> u8
+    ensures { result ≡ outcome_status outcome }
+{
+    match outcome {
+        Outcome::Lines(answer) => finish(errors, answer),
+        Outcome::Capture(answer) => finish_packets(errors, answer),
     }
 }
 

@@ -16,7 +16,7 @@ returns g c =
       | else-options w ↦ w.form-is ∙ sym (ap by_flag w.if-options.false)
     ] in (
       c.extract-answer.result.0,
-      c.finish_extract-status.ensures,
+      c.finish_packets-status.ensures,
       c.extract-answer.ensures.failures,
       subst (λ (f : LineForm). ExtractsAnswer f g.R.Read.remaining g.W.Write.contents c.extract-answer.result.0
           c.args.input.now c.extract-answer.new.input c.args.output.now c.extract-answer.new.output) form
