@@ -76,17 +76,41 @@ fn reads_ahead_and_gives_the_octets_in_order(rt: HostRuntime) -> Result<(), Fail
     for (most, asked) in [(usize::MAX, 5), (5000, 6)] {
         let mut pieces = Source::in_pieces(octets.as_slice(), most);
         let mut reader = OctetReader::new(&mut pieces);
-        let mut room = [0; 3];
+        let mut room = [0];
         assert_eq!(rt; reader.read(&mut [])?, 0);
         for octet in octets.as_slice() {
             assert_eq!(rt; reader.read(&mut room)?, 1);
             assert_eq!(rt; room[0], *octet);
         }
-        assert_eq!(rt; (room[1], room[2]), (0, 0));
         assert_eq!(rt; reader.read(&mut room)?, 0);
         assert_eq!(rt; reader.read(&mut room)?, 0);
         assert_eq!(rt; pieces.asked(), asked, "{most}");
     }
+    Ok(())
+}
+
+#[test]
+fn fills_a_long_buffer_with_what_was_read_ahead(rt: HostRuntime) -> Result<(), Fail> {
+    let mut octets = Vec::new(rt.alloc());
+    for k in 0..10_000_u32 {
+        octets.push((k % 251) as u8)?;
+    }
+    // Of 8,192 octets, and of what is left of 10,000.
+    let mut pieces = Source::new(octets.as_slice());
+    let mut reader = OctetReader::new(&mut pieces);
+    let mut given = Vec::new(rt.alloc());
+    for count in [1, 3000, 3000, 2191, 1808, 0] {
+        let mut room = [0; 3000];
+        let n = if count == 1 {
+            reader.read(&mut room[..1])?
+        } else {
+            reader.read(&mut room)?
+        };
+        assert_eq!(rt; n, count);
+        given.extend_from_slice(&room[..n])?;
+    }
+    assert_eq!(rt; given, octets);
+    assert_eq!(rt; pieces.asked(), 3);
     Ok(())
 }
 
