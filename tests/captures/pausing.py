@@ -19,8 +19,8 @@ MEMORY = 64 * 1024
 PATIENCE = 20
 
 
-def begin():
-    return subprocess.Popen([PROGRAM, 'extract'], stdin=subprocess.PIPE, stdout=subprocess.PIPE, bufsize=0)
+def begin(*arguments):
+    return subprocess.Popen([PROGRAM, *arguments], stdin=subprocess.PIPE, stdout=subprocess.PIPE, stderr=subprocess.DEVNULL, bufsize=0)
 
 
 def write(process, octets):
@@ -47,7 +47,7 @@ def lines_from(process, count):
 def try_pauses(capture):
     """Writes a capture up to the middle of a packet or block each time, and waits for the lines of what is whole before it goes on."""
     octets, owed, written, answered = bytes(capture.octets), 0, 0, b''
-    with begin() as process:
+    with begin('extract') as process:
         for (end, _, lines), (following, _, _) in itertools.pairwise(capture.ends):
             pause = (end + following) // 2
             write(process, octets[written:pause])
@@ -63,7 +63,7 @@ def try_pauses(capture):
 def try_octet_by_octet(capture):
     """Writes a capture so that each of its octets may be read alone."""
     octets = bytes(capture.octets)
-    with begin() as process:
+    with begin('extract') as process:
         for octet in octets:
             write(process, bytes([octet]))
         answered, _ = process.communicate()

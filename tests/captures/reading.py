@@ -1,4 +1,4 @@
-"""A reader of captures that was written apart from `ptpx extract`: what it owes for an input.
+"""A reader of captures that was written apart from `ptpx extract` and `ptpx measure`: what an input has, and what `extract` owes for it.
 
 It has the whole input in memory and goes through it once, field after field, in the order of the octets. A field is judged as soon as all of
 it is there, so the fault that is met first is the first in the input."""
@@ -45,6 +45,9 @@ class Interface(typing.NamedTuple):
     link: int
     resolution: int
     offset: int
+    # its place in the section, and its name where it has one that no earlier one has
+    place: int = 0
+    own: bytes | None = None
 
     def time(self, units):
         """A packet's time in whole nanoseconds, or None where it is none."""
@@ -53,13 +56,22 @@ class Interface(typing.NamedTuple):
         return time if 0 <= time < END_OF_TIMES else None
 
 
+class Row(typing.NamedTuple):
+    """A packet that carries a datagram: its number, from 1, and where and when that was captured."""
+    number: int
+    interface: Interface
+    time: int
+    datagram: bytes
+
+
 class Answer:
-    """What a capture has: the time and the octets of each datagram, how many packets there are, what became of each, and the fault that
-    ended it: its number, the octet, and how many packets came before."""
+    """What a capture has: the time and the octets of each datagram, the packets that carry them, how many packets there are, what became of each, and
+    the fault that ended it: its number, the octet, and how many packets came before."""
 
     def __init__(self, interface):
         self.interface = interface
         self.datagrams = []
+        self.rows = []
         self.packets = 0
         self.counts = collections.Counter()
         self.fault = None
@@ -71,9 +83,11 @@ class Answer:
         if time is None:
             return 'no time'
         try:
-            self.datagrams.append((time, unwrapping.datagram(interface.link, octets)))
+            datagram = unwrapping.datagram(interface.link, octets)
         except unwrapping.Nothing as nothing:
             return str(nothing)
+        self.datagrams.append((time, datagram))
+        self.rows.append(Row(self.packets + 1, interface, time, datagram))
         return 'datagram'
 
     def take(self, interface, time, octets):
@@ -188,11 +202,12 @@ def read_description(octets, block, interfaces):
     octets.take(6)
     options = read_options(octets, block)
     name = options.get(NAME, b'')
+    own = name if name and name not in [other.own for other in interfaces] else None
     if not name or name in [other.name for other in interfaces]:
         name = b'if%d' % len(interfaces)
     resolution = options.get(RESOLUTION, b'\x06')[0]
     offset = int.from_bytes(options.get(OFFSET, b''), octets.order, signed=True)
-    return Interface(name, link, resolution, offset)
+    return Interface(name, link, resolution, offset, len(interfaces), own)
 
 
 def read_enhanced(octets, block, interfaces):

@@ -1,0 +1,161 @@
+"""What `ptpx measure` owes for a capture, written apart from it: at which interface it measures, which datagrams are heard there, and what it tells of
+that at the end. The rules are those of FORMATS.md, and the packets those that reading.py finds."""
+import pathlib
+import sys
+import typing
+
+sys.path.insert(0, str(pathlib.Path(__file__).resolve().parents[1] / 'hostile'))
+import measured
+from reading import SECOND
+
+# How many datagrams are kept until it is known whom to watch, and how many interfaces are looked at.
+KEPT, LOOKED_AT = 1_024, 16
+
+# How octets of a name are written that aren't printed as they are.
+ESCAPES = {ord(octet): escape for octet, escape in {'\t': r'\t', '\n': r'\n', '\r': r'\r', '"': r'\"', "'": r"\'", '\\': r'\\'}.items()}
+
+
+class Wanted(typing.NamedTuple):
+    """What is asked for: a number, and ports of ten octets."""
+    domain: int | None = None
+    master: bytes | None = None
+    slave: bytes | None = None
+
+    def arguments(self):
+        said = {'domain': self.domain, 'master': self.master and port_text(self.master), 'slave': self.slave and port_text(self.slave)}
+        return [f'--{name}={value}' for name, value in said.items() if value is not None]
+
+
+class Datagram(typing.NamedTuple):
+    """A datagram: the number and the time of its packet, and the message that it is, or the refusal in words."""
+    number: int
+    time: int
+    octets: bytes
+    said: measured.Message | str
+
+    def is_message(self):
+        return not isinstance(self.said, str)
+
+    def time_text(self):
+        return f'{self.time // SECOND}.{self.time % SECOND:09}'
+
+    def line(self):
+        return f'{self.time_text()} {self.octets.hex()}\n'
+
+    def heard_by(self, measurer):
+        measurer.hear(measured.Read(self.number, self.time_text(), self.time * 2**16, self.said))
+
+
+class Told(typing.NamedTuple):
+    """Domain, slave and master, each with the packet that told it: 0 where it was asked for, and None for both where nothing tells it."""
+    given: Wanted
+    three: list
+
+    def told(self):
+        return self.three
+
+    def watched(self):
+        """The three, or None until all are known."""
+        values = [value for value, _ in self.three]
+        return None if None in values else values
+
+
+def port_text(port):
+    return f'{port[:8].hex()}/{int.from_bytes(port[8:], "big")}'
+
+
+def place_text(place, name):
+    """How an interface is called."""
+    if name is None:
+        return f'if{place}'
+    return ''.join(ESCAPES.get(octet) or (chr(octet) if 32 <= octet < 127 else f'\\x{octet:02x}') for octet in name)
+
+
+def told_by(wanted, datagrams):
+    """Whom datagrams are of."""
+    def first(asked, kind, value, is_of):
+        if asked is not None:
+            return asked, 0
+        return next(((value(it.said), it.number) for it in messages if it.said.kind == kind and is_of(it.said)), (None, None))
+
+    messages = [it for it in datagrams if it.is_message()]
+    domain = first(wanted.domain, 'Sync', lambda said: said.domain, lambda said: wanted.master in (None, said.source))
+    master = first(wanted.master, 'Sync', lambda said: said.source, lambda said: said.domain == domain[0])
+    slave = first(wanted.slave, 'Delay_Req', lambda said: said.source, lambda said: said.domain == domain[0])
+    return Told(wanted, [domain, slave, master])
+
+
+def is_met(wanted, datagrams):
+    """Whether a message has each of what is asked for."""
+    messages = [it.said for it in datagrams if it.is_message()]
+    return ((wanted.domain is None or any(said.domain == wanted.domain for said in messages))
+            and all(port is None or any(said.source == port for said in messages) for port in (wanted.master, wanted.slave)))
+
+
+class Choice:
+    """What becomes of the packets with PTP: the interfaces that are looked at, in order, with the datagrams at each; how many there are at others; and
+    the interface that is measured, or None."""
+
+    def __init__(self, wanted, rows):
+        self.wanted, self.looked, self.others, self.measured, self.told = wanted, {}, 0, None, None
+        # how many datagrams came before the one by which it was known whom to watch, with that one
+        self.count = 0
+        for row in rows:
+            self.take((row.interface.place, row.interface.own), Datagram(row.number, row.time, row.datagram, measured.message(row.datagram)))
+
+    def take(self, place, datagram):
+        if self.measured is None:
+            self.count += 1
+            if place in self.looked or len(self.looked) < LOOKED_AT:
+                self.looked.setdefault(place, [])
+        if place not in self.looked:
+            self.others += 1
+            return
+        self.looked[place].append(datagram)
+        if self.measured is None and datagram.is_message() and is_met(self.wanted, self.looked[place]):
+            told = told_by(self.wanted, self.looked[place])
+            if told.watched():
+                self.measured, self.told, self.teller = place, told, datagram.number
+
+    def parts(self):
+        """The datagrams at the interface that is measured: those that came too early, and those that are heard."""
+        there = self.looked.get(self.measured, [])
+        first = self.teller if self.count > KEPT else 0
+        return [it for it in there if it.number < first], [it for it in there if it.number >= first]
+
+    def heard(self):
+        return self.parts()[1] if self.measured else []
+
+    def sentences(self):
+        """What is told at the end, but for the packets."""
+        are_several = len(self.looked) > 1 or self.others
+        if self.measured:
+            if are_several:
+                yield f'measured at {place_text(*self.measured)}'
+            early, heard = self.parts()
+            yield from summary(self.told, early, heard)
+            for place, datagrams in self.looked.items():
+                if place != self.measured:
+                    yield f'{counted(datagrams)} at {place_text(*place)}, which isn\'t measured'
+        else:
+            for place, datagrams in self.looked.items():
+                if are_several:
+                    yield f'at {place_text(*place)}:'
+                yield from summary(told_by(self.wanted, datagrams), datagrams, [])
+        if self.others:
+            yield f'{counted(range(self.others))} at other interfaces, which weren\'t looked at'
+
+
+def counted(datagrams):
+    return '1 datagram' if len(datagrams) == 1 else f'{len(datagrams)} datagrams'
+
+
+def summary(told, early, heard):
+    """What is told of datagrams that came too early, and of those that were heard."""
+    measurer = measured.Measurer(told.watched(), False)
+    for it in heard:
+        it.heard_by(measurer)
+    counts = measurer.counts
+    counts.update(f'{it.said.kind} too early' if it.is_message() else it.said for it in early)
+    for sentence in measured.summary(told, counts, {it.time % 1000 == 0 for it in [*early, *heard]}):
+        yield sentence.replace('told by line', 'told by packet')
