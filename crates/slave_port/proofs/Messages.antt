@@ -144,20 +144,18 @@ module _ (setup : Setup) (history : List Call) (port : Port) (stands : StandsFor
       (IsAnswered-judged (General (Ok m) tag) (stands-general setup history port stands (Ok m) tag)
       (general_use (criteria setup history) m.header m.body tag) refl)
 
-  -- what is heard is what the octets say
-  pub IsAnswered-sync : (message : Message) (length : ℕ) (said : Reading) → Answers (Ok (message, length)) said → (t2 tag : ℕ) (outcome : Port × Heard)
-      → outcome ≡ sync_heard (contents message) t2 tag port → IsAnswered setup history (Event said t2 tag) outcome
-  IsAnswered-sync message length (Ok m) same t2 tag outcome heard =
-      let Answered : Contents → Type 0 = λ m. IsAnswered setup history (Event (Ok m) t2 tag) outcome in
-      subst Answered same.0 (subst (IsAnswered setup history (Event (Ok (contents message)) t2 tag)) (sym heard) (IsAnswered-event (contents message) t2 tag))
-  IsAnswered-sync message length (Err refusal) same t2 tag outcome heard = absurd same
+  pub IsAnswered-sync : (m : Contents) (t2 tag : ℕ) (outcome : Port × Heard) → outcome ≡ sync_heard m t2 tag port
+      → IsAnswered setup history (Event (Ok m) t2 tag) outcome
+  IsAnswered-sync m t2 tag outcome heard = subst (IsAnswered setup history (Event (Ok m) t2 tag)) (sym heard) (IsAnswered-event m t2 tag)
 
-  pub IsAnswered-follow_or_response : (message : Message) (length : ℕ) (said : Reading) → Answers (Ok (message, length)) said → (tag : ℕ) (outcome : Port × Heard)
-      → outcome ≡ general_heard (contents message) tag port → IsAnswered setup history (General said tag) outcome
-  IsAnswered-follow_or_response message length (Ok m) same tag outcome heard =
-      let Answered : Contents → Type 0 = λ m. IsAnswered setup history (General (Ok m) tag) outcome in
-      subst Answered same.0 (subst (IsAnswered setup history (General (Ok (contents message)) tag)) (sym heard) (IsAnswered-general (contents message) tag))
-  IsAnswered-follow_or_response message length (Err refusal) same tag outcome heard = absurd same
+  pub IsAnswered-follow_or_response : (m : Contents) (tag : ℕ) (outcome : Port × Heard) → outcome ≡ general_heard m tag port
+      → IsAnswered setup history (General (Ok m) tag) outcome
+  IsAnswered-follow_or_response m tag outcome heard = subst (IsAnswered setup history (General (Ok m) tag)) (sym heard) (IsAnswered-general m tag)
+
+-- what is decoded is what the octets say
+pub said_by : (message : Message) (length : ℕ) (said : Reading) → Answers (Ok (message, length)) said → Ok (contents message) ≡ said
+said_by message length (Ok m) same = ap Ok same.0
+said_by message length (Err refusal) same = absurd same
 
 -- nothing changes where a message is ignored
 module _ (port : Port) (reason : Reason) where

@@ -1,4 +1,4 @@
-ghost use Rattle.std.specs.Prelude.{◌≡◌, ◌≤◌, List, [], ◌∷◌, is_ok, OnErr, Some, None, IfSome, IsSome};
+ghost use Rattle.std.specs.Prelude.{◌≡◌, ◌≤◌, List, [], ◌∷◌, is_ok, OnErr, Ok, Some, None, IfSome, IsSome};
 ghost use Rattle.event_codec.specs.Packet.{Packet, contents};
 ghost use Rattle.event_codec.specs.Reading.{Reading, IsReading};
 ghost use Rattle.pairing.specs.Marked.{empty, entry};
@@ -202,9 +202,18 @@ where
         ensures ignored { (reason : Reason) → result ≡ Heard.Ignored reason → self.new ≡ self.old }
     {
         match decode(octets) {
-            Ok((message, _)) => self.hear_sync(&message, t2, tag),
+            Ok((message, _)) => self.sync_message(&message, t2, tag),
             Err(refusal) => Heard::Ignored(Reason::Decode(refusal)),
         }
+    }
+
+    /// The same as [`sync`](Self::sync), of a message that was decoded already.
+    pub fn sync_message(&mut self, message: &Message<'_>, t2: ScaledTime, tag: u64) -> Heard
+        ensures answer { IsAnswer (Event (Ok (contents message.now)) t2 tag) self.old result }
+        ensures stands { StandsAfter (Event (Ok (contents message.now)) t2 tag) self.old self.new }
+        ensures ignored { (reason : Reason) → result ≡ Heard.Ignored reason → self.new ≡ self.old }
+    {
+        self.hear_event(message, t2, tag)
     }
 
     /// A message arrived on the general port. A Follow_Up of the present master is held, and completes
@@ -217,9 +226,18 @@ where
         ensures ignored { (reason : Reason) → result ≡ Heard.Ignored reason → self.new ≡ self.old }
     {
         match decode(octets) {
-            Ok((message, _)) => self.hear_general(&message, tag),
+            Ok((message, _)) => self.general_message(&message, tag),
             Err(refusal) => Heard::Ignored(Reason::Decode(refusal)),
         }
+    }
+
+    /// The same as [`general`](Self::general), of a message that was decoded already.
+    pub fn general_message(&mut self, message: &Message<'_>, tag: u64) -> Heard
+        ensures answer { IsAnswer (General (Ok (contents message.now)) tag) self.old result }
+        ensures stands { StandsAfter (General (Ok (contents message.now)) tag) self.old self.new }
+        ensures ignored { (reason : Reason) → result ≡ Heard.Ignored reason → self.new ≡ self.old }
+    {
+        self.hear_general(message, tag)
     }
 
     /// The exchange of the last report: what its two results were made of. None before the first report,
@@ -256,7 +274,7 @@ where
         }
     }
 
-    fn hear_sync(&mut self, message: &Message<'_>, t2: ScaledTime, tag: u64) -> Heard
+    fn hear_event(&mut self, message: &Message<'_>, t2: ScaledTime, tag: u64) -> Heard
         ensures { (self.new, result) ≡ sync_heard (contents message.now) t2 tag self.old }
     {
         match event_use(&self.criteria(), message, t2, tag) {

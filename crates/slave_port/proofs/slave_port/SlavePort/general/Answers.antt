@@ -1,19 +1,15 @@
-use Rattle.std.proofs.Common.{sym, ap, ◌∙◌}
-use Rattle.event_codec.specs.Packet.{contents}
-use Rattle.slave_port.proofs.Messages.{IsAnswered-follow_or_response, general_heard-kept}
+use Rattle.std.proofs.Common.{subst}
+use Rattle.slave_port.specs.StandsFor.{StandsAfter, IsAnswer}
+use Rattle.slave_port.specs.History.{General}
+use Rattle.slave_port.proofs.Messages.{said_by}
 use Rattle.slave_port.proofs.slave_port.SlavePort.general.Goals as goal
 
 pub returns-in-Ok-clause-answer : goal.returns-in-Ok-clause-answer
-returns-in-Ok-clause-answer g c = λ said reading setup history stands.
-    (IsAnswered-follow_or_response setup history c.args.self.now stands c.in-Ok.message c.in-Ok.field-0-1 said (c.in-Ok.ensures.reading said reading) c.args.tag
-    (c.hear_general.new.self, c.hear_general.result) c.hear_general.ensures).answer
+returns-in-Ok-clause-answer g c = λ said reading.
+    subst (λ said. IsAnswer (General said c.args.tag) c.args.self.now c.general_message.result)
+    (said_by c.in-Ok.message c.in-Ok.field-0-1 said (c.in-Ok.ensures.reading said reading)) c.general_message.ensures.answer
 
 pub returns-in-Ok-clause-stands : goal.returns-in-Ok-clause-stands
-returns-in-Ok-clause-stands g c = λ said reading setup history stands.
-    (IsAnswered-follow_or_response setup history c.args.self.now stands c.in-Ok.message c.in-Ok.field-0-1 said (c.in-Ok.ensures.reading said reading) c.args.tag
-    (c.hear_general.new.self, c.hear_general.result) c.hear_general.ensures).stands
-
-pub returns-in-Ok-clause-ignored : goal.returns-in-Ok-clause-ignored
-returns-in-Ok-clause-ignored g c = λ reason ignored.
-    ap (λ outcome. outcome.0) c.hear_general.ensures
-    ∙ general_heard-kept c.args.self.now reason (contents c.in-Ok.message) c.args.tag (ap (λ outcome. outcome.1) (sym c.hear_general.ensures) ∙ ignored)
+returns-in-Ok-clause-stands g c = λ said reading.
+    subst (λ said. StandsAfter (General said c.args.tag) c.args.self.now c.general_message.new.self)
+    (said_by c.in-Ok.message c.in-Ok.field-0-1 said (c.in-Ok.ensures.reading said reading)) c.general_message.ensures.stands

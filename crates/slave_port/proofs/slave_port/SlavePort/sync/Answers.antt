@@ -1,19 +1,15 @@
-use Rattle.std.proofs.Common.{sym, ap, ◌∙◌}
-use Rattle.event_codec.specs.Packet.{contents}
-use Rattle.slave_port.proofs.Messages.{IsAnswered-sync, sync_heard-kept}
+use Rattle.std.proofs.Common.{subst}
+use Rattle.slave_port.specs.StandsFor.{StandsAfter, IsAnswer}
+use Rattle.slave_port.specs.History.{Event}
+use Rattle.slave_port.proofs.Messages.{said_by}
 use Rattle.slave_port.proofs.slave_port.SlavePort.sync.Goals as goal
 
 pub returns-in-Ok-clause-answer : goal.returns-in-Ok-clause-answer
-returns-in-Ok-clause-answer g c = λ said reading setup history stands.
-    (IsAnswered-sync setup history c.args.self.now stands c.in-Ok.message c.in-Ok.field-0-1 said (c.in-Ok.ensures.reading said reading) c.args.t2 c.args.tag
-    (c.hear_sync.new.self, c.hear_sync.result) c.hear_sync.ensures).answer
+returns-in-Ok-clause-answer g c = λ said reading.
+    subst (λ said. IsAnswer (Event said c.args.t2 c.args.tag) c.args.self.now c.sync_message.result)
+    (said_by c.in-Ok.message c.in-Ok.field-0-1 said (c.in-Ok.ensures.reading said reading)) c.sync_message.ensures.answer
 
 pub returns-in-Ok-clause-stands : goal.returns-in-Ok-clause-stands
-returns-in-Ok-clause-stands g c = λ said reading setup history stands.
-    (IsAnswered-sync setup history c.args.self.now stands c.in-Ok.message c.in-Ok.field-0-1 said (c.in-Ok.ensures.reading said reading) c.args.t2 c.args.tag
-    (c.hear_sync.new.self, c.hear_sync.result) c.hear_sync.ensures).stands
-
-pub returns-in-Ok-clause-ignored : goal.returns-in-Ok-clause-ignored
-returns-in-Ok-clause-ignored g c = λ reason ignored.
-    ap (λ outcome. outcome.0) c.hear_sync.ensures
-    ∙ sync_heard-kept c.args.self.now reason (contents c.in-Ok.message) c.args.t2 c.args.tag (ap (λ outcome. outcome.1) (sym c.hear_sync.ensures) ∙ ignored)
+returns-in-Ok-clause-stands g c = λ said reading.
+    subst (λ said. StandsAfter (Event said c.args.t2 c.args.tag) c.args.self.now c.sync_message.new.self)
+    (said_by c.in-Ok.message c.in-Ok.field-0-1 said (c.in-Ok.ensures.reading said reading)) c.sync_message.ensures.stands
