@@ -11,6 +11,7 @@ pub mod Headers
 pub mod Starts
 pub mod Names
 pub mod FirstFour
+pub mod Beginnings
 pub mod Next
 pub mod NextHeader
 pub mod NextStart
@@ -18,3 +19,7 @@ pub mod NextOptions
 pub mod NextBlock
 pub mod OneReading
 pub mod OneAnswer
+pub mod Writing
+pub mod WritingBlocks
+pub mod WritingSections
+mod Worked

@@ -1,11 +1,13 @@
 pub mod Order
 pub mod Packet
+pub mod Name
 pub mod Pcap
 pub mod Pcapng
 pub mod Clock
 pub mod Options
 pub mod Section
 pub mod Parts
+pub mod Writing
 pub mod Wrong
 pub mod Task
 pub mod OneCourse

@@ -2,15 +2,15 @@
 ghost use Rattle.std.specs.Prelude.{◌≤◌};
 
 use crate::octets::{ReadFailed, fill_behind};
-use crate::reader::magic_in;
+use crate::reader::{begins_magic, magic_in};
 use std::io::Read;
 use text_lines::Counted;
 
 /// The octets of a magic.
 const MAGIC: usize = 4;
 
-/// The first octets of an input: four, or all where there are fewer. Whoever read them goes on with `answer_packets_behind`, or
-/// otherwise where no capture begins with them.
+/// The first octets of an input: one with which no magic begins, or four, or all where there are fewer. Whoever read them goes on with
+/// `answer_packets_behind`, or otherwise where no capture begins with them.
 #[derive(Clone, Copy, Debug)]
 pub struct Beginning {
     room: [u8; 4],
@@ -19,20 +19,20 @@ pub struct Beginning {
 }
 
 impl Beginning {
-    ghost use Rattle.std.specs.Prelude.{◌≡◌, ◌<◌, ◌⊎◌, ◌↔◌, List, ℕ, length, MatchResult, IsTrue, IsFalse};
-    ghost use Rattle.std.specs.Io.KnownBytes.{Consumes, IsAtEnd};
+    ghost use Rattle.std.specs.Prelude.{◌≡◌, ◌<◌, ◌↔◌, List, ℕ, length, MatchResult, IsTrue, IsFalse};
+    ghost use Rattle.std.specs.Io.KnownBytes.{Consumes};
     ghost use Rattle.text_lines.specs.Counted.{device_of, HasFailed, HasNotFailed};
     ghost use Rattle.text_lines.specs.Lines.{GivesWithin};
-    ghost use Rattle.capture_file.specs.Beginning.{first_octets};
+    ghost use Rattle.capture_file.specs.Beginning.{first_octets, AreEnough};
     ghost use Rattle.capture_file.specs.Wrong.{HasMagic, HasNoMagic};
 
-    /// Reads four octets, and not one more; fewer only where the input ends. Where the reader fails, those that it gave before are gone.
+    /// Reads one octet, and where a magic begins with it three more, and not one more; fewer only where the input ends. Where the reader
+    /// fails, those that it gave before are gone.
     pub fn read<R: Read>(input: &mut Counted<R>) -> Result<Beginning, ReadFailed>
         ensures read { let before = R.remaining (device_of input.old) in
             let after = R.remaining (device_of input.new) in
             MatchResult result
-            (λ beginning. Consumes before after (first_octets beginning) × ((length (first_octets beginning) ≡ 4)
-            ⊎ ((length (first_octets beginning) < 4) × IsAtEnd after)))
+            (λ beginning. Consumes before after (first_octets beginning) × AreEnough (first_octets beginning) after)
             (λ _. (seen : List ℕ) × Consumes before after seen × (length seen < 4)) }
         ensures given { GivesWithin R.remaining 4 input.old input.new }
         ensures failures { MatchResult result
@@ -40,7 +40,11 @@ impl Beginning {
             (λ _. HasFailed input.old input.new) }
     {
         let mut room = [0; MAGIC];
-        let (size, filled) = fill_behind(&mut room, 0, MAGIC, input);
+        let (size, filled) = fill_behind(&mut room, 0, 1, input);
+        if !filled? || !begins_magic(room[0]) {
+            return Ok(Beginning { room, size });
+        }
+        let (size, filled) = fill_behind(&mut room, 1, MAGIC, input);
         filled?;
         Ok(Beginning { room, size })
     }

@@ -7,6 +7,7 @@ ghost use Rattle.capture_file.specs.Order.{AreOctets};
 ghost use Rattle.capture_file.specs.OneCourse.{HasOneCourse, IsSure};
 ghost use Rattle.capture_file.specs.Parts.{Form, Part, IsPart, AreParts, octets_of};
 ghost use Rattle.capture_file.specs.Task.{Answers};
+ghost use Rattle.capture_file.specs.Writing.{PcapIsRead, PcapngIsRead};
 ghost use Rattle.capture_file.specs.Wrong.{IsFault};
 
 use crate::task::PacketTask;
@@ -34,4 +35,12 @@ pub fn octets_have_one_answer<T: PacketTask>()
         → AreOctets octets → Answers T.rules start octets left before after answer → Answers T.rules start octets unread earlier later other
         → IsSure (λ fault. IsTrue (of_device fault)) answer → IsSure (λ fault. IsTrue (of_device fault)) other
         → (other ≡ answer) × ((text : List ℕ) × Appends before after text × Appends earlier later text) }
+{}
+
+/// Whatever is written is read: the octets of a pcap, in either order and with either unit of time, and of a pcapng of any sections, each
+/// with interfaces, packets at these, other blocks and options, are read as exactly the packets of which they were written, and no fault
+/// is found in them.
+pub fn whatever_is_written_is_read()
+    ensures pcap { PcapIsRead }
+    ensures pcapng { PcapngIsRead }
 {}

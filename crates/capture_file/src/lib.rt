@@ -7,6 +7,7 @@ mod block_reading;
 mod fault;
 mod front;
 pub mod laws;
+mod name;
 mod octets;
 mod options;
 mod order;
@@ -23,6 +24,7 @@ mod task;
 
 pub use beginning::Beginning;
 pub use fault::{CaptureCause, CaptureFault, CaptureStop};
+pub use name::{InterfaceName, is_asked};
 pub use octets::ReadFailed;
 pub use packet::{Captured, Interface, PACKET_LIMIT, Packet};
 pub use task::{PacketTask, answer_packets, answer_packets_behind};

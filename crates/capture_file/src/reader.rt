@@ -2,6 +2,7 @@
 ghost use Rattle.std.specs.Prelude.{◌≡◌, ◌≢◌, ◌≤◌, None, Some, length, MatchOption};
 ghost use Rattle.std.specs.Io.KnownBytes.{prepend_known};
 ghost use Rattle.text_lines.specs.Counted.{device_of};
+ghost use Rattle.capture_file.specs.Beginning.{begins_magic};
 ghost use Rattle.capture_file.specs.Order.{number32};
 ghost use Rattle.capture_file.specs.Pcap.{unit_of};
 ghost use Rattle.capture_file.specs.Pcapng.{section_type};
@@ -41,6 +42,13 @@ pub(crate) enum Magic {
     Pcap(ByteOrder, FractionUnit),
     /// It is a pcapng, which begins with a section header.
     Section,
+}
+
+/// Whether a magic begins with this octet: that of a pcap, in either order, or that of a section header.
+pub(crate) fn begins_magic(octet: u8) -> bool
+    ensures { result ≡ begins_magic octet }
+{
+    matches!(octet, 0xa1 | 0xd4 | 0x4d | 0x0a)
 }
 
 /// What these octets tell, where they are a magic.
