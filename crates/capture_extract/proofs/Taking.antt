@@ -9,20 +9,21 @@ use Rattle.capture_file.specs.Packet.{PacketOf}
 use Rattle.capture_frame.specs.declared.found.Found.{Found}
 use Rattle.capture_frame.specs.declared.found.Found.TheVariants as found
 use Rattle.capture_frame.specs.Found.{Answer, Datagram, IsFound, answer_of}
-use Rattle.capture_extract.specs.declared.line.LineForm.{LineForm}
+use Rattle.capture_extract.specs.declared.extracting.Extraction.{Extraction}
 use Rattle.capture_extract.specs.Extracted.{IsExtract, StopsExtracting}
 use Rattle.capture_extract.specs.Inner.Going.{GoesOf}
 
-pub taken : {T : Type 0} (r : Result T LineFault) (form state later : LineForm) (packet : PacketOf)
+pub taken : {T : Type 0} (r : Result T LineFault) (form state later : Extraction) (packet : PacketOf)
     (before after : Option (List ℕ)) → GoesOf r form packet before after → form ≡ state → later ≡ form
     → MatchResult r
-    (λ _. (next : LineForm) × (written : List ℕ) × (later ≡ next) × ((next ≡ state) × IsExtract state packet written)
+    (λ _. (next : Extraction) × (written : List ℕ) × (later ≡ next) × ((next ≡ state) × IsExtract state packet written)
     × Appends before after written)
-    (λ what. (written : List ℕ) × (StopsExtracting packet what × (written ≡ []))
+    (λ what. (written : List ℕ) × (StopsExtracting state packet what × (written ≡ []))
     × WentOut (is_write what) (Appends before after written))
 taken (Ok done) form state later packet before after (written, is, out) at kept =
-    (state, written, kept ∙ at, (refl, subst (λ (f : LineForm). IsExtract f packet written) at is), out)
-taken (Err fault) form state later packet before after (stops, out) at kept = ([], (stops, refl), out)
+    (state, written, kept ∙ at, (refl, subst (λ (f : Extraction). IsExtract f packet written) at is), out)
+taken (Err fault) form state later packet before after (stops, out) at kept =
+    ([], (subst (λ (f : Extraction). StopsExtracting f packet fault) at stops, refl), out)
 
 -- what was found is no datagram
 other_answer : (what : Found) → ((x : Bor (List ℕ)) → what ≡ found.Datagram x → ⊥) → (d : List ℕ) → answer_of what ≡ Datagram d → ⊥

@@ -11,33 +11,44 @@ ghost use Rattle.capture_extract.specs.Inner.Going.{Goes, GoesOf};
 
 use crate::line::{LineForm, make_line};
 use crate::summary::Summary;
-use capture_file::{CaptureStop, Captured, Packet, PacketTask, answer_packets};
+use capture_file::{
+    CaptureStop, Captured, InterfaceName, Packet, PacketTask, answer_packets, is_asked,
+};
 use capture_frame::{Found, find_datagram};
 use ptp_units::Timestamp;
 use std::alloc::Global;
 use std::io::{Read, Write};
 use text_lines::{Counted, LineFault, write_text};
 
+/// What is taken of a capture, and how it is written.
+#[derive(Clone, Copy, Debug, PartialEq, Eq)]
+pub struct Extraction {
+    /// How a line is written.
+    pub form: LineForm,
+    /// The interface whose packets are taken; without it those of all interfaces are.
+    pub interface: Option<InterfaceName>,
+}
+
 /// Writes the line of each packet, by a text that all lines share.
 #[derive(Drop)]
 struct Extracting {
-    form: LineForm,
+    extraction: Extraction,
     text: String,
     summary: Summary,
 }
 
 impl PacketTask for Extracting {
-    ghost use Rattle.capture_extract.specs.declared.line.LineForm.{LineForm};
+    ghost use Rattle.capture_extract.specs.declared.extracting.Extraction.{Extraction};
 
     type Answer = u64;
 
     type Fault = LineFault;
 
-    ghost State = { LineForm };
+    ghost State = { Extraction };
 
     ghost rules = { extract_rules };
 
-    ghost is_at = { λ task form. task.form ≡ form };
+    ghost is_at = { λ task extraction. task.extraction ≡ extraction };
 
     fn take<W: Write>(
         &mut self,
@@ -70,13 +81,13 @@ impl PacketTask for Extracting {
 
 impl Extracting {
     /// No packet came yet.
-    fn new(alloc: Global, form: LineForm) -> Extracting
-        ensures { result.form ≡ form }
+    fn new(alloc: Global, extraction: &Extraction) -> Extracting
+        ensures { result.extraction ≡ extraction.now }
     {
         Extracting {
-            form,
+            extraction: *extraction,
             text: String::new(alloc),
-            summary: Summary::new(),
+            summary: Summary::new(extraction.interface),
         }
     }
 
@@ -88,36 +99,41 @@ impl Extracting {
         output: &mut Counted<W>,
     ) -> Result<(), LineFault>
         requires { length datagram.now ≤ datagram_limit }
-        ensures written { Goes result (line_text self.old.form time datagram.now)
+        ensures written { Goes result (line_text self.old.extraction.form time datagram.now)
             (W.contents (device_of output.old)) (W.contents (device_of output.new)) }
-        ensures form { self.new.form ≡ self.old.form }
+        ensures extraction { self.new.extraction ≡ self.old.extraction }
         ensures failures { MatchResult result
             (λ _. HasNotFailed output.old output.new)
             (λ fault. HasFailedIf (is_write fault) output.old output.new) }
     {
-        make_line(&mut self.text, self.form, time, datagram)?;
+        make_line(&mut self.text, self.extraction.form, time, datagram)?;
         write_text(self.text.as_str(), output)
     }
 
-    /// Writes the line of a packet, if it carries a datagram.
+    /// Writes the line of a packet, if it carries a datagram and is of the interface that is asked for.
     fn take_captured<W: Write>(
         &mut self,
         captured: &Captured<'_>,
         output: &mut Counted<W>,
     ) -> Result<(), LineFault>
-        ensures written { GoesOf result self.old.form (packet_of (Packet.Captured captured.now))
+        ensures written { GoesOf result self.old.extraction (packet_of (Packet.Captured captured.now))
             (W.contents (device_of output.old)) (W.contents (device_of output.new)) }
-        ensures form { self.new.form ≡ self.old.form }
+        ensures extraction { self.new.extraction ≡ self.old.extraction }
         ensures failures { MatchResult result
             (λ _. HasNotFailed output.old output.new)
             (λ fault. HasFailedIf (is_write fault) output.old output.new) }
     {
         let Captured {
+            interface,
             time,
             link,
             octets,
             ..
         } = *captured;
+        if !is_asked(self.extraction.interface.as_ref(), &interface) {
+            self.summary.count_elsewhere(&interface);
+            return Ok(());
+        }
         let found = find_datagram(link, octets);
         if let Found::Datagram(datagram) = found {
             self.write_line(time, datagram, output)?;
@@ -127,22 +143,22 @@ impl Extracting {
     }
 }
 
-/// Writes what a capture has of PTP: the line of each packet that carries a datagram, in one write, before an octet behind
-/// its packet is read. Answers how many packets there were, and what is told beside the lines.
+/// Writes what a capture has of PTP: the line of each packet that carries a datagram, of the interface that is asked for if one is,
+/// in one write, before an octet behind its packet is read. Answers how many packets there were, and what is told beside the lines.
 ///
 /// The faults are those of a capture, and 801, 802 and 808; the lines of the packets before a fault were written then.
 pub fn extract<R: Read, W: Write>(
     alloc: Global,
-    form: LineForm,
+    extraction: &Extraction,
     input: &mut Counted<R>,
     output: &mut Counted<W>,
 ) -> (Result<u64, CaptureStop<LineFault>>, Summary)
-    ensures extracted { ExtractsAnswer form R.remaining W.contents result.0 input.old input.new output.old output.new }
+    ensures extracted { ExtractsAnswer extraction.now R.remaining W.contents result.0 input.old input.new output.old output.new }
     ensures failures { MatchResult result.0
         (λ _. HasNotFailed input.old input.new × HasNotFailed output.old output.new)
         (λ stop. FailedAt extract_rules stop.what input.old input.new output.old output.new) }
 {
-    let mut task = Extracting::new(alloc, form);
+    let mut task = Extracting::new(alloc, extraction);
     let answer = answer_packets(alloc, &mut task, input, output);
     (answer, task.summary)
 }

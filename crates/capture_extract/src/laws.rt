@@ -11,6 +11,7 @@ ghost use Rattle.capture_lines.specs.Timed.{line_parts, timed_in};
 ghost use Rattle.capture_extract.specs.Line.{line_of, line_text};
 ghost use Rattle.capture_extract.specs.Extracted.{HasNoDatagram, extract_rules};
 
+use crate::extracting::Extraction;
 use crate::line::LineForm;
 use ptp_units::Timestamp;
 
@@ -27,10 +28,11 @@ pub fn lines_are_read_back(form: LineForm, time: Timestamp, datagram: &[u8])
     let _ = (time.seconds(), time.nanos());
 }
 
-/// What is written of a packet that carries no datagram is nothing: without it the same is written.
+/// What is written of a packet that carries no datagram, or is of another interface than the one that is asked for, is nothing: without
+/// it the same is written.
 pub fn what_is_no_ptp_changes_nothing()
-    ensures { (packet : PacketOf) → HasNoDatagram packet
-        → (later earlier : List PacketOf) (start state : LineForm) (text : List ℕ)
+    ensures { (packet : PacketOf) (start state : Extraction) → HasNoDatagram start.interface packet
+        → (later earlier : List PacketOf) (text : List ℕ)
         → TakesPackets extract_rules start (later ++ packet ∷ earlier) state text
         ↔ TakesPackets extract_rules start (later ++ earlier) state text }
 {}

@@ -1,6 +1,8 @@
 //! How many packets there were, and how many gave no line, by why they gave none.
 
+use crate::elsewhere::Elsewhere;
 use crate::links::Links;
+use capture_file::{Interface, InterfaceName};
 use capture_frame::Found;
 use ptp_units::Timestamp;
 use std::io::Write;
@@ -54,6 +56,10 @@ impl Why {
 /// How many packets of a capture gave a line, and how many gave none. Counts stay at 2^64 - 1.
 #[derive(Clone, Copy, Debug)]
 pub struct Summary {
+    /// The interface that is asked for.
+    interface: Option<InterfaceName>,
+    /// What came at others, which isn't in the other counts.
+    elsewhere: Elsewhere,
     packets: u64,
     lines: u64,
     counts: [u64; REASONS],
@@ -63,9 +69,11 @@ pub struct Summary {
 }
 
 impl Summary {
-    /// No packet came.
-    pub fn new() -> Summary {
+    /// No packet came. Those at other interfaces than the one that is asked for are counted by themselves.
+    pub fn new(interface: Option<InterfaceName>) -> Summary {
         Summary {
+            interface,
+            elsewhere: Elsewhere::new(),
             packets: 0,
             lines: 0,
             counts: [0; REASONS],
@@ -92,6 +100,11 @@ impl Summary {
             Found::OtherLink => self.links.count(link),
             Found::Other => self.count(Why::Other),
         }
+    }
+
+    /// Counts a packet at an interface that isn't asked for.
+    pub fn count_elsewhere(&mut self, interface: &Interface<'_>) {
+        self.elsewhere.count(interface);
     }
 
     /// Counts a packet whose time is none.
@@ -129,19 +142,20 @@ impl Summary {
 
     /// Tells how many packets there were, and how many gave a line.
     fn tell_counts<E: Write>(&self, errors: &mut E) {
-        let packets = if self.packets == 1 {
-            "packet"
-        } else {
-            "packets"
+        let _ = match self.packets {
+            0 => write!(errors, "ptpx: no packet"),
+            1 => write!(errors, "ptpx: 1 packet"),
+            count => write!(errors, "ptpx: {count} packets"),
         };
+        if let Some(name) = &self.interface {
+            let _ = write!(errors, " at {name}");
+        }
         let _ = match (self.packets, self.lines) {
-            (0, _) => writeln!(errors, "ptpx: no packet"),
-            (count, 0) => writeln!(errors, "ptpx: {count} {packets}, of which none has PTP"),
-            (count, 1) => writeln!(errors, "ptpx: {count} {packets}, of which 1 has PTP"),
-            (count, lines) => writeln!(
-                errors,
-                "ptpx: {count} {packets}, of which {lines} have PTP"
-            ),
+            (0, _) => writeln!(errors, ""),
+            (_, 0) => writeln!(errors, ", of which none has PTP"),
+            (_, 1) => writeln!(errors, ", of which 1 has PTP"),
+            (_, lines) => writeln!(errors, ", of which {lines} have PTP"),
         };
+        self.elsewhere.tell(errors);
     }
 }

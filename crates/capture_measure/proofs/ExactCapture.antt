@@ -4,6 +4,7 @@ use Rattle.std.proofs.Common.{Option, Some, None, sym, ap, subst, arith}
 use Rattle.std.specs.Prelude.{⊤, if◌then◌else◌}
 use Rattle.std.specs.Option.{option_map_or}
 use Rattle.std.proofs.lemmas.List.{append-nil}
+use Rattle.capture_file.specs.declared.name.InterfaceName.{InterfaceName}
 use Rattle.capture_file.specs.Packet.{InterfaceOf, PacketOf, Captured, Timeless, Simple}
 use Rattle.capture_file.specs.Task.{TakesPackets}
 use Rattle.capture_model.specs.declared.watched.Watched.{Watched}
@@ -81,10 +82,11 @@ pub record HasReadOn (k read : Capture) (text : List ℕ) (most : ℕ) : Type 0 
   pub written : capture_text read ≡ capture_text k ++ text
   pub rising : ArePackets most read.rows
 
-row_number : (number : ℕ) (packet : PacketOf) (r : InterfaceRow) → IsPacketRow number packet r → r.row.datagram.line ≡ number
-row_number number (Captured interface time link octets) r is = is.3.numbered
-row_number number Timeless r is = absurd is
-row_number number Simple r is = absurd is
+row_number : (asked : Option InterfaceName) (number : ℕ) (packet : PacketOf) (r : InterfaceRow) → IsPacketRow asked number packet r
+    → r.row.datagram.line ≡ number
+row_number asked number (Captured interface time link octets) r is = is.4.numbered
+row_number asked number Timeless r is = absurd is
+row_number asked number Simple r is = absurd is
 
 pub read_on : (form : Form) (wanted : Wanted) (packets : List PacketOf) (read : Capture) (text : List ℕ)
     → TakesPackets capture_rules (capture_begun form wanted) packets read text
@@ -97,7 +99,7 @@ read_on form wanted [] read text (same, nothing) = record {
 }
 read_on form wanted (packet ∷ earlier) read text (state, before, out, taken, inl (r, row, on, added), all) =
     let so_far = read_on form wanted earlier state before taken in
-    let number = row_number (length earlier + 1) packet r row in record {
+    let number = row_number state.wanted.interface (length earlier + 1) packet r row in record {
       form = ap (λ (x : Capture). x.form) on ∙ so_far.form;
       wanted = ap (λ (x : Capture). x.wanted) on ∙ so_far.wanted;
       written = added ∙ ap (λ (t : List ℕ). t ++ out) so_far.written ∙ sym all;

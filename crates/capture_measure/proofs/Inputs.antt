@@ -1,5 +1,5 @@
 -- What the first octets of an input tell of all of them.
-use Rattle.std.proofs.Common.{◌≡◌, ◌⊎◌, ℕ, ◌<◌, List, ◌++◌, [], length, take, drop, inl, inr, refl, sym, ap, subst, ◌∙◌, arith, append-nil, Option, Some, Err}
+use Rattle.std.proofs.Common.{◌≡◌, ◌⊎◌, ℕ, ◌<◌, List, ◌++◌, ◌∷◌, [], length, take, drop, inl, inr, refl, sym, ap, subst, ◌∙◌, arith, append-nil, Option, Some, Err}
 use Rattle.std.specs.Option.{ForSome}
 use Rattle.std.specs.Io.KnownBytes.{Appends, Consumes, IsAtEnd}
 use Rattle.std.proofs.Math.Seq.{take-append_seam, drop-append_seam}
@@ -9,6 +9,7 @@ use Rattle.text_lines.specs.declared.fault.ReadingFault.TheVariants.{Read}
 use Rattle.text_lines.specs.declared.line_fault.LineFault.TheVariants.{Field}
 use Rattle.text_lines.specs.Lines.{lfs_in}
 use Rattle.text_lines.proofs.KnownOctets.{Consumes-known}
+use Rattle.capture_file.specs.Beginning.{AreEnough, enough, start_of}
 use Rattle.capture_file.specs.Wrong.{HasMagic, HasNoMagic}
 use Rattle.capture_measure.specs.declared.input.Outcome.{Outcome}
 use Rattle.capture_measure.specs.declared.input.Outcome.TheVariants.{Lines, Capture}
@@ -19,10 +20,6 @@ use Rattle.capture_measure.specs.Capture.{capture_begun}
 use Rattle.capture_measure.specs.Input.{IsOutcome}
 use Rattle.capture_measure.specs.Inner.Outcomes.{LinesAnswer, PacketsAnswer}
 
--- these octets were read, four or all that there are, of which that is left
-abbrev pub AreFirst : List ℕ → Option (List ℕ) → Type 0
-AreFirst first left = (length first ≡ 4) ⊎ ((length first < 4) × IsAtEnd left)
-
 cut_at : (n : ℕ) (first rest : List ℕ) → (length first ≡ n) ⊎ ((length first < n) × (rest ≡ []))
     → (take n (first ++ rest) ≡ first) × (drop n (first ++ rest) ≡ rest)
 cut_at n first rest (inl all) = (
@@ -31,42 +28,58 @@ cut_at n first rest (inl all) = (
 )
 cut_at n first rest (inr (fewer, none)) = rw (none, append-nil first) (grind (arith, common_steps), grind (arith, common_steps))
 
-ends : (first rest : List ℕ) (left : Option (List ℕ)) → AreFirst first left → left ≡ Some rest
-    → (length first ≡ 4) ⊎ ((length first < 4) × (rest ≡ []))
-ends first rest left (inl four) is = inl four
+ends : (first rest : List ℕ) (left : Option (List ℕ)) → AreEnough first left → left ≡ Some rest
+    → (length first ≡ enough first) ⊎ ((length first < enough first) × (rest ≡ []))
+ends first rest left (inl all) is = inl all
 ends first rest left (inr (fewer, end)) is = inr (fewer, subst IsAtEnd is end)
+
+-- how many are enough, the first tells
+enough_front : (first rest : List ℕ) → (length first ≡ enough first) ⊎ ((length first < enough first) × (rest ≡ []))
+    → enough (first ++ rest) ≡ enough first
+enough_front [] rest (inl all) = absurd (cc all)
+enough_front [] rest (inr (fewer, none)) = ap enough none
+enough_front (x ∷ xs) rest is = refl
 
 -- of an input these octets were the first
 record IsBegun (octets first rest : List ℕ) (left : Option (List ℕ)) : Type 0 where
   is_left : left ≡ Some rest
   split : octets ≡ first ++ rest
-  front : take 4 octets ≡ first
-  behind : drop 4 octets ≡ rest
+  front : start_of octets ≡ first
+  behind : drop (enough octets) octets ≡ rest
 
-is_begun : (all left : Option (List ℕ)) (first octets : List ℕ) → Consumes all left first → AreFirst first left
+is_begun : (all left : Option (List ℕ)) (first octets : List ℕ) → Consumes all left first → AreEnough first left
     → all ≡ Some octets → (rest : List ℕ) × IsBegun octets first rest left
 is_begun all left first octets read are known =
     let (rest, is, split) = Consumes-known all left first octets read known in
-    let cut = cut_at 4 first rest (ends first rest left are is) in
-    (rest, record { is_left = is; split = split; front = ap (take 4) split ∙ cut.0; behind = ap (drop 4) split ∙ cut.1 })
+    let end = ends first rest left are is in
+    let cut = cut_at (enough first) first rest end in
+    let same = ap enough split ∙ enough_front first rest end in (
+      rest,
+      record {
+        is_left = is;
+        split = split;
+        front = ap (λ (n : ℕ). take n octets) same ∙ ap (take (enough first)) split ∙ cut.0;
+        behind = ap (λ (n : ℕ). drop n octets) same ∙ ap (drop (enough first)) split ∙ cut.1;
+      },
+    )
 
 -- ---- outcomes
 
 captured_outcome : (form : Form) (w : Wanted) (octets : List ℕ) (left before headed after : Option (List ℕ)) (outcome : Outcome)
-    → HasMagic (take 4 octets) → Appends before headed (head_text form)
+    → HasMagic (start_of octets) → Appends before headed (head_text form)
     → PacketsAnswer (capture_begun form w) octets left headed after outcome → IsOutcome form w octets left before after outcome
 captured_outcome form w octets left before headed after (Lines answer) magic head told = absurd told
 captured_outcome form w octets left before headed after (Capture answer) magic head told = (magic, (headed, head, told))
 
 lines_outcome : (form : Form) (w : Wanted) (octets : List ℕ) (left before headed after : Option (List ℕ)) (outcome : Outcome)
-    → HasNoMagic (take 4 octets) → Appends before headed (head_text form)
+    → HasNoMagic (start_of octets) → Appends before headed (head_text form)
     → LinesAnswer (begun form w) octets left headed after outcome → IsOutcome form w octets left before after outcome
 lines_outcome form w octets left before headed after (Lines answer) none head told = inr (none, inl (headed, head, told))
 lines_outcome form w octets left before headed after (Capture answer) none head told = absurd told
 
 -- a capture was measured behind its first octets
 pub captured : (form : Form) (w : Wanted) (all rest left before headed after : Option (List ℕ)) (first : List ℕ) (outcome : Outcome)
-    → Consumes all rest first → AreFirst first rest → HasMagic first → Appends before headed (head_text form)
+    → Consumes all rest first → AreEnough first rest → HasMagic first → Appends before headed (head_text form)
     → ForSome rest (λ octets. PacketsAnswer (capture_begun form w) (first ++ octets) left headed after outcome)
     → ForSome all (λ octets. IsOutcome form w octets left before after outcome)
 captured form w all rest left before headed after first outcome read are magic head told = λ octets known.
@@ -76,7 +89,7 @@ captured form w all rest left before headed after first outcome read are magic h
 
 -- lines were measured behind their first octets
 pub lined : (form : Form) (w : Wanted) (all rest left before headed after : Option (List ℕ)) (first : List ℕ) (outcome : Outcome)
-    → Consumes all rest first → AreFirst first rest → HasNoMagic first → Appends before headed (head_text form)
+    → Consumes all rest first → AreEnough first rest → HasNoMagic first → Appends before headed (head_text form)
     → ForSome rest (λ octets. LinesAnswer (begun form w) (first ++ octets) left headed after outcome)
     → ForSome all (λ octets. IsOutcome form w octets left before after outcome)
 lined form w all rest left before headed after first outcome read are none head told = λ octets known.
@@ -86,7 +99,7 @@ lined form w all rest left before headed after first outcome read are none head 
 
 -- an LF is among the first octets
 pub short : (form : Form) (w : Wanted) (all rest before after : Option (List ℕ)) (first : List ℕ)
-    → Consumes all rest first → AreFirst first rest → HasNoMagic first → 0 < lfs_in first → Appends before after (head_text form)
+    → Consumes all rest first → AreEnough first rest → HasNoMagic first → 0 < lfs_in first → Appends before after (head_text form)
     → ForSome all (λ octets. IsOutcome form w octets rest before after (Lines (Err (record { line = 1; what = Task Field }))))
 short form w all rest before after first read are none lf head = λ octets known.
     let (behind, is) = is_begun all rest first octets read are known in

@@ -158,7 +158,7 @@ few_by count rows most is = go (cases_lt rows most)
 
 -- ---- a packet that carries a datagram
 pub taken_row : {T : Type 0} (result : Result T LineFault) (number : ℕ) (packet : PacketOf) (k : Capture) (r : InterfaceRow)
-    (new : CaptureMeasuring) (a b : Option (List ℕ)) → IsPacketRow number packet r → AddsRow result k r new a b
+    (new : CaptureMeasuring) (a b : Option (List ℕ)) → IsPacketRow k.wanted.interface number packet r → AddsRow result k r new a b
     → MatchResult result
     (λ _. (later : Capture) × (out : List ℕ) × IsCapturing new later × TakesPacket number packet k later out × Appends a b out)
     (λ fault. (out : List ℕ) × StopsAtPacket number packet k fault out × WentOut (is_write fault) (Appends a b out))

@@ -40,7 +40,7 @@ row number time nanoseconds reading = record {
 
 -- nobody is asked for
 abbrev pub anybody : Wanted
-anybody = record { slave = None; master = None; domain = None }
+anybody = record { slave = None; master = None; domain = None; interface = None }
 
 -- an Announce, the Delay_Req of a slave in another domain, a Sync of the master, and a Delay_Req of the slave
 abbrev first_rows : List Row
@@ -64,11 +64,11 @@ told : watched_in anybody (datagrams rows)
 told = refl
 
 -- domain 4 is asked for, and its only Delay_Req came before; nobody is its master
-asked_for : watched_in (record { slave = None; master = None; domain = Some 4 }) (datagrams rows) ≡ None
+asked_for : watched_in (record { slave = None; master = None; domain = Some 4; interface = None }) (datagrams rows) ≡ None
 asked_for = refl
 
 -- the master is asked for, which sent no Sync, so nothing tells its domain
-no_sync : watched_in (record { slave = None; master = Some (port 9 0).identity; domain = None }) (datagrams rows) ≡ None
+no_sync : watched_in (record { slave = None; master = Some (port 9 0).identity; domain = None; interface = None }) (datagrams rows) ≡ None
 no_sync = refl
 
 -- all lines are heard

@@ -50,11 +50,11 @@ those_at_the_tap : heard_at anybody rows ≡ response ∷ request ∷ sync ∷ [
 those_at_the_tap = refl
 
 -- of a domain that was met nowhere nothing is measured
-not_met : chosen (record { slave = None; master = None; domain = Some 4 }) rows ≡ None
+not_met : chosen (record { slave = None; master = None; domain = Some 4; interface = None }) rows ≡ None
 not_met = refl
 
 -- the slave that is asked for sent nothing, though it is told to whom the tap's response goes
-no_slave : chosen (record { slave = Some (port 9 0).identity; master = None; domain = None }) rows ≡ None
+no_slave : chosen (record { slave = Some (port 9 0).identity; master = None; domain = None; interface = None }) rows ≡ None
 no_slave = refl
 
 -- (5,000 - 3,000) / 2 ns and (5,000 + 3,000) / 2 ns

@@ -1,11 +1,13 @@
 -- What `measure` makes of the packets of a capture.
-use Rattle.std.specs.Prelude.{◌≡◌, ◌⊎◌, ℕ, List, [], ◌∷◌, ◌++◌}
+use Rattle.std.specs.Prelude.{◌≡◌, ◌⊎◌, ℕ, true, List, [], ◌∷◌, ◌++◌, Option}
 use Rattle.ptp_units.specs.Moment.{Stamp, moment}
 use Rattle.event_codec.specs.Reading.{IsReading}
 use Rattle.datagram_text.specs.Shown.{stamp_text}
 use Rattle.text_lines.specs.declared.line_fault.LineFault.{LineFault}
 use Rattle.text_lines.specs.declared.line_fault.LineFault.TheVariants.{Field}
 use Rattle.text_lines.specs.Fault.{is_write}
+use Rattle.capture_file.specs.declared.name.InterfaceName.{InterfaceName}
+use Rattle.capture_file.specs.Name.{is_asked}
 use Rattle.capture_file.specs.Packet.{PacketOf, Captured, Timeless, Simple}
 use Rattle.capture_file.specs.Task.{PacketRules}
 use Rattle.capture_frame.specs.Found.{Datagram, IsFound}
@@ -22,17 +24,18 @@ pub record IsDatagramRow (number : ℕ) (time : Stamp) (datagram : List ℕ) (ro
   pub moment_is : row.datagram.time ≡ moment time 0
   pub said : IsReading datagram row.datagram.said
 
--- the packet of this number carries a datagram, and this is its row
-abbrev pub IsPacketRow : (number : ℕ) → PacketOf → InterfaceRow → Type 0
-IsPacketRow number (Captured interface time link octets) r =
-    (datagram : List ℕ) × IsFound link octets (Datagram datagram) × (r.interface ≡ interface)
+-- the packet of this number is of the interface that is asked for, if one is, and carries a datagram, and this is its row
+abbrev pub IsPacketRow : Option InterfaceName → (number : ℕ) → PacketOf → InterfaceRow → Type 0
+IsPacketRow asked number (Captured interface time link octets) r =
+    (is_asked asked interface ≡ true)
+    × (datagram : List ℕ) × IsFound link octets (Datagram datagram) × (r.interface ≡ interface)
     × IsDatagramRow number time datagram r.row
-IsPacketRow number Timeless r = ⊥
-IsPacketRow number Simple r = ⊥
+IsPacketRow asked number Timeless r = ⊥
+IsPacketRow asked number Simple r = ⊥
 
--- the packet of this number carries no datagram
-abbrev pub HasNoRow : (number : ℕ) → PacketOf → Type 0
-HasNoRow number packet = (r : InterfaceRow) → IsPacketRow number packet r → ⊥
+-- the packet of this number carries no datagram, or is of another interface
+abbrev pub HasNoRow : Option InterfaceName → (number : ℕ) → PacketOf → Type 0
+HasNoRow asked number packet = (r : InterfaceRow) → IsPacketRow asked number packet r → ⊥
 
 -- what is asked for, and the rows that were read, newest first
 pub record Capture : Type 0 where
@@ -52,22 +55,21 @@ capture_text c = capture_written c.form c.wanted c.rows
 abbrev pub with_packet : InterfaceRow → Capture → Capture
 with_packet r c = record c { rows = r ∷ c.rows }
 
--- A packet that carries a datagram is one more row, and what this adds to all that is written goes out; any other changes
--- nothing.
+-- A packet that has a row is one more, and what this adds to all that is written goes out; any other changes nothing.
 abbrev pub TakesPacket : (number : ℕ) → PacketOf → Capture → Capture → List ℕ → Type 0
 TakesPacket number packet c later out =
-    ((r : InterfaceRow) × IsPacketRow number packet r × (later ≡ with_packet r c)
+    ((r : InterfaceRow) × IsPacketRow c.wanted.interface number packet r × (later ≡ with_packet r c)
     × (capture_text later ≡ capture_text c ++ out))
-    ⊎ (HasNoRow number packet × (later ≡ c) × (out ≡ []))
+    ⊎ (HasNoRow c.wanted.interface number packet × (later ≡ c) × (out ≡ []))
 
--- why a packet that carries a datagram isn't taken: memory or the writer failed; then a part of what it adds went out
+-- why a packet that has a row isn't taken: memory or the writer failed; then a part of what it adds went out
 abbrev pub StopsAtPacket : (number : ℕ) → PacketOf → Capture → LineFault → List ℕ → Type 0
 StopsAtPacket number packet c Field out = ⊥
 StopsAtPacket number packet c fault out =
-    (r : InterfaceRow) × IsPacketRow number packet r × (rest : List ℕ)
+    (r : InterfaceRow) × IsPacketRow c.wanted.interface number packet r × (rest : List ℕ)
     × (capture_text (with_packet r c) ≡ capture_text c ++ (out ++ rest))
 
--- each packet that carries a datagram adds to a capture, and the number of packets is answered at the end
+-- each packet that has a row adds to a capture, and the number of packets is answered at the end
 abbrev pub capture_rules : PacketRules Capture ℕ LineFault
 capture_rules = record {
   Takes = TakesPacket;

@@ -1,5 +1,6 @@
--- What `measure` makes of an input: a recording of lines, or a capture, which its first four octets tell.
-use Rattle.std.specs.Prelude.{◌≡◌, ◌⊎◌, ℕ, ◌<◌, List, ◌++◌, length, take, drop, Option, Some, Result, Err, MatchResult}
+-- What `measure` makes of an input: a recording of lines, or a capture, which its first octets tell: one, or four where a
+-- magic begins with the first.
+use Rattle.std.specs.Prelude.{◌≡◌, ◌⊎◌, ℕ, ◌<◌, List, ◌++◌, length, drop, Option, Some, Result, Err, MatchResult}
 use Rattle.std.specs.Option.{ForSome}
 use Rattle.std.specs.Io.KnownBytes.{Appends}
 use Rattle.text_lines.specs.declared.counted.Counted.{Counted}
@@ -13,6 +14,7 @@ use Rattle.text_lines.specs.Counted.{device_of, HasFailed, HasNotFailed}
 use Rattle.text_lines.specs.Lines.{lfs_in}
 use Rattle.text_lines.specs.Task.{FailedAt}
 use Rattle.capture_file.specs.declared.fault.CaptureStop.{CaptureStop}
+use Rattle.capture_file.specs.Beginning.{enough, start_of}
 use Rattle.capture_file.specs.Task as packets
 use Rattle.capture_file.specs.Wrong.{HasMagic, HasNoMagic}
 use Rattle.capture_measure.specs.declared.input.Outcome.{Outcome}
@@ -43,20 +45,21 @@ FailsAhead form octets left before after answer =
     (seen : List ℕ) × (unread : List ℕ) × (octets ≡ seen ++ unread) × (length seen < 4)
     × StopsEarly form left before after unread (Reading Read) answer
 
--- An LF is among the first four octets. Then the first line is refused, though it may be a short time and a blank, without a
--- datagram; of the octets behind it up to three were read.
+-- An LF is among the four octets that tell which it is, as a magic begins with the first. Then the first line is refused, since no
+-- time begins so; of the octets behind it up to three were read.
 abbrev pub HasShortLine : Form → List ℕ → (left before after : Option (List ℕ)) → Result ℕ (Stopped (Cause LineFault)) → Type 0
 HasShortLine form octets left before after answer =
-    (0 < lfs_in (take 4 octets)) × StopsEarly form left before after (drop 4 octets) (Task Field) answer
+    (0 < lfs_in (start_of octets))
+    × StopsEarly form left before after (drop (enough octets) octets) (Task Field) answer
 
 -- what came of octets
 abbrev pub IsOutcome : Form → Wanted → List ℕ → (left before after : Option (List ℕ)) → Outcome → Type 0
 IsOutcome form w octets left before after (Lines answer) =
     FailsAhead form octets left before after answer
-    ⊎ (HasNoMagic (take 4 octets)
+    ⊎ (HasNoMagic (start_of octets)
     × (Measures form w octets left before after answer ⊎ HasShortLine form octets left before after answer))
 IsOutcome form w octets left before after (Capture answer) =
-    HasMagic (take 4 octets) × MeasuresCapture form w octets left before after answer
+    HasMagic (start_of octets) × MeasuresCapture form w octets left before after answer
 
 -- the head of a table couldn't be written, and nothing was read
 pub record HasNoHead {R W : Type 0} (form : Form) (outcome : Outcome) (input input' : Counted R) (output output' : Counted W)

@@ -56,8 +56,8 @@ impl Summary {
 /// magic of a capture is one, and each packet that carries a datagram of PTP is one of a recording, where it was captured at the
 /// interface that is measured. Any other is lines, each of a time and a datagram.
 ///
-/// What a packet or line brings goes out before an octet behind it is read; but where one of the first four octets is an LF,
-/// four are read.
+/// What a packet or line brings goes out before an octet behind it is read, but for a first line that is refused: where a magic begins
+/// with the first octet, four are read.
 pub fn measure<R: Read, W: Write>(
     alloc: Global,
     wanted: &Wanted,

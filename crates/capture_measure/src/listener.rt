@@ -4,7 +4,6 @@ ghost use Rattle.std.specs.Prelude.{◌≡◌, ◌∷◌, ◌&&◌, ℕ, false, 
 ghost use Rattle.ptp_units.specs.Sequence.{ahead};
 ghost use Rattle.event_codec.specs.Packet.{contents};
 ghost use Rattle.event_codec.specs.Port.{is_same_port};
-ghost use Rattle.event_codec.specs.Reading.{IsReading};
 ghost use Rattle.sync_watch.specs.Judged.{judged_sync, judged_follow_up, judged_refused, judged_response};
 ghost use Rattle.slave_port.specs.History.{Setup, Call, SetMaster, Event, General};
 ghost use Rattle.slave_port.specs.StandsFor.{StandsFor};
@@ -152,37 +151,23 @@ impl Listener {
         self.is_of(self.watched.master, header) && requesting == self.watched.slave
     }
 
-    /// Hears the message that these octets begin with.
-    pub(crate) fn hear(
-        &mut self,
-        line: u64,
-        time: ScaledTime,
-        octets: &[u8],
-        message: &Message<'_>,
-    ) -> Became
-        requires { IsReading octets.now (Ok (contents message.now)) }
+    /// Hears a message.
+    pub(crate) fn hear(&mut self, line: u64, time: ScaledTime, message: &Message<'_>) -> Became
         ensures listens { Listens (λ w. hears w line time (contents message.now) message.now.body) self.old self.new }
         ensures answered { IsAnswered line time (contents message.now) self.old result }
     {
         match message.body {
-            Body::Sync { .. } => self.hear_sync(line, time, octets, message),
+            Body::Sync { .. } => self.hear_sync(line, time, message),
             Body::DelayReq { .. } => self.hear_request(line, time, &message.header),
-            Body::FollowUp { .. } => self.hear_follow_up(line, time, octets, message),
+            Body::FollowUp { .. } => self.hear_follow_up(line, time, message),
             Body::DelayResp { requesting, .. } => {
-                self.hear_response(line, time, octets, message, requesting)
+                self.hear_response(line, time, message, requesting)
             }
         }
     }
 
     /// Hears a Sync, whoever sent it, unless the master's number says that it came before.
-    fn hear_sync(
-        &mut self,
-        line: u64,
-        time: ScaledTime,
-        octets: &[u8],
-        message: &Message<'_>,
-    ) -> Became
-        requires { IsReading octets.now (Ok (contents message.now)) }
+    fn hear_sync(&mut self, line: u64, time: ScaledTime, message: &Message<'_>) -> Became
         ensures listens { let m = contents message.now in
             let call = Event (Ok m) time line in
             Listens (λ w l. hears_ready (is_of w w.master m.header) call (ready_sync w line time m l) l)
@@ -192,28 +177,21 @@ impl Listener {
             Answers call (λ w l. ready_sync w line time m l) self.old result }
     {
         if !self.is_of(self.watched.master, &message.header) {
-            return Became::Heard(self.port.sync(octets, time, line));
+            return Became::Heard(self.port.sync_message(message, time, line));
         }
         match self.judge_sync(&message.header, time) {
-            Judgement::Newer => self.hear_newer(line, time, octets, message),
+            Judgement::Newer => self.hear_newer(line, time, message),
             Judgement::Repeated => Became::HeardBefore,
             Judgement::BeganAnew => {
                 self.tell_master();
-                Became::HeardAnew(self.hear_counted(line, time, octets, message))
+                Became::HeardAnew(self.hear_counted(line, time, message))
             }
         }
     }
 
     /// Hears a Sync of the master whose number says nothing. Where it is refused, that may say that the master began
     /// anew, and then it is heard again.
-    fn hear_newer(
-        &mut self,
-        line: u64,
-        time: ScaledTime,
-        octets: &[u8],
-        message: &Message<'_>,
-    ) -> Became
-        requires { IsReading octets.now (Ok (contents message.now)) }
+    fn hear_newer(&mut self, line: u64, time: ScaledTime, message: &Message<'_>) -> Became
         ensures listens { let m = contents message.now in
             let call = Event (Ok m) time line in
             Listens (λ w l. with_count (told call (ready_newer w line call (arrival_of m.header time) l)))
@@ -222,7 +200,7 @@ impl Listener {
             let call = Event (Ok m) time line in
             Answers call (λ w l. Some (ready_newer w line call (arrival_of m.header time) l)) self.old result }
     {
-        let heard = self.port.sync(octets, time, line);
+        let heard = self.port.sync_message(message, time, line);
         if !is_stale(&heard) {
             self.count_sync();
             return Became::Heard(heard);
@@ -234,39 +212,25 @@ impl Listener {
             }
             Judgement::BeganAnew => {
                 self.tell_master();
-                Became::HeardAnew(self.hear_counted(line, time, octets, message))
+                Became::HeardAnew(self.hear_counted(line, time, message))
             }
         }
     }
 
     /// Hears a Sync of the master, which is counted.
-    fn hear_counted(
-        &mut self,
-        line: u64,
-        time: ScaledTime,
-        octets: &[u8],
-        message: &Message<'_>,
-    ) -> Heard
-        requires { IsReading octets.now (Ok (contents message.now)) }
+    fn hear_counted(&mut self, line: u64, time: ScaledTime, message: &Message<'_>) -> Heard
         ensures listens { let call = Event (Ok (contents message.now)) time line in
             Listens (λ w l. with_count (told call l)) self.old self.new }
         ensures answer { let call = Event (Ok (contents message.now)) time line in
             (w : Watched) (l : Listening) → IsListener w self.old l → result ≡ answer_in w l call }
     {
-        let heard = self.port.sync(octets, time, line);
+        let heard = self.port.sync_message(message, time, line);
         self.count_sync();
         heard
     }
 
     /// Hears a Follow_Up, whoever sent it, unless the master's number says that it came before.
-    fn hear_follow_up(
-        &mut self,
-        line: u64,
-        time: ScaledTime,
-        octets: &[u8],
-        message: &Message<'_>,
-    ) -> Became
-        requires { IsReading octets.now (Ok (contents message.now)) }
+    fn hear_follow_up(&mut self, line: u64, time: ScaledTime, message: &Message<'_>) -> Became
         ensures listens { let m = contents message.now in
             let call = General (Ok m) line in
             Listens (λ w l. hears_ready false call (ready_follow_up w time m l) l) self.old self.new }
@@ -275,10 +239,10 @@ impl Listener {
             Answers call (λ w l. ready_follow_up w time m l) self.old result }
     {
         if !self.is_of(self.watched.master, &message.header) {
-            return Became::Heard(self.port.general(octets, line));
+            return Became::Heard(self.port.general_message(message, line));
         }
         match self.judge_follow_up(&message.header, time) {
-            Judgement::Newer => Became::Heard(self.port.general(octets, line)),
+            Judgement::Newer => Became::Heard(self.port.general_message(message, line)),
             Judgement::Repeated | Judgement::BeganAnew => Became::HeardBefore,
         }
     }
@@ -288,11 +252,9 @@ impl Listener {
         &mut self,
         line: u64,
         time: ScaledTime,
-        octets: &[u8],
         message: &Message<'_>,
         requesting: PortIdentity,
     ) -> Became
-        requires { IsReading octets.now (Ok (contents message.now)) }
         ensures listens { let m = contents message.now in
             let call = General (Ok m) line in
             Listens (λ w l. hears_ready false call (ready_response w time m requesting l) l) self.old self.new }
@@ -301,10 +263,10 @@ impl Listener {
             Answers call (λ w l. ready_response w time m requesting l) self.old result }
     {
         if !self.is_answer(&message.header, requesting) {
-            return Became::Heard(self.port.general(octets, line));
+            return Became::Heard(self.port.general_message(message, line));
         }
         match self.judge_response(message.header.sequence, time) {
-            Judgement::Newer => Became::Heard(self.port.general(octets, line)),
+            Judgement::Newer => Became::Heard(self.port.general_message(message, line)),
             Judgement::Repeated | Judgement::BeganAnew => Became::HeardBefore,
         }
     }

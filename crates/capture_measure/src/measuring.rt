@@ -8,7 +8,6 @@ ghost use Rattle.std.specs.Io.KnownBytes.{Appends};
 ghost use Rattle.text_lines.specs.Fault.{is_write};
 ghost use Rattle.text_lines.specs.Lines.{line_limit, input_limit, GivesWithin};
 ghost use Rattle.text_lines.specs.Task.{FailedAt};
-ghost use Rattle.event_codec.specs.Reading.{IsReading};
 ghost use Rattle.capture_model.specs.Listening.{after_all};
 ghost use Rattle.capture_lines.specs.Measurement.{measured_of};
 ghost use Rattle.capture_measure.specs.Watch.{watched_in};
@@ -17,7 +16,7 @@ ghost use Rattle.capture_measure.specs.Measured.{report_text, reports_text};
 ghost use Rattle.capture_measure.specs.Measure.{Recording, begun, head_text, measure_rules};
 ghost use Rattle.capture_measure.specs.Inner.Listener.{IsListener};
 ghost use Rattle.capture_measure.specs.Inner.Watching.{IsWatch};
-ghost use Rattle.capture_measure.specs.Inner.Hearing.{reading_of, measured_by, IsOfOutput, Goes};
+ghost use Rattle.capture_measure.specs.Inner.Hearing.{measured_by, IsOfOutput, Goes};
 ghost use Rattle.capture_measure.specs.Inner.Measuring.{IsLine, NoRow, HasRow, IsUnread, IsRead, IsRowOf};
 ghost use Rattle.capture_measure.specs.Inner.Measuring.{StopsAt, AreRows, AreWithin, AreKept};
 ghost use Rattle.capture_measure.specs.Inner.Measuring.{IsHearing, IsStage, IsMeasuring};
@@ -163,7 +162,6 @@ impl Reports {
         read: &Line<'_, '_>,
         output: &mut Counted<W>,
     ) -> Result<(), LineFault>
-        requires { IsReading read.now.datagram.octets.now (reading_of read.now.datagram.said) }
         ensures heard { (watched : Watched) (earlier : List Row) (row : Row) → IsRowOf read.now row
             → IsListener watched listener.old (after_all watched (datagrams earlier))
             → OnOk result (IsListener watched listener.new (after_all watched (datagrams (row ∷ earlier))))
@@ -362,7 +360,6 @@ impl Measuring {
         read: &Line<'_, '_>,
         output: &mut Counted<W>,
     ) -> Result<(), LineFault>
-        requires says { IsReading read.now.datagram.octets.now (reading_of read.now.datagram.said) }
         requires kept { AreWithin self.old.stage }
         ensures begun { (earlier : List Row) (row : Row) → IsRowOf read.now row
             → AreKept self.old.stage earlier

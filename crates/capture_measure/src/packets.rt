@@ -7,14 +7,13 @@ ghost use Rattle.datagram_text.specs.Shown.{stamp_text};
 ghost use Rattle.text_lines.specs.Counted.{device_of, HasNotFailed, HasFailedIf};
 ghost use Rattle.text_lines.specs.Fault.{is_write};
 ghost use Rattle.text_lines.specs.Task.{WentOut};
-ghost use Rattle.event_codec.specs.Reading.{IsReading};
 ghost use Rattle.capture_file.specs.Packet.{packet_of, interface_of};
 ghost use Rattle.capture_model.specs.Listening.{after_all};
 ghost use Rattle.capture_measure.specs.Row.{Row, datagrams};
 ghost use Rattle.capture_measure.specs.Measured.{report_text, reports_text};
 ghost use Rattle.capture_measure.specs.Interfaces.{InterfaceRow};
 ghost use Rattle.capture_measure.specs.Capture.{Capture, capture_begun, capture_rules, IsDatagramRow, TakesPacket, StopsAtPacket};
-ghost use Rattle.capture_measure.specs.Inner.Hearing.{reading_of, recorded_of, IsOfOutput, Goes};
+ghost use Rattle.capture_measure.specs.Inner.Hearing.{recorded_of, IsOfOutput, Goes};
 ghost use Rattle.capture_measure.specs.Inner.Listener.{IsListener};
 ghost use Rattle.capture_measure.specs.Inner.Recordings.{row_at, AreKeptRows, BeginsWith};
 ghost use Rattle.capture_measure.specs.Inner.Capturing.{IsCapturing, IsLooking, IsHearingAt, AddsRow, row_of_packet};
@@ -26,7 +25,7 @@ use crate::recording::{Kept, Recordings, datagram_of};
 use crate::reports::{Datagram, Reports};
 use crate::watch::Wanted;
 use capture_extract::Summary as PacketCounts;
-use capture_file::{Captured, Packet, PacketTask};
+use capture_file::{Captured, Packet, PacketTask, is_asked};
 use capture_frame::{Found, find_datagram};
 use capture_model::Watched;
 use ptp_units::Timestamp;
@@ -73,7 +72,6 @@ impl PacketReports {
         datagram: &Datagram<'_>,
         output: &mut Counted<W>,
     ) -> Result<(), LineFault>
-        requires { IsReading datagram.now.octets.now (reading_of datagram.now.said) }
         ensures heard { (watched : Watched) (earlier : List Row)
             → IsListener watched listener.old (after_all watched (datagrams earlier))
             → OnOk result (IsListener watched listener.new (after_all watched (datagrams (row_at time datagram.now ∷ earlier))))
@@ -185,12 +183,12 @@ impl CaptureMeasuring {
                 reports: Reports::new(alloc, form),
                 time: String::new(alloc),
             },
-            packets: PacketCounts::new(),
+            packets: PacketCounts::new(wanted.interface),
             interfaces: InterfaceCounts::new(),
         }
     }
 
-    /// Takes a packet, if it carries a datagram.
+    /// Takes a packet, if it is of the interface that is asked for and carries a datagram.
     fn take_captured<W: Write>(
         &mut self,
         number: u64,
@@ -211,6 +209,10 @@ impl CaptureMeasuring {
             (λ _. HasNotFailed output.old output.new)
             (λ fault. HasFailedIf (is_write fault) output.old output.new) }
     {
+        if !is_asked(self.wanted.interface.as_ref(), &captured.interface) {
+            self.packets.count_elsewhere(&captured.interface);
+            return Ok(());
+        }
         let found = find_datagram(captured.link, captured.octets);
         if let Found::Datagram(octets) = found {
             let datagram = datagram_of(number, captured.time, octets);
@@ -298,7 +300,6 @@ impl CaptureMeasuring {
         datagram: &Datagram<'_>,
         output: &mut Counted<W>,
     ) -> Result<(), LineFault>
-        requires says { IsReading datagram.now.octets.now (reading_of datagram.now.said) }
         requires place { place < length self.old.recordings.recordings.items }
         ensures begun { (rows : List Row)
             → BeginsWith is_kept self.old.recordings.recordings.items place (row_at time datagram.now) rows

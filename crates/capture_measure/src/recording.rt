@@ -3,14 +3,13 @@
 ghost use Rattle.std.specs.Prelude.{◌≡◌, ◌<◌, ◌&&◌, ◌||◌, ◌==◌, ℕ, nat_lt, false, List, [], ◌∷◌, length, map, get_or, IfOk, IfSome, OnOk};
 ghost use Rattle.std.specs.Option.{option_map_or};
 ghost use Rattle.event_codec.specs.Port.{is_same_port};
-ghost use Rattle.event_codec.specs.Reading.{IsReading};
 ghost use Rattle.capture_file.specs.Packet.{interface_of};
 ghost use Rattle.capture_model.specs.Recorded.{Recorded};
 ghost use Rattle.capture_measure.specs.Row.{Row, kept_most};
 ghost use Rattle.capture_measure.specs.Interfaces.{InterfaceRow, interfaces_in, is_same_interface};
 ghost use Rattle.capture_measure.specs.Chosen.{watched_at};
 ghost use Rattle.capture_measure.specs.Capture.{IsDatagramRow};
-ghost use Rattle.capture_measure.specs.Inner.Hearing.{reading_of, recorded_of};
+ghost use Rattle.capture_measure.specs.Inner.Hearing.{recorded_of};
 ghost use Rattle.capture_measure.specs.Inner.Recordings.{interface_in, row_at, IsMet, IsNoticed, IsFresh, AreRecordings};
 ghost use Rattle.capture_measure.specs.Inner.Recordings.{IsFoundAt, HasAdded, KeepsMore};
 
@@ -31,7 +30,7 @@ const INTERFACES_MOST: usize = 16;
 pub(crate) fn datagram_of(number: u64, time: Timestamp, octets: &[u8]) -> Datagram<'_>
     ensures row { IsDatagramRow number time octets.now (row_at time result) }
     ensures only { (row : Row) → IsDatagramRow number time octets.now row → row ≡ row_at time result }
-    ensures says { IsReading result.octets.now (reading_of result.said) }
+    ensures octets { result.octets.now ≡ octets.now }
 {
     Datagram {
         number,

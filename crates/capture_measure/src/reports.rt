@@ -116,7 +116,6 @@ impl Reports {
         listener: &mut Listener,
         datagram: &Datagram<'_>,
     ) -> Option<Completed>
-        requires { IsReading datagram.now.octets.now (reading_of datagram.now.said) }
         ensures heard { (watched : Watched) (earlier : List Recorded)
             → IsListener watched listener.old (after_all watched earlier)
             → IsListener watched listener.new (after_all watched (recorded_of datagram.now ∷ earlier))
@@ -131,7 +130,7 @@ impl Reports {
                 return None;
             }
         };
-        let became = listener.hear(datagram.number, datagram.time, datagram.octets, message);
+        let became = listener.hear(datagram.number, datagram.time, message);
         self.tally.count_heard(message, listener.domain(), became);
         Some(Completed {
             by: half_of(&message.body),

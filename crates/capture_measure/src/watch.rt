@@ -7,6 +7,7 @@ ghost use Rattle.capture_model.specs.Recorded.{Recorded};
 ghost use Rattle.capture_measure.specs.Watch.{source_in, domain_from, watched_in};
 ghost use Rattle.capture_measure.specs.Inner.Watching.{value_of, request_in, IsWatch};
 
+use capture_file::InterfaceName;
 use capture_model::Watched;
 use datagram_text::Identity;
 use event_codec::{Body, Header, Message, PortIdentity};
@@ -23,6 +24,8 @@ pub struct Wanted {
     pub master: Option<PortIdentity>,
     /// Their domainNumber.
     pub domain: Option<u8>,
+    /// The interface of a capture at which they are; lines have none.
+    pub interface: Option<InterfaceName>,
 }
 
 /// What is known, and by which line; by none where it was asked for.

@@ -9,6 +9,7 @@ use Rattle.clap.specs.Walk.{walked}
 use Rattle.clap.specs.declared.error.kind.ErrorKind.{ErrorKind}
 use Rattle.clap.specs.declared.error.kind.ErrorKind.TheVariants as kind
 use Rattle.command_line.specs.Arguments.{HasHelpFlag, Names, NamesNothing, faults_in, named_in}
+use Rattle.capture_file.specs.Name.{interface_name}
 use Rattle.command_line.specs.Number.{domain_of}
 use Rattle.command_line.specs.PortText.{port_identity_of}
 use Rattle.command_line.specs.declared.commands.Subcommand.TheVariants.{Show, Replay, Check, Extract, Measure, Explain}
@@ -18,6 +19,10 @@ use Rattle.command_line.specs.declared.commands.Subcommand.TheVariants.{Show, Re
 -- words of which clap refuses one name no subcommand
 refused : (words : List (List ℕ)) (k : ErrorKind) (ks : Kinds) → faults_in words ≡ k ∷ ks → NamesNothing words
 refused words k ks is s named = let both : k ∷ ks ≡ [] = sym is ∙ named.0 in cc
+
+-- a value that writes nothing
+no_options : (words : List (List ℕ)) → named_in words ≡ None → NamesNothing words
+no_options words is s named = let both : None ≡ Some s = sym is ∙ named.1 in cc
 
 name_alone : Names (codes "ptpx" ∷ codes "show" ∷ [])
     (Show)
@@ -34,6 +39,7 @@ measured : Names (codes "ptpx" ∷ codes "measure" ∷ codes "--csv" ∷ codes "
       slave = Some (record { clock = 0 ∷ 170 ∷ 187 ∷ 255 ∷ 254 ∷ 204 ∷ 221 ∷ 238 ∷ []; port = 1 });
       master = None;
       domain = None;
+      interface = None;
       csv = true;
     }))
 unfolding clap_on_literals walk_fault walked hex_on_literals chars faults_in named_in
@@ -49,9 +55,19 @@ explained_whole : Names (codes "ptpx" ∷ codes "explain" ∷ [])
 unfolding clap_on_literals walk_fault walked hex_on_literals chars faults_in named_in
 explained_whole = (refl, refl)
 
-extracted : Names (codes "ptpx" ∷ codes "extract" ∷ codes "--octets" ∷ []) (Extract (record { octets = true }))
+extracted : Names (codes "ptpx" ∷ codes "extract" ∷ codes "--octets" ∷ [])
+    (Extract (record { interface = None; octets = true; list = false }))
 unfolding clap_on_literals walk_fault walked hex_on_literals chars faults_in named_in
 extracted = (refl, refl)
+
+listed : Names (codes "ptpx" ∷ codes "extract" ∷ codes "--interface" ∷ codes "eth0" ∷ codes "--list" ∷ [])
+    (Extract (record { interface = interface_name (codes "eth0"); octets = false; list = true }))
+unfolding clap_on_literals walk_fault walked hex_on_literals chars faults_in named_in
+listed = (refl, refl)
+
+empty_interface : NamesNothing (codes "ptpx" ∷ codes "extract" ∷ codes "--interface=" ∷ [])
+unfolding clap_on_literals walk_fault walked hex_on_literals chars faults_in named_in
+empty_interface = no_options (codes "ptpx" ∷ codes "extract" ∷ codes "--interface=" ∷ []) refl
 
 second_name : Names (codes "ptpx" ∷ codes "replay" ∷ []) Replay
 unfolding clap_on_literals walk_fault walked hex_on_literals chars faults_in named_in
@@ -66,19 +82,16 @@ values_behind_both : Names (codes "ptpx" ∷ codes "measure" ∷ codes "--master
       slave = None;
       master = Some (record { clock = 0 ∷ 170 ∷ 187 ∷ 255 ∷ 254 ∷ 204 ∷ 221 ∷ 238 ∷ []; port = 2 });
       domain = Some 7;
+      interface = None;
       csv = false;
     }))
 unfolding clap_on_literals walk_fault walked hex_on_literals chars faults_in named_in
 values_behind_both = (refl, refl)
 
 mark_behind_option : Names (codes "ptpx" ∷ codes "measure" ∷ codes "--csv" ∷ codes "--" ∷ [])
-    (Measure (record { slave = None; master = None; domain = None; csv = true }))
+    (Measure (record { slave = None; master = None; domain = None; interface = None; csv = true }))
 unfolding clap_on_literals walk_fault walked hex_on_literals chars faults_in named_in
 mark_behind_option = (refl, refl)
-
--- a value that writes nothing
-no_options : (words : List (List ℕ)) → named_in words ≡ None → NamesNothing words
-no_options words is s named = let both : None ≡ Some s = sym is ∙ named.1 in cc
 
 empty_value : NamesNothing (codes "ptpx" ∷ codes "measure" ∷ codes "--slave=" ∷ [])
 unfolding clap_on_literals walk_fault walked hex_on_literals chars faults_in named_in

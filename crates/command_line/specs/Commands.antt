@@ -9,6 +9,7 @@ use Rattle.command_line.specs.declared.commands.Subcommand.TheVariants.{Show, Re
 use Rattle.command_line.specs.declared.commands.explain.ExplainOptions.{ExplainOptions}
 use Rattle.command_line.specs.declared.commands.extract.ExtractOptions.{ExtractOptions}
 use Rattle.command_line.specs.declared.commands.measure.MeasureOptions.{MeasureOptions}
+use Rattle.capture_file.specs.Name.{interface_name}
 use Rattle.command_line.specs.Number.{domain_of}
 use Rattle.command_line.specs.Options.{is_used, said}
 use Rattle.command_line.specs.PortText.{port_identity_of}
@@ -20,22 +21,32 @@ subcommands =
     (codes "show", [])
     ∷ (codes "replay", [])
     ∷ (codes "check", [])
-    ∷ (codes "extract", flag (codes "octets") ∷ [])
+    ∷ (codes "extract", flag (codes "octets") ∷ flag (codes "list") ∷ with_value (codes "interface") ∷ [])
     ∷ (
       codes "measure",
-      with_value (codes "slave") ∷ with_value (codes "master") ∷ with_value (codes "domain") ∷ flag (codes "csv") ∷ [],
+      with_value (codes "slave") ∷ with_value (codes "master") ∷ with_value (codes "domain") ∷ with_value (codes "interface")
+          ∷ flag (codes "csv") ∷ [],
     )
     ∷ (codes "explain", flag (codes "first") ∷ flag (codes "json") ∷ [])
     ∷ []
 
--- the options of `extract`
-abbrev pub extract_options_of : List matches.Row → ExtractOptions
-extract_options_of rows = record { octets = is_used (codes "octets") rows }
+-- the options of `extract`, where the value is one
+abbrev pub extract_options_of : List matches.Row → Option ExtractOptions
+extract_options_of rows = option_map (λ interface.
+    record { interface = interface; octets = is_used (codes "octets") rows; list = is_used (codes "list") rows })
+    (said interface_name (codes "interface") rows)
 
 -- the options of `measure`, where each value is one
 abbrev pub measure_options_of : List matches.Row → Option MeasureOptions
-measure_options_of rows = option_and_then (λ slave. option_and_then (λ master. option_map (λ domain.
-    record { slave = slave; master = master; domain = domain; csv = is_used (codes "csv") rows })
+measure_options_of rows = option_and_then (λ slave. option_and_then (λ master. option_and_then (λ domain.
+    option_map (λ interface. record {
+      slave = slave;
+      master = master;
+      domain = domain;
+      interface = interface;
+      csv = is_used (codes "csv") rows;
+    })
+    (said interface_name (codes "interface") rows))
     (said domain_of (codes "domain") rows))
     (said port_identity_of (codes "master") rows))
     (said port_identity_of (codes "slave") rows)
@@ -50,7 +61,7 @@ chosen name rows =
     if bytes_eq name (codes "show") then Some Show
     else if bytes_eq name (codes "replay") then Some Replay
     else if bytes_eq name (codes "check") then Some Check
-    else if bytes_eq name (codes "extract") then Some (Extract (extract_options_of rows))
+    else if bytes_eq name (codes "extract") then option_map (λ options. Extract options) (extract_options_of rows)
     else if bytes_eq name (codes "measure") then option_map (λ options. Measure options) (measure_options_of rows)
     else if bytes_eq name (codes "explain") then Some (Explain (explain_options_of rows))
     else None

@@ -2,12 +2,14 @@
 ghost use Rattle.std.specs.Prelude.{◌≡◌};
 ghost use Rattle.clap.specs.Matches.{first_value, found_of};
 ghost use Rattle.std.specs.Result.{result_ok};
+ghost use Rattle.capture_file.specs.Name.{interface_name};
 ghost use Rattle.command_line.specs.Number.{domain_of};
 ghost use Rattle.command_line.specs.Options.{is_text_used, said_by};
 ghost use Rattle.command_line.specs.PortText.{port_identity_of};
 
 use crate::number::domain_in;
 use crate::port_identity::port_identity_in;
+use capture_file::InterfaceName;
 use clap::ArgMatches;
 use event_codec::PortIdentity;
 
@@ -30,6 +32,9 @@ const PORT: &str =
 
 /// What a domain's number looks like.
 const DOMAIN: &str = "a domain, a number from 0 to 255 in 1 to 3 digits";
+
+/// What the name of an interface is.
+const INTERFACE: &str = "the name of an interface, of 1 to 255 octets";
 
 /// Whether an option without a value is used: `clap` gives it a text.
 pub(crate) fn is_used(matches: &ArgMatches<'_>, option: &str) -> bool
@@ -79,6 +84,27 @@ pub(crate) fn domain_option<'a>(
             value,
             name: "NUMBER",
             wanted: DOMAIN,
+        }),
+    }
+}
+
+/// The name of an interface in an option, where it is given.
+pub(crate) fn interface_option<'a>(
+    matches: &ArgMatches<'a>,
+    option: &'static str,
+) -> Result<Option<InterfaceName>, WrongValue<'a>>
+    ensures { result_ok result ≡ said_by interface_name (first_value (found_of matches.now) option.now) }
+{
+    let Some(value) = matches.get_str(option) else {
+        return Ok(None);
+    };
+    match InterfaceName::new(value.as_bytes()) {
+        Some(name) => Ok(Some(name)),
+        None => Err(WrongValue {
+            option,
+            value,
+            name: "NAME",
+            wanted: INTERFACE,
         }),
     }
 }

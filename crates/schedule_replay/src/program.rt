@@ -1,5 +1,6 @@
 ghost use Rattle.std.specs.Prelude.{◌≡◌, ◌≢◌, ◌⊎◌, map, string_bytes};
-ghost use Rattle.schedule_replay.specs.Program.{EndsBefore, EndsUnread, IsLimited, Runs, RunsExtract, RunsMeasure, RunsExplain};
+ghost use Rattle.schedule_replay.specs.Program.{EndsBefore, EndsUnread, IsLimited, Runs, RunsExtract, RunsList};
+ghost use Rattle.schedule_replay.specs.Program.{RunsLines, RunsMeasure, RunsExplain};
 ghost use Rattle.schedule_replay.specs.Program.{check_status, found_status, outcome_status, status_of};
 ghost use Rattle.command_line.specs.Arguments.{AsksNothing, HasHelpFlag, Names, NamesNothing};
 ghost use Rattle.text_lines.specs.Lines.{input_limit, lines_limit, GivesWithin};
@@ -7,8 +8,9 @@ ghost use Rattle.text_lines.specs.Lines.{input_limit, lines_limit, GivesWithin};
 use crate::capture_faults::report_capture;
 use crate::hints::Hints;
 use crate::showing::show;
-use capture_extract::{LineForm, extract};
-use capture_file::CaptureStop;
+use capture_extract::{Extraction, LineForm, extract};
+use capture_file::{CaptureStop, InterfaceName};
+use capture_list::list;
 use capture_measure::{Form, Outcome, Wanted, measure};
 use command_line::commands::explain::ExplainOptions;
 use command_line::commands::extract::ExtractOptions;
@@ -127,7 +129,7 @@ fn found_status(found: Found) -> u8
     }
 }
 
-/// Writes what a capture has of PTP, tells what came of its packets, and answers the exit status.
+/// Writes what a capture has of PTP, as lines or as a table, tells what came of its packets, and answers the exit status.
 fn run_extract<R: Read, W: Write, E: Write>(
     alloc: Global,
     options: ExtractOptions,
@@ -137,16 +139,57 @@ fn run_extract<R: Read, W: Write, E: Write>(
 ) -> u8
     ensures { RunsExtract R.remaining W.contents options result input.old input.new output.old output.new }
 {
+    if options.list {
+        run_list(alloc, options.interface, input, output, errors)
+    } else {
+        run_lines(alloc, options, input, output, errors)
+    }
+}
+
+/// Writes a table of who sent what in a capture.
+fn run_list<R: Read, W: Write, E: Write>(
+    alloc: Global,
+    interface: Option<InterfaceName>,
+    input: &mut Counted<R>,
+    output: &mut Counted<W>,
+    errors: &mut E,
+) -> u8
+    ensures { RunsList R.remaining W.contents result input.old input.new output.old output.new }
+{
+    let (answer, summary) = list(alloc, interface, input, output);
+    let status = finish_packets(errors, answer);
+    summary.tell(errors);
+    status
+}
+
+/// Writes the lines of what a capture has of PTP.
+fn run_lines<R: Read, W: Write, E: Write>(
+    alloc: Global,
+    options: ExtractOptions,
+    input: &mut Counted<R>,
+    output: &mut Counted<W>,
+    errors: &mut E,
+) -> u8
+    ensures { RunsLines R.remaining W.contents options result input.old input.new output.old output.new }
+{
     let form = if options.octets {
         LineForm::Octets
     } else {
         LineForm::Timed
     };
-    let (answer, summary) = extract(alloc, form, input, output);
+    let extraction = Extraction {
+        form,
+        interface: options.interface,
+    };
+    let (answer, summary) = extract(alloc, &extraction, input, output);
     let status = finish_packets(errors, answer);
     summary.tell(errors);
     status
 }
+
+/// What is told where the packets of an interface are asked for, and there are lines.
+const LINES_HAVE_NO_INTERFACE: &[u8] =
+    b"ptpx: lines have no interface, so --interface changes nothing\n";
 
 /// Measures a recording or a capture, tells what came of it beside the reports, and answers the exit status.
 fn run_measure<R: Read, W: Write, E: Write>(
@@ -162,10 +205,14 @@ fn run_measure<R: Read, W: Write, E: Write>(
         slave: options.slave,
         master: options.master,
         domain: options.domain,
+        interface: options.interface,
     };
     let form = if options.csv { Form::Table } else { Form::Json };
     let (outcome, summary) = measure(alloc, &wanted, form, input, output);
     let status = finish_outcome(errors, outcome);
+    if options.interface.is_some() && matches!(outcome, Outcome::Lines(_)) {
+        let _ = errors.write_all(LINES_HAVE_NO_INTERFACE);
+    }
     summary.tell(errors);
     status
 }

@@ -6,7 +6,7 @@ use Rattle.text_lines.specs.declared.line_fault.LineFault.TheVariants.{Field}
 use Rattle.text_lines.specs.Fault.{is_write}
 use Rattle.text_lines.specs.Task.{WentOut}
 use Rattle.capture_file.specs.Packet.{PacketOf}
-use Rattle.capture_extract.specs.declared.line.LineForm.{LineForm}
+use Rattle.capture_extract.specs.declared.extracting.Extraction.{Extraction}
 use Rattle.capture_extract.specs.Extracted.{IsExtract, StopsExtracting}
 
 -- the text went out, or nothing did where memory was refused, or the writer failed
@@ -15,8 +15,8 @@ Goes (Ok done) text before after = Appends before after text
 Goes (Err fault) text before after = (fault ≢ Field) × WentOut (is_write fault) (Appends before after [])
 
 -- what is made of a packet went out, or nothing did where memory was refused, or the writer failed
-abbrev pub GoesOf : {T : Type 0} → Result T LineFault → LineForm → PacketOf → (before after : Option (List ℕ)) → Type 0
-GoesOf (Ok done) form packet before after =
-    (written : List ℕ) × IsExtract form packet written × Appends before after written
-GoesOf (Err fault) form packet before after =
-    StopsExtracting packet fault × WentOut (is_write fault) (Appends before after [])
+abbrev pub GoesOf : {T : Type 0} → Result T LineFault → Extraction → PacketOf → (before after : Option (List ℕ)) → Type 0
+GoesOf (Ok done) e packet before after =
+    (written : List ℕ) × IsExtract e packet written × Appends before after written
+GoesOf (Err fault) e packet before after =
+    StopsExtracting e packet fault × WentOut (is_write fault) (Appends before after [])

@@ -48,7 +48,6 @@ pub record IsRead (number : ℕ) (line : List ℕ) (read : Line) : Type 0 where
   pub row : Row
   pub is_row : IsRow number line row
   pub only : (other : Row) → IsRow number line other → IsRowOf read other
-  pub says : IsReading read.datagram.octets.now (reading_of read.datagram.said)
 
 -- a line of this number is one of a recording
 abbrev pub HasRow : (number : ℕ) → List ℕ → Type 0

@@ -1,19 +1,33 @@
 //! `ptpx extract`: its options and its help.
 ghost use Rattle.std.specs.Prelude.{◌≡◌};
+ghost use Rattle.std.specs.Result.{result_ok};
 ghost use Rattle.clap.specs.Matches.{found_of};
 ghost use Rattle.clap.specs.Walk.{rows_of};
 ghost use Rattle.command_line.specs.Commands.{extract_options_of};
 
-use crate::options::is_used;
+use crate::options::{WrongValue, interface_option, is_used};
 use crate::table::{OptionRow, SubcommandRow};
+use capture_file::InterfaceName;
 use clap::ArgMatches;
 
 /// The options of `extract`.
-const OPTIONS: [OptionRow; 1] = [OptionRow {
-    name: "octets",
-    value: None,
-    about: "Write the octets alone, without times, as 'ptpx show' reads them",
-}];
+const OPTIONS: [OptionRow; 3] = [
+    OptionRow {
+        name: "octets",
+        value: None,
+        about: "Write the octets alone, without times, as 'ptpx show' reads them",
+    },
+    OptionRow {
+        name: "list",
+        value: None,
+        about: "Write a table of who sent what, in place of lines",
+    },
+    OptionRow {
+        name: "interface",
+        value: Some("NAME"),
+        about: "Take the packets of this interface alone; else those of all",
+    },
+];
 
 /// The row of `extract`.
 pub(crate) const ROW: SubcommandRow = SubcommandRow {
@@ -26,17 +40,25 @@ pub(crate) const ROW: SubcommandRow = SubcommandRow {
 /// The options of `extract`.
 #[derive(Clone, Copy, Debug, PartialEq, Eq)]
 pub struct ExtractOptions {
+    /// The interface whose packets are taken; without it, those of all are.
+    pub interface: Option<InterfaceName>,
     /// Whether the octets are written alone, without times.
     pub octets: bool,
+    /// Whether a table of who sent what is written, in place of lines.
+    pub list: bool,
 }
 
 /// The options that were met.
-pub(crate) fn extract_options(matches: &ArgMatches<'_>) -> ExtractOptions
-    ensures { result ≡ extract_options_of (rows_of (found_of matches.now)) }
+pub(crate) fn extract_options<'a>(
+    matches: &ArgMatches<'a>,
+) -> Result<ExtractOptions, WrongValue<'a>>
+    ensures { result_ok result ≡ extract_options_of (rows_of (found_of matches.now)) }
 {
-    ExtractOptions {
+    Ok(ExtractOptions {
+        interface: interface_option(matches, "interface")?,
         octets: is_used(matches, "octets"),
-    }
+        list: is_used(matches, "list"),
+    })
 }
 
 /// What the help of `extract` says below its usage.
@@ -48,7 +70,12 @@ hexadecimal. The time is seconds since the beginning of the capture's timescale,
 decimals. The line
   1795328934.357259633 0012002c00000200000000000000000000000000001122fffe334455000100010100...
 is cut short here. 'ptpx measure' reads such lines: 'ptpx extract < capture.pcap | ptpx measure'. With
---octets time and blank are left away, as 'ptpx show' reads lines.
+--octets time and blank are left away, as 'ptpx show' reads lines. With --interface packets of one interface
+alone are taken. An interface is called as the capture names it, or, where it has no name or one that an
+earlier interface of its section has, as in a pcap, if0, if1, .. by its place.
+
+With --list standard output has a table in place of lines, once all packets were read, or those before a
+fault: at which interface who sent how many messages of each type, and below it how to call 'ptpx measure'.
 
 PTP is what UDP carries to port 319 or 320, over IPv4 or IPv6, and what Ethernet carries in packets of
 type 0x88f7, behind any VLAN tags. Link types are Ethernet (1), Linux cooked captures (113, 276), raw IP
@@ -56,7 +83,7 @@ type 0x88f7, behind any VLAN tags. Link types are Ethernet (1), Linux cooked cap
 with what stands behind messageLength. IP that was cut in fragments isn't put together.
 
 At the end standard error tells how many packets there are, how many of them have PTP, and why others
-gave no line.
+gave no line; with --interface also which other interfaces had packets.
 
 Faults, each of which ends the run with 'ptpx: fault 1006 at octet 6300, after 41 packets: the capture
 ends within a packet or a block' on standard error. Octets count from 0, and what was written for the

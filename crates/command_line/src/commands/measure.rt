@@ -5,13 +5,14 @@ ghost use Rattle.clap.specs.Matches.{found_of};
 ghost use Rattle.clap.specs.Walk.{rows_of};
 ghost use Rattle.command_line.specs.Commands.{measure_options_of};
 
-use crate::options::{WrongValue, domain_option, is_used, port_option};
+use crate::options::{WrongValue, domain_option, interface_option, is_used, port_option};
 use crate::table::{OptionRow, SubcommandRow};
+use capture_file::InterfaceName;
 use clap::ArgMatches;
 use event_codec::PortIdentity;
 
 /// The options of `measure`.
-const OPTIONS: [OptionRow; 4] = [
+const OPTIONS: [OptionRow; 5] = [
     OptionRow {
         name: "slave",
         value: Some("PORT"),
@@ -26,6 +27,11 @@ const OPTIONS: [OptionRow; 4] = [
         name: "domain",
         value: Some("NUMBER"),
         about: "domainNumber; else that of the first Sync, of the master where that is given",
+    },
+    OptionRow {
+        name: "interface",
+        value: Some("NAME"),
+        about: "The interface of a capture; else the first at which all three are known",
     },
     OptionRow {
         name: "csv",
@@ -51,6 +57,8 @@ pub struct MeasureOptions {
     pub master: Option<PortIdentity>,
     /// domainNumber; without it, that of the first Sync, of the master where that is given.
     pub domain: Option<u8>,
+    /// The interface of a capture; without it, the first at which slave, master and domain are known.
+    pub interface: Option<InterfaceName>,
     /// Whether the output is CSV, in place of JSON.
     pub csv: bool,
 }
@@ -65,6 +73,7 @@ pub(crate) fn measure_options<'a>(
         slave: port_option(matches, "slave")?,
         master: port_option(matches, "master")?,
         domain: domain_option(matches, "domain")?,
+        interface: interface_option(matches, "interface")?,
         csv: is_used(matches, "csv"),
     })
 }
@@ -96,7 +105,8 @@ datagrams are kept until all three are known.
 Each interface of a capture is a recording of its own, and one alone is measured: the first at which all
 three are known. What is asked for is known at an interface once a message of that domain, or from that port,
 was met there. Interfaces of one place and name are one, also in several sections. Of more than 16 the
-first 16 at which PTP was met are looked at.
+first 16 at which PTP was met are looked at. With --interface the packets of one interface alone are looked
+at, which is called as 'ptpx extract' calls it; lines have none.
 
 The results are exact for the times in the input. A capture on the slave's own host stamps what the slave
 sends before it leaves, so that the offset comes out too low and the path too high by half of that: use
@@ -128,5 +138,5 @@ Exit statuses:
   3  a fault
 
 Limits: a line has 4096 octets before its LF at the most, and there may be any number of lines. Of a line
-that ends in CR this one CR isn't read. The last line may lack its LF. Where an LF is among the first four
-octets, the first line has fault 806. Of a capture the limits are those of 'ptpx extract'."#;
+that ends in CR this one CR isn't read. The last line may lack its LF. Of a capture the limits are those of
+'ptpx extract'."#;

@@ -19,7 +19,6 @@ returns-in-Some-checked_add c =
             time = parts.0;
             datagram = λ i. record { line = numbered i; time = parts.1 i; said = parts.2 i };
           };
-      says = c.message_in-said.ensures.says;
     }
 
 pub returns-in-None : goal.returns-in-None

@@ -9,9 +9,9 @@ pub returns-clause-listens : goal.returns-clause-listens
 returns-clause-listens c = λ w l is.
     let said = Ok (contents c.args.message.now) in
     let call : Call = Event said c.args.time c.args.line in
-    let stood = c.sync-heard.ensures.stands said c.requires (setup_in w l) l.calls is.port in
-    c.count_sync.ensures w (told call l) (IsListener-told w c.args.self.now l call c.sync-heard.new.self refl stood is)
+    let stood = c.sync_message-heard.ensures.stands (setup_in w l) l.calls is.port in
+    c.count_sync.ensures w (told call l) (IsListener-told w c.args.self.now l call c.sync_message-heard.new.self refl stood is)
 
 pub returns-clause-answer : goal.returns-clause-answer
 returns-clause-answer c = λ w l is.
-    c.sync-heard.ensures.answer (Ok (contents c.args.message.now)) c.requires (setup_in w l) l.calls is.port
+    c.sync_message-heard.ensures.answer (setup_in w l) l.calls is.port

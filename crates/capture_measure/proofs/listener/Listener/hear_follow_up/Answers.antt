@@ -17,10 +17,10 @@ returns-then-not-is_of-clause-listens c = λ w l is.
     let call : Call = General (Ok m) c.args.line in
     let other : is_of w w.master m.header ≡ false =
     subst (λ (v : Watched). is_of v v.master m.header ≡ false) is.watched (sym c.is_of.ensures ∙ c.if-not-is_of.true) in
-    let stood = c.general.ensures.stands (Ok m) c.requires (setup_in w l) l.calls is.port in
-    let heard = IsListener-told w c.args.self.now l call c.general.new.self refl stood is in
+    let stood = c.general_message.ensures.stands (setup_in w l) l.calls is.port in
+    let heard = IsListener-told w c.args.self.now l call c.general_message.new.self refl stood is in
     subst (λ (r : Option Listening).
-    IsListener w (record c.args.self.now { port = c.general.new.self }) (hears_ready false call r l))
+    IsListener w (record c.args.self.now { port = c.general_message.new.self }) (hears_ready false call r l))
     (sym (follow_up-other w c.args.line c.args.time m l other)) heard
 
 pub returns-then-not-is_of-clause-answered : goal.returns-then-not-is_of-clause-answered
@@ -29,7 +29,7 @@ returns-then-not-is_of-clause-answered c = λ w l is.
     let call : Call = General (Ok m) c.args.line in
     let other : is_of w w.master m.header ≡ false =
     subst (λ (v : Watched). is_of v v.master m.header ≡ false) is.watched (sym c.is_of.ensures ∙ c.if-not-is_of.true) in
-    ap Some (c.general.ensures.answer (Ok m) c.requires (setup_in w l) l.calls is.port)
+    ap Some (c.general_message.ensures.answer (setup_in w l) l.calls is.port)
     ∙ ap (option_map (λ l. answer_in w l call)) (sym (follow_up-other w c.args.line c.args.time m l other))
 
 pub returns-in-Newer-clause-listens : goal.returns-in-Newer-clause-listens
@@ -44,10 +44,10 @@ returns-in-Newer-clause-listens c = λ w l is.
     let one = follow_up-judged w c.args.line c.args.time m l false of again in
     let k : Listening = record l { heard = FollowUp a ∷ l.heard } in
     let now = subst (IsListener w c.judge_follow_up.new.self) one.known_is (c.judge_follow_up.ensures.listens w l is) in
-    let stood = c.general-in-Newer.ensures.stands (Ok m) c.requires (setup_in w k) k.calls now.port in
-    let heard = IsListener-told w c.judge_follow_up.new.self k call c.general-in-Newer.new.self refl stood now in
+    let stood = c.general_message-in-Newer.ensures.stands (setup_in w k) k.calls now.port in
+    let heard = IsListener-told w c.judge_follow_up.new.self k call c.general_message-in-Newer.new.self refl stood now in
     subst (λ (r : Option Listening).
-    IsListener w (record c.judge_follow_up.new.self { port = c.general-in-Newer.new.self }) (hears_ready false call r l))
+    IsListener w (record c.judge_follow_up.new.self { port = c.general_message-in-Newer.new.self }) (hears_ready false call r l))
     (sym one.ready_is) heard
 
 pub returns-in-Newer-clause-answered : goal.returns-in-Newer-clause-answered
@@ -62,7 +62,7 @@ returns-in-Newer-clause-answered c = λ w l is.
     let one = follow_up-judged w c.args.line c.args.time m l false of again in
     let k : Listening = record l { heard = FollowUp a ∷ l.heard } in
     let now = subst (IsListener w c.judge_follow_up.new.self) one.known_is (c.judge_follow_up.ensures.listens w l is) in
-    ap Some (c.general-in-Newer.ensures.answer (Ok m) c.requires (setup_in w k) k.calls now.port)
+    ap Some (c.general_message-in-Newer.ensures.answer (setup_in w k) k.calls now.port)
     ∙ ap (option_map (λ l. answer_in w l call)) (sym one.ready_is)
 
 pub returns-in-Repeated : goal.returns-in-Repeated

@@ -15,9 +15,9 @@ returns-then-not-is_stale-clause-listens c = λ w l is.
     let m : Contents = contents c.args.message.now in
     let call : Call = Event (Ok m) c.args.time c.args.line in
     let a : Arrival = arrival_of m.header c.args.time in
-    let stood = c.sync-heard.ensures.stands (Ok m) c.requires (setup_in w l) l.calls is.port in
-    let heard = IsListener-told w c.args.self.now l call c.sync-heard.new.self refl stood is in
-    let answer = c.sync-heard.ensures.answer (Ok m) c.requires (setup_in w l) l.calls is.port in
+    let stood = c.sync_message-heard.ensures.stands (setup_in w l) l.calls is.port in
+    let heard = IsListener-told w c.args.self.now l call c.sync_message-heard.new.self refl stood is in
+    let answer = c.sync_message-heard.ensures.answer (setup_in w l) l.calls is.port in
     let other : is_stale (answer_in w l call) ≡ false =
     sym (ap is_stale answer) ∙ sym c.is_stale.ensures ∙ c.if-not-is_stale.true in
     subst (λ (k : Listening). IsListener w c.count_sync.new.self (with_count (told call k)))
@@ -28,9 +28,9 @@ returns-then-not-is_stale-clause-answered c = λ w l is.
     let m : Contents = contents c.args.message.now in
     let call : Call = Event (Ok m) c.args.time c.args.line in
     let a : Arrival = arrival_of m.header c.args.time in
-    let stood = c.sync-heard.ensures.stands (Ok m) c.requires (setup_in w l) l.calls is.port in
-    let heard = IsListener-told w c.args.self.now l call c.sync-heard.new.self refl stood is in
-    let answer = c.sync-heard.ensures.answer (Ok m) c.requires (setup_in w l) l.calls is.port in
+    let stood = c.sync_message-heard.ensures.stands (setup_in w l) l.calls is.port in
+    let heard = IsListener-told w c.args.self.now l call c.sync_message-heard.new.self refl stood is in
+    let answer = c.sync_message-heard.ensures.answer (setup_in w l) l.calls is.port in
     let other : is_stale (answer_in w l call) ≡ false =
     sym (ap is_stale answer) ∙ sym c.is_stale.ensures ∙ c.if-not-is_stale.true in
     ap Some (answer ∙ ap (λ (k : Listening). answer_in w k call) (sym (newer-other w c.args.line call a l other)))
@@ -40,9 +40,9 @@ returns-in-BeganAnew-clause-listens c = λ w l is.
     let m : Contents = contents c.args.message.now in
     let call : Call = Event (Ok m) c.args.time c.args.line in
     let a : Arrival = arrival_of m.header c.args.time in
-    let stood = c.sync-heard.ensures.stands (Ok m) c.requires (setup_in w l) l.calls is.port in
-    let heard = IsListener-told w c.args.self.now l call c.sync-heard.new.self refl stood is in
-    let answer = c.sync-heard.ensures.answer (Ok m) c.requires (setup_in w l) l.calls is.port in
+    let stood = c.sync_message-heard.ensures.stands (setup_in w l) l.calls is.port in
+    let heard = IsListener-told w c.args.self.now l call c.sync_message-heard.new.self refl stood is in
+    let answer = c.sync_message-heard.ensures.answer (setup_in w l) l.calls is.port in
     let stale : is_stale (answer_in w l call) ≡ true =
     sym (ap is_stale answer) ∙ sym c.is_stale.ensures ∙ c.if-not-is_stale.false in
     let anew = sym (c.judge_refused.ensures.judgement w (told call l) heard) ∙ c.in-BeganAnew.is in
@@ -55,9 +55,9 @@ returns-in-BeganAnew-clause-answered c = λ w l is.
     let m : Contents = contents c.args.message.now in
     let call : Call = Event (Ok m) c.args.time c.args.line in
     let a : Arrival = arrival_of m.header c.args.time in
-    let stood = c.sync-heard.ensures.stands (Ok m) c.requires (setup_in w l) l.calls is.port in
-    let heard = IsListener-told w c.args.self.now l call c.sync-heard.new.self refl stood is in
-    let answer = c.sync-heard.ensures.answer (Ok m) c.requires (setup_in w l) l.calls is.port in
+    let stood = c.sync_message-heard.ensures.stands (setup_in w l) l.calls is.port in
+    let heard = IsListener-told w c.args.self.now l call c.sync_message-heard.new.self refl stood is in
+    let answer = c.sync_message-heard.ensures.answer (setup_in w l) l.calls is.port in
     let stale : is_stale (answer_in w l call) ≡ true =
     sym (ap is_stale answer) ∙ sym c.is_stale.ensures ∙ c.if-not-is_stale.false in
     let anew = sym (c.judge_refused.ensures.judgement w (told call l) heard) ∙ c.in-BeganAnew.is in
@@ -71,9 +71,9 @@ returns-in-Newer c = record {
       let m : Contents = contents c.args.message.now in
       let call : Call = Event (Ok m) c.args.time c.args.line in
       let a : Arrival = arrival_of m.header c.args.time in
-      let stood = c.sync-heard.ensures.stands (Ok m) c.requires (setup_in w l) l.calls is.port in
-      let heard = IsListener-told w c.args.self.now l call c.sync-heard.new.self refl stood is in
-      let answer = c.sync-heard.ensures.answer (Ok m) c.requires (setup_in w l) l.calls is.port in
+      let stood = c.sync_message-heard.ensures.stands (setup_in w l) l.calls is.port in
+      let heard = IsListener-told w c.args.self.now l call c.sync_message-heard.new.self refl stood is in
+      let answer = c.sync_message-heard.ensures.answer (setup_in w l) l.calls is.port in
       let stale : is_stale (answer_in w l call) ≡ true =
       sym (ap is_stale answer) ∙ sym c.is_stale.ensures ∙ c.if-not-is_stale.false in
       let judged = c.judge_refused.ensures.judgement w (told call l) heard in
@@ -85,9 +85,9 @@ returns-in-Newer c = record {
       let m : Contents = contents c.args.message.now in
       let call : Call = Event (Ok m) c.args.time c.args.line in
       let a : Arrival = arrival_of m.header c.args.time in
-      let stood = c.sync-heard.ensures.stands (Ok m) c.requires (setup_in w l) l.calls is.port in
-      let heard = IsListener-told w c.args.self.now l call c.sync-heard.new.self refl stood is in
-      let answer = c.sync-heard.ensures.answer (Ok m) c.requires (setup_in w l) l.calls is.port in
+      let stood = c.sync_message-heard.ensures.stands (setup_in w l) l.calls is.port in
+      let heard = IsListener-told w c.args.self.now l call c.sync_message-heard.new.self refl stood is in
+      let answer = c.sync_message-heard.ensures.answer (setup_in w l) l.calls is.port in
       let stale : is_stale (answer_in w l call) ≡ true =
       sym (ap is_stale answer) ∙ sym c.is_stale.ensures ∙ c.if-not-is_stale.false in
       let judged = c.judge_refused.ensures.judgement w (told call l) heard in

@@ -20,10 +20,10 @@ returns-then-not-is_answer-clause-listens c = λ w l is.
     let other : (is_of w w.master m.header && is_same_port c.args.requesting w.slave) ≡ false =
     subst (λ (v : Watched). (is_of v v.master m.header && is_same_port c.args.requesting v.slave) ≡ false) is.watched
     (sym c.is_answer.ensures ∙ c.if-not-is_answer.true) in
-    let stood = c.general.ensures.stands (Ok m) c.requires (setup_in w l) l.calls is.port in
-    let heard = IsListener-told w c.args.self.now l call c.general.new.self refl stood is in
+    let stood = c.general_message.ensures.stands (setup_in w l) l.calls is.port in
+    let heard = IsListener-told w c.args.self.now l call c.general_message.new.self refl stood is in
     subst (λ (r : Option Listening).
-    IsListener w (record c.args.self.now { port = c.general.new.self }) (hears_ready false call r l))
+    IsListener w (record c.args.self.now { port = c.general_message.new.self }) (hears_ready false call r l))
     (sym (response-other w c.args.line c.args.time m l c.args.requesting other)) heard
 
 pub returns-then-not-is_answer-clause-answered : goal.returns-then-not-is_answer-clause-answered
@@ -33,7 +33,7 @@ returns-then-not-is_answer-clause-answered c = λ w l is.
     let other : (is_of w w.master m.header && is_same_port c.args.requesting w.slave) ≡ false =
     subst (λ (v : Watched). (is_of v v.master m.header && is_same_port c.args.requesting v.slave) ≡ false) is.watched
     (sym c.is_answer.ensures ∙ c.if-not-is_answer.true) in
-    ap Some (c.general.ensures.answer (Ok m) c.requires (setup_in w l) l.calls is.port)
+    ap Some (c.general_message.ensures.answer (setup_in w l) l.calls is.port)
     ∙ ap (option_map (λ l. answer_in w l call)) (sym (response-other w c.args.line c.args.time m l c.args.requesting other))
 
 pub returns-in-Newer-clause-listens : goal.returns-in-Newer-clause-listens
@@ -48,10 +48,10 @@ returns-in-Newer-clause-listens c = λ w l is.
     let one = response-judged w c.args.line c.args.time m l c.args.requesting false of again in
     let k : Listening = record l { responses = entry m.header.sequence.0 c.args.time ∷ l.responses } in
     let now = subst (IsListener w c.judge_response.new.self) one.1 (c.judge_response.ensures.listens w l is) in
-    let stood = c.general-in-Newer.ensures.stands (Ok m) c.requires (setup_in w k) k.calls now.port in
-    let heard = IsListener-told w c.judge_response.new.self k call c.general-in-Newer.new.self refl stood now in
+    let stood = c.general_message-in-Newer.ensures.stands (setup_in w k) k.calls now.port in
+    let heard = IsListener-told w c.judge_response.new.self k call c.general_message-in-Newer.new.self refl stood now in
     subst (λ (r : Option Listening).
-    IsListener w (record c.judge_response.new.self { port = c.general-in-Newer.new.self }) (hears_ready false call r l))
+    IsListener w (record c.judge_response.new.self { port = c.general_message-in-Newer.new.self }) (hears_ready false call r l))
     (sym one.0) heard
 
 pub returns-in-Newer-clause-answered : goal.returns-in-Newer-clause-answered
@@ -66,7 +66,7 @@ returns-in-Newer-clause-answered c = λ w l is.
     let one = response-judged w c.args.line c.args.time m l c.args.requesting false of again in
     let k : Listening = record l { responses = entry m.header.sequence.0 c.args.time ∷ l.responses } in
     let now = subst (IsListener w c.judge_response.new.self) one.1 (c.judge_response.ensures.listens w l is) in
-    ap Some (c.general-in-Newer.ensures.answer (Ok m) c.requires (setup_in w k) k.calls now.port)
+    ap Some (c.general_message-in-Newer.ensures.answer (setup_in w k) k.calls now.port)
     ∙ ap (option_map (λ l. answer_in w l call)) (sym one.0)
 
 pub returns-in-Repeated : goal.returns-in-Repeated

@@ -15,10 +15,10 @@ returns-then-not-is_of-clause-listens c = λ w l is.
     let call : Call = Event (Ok m) c.args.time c.args.line in
     let other : is_of w w.master m.header ≡ false =
     subst (λ (v : Watched). is_of v v.master m.header ≡ false) is.watched (sym c.is_of.ensures ∙ c.if-not-is_of.true) in
-    let stood = c.sync.ensures.stands (Ok m) c.requires (setup_in w l) l.calls is.port in
-    subst (IsListener w (record c.args.self.now { port = c.sync.new.self }))
+    let stood = c.sync_message.ensures.stands (setup_in w l) l.calls is.port in
+    subst (IsListener w (record c.args.self.now { port = c.sync_message.new.self }))
     (sym (sync-other w c.args.line c.args.time m l other))
-    (IsListener-told w c.args.self.now l call c.sync.new.self refl stood is)
+    (IsListener-told w c.args.self.now l call c.sync_message.new.self refl stood is)
 
 pub returns-then-not-is_of-clause-answered : goal.returns-then-not-is_of-clause-answered
 returns-then-not-is_of-clause-answered c = λ w l is.
@@ -26,7 +26,7 @@ returns-then-not-is_of-clause-answered c = λ w l is.
     let call : Call = Event (Ok m) c.args.time c.args.line in
     let other : is_of w w.master m.header ≡ false =
     subst (λ (v : Watched). is_of v v.master m.header ≡ false) is.watched (sym c.is_of.ensures ∙ c.if-not-is_of.true) in
-    ap Some (c.sync.ensures.answer (Ok m) c.requires (setup_in w l) l.calls is.port)
+    ap Some (c.sync_message.ensures.answer (setup_in w l) l.calls is.port)
     ∙ sym (sync-other-answer w c.args.line c.args.time m l other)
 
 pub returns-in-Newer-clause-listens : goal.returns-in-Newer-clause-listens

@@ -63,7 +63,7 @@ returns-in-Err-clause-taken g c = λ r at.
 pub begin-requires : goal.begin-requires
 begin-requires g c =
     let (r, at) = c.requires.stands in
-    record { says = c.in-Ok.ensures.says; kept = are_within r.wanted r.rows c.args.self.now.stage at.stage }
+    record { kept = are_within r.wanted r.rows c.args.self.now.stage at.stage }
 
 pub returns-in-Some : goal.returns-in-Some
 returns-in-Some g c = record {

@@ -3,6 +3,8 @@ use Rattle.std.specs.Prelude.{option_and_then, option_map}
 use Rattle.event_codec.specs.declared.port.PortIdentity.{PortIdentity}
 use Rattle.clap.specs.Matches.{found_of}
 use Rattle.clap.specs.Walk.{rows_of}
+use Rattle.capture_file.specs.declared.name.InterfaceName.{InterfaceName}
+use Rattle.capture_file.specs.Name.{interface_name}
 use Rattle.command_line.specs.Number.{domain_of}
 use Rattle.command_line.specs.Options.{is_used, said}
 use Rattle.command_line.specs.PortText.{port_identity_of}
@@ -11,20 +13,29 @@ use Rattle.command_line.proofs.RowOptions.{is_read, no_answer, value_read}
 use Rattle.command_line.proofs.commands.measure.measure_options.Goals as goal
 
 -- the options of `measure`, of what each says
-abbrev measure_made : Option (Option PortIdentity) → Option (Option PortIdentity) → Option (Option ℕ) → Bool
-    → Option MeasureOptions
-measure_made slaves masters domains csv = option_and_then (λ slave. option_and_then (λ master. option_map (λ domain.
-    record { slave = slave; master = master; domain = domain; csv = csv }) domains) masters) slaves
+abbrev measure_made : Option (Option PortIdentity) → Option (Option PortIdentity) → Option (Option ℕ)
+    → Option (Option InterfaceName) → Bool → Option MeasureOptions
+measure_made slaves masters domains interfaces csv =
+    option_and_then (λ slave. option_and_then (λ master. option_and_then (λ domain. option_map (λ interface.
+    record { slave = slave; master = master; domain = domain; interface = interface; csv = csv }) interfaces) domains) masters) slaves
 
-no_master : (slaves : Option (Option PortIdentity)) (domains : Option (Option ℕ)) (csv : Bool)
-    → measure_made slaves None domains csv ≡ None
-no_master None domains csv = refl
-no_master (Some slave) domains csv = refl
+no_master : (slaves : Option (Option PortIdentity)) (domains : Option (Option ℕ)) (interfaces : Option (Option InterfaceName)) (csv : Bool)
+    → measure_made slaves None domains interfaces csv ≡ None
+no_master None domains interfaces csv = refl
+no_master (Some slave) domains interfaces csv = refl
 
-no_domain : (slaves masters : Option (Option PortIdentity)) (csv : Bool) → measure_made slaves masters None csv ≡ None
-no_domain None masters csv = refl
-no_domain (Some slave) None csv = refl
-no_domain (Some slave) (Some master) csv = refl
+no_domain : (slaves masters : Option (Option PortIdentity)) (interfaces : Option (Option InterfaceName)) (csv : Bool)
+    → measure_made slaves masters None interfaces csv ≡ None
+no_domain None masters interfaces csv = refl
+no_domain (Some slave) None interfaces csv = refl
+no_domain (Some slave) (Some master) interfaces csv = refl
+
+no_interface : (slaves masters : Option (Option PortIdentity)) (domains : Option (Option ℕ)) (csv : Bool)
+    → measure_made slaves masters domains None csv ≡ None
+no_interface None masters domains csv = refl
+no_interface (Some slave) None domains csv = refl
+no_interface (Some slave) (Some master) None csv = refl
+no_interface (Some slave) (Some master) (Some domain) csv = refl
 
 pub returns-in_err-port_option : goal.returns-in_err-port_option
 returns-in_err-port_option c =
@@ -32,7 +43,7 @@ returns-in_err-port_option c =
     let rows = rows_of found in
     no_answer c.from_residual.result c.from_residual.ensures.0
     ∙ ap (λ slaves. measure_made slaves (said port_identity_of (codes "master") rows) (said domain_of (codes "domain") rows)
-    (is_used (codes "csv") rows))
+    (said interface_name (codes "interface") rows) (is_used (codes "csv") rows))
     (value_read port_identity_of found (codes "slave") None c.in_err-port_option.ensures)
 
 pub returns-in_err-port_option-2 : goal.returns-in_err-port_option-2
@@ -41,10 +52,11 @@ returns-in_err-port_option-2 c =
     let rows = rows_of found in
     let slaves = said port_identity_of (codes "slave") rows in
     let domains = said domain_of (codes "domain") rows in
+    let interfaces = said interface_name (codes "interface") rows in
     let csv = is_used (codes "csv") rows in
     no_answer c.from_residual-in_err-port_option-2.result c.from_residual-in_err-port_option-2.ensures.0
-    ∙ sym (no_master slaves domains csv)
-    ∙ ap (λ masters. measure_made slaves masters domains csv)
+    ∙ sym (no_master slaves domains interfaces csv)
+    ∙ ap (λ masters. measure_made slaves masters domains interfaces csv)
     (value_read port_identity_of found (codes "master") None c.in_err-port_option-2.ensures)
 
 pub returns-in_err-domain_option : goal.returns-in_err-domain_option
@@ -53,11 +65,25 @@ returns-in_err-domain_option c =
     let rows = rows_of found in
     let slaves = said port_identity_of (codes "slave") rows in
     let masters = said port_identity_of (codes "master") rows in
+    let interfaces = said interface_name (codes "interface") rows in
     let csv = is_used (codes "csv") rows in
     no_answer c.from_residual-in_err-domain_option.result c.from_residual-in_err-domain_option.ensures.0
-    ∙ sym (no_domain slaves masters csv)
-    ∙ ap (λ domains. measure_made slaves masters domains csv)
+    ∙ sym (no_domain slaves masters interfaces csv)
+    ∙ ap (λ domains. measure_made slaves masters domains interfaces csv)
     (value_read domain_of found (codes "domain") None c.in_err-domain_option.ensures)
+
+pub returns-in_err-interface_option : goal.returns-in_err-interface_option
+returns-in_err-interface_option c =
+    let found = found_of c.args.matches.now in
+    let rows = rows_of found in
+    let slaves = said port_identity_of (codes "slave") rows in
+    let masters = said port_identity_of (codes "master") rows in
+    let domains = said domain_of (codes "domain") rows in
+    let csv = is_used (codes "csv") rows in
+    no_answer c.from_residual-in_err-interface_option.result c.from_residual-in_err-interface_option.ensures.0
+    ∙ sym (no_interface slaves masters domains csv)
+    ∙ ap (λ interfaces. measure_made slaves masters domains interfaces csv)
+    (value_read interface_name found (codes "interface") None c.in_err-interface_option.ensures)
 
 pub returns : goal.returns
 returns c =
@@ -66,14 +92,18 @@ returns c =
     let slave = c.in_ok-port_option.field-0 in
     let master = c.in_ok-port_option-2.field-0 in
     let domain = c.in_ok-domain_option.field-0 in
+    let interface = c.in_ok-interface_option.field-0 in
     let masters = said port_identity_of (codes "master") rows in
     let domains = said domain_of (codes "domain") rows in
+    let interfaces = said interface_name (codes "interface") rows in
     let csv = is_used (codes "csv") rows in
-    ap (λ used. measure_made (Some slave) (Some master) (Some domain) used)
+    ap (λ used. measure_made (Some slave) (Some master) (Some domain) (Some interface) used)
     (is_read found (codes "csv") c.is_used.result c.is_used.ensures)
-    ∙ ap (λ said. measure_made (Some slave) (Some master) said csv)
+    ∙ ap (λ said. measure_made (Some slave) (Some master) (Some domain) said csv)
+    (value_read interface_name found (codes "interface") (Some interface) c.in_ok-interface_option.ensures)
+    ∙ ap (λ said. measure_made (Some slave) (Some master) said interfaces csv)
     (value_read domain_of found (codes "domain") (Some domain) c.in_ok-domain_option.ensures)
-    ∙ ap (λ said. measure_made (Some slave) said domains csv)
+    ∙ ap (λ said. measure_made (Some slave) said domains interfaces csv)
     (value_read port_identity_of found (codes "master") (Some master) c.in_ok-port_option-2.ensures)
-    ∙ ap (λ said. measure_made said masters domains csv)
+    ∙ ap (λ said. measure_made said masters domains interfaces csv)
     (value_read port_identity_of found (codes "slave") (Some slave) c.in_ok-port_option.ensures)

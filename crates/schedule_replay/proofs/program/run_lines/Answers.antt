@@ -3,8 +3,8 @@ use Rattle.capture_extract.specs.declared.line.LineForm.{LineForm}
 use Rattle.capture_extract.specs.declared.line.LineForm.TheVariants.{Octets, Timed}
 use Rattle.capture_extract.specs.Extracted.{ExtractsAnswer}
 use Rattle.schedule_replay.specs.Program.{line_form_of}
-use Rattle.schedule_replay.proofs.program.run_extract.Goals as goal
-use Rattle.schedule_replay.proofs.program.run_extract.Goals.{then-options, else-options}
+use Rattle.schedule_replay.proofs.program.run_lines.Goals as goal
+use Rattle.schedule_replay.proofs.program.run_lines.Goals.{then-options, else-options}
 
 abbrev by_flag : Bool → LineForm
 by_flag octets = if octets then Octets else Timed
@@ -18,7 +18,7 @@ returns g c =
       c.extract-answer.result.0,
       c.finish_packets-status.ensures,
       c.extract-answer.ensures.failures,
-      subst (λ (f : LineForm). ExtractsAnswer f g.R.Read.remaining g.W.Write.contents c.extract-answer.result.0
+      subst (λ (f : LineForm). ExtractsAnswer (record { form = f; interface = c.args.options.interface }) g.R.Read.remaining g.W.Write.contents c.extract-answer.result.0
           c.args.input.now c.extract-answer.new.input c.args.output.now c.extract-answer.new.output) form
           c.extract-answer.ensures.extracted,
     )

@@ -1,0 +1,113 @@
+//! A row of the table: messages of one kind.
+
+use crate::header::Header;
+use crate::message_type::MessageType;
+use crate::port::Port;
+use ptp_units::{Interval, Nanoseconds, Timestamp};
+use std::fmt;
+use std::fmt::{Display, Formatter};
+
+/// What the messages of a row have in common.
+///
+/// Rows stand in the order of these fields: all that a port sends in a domain stands together. So one sees a master by its Sync,
+/// Announce and Delay_Resp, and those whom it answers, and a slave by its Delay_Req.
+#[derive(Clone, Copy, Debug, PartialEq, Eq, PartialOrd, Ord)]
+pub(crate) struct RowKey {
+    /// The interface, by its index.
+    pub(crate) interface: usize,
+    /// domainNumber.
+    pub(crate) domain: u8,
+    /// sourcePortIdentity.
+    pub(crate) source: Port,
+    /// messageType.
+    pub(crate) message: MessageType,
+    /// requestingPortIdentity, in the types that have one.
+    pub(crate) requesting: Option<Port>,
+}
+
+/// Which minor versions were met.
+#[derive(Clone, Copy, Debug)]
+pub(crate) struct Versions {
+    met: [bool; 16],
+}
+
+impl Display for Versions {
+    fn fmt<W: fmt::Write>(&self, f: &mut Formatter<W>) -> fmt::Result {
+        let mut separator = "";
+        for (minor, met) in self.met.iter().enumerate() {
+            if *met {
+                write!(f, "{separator}2.{minor}")?;
+                separator = ",";
+            }
+        }
+        Ok(())
+    }
+}
+
+/// A correctionField in nanoseconds, exactly, or that it is too big (IEEE 1588-2019, 13.3.2.9).
+#[derive(Clone, Copy, Debug)]
+pub(crate) struct Correction(pub(crate) Interval);
+
+impl Display for Correction {
+    fn fmt<W: fmt::Write>(&self, f: &mut Formatter<W>) -> fmt::Result {
+        match self.0.exact() {
+            Some(units) => write!(f, "{}", Nanoseconds(2 * i128::from(units))),
+            None => f.write_str("too big"),
+        }
+    }
+}
+
+/// A time: seconds, a point, and nine digits of nanoseconds.
+#[derive(Clone, Copy, Debug)]
+pub(crate) struct Time(pub(crate) Timestamp);
+
+impl Display for Time {
+    fn fmt<W: fmt::Write>(&self, f: &mut Formatter<W>) -> fmt::Result {
+        write!(f, "{}.{:09}", self.0.seconds(), self.0.nanos())
+    }
+}
+
+/// The messages of a row. Counts stay at 2^64 - 1.
+#[derive(Clone, Copy, Debug)]
+pub(crate) struct Row {
+    pub(crate) count: u64,
+    pub(crate) one_step: u64,
+    pub(crate) two_step: u64,
+    pub(crate) versions: Versions,
+    /// The time of the packet of the first, and of the last, as they stand in the capture.
+    pub(crate) first: Timestamp,
+    pub(crate) last: Timestamp,
+    pub(crate) least: Interval,
+    pub(crate) greatest: Interval,
+}
+
+impl Row {
+    /// Before the first message, which is this one.
+    pub(crate) fn new(time: Timestamp, header: &Header) -> Row {
+        Row {
+            count: 0,
+            one_step: 0,
+            two_step: 0,
+            versions: Versions { met: [false; 16] },
+            first: time,
+            last: time,
+            least: header.correction,
+            greatest: header.correction,
+        }
+    }
+
+    /// Counts a message of a packet of this time. A correctionField that is too big is above all others.
+    pub(crate) fn count(&mut self, time: Timestamp, header: &Header) {
+        self.count = self.count.saturating_add(1);
+        let steps = if header.two_step {
+            &mut self.two_step
+        } else {
+            &mut self.one_step
+        };
+        *steps = steps.saturating_add(1);
+        self.versions.met[usize::from(header.minor_version)] = true;
+        self.last = time;
+        self.least = Interval(self.least.0.min(header.correction.0));
+        self.greatest = Interval(self.greatest.0.max(header.correction.0));
+    }
+}

@@ -1,0 +1,111 @@
+//! The rows of messages, and what isn't in a row.
+
+use crate::header::{Header, Unlisted, read_header};
+use crate::interfaces::Interfaces;
+use crate::row::{Row, RowKey};
+use capture_file::Interface;
+use ptp_units::Timestamp;
+use std::alloc::{AllocError, Global};
+use std::collections::BTreeMap;
+
+/// The most rows: memory is bounded so whatever comes. A network of some hundred slaves of one master has three or four for each.
+/// There are no more interfaces than rows, since each has one.
+pub(crate) const ROWS_MOST: usize = 1024;
+
+/// The messages of a capture by rows. Counts stay at 2^64 - 1.
+#[derive(Drop)]
+pub(crate) struct Table {
+    alloc: Global,
+    pub(crate) interfaces: Interfaces,
+    pub(crate) rows: BTreeMap<RowKey, Row>,
+    /// How many messages would have made further rows.
+    pub(crate) further: u64,
+    /// How many datagrams have another version than 2.
+    pub(crate) other_version: u64,
+    /// How many datagrams end before what is read of them.
+    pub(crate) too_short: u64,
+}
+
+impl Table {
+    /// No datagram came.
+    pub(crate) fn new(alloc: Global) -> Table {
+        Table {
+            alloc,
+            interfaces: Interfaces::new(alloc),
+            rows: BTreeMap::new(alloc),
+            further: 0,
+            other_version: 0,
+            too_short: 0,
+        }
+    }
+
+    /// Takes a datagram of a packet that was captured at this interface and time.
+    pub(crate) fn take(
+        &mut self,
+        interface: &Interface<'_>,
+        time: Timestamp,
+        datagram: &[u8],
+    ) -> Result<(), AllocError> {
+        match read_header(datagram) {
+            Ok(header) => return self.count(interface, time, &header),
+            Err(Unlisted::OtherVersion) => {
+                self.other_version = self.other_version.saturating_add(1);
+            }
+            Err(Unlisted::TooShort) => self.too_short = self.too_short.saturating_add(1),
+        }
+        Ok(())
+    }
+
+    /// The index of an interface, which is added where there is room for a row of it.
+    fn interface(&mut self, interface: &Interface<'_>) -> Result<Option<usize>, AllocError> {
+        match self.interfaces.find(interface) {
+            Some(index) => Ok(Some(index)),
+            None if self.rows.len() < ROWS_MOST => {
+                Ok(Some(self.interfaces.add(self.alloc, interface)?))
+            }
+            None => Ok(None),
+        }
+    }
+
+    /// Counts a message in its row.
+    fn count(
+        &mut self,
+        interface: &Interface<'_>,
+        time: Timestamp,
+        header: &Header,
+    ) -> Result<(), AllocError> {
+        let Some(index) = self.interface(interface)? else {
+            self.further = self.further.saturating_add(1);
+            return Ok(());
+        };
+        let key = RowKey {
+            interface: index,
+            domain: header.domain,
+            source: header.source,
+            message: header.message,
+            requesting: header.requesting,
+        };
+        self.count_at(key, time, header)
+    }
+
+    /// Counts a message in the row of a key, which is made where there is room.
+    fn count_at(
+        &mut self,
+        key: RowKey,
+        time: Timestamp,
+        header: &Header,
+    ) -> Result<(), AllocError> {
+        if let Some(row) = self.rows.get_mut(&key) {
+            row.count(time, header);
+            return Ok(());
+        }
+        if self.rows.len() >= ROWS_MOST {
+            self.further = self.further.saturating_add(1);
+            return Ok(());
+        }
+        let mut row = Row::new(time, header);
+        row.count(time, header);
+        self.rows.insert(key, row)?;
+        Ok(())
+    }
+}

@@ -1,0 +1,187 @@
+//! The text of a table, and of what stands below it.
+
+use crate::cells::Cells;
+use crate::interfaces::{Argument, Place};
+use crate::message_type::MessageType;
+use crate::port::Port;
+use crate::row::{Correction, Row, RowKey, Time};
+use crate::table::{ROWS_MOST, Table};
+use std::alloc::{AllocError, Global};
+use std::fmt;
+use std::fmt::{Display, Formatter, Write};
+
+/// The most calls of `ptpx measure` that are written.
+const CALLS_MOST: usize = 8;
+
+/// A value, or a dash where there is none.
+#[derive(Clone, Copy)]
+struct OrDash<T>(Option<T>);
+
+impl<T: Display> Display for OrDash<T> {
+    fn fmt<W: fmt::Write>(&self, f: &mut Formatter<W>) -> fmt::Result {
+        match &self.0 {
+            Some(value) => write!(f, "{value}"),
+            None => f.write_str("-"),
+        }
+    }
+}
+
+/// So many of something, by its names for one and for others.
+#[derive(Clone, Copy)]
+struct Quantity {
+    count: u64,
+    one: &'static str,
+    others: &'static str,
+}
+
+impl Display for Quantity {
+    fn fmt<W: fmt::Write>(&self, f: &mut Formatter<W>) -> fmt::Result {
+        let name = if self.count == 1 {
+            self.one
+        } else {
+            self.others
+        };
+        write!(f, "{} {name}", self.count)
+    }
+}
+
+/// A call that measures a slave.
+#[derive(Clone, Copy)]
+struct Call<'a> {
+    /// The interface, where it has to be named.
+    interface: Option<&'a Place>,
+    domain: u8,
+    master: Port,
+    slave: Port,
+}
+
+impl Display for Call<'_> {
+    fn fmt<W: fmt::Write>(&self, f: &mut Formatter<W>) -> fmt::Result {
+        f.write_str("ptpx measure")?;
+        if let Some(interface) = self.interface {
+            write!(f, " --interface {}", Argument(interface))?;
+        }
+        write!(
+            f,
+            " --domain {} --master {} --slave {}",
+            self.domain, self.master, self.slave
+        )
+    }
+}
+
+/// Appends the cells of a row.
+fn push_row(
+    cells: &mut Cells,
+    interface: Option<&Place>,
+    key: &RowKey,
+    row: &Row,
+) -> Result<(), AllocError> {
+    let has_steps = key.message.has_steps();
+    cells.push(&OrDash(interface))?;
+    cells.push(&key.domain)?;
+    cells.push(&key.source)?;
+    cells.push(&OrDash(key.requesting))?;
+    cells.push(&key.message)?;
+    cells.push(&row.count)?;
+    cells.push(&OrDash(has_steps.then_some(row.one_step)))?;
+    cells.push(&OrDash(has_steps.then_some(row.two_step)))?;
+    cells.push(&row.versions)?;
+    cells.push(&Time(row.first))?;
+    cells.push(&Time(row.last))?;
+    cells.push(&Correction(row.least))?;
+    cells.push(&Correction(row.greatest))
+}
+
+impl Table {
+    /// Appends the rows with their head.
+    fn push_rows(&self, alloc: Global, text: &mut String) -> Result<(), AllocError> {
+        let mut cells = Cells::new(alloc)?;
+        for (key, row) in &self.rows {
+            push_row(&mut cells, self.interfaces.get(key.interface), key, row)?;
+        }
+        cells.push_to(text)
+    }
+
+    /// The call that measures the slave whom the messages of a row answer, if they do.
+    fn call(&self, key: &RowKey) -> Option<Call<'_>> {
+        let slave = key.requesting?;
+        if key.message != MessageType::DelayResp {
+            return None;
+        }
+        let interface = if self.interfaces.are_several() {
+            self.interfaces.get(key.interface)
+        } else {
+            None
+        };
+        Some(Call {
+            interface,
+            domain: key.domain,
+            master: key.source,
+            slave,
+        })
+    }
+
+    /// Appends the calls that measure the slaves who are answered, a line each.
+    fn push_calls(&self, text: &mut String) -> Result<(), AllocError> {
+        let mut left = CALLS_MOST;
+        for key in self.rows.keys() {
+            let Some(call) = self.call(key) else {
+                continue;
+            };
+            if left == 0 {
+                return text.push_str("and so on, for each row of Delay_Resp\n");
+            }
+            if left == CALLS_MOST {
+                text.push('\n')?;
+            }
+            write!(text, "{call}\n")?;
+            left -= 1;
+        }
+        Ok(())
+    }
+
+    /// Appends what isn't in the table.
+    fn push_others(&self, text: &mut String) -> Result<(), AllocError> {
+        if self.further > 0 {
+            let messages = Quantity {
+                count: self.further,
+                one: "message",
+                others: "messages",
+            };
+            write!(
+                text,
+                "{messages} of further rows: the table has {ROWS_MOST} at most\n"
+            )?;
+        }
+        if self.other_version > 0 {
+            let datagrams = Quantity {
+                count: self.other_version,
+                one: "datagram",
+                others: "datagrams",
+            };
+            write!(text, "{datagrams} of another version than 2\n")?;
+        }
+        if self.too_short > 0 {
+            let datagrams = Quantity {
+                count: self.too_short,
+                one: "datagram",
+                others: "datagrams",
+            };
+            write!(text, "{datagrams} too short for a message\n")?;
+        }
+        Ok(())
+    }
+
+    /// The table, with the calls and with what isn't in it; where it has no row, a sentence that says so.
+    pub(crate) fn text(&self, alloc: Global) -> Result<String, AllocError> {
+        let mut text = String::new(alloc);
+        if self.rows.is_empty() {
+            text.push_str("there is no message of PTP version 2\n")?;
+        } else {
+            self.push_rows(alloc, &mut text)?;
+            self.push_calls(&mut text)?;
+        }
+        self.push_others(&mut text)?;
+        Ok(text)
+    }
+}
