@@ -93,9 +93,7 @@ impl Foreign {
     /// subcommand reads.
     pub fn command(self) -> &'static str {
         match self {
-            Foreign::Pcap | Foreign::PcapNg => {
-                "tshark -n -r - -Y ptp -T jsonraw | jq -r '.[]._source.layers.ptp_raw[0]' | ptpx show"
-            }
+            Foreign::Pcap | Foreign::PcapNg => "ptpx extract --octets | ptpx show",
             Foreign::Gzip => "gzip -dc",
             Foreign::ByteOrderMark => "tail -c +4",
             Foreign::CarriageReturns => "tr '\\r' '\\n'",
