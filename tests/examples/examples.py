@@ -3,51 +3,41 @@
 On each page a block of code marked `sh` is run, in a folder of its own that has ./ptpx, examples/ and a capture.pcap, one block after
 the other. The next block marked `text` is all that it prints, on standard output and standard error; a line `...` in it stands for any
 lines. Without such a block it has to succeed, and prints nothing. Blocks that prove or that the gate runs elsewhere are passed over,
-and so are, by name, those that ask for a tool that isn't there; a file that such a block would have written is taken from examples/.
+and so are, by name, those that ask for a tool that isn't there.
 
 Then the files of examples/: replays each schedule, which gives the transcript beside it octet for octet, and checks each transcript,
-which is accepted. Measures each recording, which gives the measurement beside it; a capture beside it gives the recording."""
+which is accepted. Measures each recording, which gives the measurement beside it. What captures give, captured.py says."""
 import os
 import pathlib
 import re
 import shutil
 import subprocess
-import sys
 import tempfile
 
-TOP = pathlib.Path(__file__).resolve().parents[2]
-EXAMPLES = TOP / 'examples'
+from captured import EXAMPLES, TOP, fail, try_captures
+
 PROGRAM = pathlib.Path(os.environ.get('PTPX', TOP / 'crates/ptpx/out/ptpx')).resolve()
 
 # The pages, and how many blocks are run of each at the least.
-PAGES = {'README.md': 7, 'docs/TUTORIAL.md': 9, 'docs/MANY.md': 4}
+PAGES = {'README.md': 8, 'docs/TUTORIAL.md': 9, 'docs/MANY.md': 4}
 
 BLOCK = re.compile(r'^```(\w*)\n(.*?)^```$', re.M | re.S)
 
 # What stands in a block that isn't run here: proofs, and the gate itself; tests/c_library builds the examples in C.
 ELSEWHERE = re.compile(r'^\./prove\b|\.ci/run|\brt \w|^cc ', re.M)
 
-# Tools that a block may ask for: the words by which it does, and what is taken in the place of what it writes.
+# Tools that a block may ask for, and the words by which it does.
 TOOLS = {
-    'tshark': re.compile(r'\btshark\b|\bfrom_capture\b'),
-    'jq': re.compile(r'\bjq\b|\bfrom_capture\b'),
+    'jq': re.compile(r'\bjq\b'),
     'gnuplot': re.compile(r'\bgnuplot -'),
     'parallel': re.compile(r'\bparallel -'),
 }
-INSTEAD = {'slave.lines': 'slave.lines'}
-
-# What tshark says of its user.
-OF_TSHARK = re.compile(r'^Running as user .*\n', re.M)
-
-
-def fail(text):
-    sys.exit(f'examples: {text}')
 
 
 def run(command, folder):
     """What a script of the shell prints, and its status."""
     ended = subprocess.run(['bash', '-c', f'set -o pipefail\n{command}'], cwd=folder, stdout=subprocess.PIPE, stderr=subprocess.STDOUT, timeout=120)
-    return OF_TSHARK.sub('', ended.stdout.decode()), ended.returncode
+    return ended.stdout.decode(), ended.returncode
 
 
 def is_shown(printed, shown):
@@ -80,9 +70,6 @@ def try_page(name, least, folder):
     for code, shown in found:
         if missing(code):
             passed_over.update(missing(code))
-            for it in re.findall(r'> (\S+)', code):
-                if it in INSTEAD:
-                    shutil.copy(EXAMPLES / INSTEAD[it], folder / it)
             continue
         printed, status = run(code, folder)
         if shown is None and (printed or status):
@@ -116,17 +103,6 @@ def try_files():
     return f'{len(schedules)} schedules, {len(recordings)} recordings'
 
 
-def try_captures():
-    captures = sorted(EXAMPLES.glob('*.pcap'))
-    if missing('from_capture'):
-        return 'no captures'
-    for capture in captures:
-        printed, status = run(f'examples/from_capture examples/{capture.name}', TOP)
-        if status or printed != capture.with_suffix('.lines').read_text():
-            fail(f'{capture.name}: from_capture gives another recording')
-    return f'{len(captures)} captures'
-
-
 def main():
     told, passed_over = [], set()
     for name, least in PAGES.items():
@@ -134,7 +110,7 @@ def main():
             count, missed = try_page(name, least, pathlib.Path(folder))
         told.append(f'{count} blocks of {name}')
         passed_over |= missed
-    print('examples:', ', '.join([*told, try_files(), try_captures()]))
+    print('examples:', ', '.join([*told, try_files(), try_captures(PROGRAM)]))
     if passed_over:
         print(f'examples: what asks for {", ".join(sorted(passed_over))} was passed over')
 
