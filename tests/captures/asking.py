@@ -31,8 +31,8 @@ class Case(typing.NamedTuple):
 
 
 def is_asked(case):
-    """Whether the program is asked for a case. It has no option for an interface yet."""
-    return PROGRAM and case.interface is None and not (PCAP_ALONE and case.octets[:4] == reading.SECTION_TYPE)
+    """Whether the program is asked for a case."""
+    return PROGRAM and not (PCAP_ALONE and case.octets[:4] == reading.SECTION_TYPE)
 
 
 def misread(case, answer):

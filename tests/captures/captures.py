@@ -96,7 +96,7 @@ def try_interfaces():
 
 
 def try_example():
-    """The example, of which a script that has tshark made the lines beside it."""
+    """The example, of which tshark made the lines beside it."""
     lines = [line.split(' ') for line in EXAMPLE.with_suffix('.lines').read_text().splitlines()]
     see(EXAMPLE.name, Case(EXAMPLE.read_bytes(), [(judges.nanoseconds(time), bytes.fromhex(octets)) for time, octets in lines]))
 

@@ -16,14 +16,18 @@ ESCAPES = {ord(octet): escape for octet, escape in {'\t': r'\t', '\n': r'\n', '\
 
 
 class Wanted(typing.NamedTuple):
-    """What is asked for: a number, and ports of ten octets."""
+    """What is asked for: a number, ports of ten octets, and what an interface is called."""
     domain: int | None = None
     master: bytes | None = None
     slave: bytes | None = None
+    interface: bytes | None = None
 
     def arguments(self):
         said = {'domain': self.domain, 'master': self.master and port_text(self.master), 'slave': self.slave and port_text(self.slave)}
-        return [f'--{name}={value}' for name, value in said.items() if value is not None]
+        return [*(f'--{name}={value}' for name, value in said.items() if value is not None), *self.interface_arguments()]
+
+    def interface_arguments(self):
+        return [] if self.interface is None else [b'--interface=' + self.interface]
 
 
 class Datagram(typing.NamedTuple):

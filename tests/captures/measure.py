@@ -32,6 +32,7 @@ EXAMPLE = TOP / 'examples/slave.pcap'
 AT_ONCE = 4
 HEAD = b'time,offset_ns,path_ns,by,line\n'
 WHOLE = b'ptpx: all times are of whole microseconds\n'
+NO_INTERFACE = b'ptpx: lines have no interface, so --interface changes nothing\n'
 
 # What is wrong with a capture.
 WORDS = {1002: "the version of the capture isn't known", 1003: 'the octets that tell the order of numbers are none', 1004: "a length can't be",
@@ -92,7 +93,7 @@ def fault_text(fault):
 def told(case, answer, choice):
     """What is owed on standard error: the fault, what `extract` tells of the packets, and what is told of the interfaces."""
     fault = fault_text(answer.fault) if answer.fault else b''
-    extracted = ask(case.octets, 'extract').errors
+    extracted = ask(case.octets, 'extract', *case.wanted.interface_arguments()).errors
     if not extracted.startswith(fault):
         fail(f'extract tells {extracted[:300]!r}', case.octets)
     return fault + extracted[len(fault):].removesuffix(WHOLE) + ''.join(f'ptpx: {it}\n' for it in choice.sentences()).encode()
@@ -103,12 +104,13 @@ def owed_lines(case, is_csv):
     given = choosing.measured.Options(case.wanted.slave, case.wanted.master, case.wanted.domain, is_csv)
     owed = choosing.measured.measured(case.octets, given)
     fault = b'ptpx: fault %d at line %d\n' % owed.fault if owed.fault else b''
-    return Said(3 if owed.fault else 0, owed.output, fault + owed.summary)
+    note = b'' if case.wanted.interface is None else NO_INTERFACE
+    return Said(3 if owed.fault else 0, owed.output, fault + note + owed.summary)
 
 
 def owed(case, is_csv):
     """What is owed for a case, and what was seen."""
-    answer = reading.read(case.octets)
+    answer = reading.read(case.octets, case.wanted.interface)
     if answer.fault and answer.fault[0] == 1001:
         return owed_lines(case, is_csv), ['lines']
     choice = choosing.Choice(case.wanted, answer.rows)
@@ -133,7 +135,7 @@ def see(name, case, forms=(True,)):
             said = ask(case.octets, *arguments)
         except subprocess.TimeoutExpired:
             fail(f'{name}: no end within a minute', case.octets)
-        named = f'{name}: {" ".join(arguments)}'
+        named = f'{name}: {arguments}'
         if said.status != wanted.status:
             fail(f'{named}: status {said.status}, and {wanted.status} is owed', case.octets)
         for what, one, other in [('standard output', said.output, wanted.output), ('standard error', said.errors, wanted.errors)]:
@@ -152,6 +154,19 @@ def made_by_hand():
 
 def try_made(number):
     name, octets, wanted = made_by_hand()[number]
+    return see(name, Case(octets, wanted), forms=(True, False))
+
+
+@functools.cache
+def made_of_one():
+    """The captures of exchanging.py, each with what its interfaces are called, and with a name that none has."""
+    made = [it for it in made_by_hand() if it[1][:4] == reading.SECTION_TYPE]
+    called = [(name, octets, wanted, sorted({row.interface.name for row in reading.read(octets).rows})) for name, octets, wanted in made]
+    return [(f'{name} at {one!r}', octets, wanted._replace(interface=one)) for name, octets, wanted, names in called for one in [*names, b'eth9']]
+
+
+def try_made_of_one(number):
+    name, octets, wanted = made_of_one()[number]
     return see(name, Case(octets, wanted), forms=(True, False))
 
 
@@ -190,7 +205,7 @@ def try_bent_exchanges(number):
 
 
 # Inputs that begin with no magic: of no octet, of fewer than four, with an LF among these, and with octets that are nearly a magic.
-LINES = [b'', b'\n', b'\n\n', b'\n\n\n\n', b'1\n', b'12\n', b'123\n', b'1 \n\n1 00\n', b'\r\n', b'1', b'1 ', b'1 0', b'1 00', b'1.5 ', b'10 \n', b'10 00\n', b'10 00\r\n\n',
+LINES = [b'', b'\n', b'\n\n', b'\n\n\n\n', b'1\n', b'12\n', b'123\n', b'1 \n\n1 00\n', b'\r\n', b'1', b'1 ', b'1 0', b'1 00', b'1.5 ', b'10 \n', b'0 \n', b'0 \n1 \n2 \n', b'0.1 \n', b'M\n1 00\n', b'\xa1\n\n\n\n', b'\xd4 \n1 00\n', b'10 00\n', b'10 00\r\n\n',
          b'\xa1', b'\xa1\xb2', b'\xa1\xb2\xc3', b'\x0a', b'\x0a\x0d', b'\x0a\x0d\x0d', b'\x0a\x0d\x0d\x0d', b'\xef\xbb\xbf1 00\n',
          b'\n1 00\n1 00\n', b'1.000000000 00\n2 00\nx\n']
 
@@ -206,7 +221,8 @@ def inputs_of_lines():
 
 def try_lines(number):
     octets = inputs_of_lines()[number]
-    return see(f'no capture, {octets[:40]!r}', Case(octets), forms=(True, False))
+    wanted = Wanted(interface=b'eth0') if number % 4 == 0 else Wanted()
+    return see(f'no capture, {octets[:40]!r}', Case(octets, wanted), forms=(True, False))
 
 
 def try_edited(name, octets):
@@ -216,6 +232,7 @@ def try_edited(name, octets):
 # Of each kind how a case is tried by its number, and how many there are.
 KINDS = {
     'of exchanges': (try_made, lambda: len(made_by_hand())),
+    'of exchanges at one interface': (try_made_of_one, lambda: len(made_of_one())),
     'of exchanges by a seed': (try_taped, lambda: 300),
     'cut': (try_cut, lambda: len(cuts())),
     'of every form': (try_of_every_form, lambda: 200),

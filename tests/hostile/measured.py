@@ -423,8 +423,7 @@ def measured(text, given=Options()):
     watch, kept, written, fault, times = Watch(given), [], [], None, set()
     measurer = watch.known() and Measurer(watch.known(), given.csv)
     early = []
-    # where an LF is among the first four octets, these are the last that are read, and the first line is refused whatever it is
-    for place, line in enumerate([b''] if b'\n' in text[:4] else shown.lines_of(text), 1):
+    for place, line in enumerate(shown.lines_of(text), 1):
         told, number = read(place, line)
         if number:
             fault = number, place

@@ -1,0 +1,142 @@
+"""The table that `ptpx extract --list` owes for a capture, by the packets that reading.py finds in it."""
+import decimal
+import typing
+
+import making
+
+ROWS_MOST, CALLS_MOST, NAME_MOST = 1024, 8, 64
+
+# messageType: the names of IEEE 1588-2019, table 36, in the order of their numbers. Those without a name stand behind them.
+NAMES = {0: 'Sync', 1: 'Delay_Req', 2: 'Pdelay_Req', 3: 'Pdelay_Resp', 8: 'Follow_Up', 9: 'Delay_Resp', 10: 'Pdelay_Resp_Follow_Up', 11: 'Announce',
+         12: 'Signaling', 13: 'Management'}
+WITH_STEPS, WITH_REQUESTING, DELAY_RESP = {0, 3}, {3, 9, 10}, 9
+
+HEAD = ['interface', 'domain', 'source', 'requesting', 'message', 'count', 'one-step', 'two-step', 'version', 'first', 'last', 'correction ns', 'up to ns']
+AT_RIGHT = [HEAD.index(head) for head in HEAD if head not in ('interface', 'source', 'requesting', 'message', 'version')]
+
+NONE = 'there is no message of PTP version 2\n'
+
+
+class Key(typing.NamedTuple):
+    """What the messages of a row have in common."""
+    interface: tuple
+    domain: int
+    source: bytes
+    kind: int
+    requesting: bytes
+
+
+def order(key, interfaces):
+    return interfaces.index(key.interface), key.domain, key.source, key.kind not in NAMES, key.kind, key.requesting
+
+
+def escaped(octets):
+    """Octets with the escapes that Rust gives them."""
+    known = {9: r'\t', 10: r'\n', 13: r'\r', 34: r'\"', 39: r"\'", 92: r'\\'}
+    return ''.join(known.get(octet) or (chr(octet) if 32 <= octet < 127 else f'\\x{octet:02x}') for octet in octets)
+
+
+def called(interface):
+    """An interface in a row."""
+    place, name = interface
+    if name is None:
+        return f'if{place}'
+    return escaped(name[:NAME_MOST]) + ('..' if len(name) > NAME_MOST else '')
+
+
+def argument(interface):
+    """An interface as a shell is given it."""
+    place, name = interface
+    if name is None:
+        return f'if{place}'
+    is_plain = all(chr(octet).isascii() and (chr(octet).isalnum() or octet in b'._-:@+') for octet in name)
+    return escaped(name) if is_plain else f"$'{escaped(name)}'"
+
+
+def port(octets):
+    return f'{octets[:8].hex()}/{int.from_bytes(octets[8:], "big")}' if octets else '-'
+
+
+def seconds(time):
+    return f'{time // making.SECOND}.{time % making.SECOND:09}'
+
+
+def nanoseconds(units):
+    """Units of 2^-16 ns as nanoseconds, exactly."""
+    if units == 2**63 - 1:
+        return 'too big'
+    with decimal.localcontext() as context:
+        context.prec = 60
+        text = f'{decimal.Decimal(units) / 65536:f}'
+    return text.rstrip('0').rstrip('.') if '.' in text else text
+
+
+def cells(key, messages):
+    """A row of these messages, each of a time and a datagram."""
+    steps = [octets[6] >> 1 & 1 for _, octets in messages]
+    corrections = [int.from_bytes(octets[8:16], 'big', signed=True) for _, octets in messages]
+    versions = sorted({octets[1] >> 4 for _, octets in messages})
+    has_steps = key.kind in WITH_STEPS
+    return [called(key.interface), str(key.domain), port(key.source), port(key.requesting), NAMES.get(key.kind, f'type {key.kind}'), str(len(messages)),
+            str(steps.count(0)) if has_steps else '-', str(steps.count(1)) if has_steps else '-', ','.join(f'2.{it}' for it in versions),
+            seconds(messages[0][0]), seconds(messages[-1][0]), nanoseconds(min(corrections)), nanoseconds(max(corrections))]
+
+
+def aligned(rows):
+    widths = [max(len(cell) for cell in column) for column in zip(*rows)]
+    for row in rows:
+        fields = [cell.rjust(width) if place in AT_RIGHT else cell.ljust(width) for place, (cell, width) in enumerate(zip(row, widths))]
+        yield '  '.join(fields) + '\n'
+
+
+class Listing:
+    """What a capture has, by rows."""
+
+    def __init__(self, rows):
+        self.interfaces, self.rows = [], {}
+        self.further = self.other_version = self.too_short = 0
+        for row in rows:
+            self.take((row.interface.place, row.interface.own), row.time, row.datagram)
+
+    def take(self, interface, time, octets):
+        kind = octets[0] & 15 if octets else None
+        if len(octets) > 1 and octets[1] & 15 != 2:
+            self.other_version += 1
+        elif len(octets) < (54 if kind in WITH_REQUESTING else 34) or len(octets) < 34:
+            self.too_short += 1
+        else:
+            self.count(Key(interface, octets[4], octets[20:30], kind, octets[44:54] if kind in WITH_REQUESTING else b''), time, octets)
+
+    def count(self, key, time, octets):
+        if key not in self.rows and len(self.rows) == ROWS_MOST:
+            self.further += 1
+            return
+        if key.interface not in self.interfaces:
+            self.interfaces.append(key.interface)
+        self.rows.setdefault(key, []).append((time, octets))
+
+    def keys(self):
+        return sorted(self.rows, key=lambda key: order(key, self.interfaces))
+
+    def calls(self):
+        """The calls that measure those who are answered."""
+        for key in self.keys():
+            if key.kind == DELAY_RESP:
+                interface = f'--interface {argument(key.interface)} ' if len(self.interfaces) > 1 else ''
+                yield f'ptpx measure {interface}--domain {key.domain} --master {port(key.source)} --slave {port(key.requesting)}\n'
+
+    def others(self):
+        """What is told of what isn't in a row."""
+        if self.further:
+            yield f'{self.further} message{"s" * (self.further > 1)} of further rows: the table has {ROWS_MOST} at most\n'
+        if self.other_version:
+            yield f'{self.other_version} datagram{"s" * (self.other_version > 1)} of another version than 2\n'
+        if self.too_short:
+            yield f'{self.too_short} datagram{"s" * (self.too_short > 1)} too short for a message\n'
+
+    def text(self):
+        """What goes to standard output."""
+        calls = list(self.calls())
+        rows = [NONE] if not self.rows else aligned([HEAD, *(cells(key, self.rows[key]) for key in self.keys())])
+        more = ['and so on, for each row of Delay_Resp\n'] if len(calls) > CALLS_MOST else []
+        return ''.join([*rows, *(['\n'] if calls else []), *calls[:CALLS_MOST], *more, *self.others()])
