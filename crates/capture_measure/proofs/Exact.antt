@@ -135,13 +135,13 @@ written_exactly form wanted w read text on known =
     ∙ texts_measured form w (heard wanted read.rows)
 
 pub each_measurement : EachReportIsExact → EachMeasurementIsExact
-each_measurement each_report network run slave master w form wanted lines read text accepted watches taken known tells
+each_measurement each_report network run slave master w moved form wanted lines read text accepted watches taken known tells
     fresh ticked missing =
     let on = read_on 1 lines (begun form wanted) read text taken in
     let those = heard wanted read.rows in record {
       written = written_exactly form wanted w read text on known;
       exact = all_measured (IsExact master tells) w those
-          (each_report network run slave master w (datagrams those) accepted watches tells (record {
+          (each_report network run slave master w moved (datagrams those) accepted watches tells (record {
             numbered = (heard_numbered wanted read.rows (on.counted tt)).0;
             fresh = fresh;
             ticked = ticked;

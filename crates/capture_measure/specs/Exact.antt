@@ -7,6 +7,7 @@ use Rattle.network_model.specs.Run.{Run}
 use Rattle.network_model.specs.Premises.{IsAcceptedRun, exact_limits}
 use Rattle.text_lines.specs.Task.{TakesLines}
 use Rattle.capture_model.specs.declared.watched.Watched.{Watched}
+use Rattle.capture_model.specs.Agreement.{Moved}
 use Rattle.capture_model.specs.Told.{Tells}
 use Rattle.capture_model.specs.Premises.{IsFresh, IsTicked, MissesFew}
 use Rattle.capture_model.specs.Exact.{Watches, IsExact}
@@ -24,8 +25,9 @@ texts_as form [] = []
 texts_as form (m ∷ earlier) = texts_as form earlier ++ text_as form m
 
 -- a text is that of what is measured at lines that are heard, whose reports are exact for the events that they tell
-pub record WritesExact {network : Network} {slave : NodeName} {run : Run} (master : NodeName) (w : Watched)
-    (rows : List Row) (tells : Tells network slave run (datagrams rows)) (form : Form) (text : List ℕ) : Type 0 where
+pub record WritesExact {network : Network} {slave : NodeName} {run : Run} {moved : Moved} (master : NodeName)
+    (w : Watched) (rows : List Row) (tells : Tells network slave w moved run (datagrams rows)) (form : Form)
+    (text : List ℕ) : Type 0 where
   pub written : text ≡ texts_as form (measurements w rows)
   pub exact : All (λ m. IsExact master tells m.report) (measurements w rows)
 
@@ -34,12 +36,12 @@ pub record WritesExact {network : Network} {slave : NodeName} {run : Run} (maste
 -- often enough, and few Delay_Reqs are missing in a row.
 abbrev pub EachMeasurementIsExact : Type 0
 EachMeasurementIsExact =
-    (network : Network) (run : Run) (slave master : NodeName) (w : Watched) (form : Form) (wanted : Wanted)
+    (network : Network) (run : Run) (slave master : NodeName) (w : Watched) (moved : Moved) (form : Form) (wanted : Wanted)
     (lines : List (List ℕ)) (read : Recording) (text : List ℕ)
     → IsAcceptedRun network run → Watches network slave master w
     → TakesLines measure_rules 1 lines (begun form wanted) read text
     → watched_in wanted (datagrams read.rows) ≡ Some w
-    → (tells : Tells network slave run (datagrams (heard wanted read.rows)))
-    → IsFresh exact_limits.late w tells → IsTicked exact_limits.between_ticks master w tells
-    → MissesFew exact_limits.late w tells
+    → (tells : Tells network slave w moved run (datagrams (heard wanted read.rows)))
+    → IsFresh exact_limits.late tells → IsTicked exact_limits.between_ticks master tells
+    → MissesFew exact_limits.late tells
     → WritesExact master w (heard wanted read.rows) tells form text

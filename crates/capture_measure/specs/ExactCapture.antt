@@ -7,6 +7,7 @@ use Rattle.network_model.specs.Premises.{IsAcceptedRun, exact_limits}
 use Rattle.capture_file.specs.Packet.{PacketOf}
 use Rattle.capture_file.specs.Task.{TakesPackets}
 use Rattle.capture_model.specs.declared.watched.Watched.{Watched}
+use Rattle.capture_model.specs.Agreement.{Moved}
 use Rattle.capture_model.specs.Told.{Tells}
 use Rattle.capture_model.specs.Premises.{IsFresh, IsTicked, MissesFew}
 use Rattle.capture_model.specs.Exact.{Watches}
@@ -21,12 +22,12 @@ use Rattle.capture_measure.specs.Exact.{WritesExact}
 -- written of the packets is the texts of reports that are exact, by the premises that lines have.
 abbrev pub EachMeasurementOfACaptureIsExact : Type 0
 EachMeasurementOfACaptureIsExact =
-    (network : Network) (run : Run) (slave master : NodeName) (w : Watched) (form : Form) (wanted : Wanted)
+    (network : Network) (run : Run) (slave master : NodeName) (w : Watched) (moved : Moved) (form : Form) (wanted : Wanted)
     (packets : List PacketOf) (read : Capture) (text : List ℕ)
     → IsAcceptedRun network run → Watches network slave master w
     → TakesPackets capture_rules (capture_begun form wanted) packets read text
     → capture_watched wanted read.rows ≡ Some w
-    → (tells : Tells network slave run (datagrams (heard_at wanted read.rows)))
-    → IsFresh exact_limits.late w tells → IsTicked exact_limits.between_ticks master w tells
-    → MissesFew exact_limits.late w tells
+    → (tells : Tells network slave w moved run (datagrams (heard_at wanted read.rows)))
+    → IsFresh exact_limits.late tells → IsTicked exact_limits.between_ticks master tells
+    → MissesFew exact_limits.late tells
     → WritesExact master w (heard_at wanted read.rows) tells form text

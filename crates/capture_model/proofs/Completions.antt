@@ -1,10 +1,12 @@
 -- Each completion is of one Sync of the master, or of one Delay_Req to it, which its lines name, and its bracket is
 -- exact.
-use Rattle.std.proofs.Common.{◌≡◌, ◌∙◌, ℕ, pos, ◌-ℤ◌, ◌≤◌, true, Option, Some, None, refl, sym, ap, subst, arith}
+use Rattle.std.proofs.Common.{◌≡◌, ◌∙◌, ℕ, ℤ, pos, ◌+ℤ◌, ◌-ℤ◌, ◌≤◌, true, Option, Some, None, refl, sym, ap, subst, arith}
 use Rattle.std.proofs.Common.{int_lt}
+use Rattle.std.proofs.lemmas.Int.{ints}
 use Rattle.std.specs.Prelude.{count_by, is_some, IsTrue}
 use Rattle.ptp_units.specs.Interval.{too_big, with_residence}
-use Rattle.ptp_units.specs.Moment.{Stamp, stamp_of, fraction_of}
+use Rattle.ptp_units.specs.Moment.{Stamp, stamp_of, fraction_of, moment}
+use Rattle.ptp_units.specs.Exchange.{sync_bracket}
 use Rattle.event_codec.specs.declared.message.Body.TheVariants as bodies
 use Rattle.event_codec.specs.Packet.{Contents}
 use Rattle.pairing.specs.Marked.{Entry}
@@ -13,7 +15,7 @@ use Rattle.slave_port.specs.Completion.{SyncCompletion, DelayCompletion, pair, a
 use Rattle.network_model.specs.declared.event.Event.{Event}
 use Rattle.network_model.specs.declared.event.Event.TheVariants.{Follow, Arrive, Hear}
 use Rattle.network_model.specs.Network.{Network, NodeName, PortSetup}
-use Rattle.network_model.specs.Run.{Run, Place, place_at, IsIn, true_moment}
+use Rattle.network_model.specs.Run.{Run, Place, place_at, tag_of, IsIn, true_moment}
 use Rattle.network_model.specs.Kinds.{is_at, is_sync, is_one_step_sync, draws_sync, is_request}
 use Rattle.network_model.specs.Clock.{reading}
 use Rattle.network_model.specs.Numbering.{waiting_sync}
@@ -28,6 +30,7 @@ use Rattle.network_model.proofs.Pairing.{two_step_draws, one_step_draws, one_syn
 use Rattle.network_model.proofs.Readings.{shown_reading, sync_timed}
 use Rattle.network_model.proofs.Exactness.{one_step_bracket-exact}
 use Rattle.network_model.proofs.Twice.{of_parts, sync_parts, two_step_bracket}
+use Rattle.capture_model.specs.Agreement.{Moved}
 use Rattle.capture_model.proofs.Lines.{Lines, Extends, AreIn}
 use Rattle.capture_model.proofs.HeldMessages.{IsHeldSync, IsHeldFollow}
 
@@ -124,7 +127,7 @@ module _ (lines more : Lines) (slave master : NodeName) (extends : Extends lines
     bracket = one.bracket;
   }
 
-module _ (network : Network) (slave master : NodeName) (other : PortSetup) (lines : Lines) (run : Run)
+module _ (network : Network) (slave master : NodeName) (moved : Moved) (other : PortSetup) (lines : Lines) (run : Run)
     (accepted : IsRun network run)
     (within : AreIn lines run) where
   -- a bracket over the readings, where a Sync of the master left and arrived
@@ -143,10 +146,16 @@ module _ (network : Network) (slave master : NodeName) (other : PortSetup) (line
     value = is;
   }
 
+  -- what one of the two corrections has less the other has more
+  in_sum : (follow follow' sync sync' more : ℤ) (t2 : ℕ) (precise : Stamp) → follow ≡ follow' +ℤ more
+      → sync' ≡ sync +ℤ more
+      → sync_bracket t2 precise follow sync ≡ sync_bracket t2 precise follow' sync'
+  in_sum follow follow' sync sync' more t2 precise e f = omega (arith, ints)
+
   -- a Sync and a Follow_Up of one number that are both held are of one Sync of the master
   pub paired : (syncs b c : ℕ) (e : Entry SyncValue) (f : Entry FollowValue) (number : ℕ)
       → syncs ≡ count_by (is_at draws_sync master) run → b ≤ 65536 → c ≤ 65536
-      → IsHeldSync network slave master other lines syncs b e → IsHeldFollow network slave master other lines syncs c f
+      → IsHeldSync network slave master moved other lines syncs b e → IsHeldFollow network slave master moved other lines syncs c f
       → e.number ≡ f.number
       → IsOneSync lines slave master (pair number e.value f.value)
   paired syncs b c e f number counted b_fits c_fits sync follow same =
@@ -188,9 +197,13 @@ module _ (network : Network) (slave master : NodeName) (other : PortSetup) (line
         };
         bracket = bracket_of sync.arrival sync.drawn.journey sync.copy sync.moment
             (bracket_of_sync (pair number e.value f.value)) there sync.event origin_there drawn
-            (of_parts e.value.t2 (reading sync.arrival) f.value.precise follow.precise f.value.correction
+            (in_sum f.value.correction follow.m.header.correction.0 e.value.correction sync.m.header.correction.0
+            (moved (tag_of origin)) e.value.t2 f.value.precise
+            (follow.correction ∙ ap (λ (o : Place). follow.m.header.correction.0 +ℤ moved (tag_of o)) (sym one))
+            sync.correction
+            ∙ of_parts e.value.t2 (reading sync.arrival) f.value.precise follow.precise follow.m.header.correction.0
             follow.m.header.correction.0
-            e.value.correction sync.m.header.correction.0 sync.t2 follow.precise_is follow.correction sync.correction
+            sync.m.header.correction.0 sync.m.header.correction.0 sync.t2 follow.precise_is refl refl
             ∙ two_step_bracket network sync.arrival.earlier follow.hearing.earlier sync.copy follow.copy sync.m
             follow.m (reading sync.arrival)
             (reading sync.arrival) follow.precise sync.drawn follow.made follow.body sync.small refl

@@ -1,6 +1,6 @@
 -- Each message that a listening port holds names its event by its line: the Sync that arrived or the Follow_Up that was
 -- heard, of which Sync of the master it is, and how many of its Syncs the master drew since.
-use Rattle.std.proofs.Common.{◌≡◌, ℕ, ◌+◌, ◌<◌, ◌≤◌, true, Some, arith, int_lt}
+use Rattle.std.proofs.Common.{◌≡◌, ℕ, ◌+◌, ◌+ℤ◌, ◌<◌, ◌≤◌, true, Some, arith, int_lt}
 use Rattle.std.specs.Prelude.{count_by}
 use Rattle.ptp_units.specs.Interval.{too_big}
 use Rattle.ptp_units.specs.Moment.{Stamp}
@@ -11,14 +11,15 @@ use Rattle.pairing.specs.Marked.{Entry}
 use Rattle.slave_port.specs.Values.{SyncValue, FollowValue}
 use Rattle.network_model.specs.declared.event.Event.TheVariants.{Arrive, Hear}
 use Rattle.network_model.specs.Network.{Network, NodeName, PortSetup}
-use Rattle.network_model.specs.Run.{Place}
+use Rattle.network_model.specs.Run.{Place, tag_of}
 use Rattle.network_model.specs.Kinds.{is_at, is_sync, draws_sync}
 use Rattle.network_model.specs.Clock.{reading}
 use Rattle.network_model.specs.Numbering.{number_of}
 use Rattle.network_model.proofs.Copies.{IsTwoStep, IsFollowUp}
+use Rattle.capture_model.specs.Agreement.{Moved}
 use Rattle.capture_model.proofs.Lines.{Lines, Extends}
 
-module _ (network : Network) (slave master : NodeName) (other : PortSetup) where
+module _ (network : Network) (slave master : NodeName) (moved : Moved) (other : PortSetup) where
   -- fewer than `bound` of the master's first `syncs` Syncs come after this one
   abbrev pub IsNear : (syncs bound : ℕ) → Place → Type 0
   IsNear syncs bound origin = syncs < count_by (is_at draws_sync master) origin.earlier + 1 + bound
@@ -34,7 +35,7 @@ module _ (network : Network) (slave master : NodeName) (other : PortSetup) where
     pub drawn : IsTwoStep network arrival.earlier copy m
     pub small : int_lt m.header.correction.0 too_big ≡ true
     pub t2 : e.value.t2 ≡ reading arrival
-    pub correction : e.value.correction ≡ m.header.correction.0
+    pub correction : m.header.correction.0 ≡ e.value.correction +ℤ moved (tag_of drawn.journey.origin)
     pub of_master : is_at is_sync master drawn.journey.origin.event ≡ true
     pub number : e.number ≡ of_count (number_of other drawn.journey.origin)
     pub near : IsNear syncs bound drawn.journey.origin
@@ -50,7 +51,7 @@ module _ (network : Network) (slave master : NodeName) (other : PortSetup) where
     pub made : IsFollowUp network hearing.earlier copy m
     pub body : m.body ≡ bodies.FollowUp precise
     pub precise_is : e.value.precise ≡ precise
-    pub correction : e.value.correction ≡ m.header.correction.0
+    pub correction : e.value.correction ≡ m.header.correction.0 +ℤ moved (tag_of made.origin)
     pub of_master : made.node ≡ master
     pub number : e.number ≡ of_count (number_of other made.origin)
     pub near : IsNear syncs bound made.origin

@@ -14,6 +14,7 @@ use Rattle.slave_port.specs.Kept.{delay_completion}
 use Rattle.event_codec.specs.Reading.{Reading}
 use Rattle.event_codec.specs.declared.port.PortIdentity.{PortIdentity}
 use Rattle.network_model.specs.Network.{Network, NodeName, PortSetup}
+use Rattle.capture_model.specs.Agreement.{Moved}
 use Rattle.capture_model.specs.Listening.{draws}
 use Rattle.capture_model.proofs.Lines.{Lines, Extends}
 use Rattle.capture_model.proofs.Near.{Reach, AreNear, near-brought, near-ticked, near-later}
@@ -22,13 +23,13 @@ use Rattle.capture_model.proofs.HeldMessages.{held_sync-wider, held_follow-wider
 use Rattle.capture_model.proofs.Completions.{IsOneSync, IsOneRequest, one_sync-later, one_request-later}
 use Rattle.capture_model.proofs.Requests.{AreRequests, requests-later}
 
-module _ (network : Network) (slave master : NodeName) (own other : PortSetup) (identity : PortIdentity)
+module _ (network : Network) (slave master : NodeName) (moved : Moved) (own other : PortSetup) (identity : PortIdentity)
     (reach : Reach) where
   -- after so many Syncs of the master, of which these are since the last tick, and requests of the slave
   pub record Holds (lines : Lines) (syncs sent slack : ℕ) (setup : Setup) (history : List Call) : Type 0 where
     pub follows_master : present_master history ≡ Some identity
-    pub near_syncs : AreNear (IsHeldSync network slave master other lines syncs) reach slack (kept setup history).syncs
-    pub near_follows : AreNear (IsHeldFollow network slave master other lines syncs) reach slack
+    pub near_syncs : AreNear (IsHeldSync network slave master moved other lines syncs) reach slack (kept setup history).syncs
+    pub near_follows : AreNear (IsHeldFollow network slave master moved other lines syncs) reach slack
         (kept setup history).follows
     pub near_completions : AreNear (λ bound. IsOneSync lines slave master) reach slack (kept setup history).completions
     pub near_delays : AreNear (λ bound. IsOneRequest lines slave master) reach slack (delay_completions setup history)
@@ -41,15 +42,15 @@ module _ (network : Network) (slave master : NodeName) (own other : PortSetup) (
       → Holds more count fewer grown setup history
   holds-later lines more syncs count sent fewer slack grown setup history extends few less holds = record {
     follows_master = holds.follows_master;
-    near_syncs = near-later (IsHeldSync network slave master other lines syncs)
-        (IsHeldSync network slave master other more count) reach slack grown
+    near_syncs = near-later (IsHeldSync network slave master moved other lines syncs)
+        (IsHeldSync network slave master moved other more count) reach slack grown
         (kept setup history).syncs
-        (λ b e. held_sync-later network slave master other lines more syncs count (b + slack) (b + grown) e extends
+        (λ b e. held_sync-later network slave master moved other lines more syncs count (b + slack) (b + grown) e extends
         (omega arith)) holds.near_syncs;
-    near_follows = near-later (IsHeldFollow network slave master other lines syncs)
-        (IsHeldFollow network slave master other more count) reach slack grown
+    near_follows = near-later (IsHeldFollow network slave master moved other lines syncs)
+        (IsHeldFollow network slave master moved other more count) reach slack grown
         (kept setup history).follows
-        (λ b e. held_follow-later network slave master other lines more syncs count (b + slack) (b + grown) e extends
+        (λ b e. held_follow-later network slave master moved other lines more syncs count (b + slack) (b + grown) e extends
         (omega arith)) holds.near_follows;
     near_completions = near-later (λ bound. IsOneSync lines slave master) (λ bound. IsOneSync more slave master) reach
         slack grown
@@ -66,11 +67,11 @@ module _ (network : Network) (slave master : NodeName) (own other : PortSetup) (
     pub holds-ticked : slack ≤ reach.between → Holds lines syncs sent 0 setup (calls.Tick ∷ history)
     holds-ticked few = record {
       follows_master = holds.follows_master;
-      near_syncs = near-ticked (IsHeldSync network slave master other lines syncs) reach
-          (held_sync-wider network slave master other lines syncs) slack (kept setup history).syncs few
+      near_syncs = near-ticked (IsHeldSync network slave master moved other lines syncs) reach
+          (held_sync-wider network slave master moved other lines syncs) slack (kept setup history).syncs few
           holds.near_syncs;
-      near_follows = near-ticked (IsHeldFollow network slave master other lines syncs) reach
-          (held_follow-wider network slave master other lines syncs) slack (kept setup history).follows few
+      near_follows = near-ticked (IsHeldFollow network slave master moved other lines syncs) reach
+          (held_follow-wider network slave master moved other lines syncs) slack (kept setup history).follows few
           holds.near_follows;
       near_completions = near-ticked (λ bound. IsOneSync lines slave master) reach (λ b c e wide one. one) slack
           (kept setup history).completions few
@@ -84,9 +85,9 @@ module _ (network : Network) (slave master : NodeName) (own other : PortSetup) (
     -- a message on the event port
     pub holds-event : (heard : Reading) (t2 tag : ℕ)
         → ((e : Entry SyncValue) → usable_two_step_sync setup history (calls.Event heard t2 tag) ≡ Some e
-        → IsHeldSync network slave master other lines syncs (reach.late + slack) e)
+        → IsHeldSync network slave master moved other lines syncs (reach.late + slack) e)
         → ((e : Entry FollowValue) → usable_follow_up setup history (calls.Event heard t2 tag) ≡ Some e
-        → IsHeldFollow network slave master other lines syncs (reach.late + slack) e)
+        → IsHeldFollow network slave master moved other lines syncs (reach.late + slack) e)
         → ((c : SyncCompletion) → sync_completion setup history (calls.Event heard t2 tag) ≡ Some c
         → IsOneSync lines slave master c)
         → ((c : DelayCompletion) → delay_completion setup history (calls.Event heard t2 tag) ≡ Some c
@@ -94,10 +95,10 @@ module _ (network : Network) (slave master : NodeName) (own other : PortSetup) (
         → Holds lines syncs sent slack setup (calls.Event heard t2 tag ∷ history)
     holds-event heard t2 tag sync follow completion delay = record {
       follows_master = holds.follows_master;
-      near_syncs = near-brought (IsHeldSync network slave master other lines syncs) reach slack
+      near_syncs = near-brought (IsHeldSync network slave master moved other lines syncs) reach slack
           (usable_two_step_sync setup history (calls.Event heard t2 tag)) (kept setup history).syncs sync
           holds.near_syncs;
-      near_follows = near-brought (IsHeldFollow network slave master other lines syncs) reach slack
+      near_follows = near-brought (IsHeldFollow network slave master moved other lines syncs) reach slack
           (usable_follow_up setup history (calls.Event heard t2 tag)) (kept setup history).follows follow
           holds.near_follows;
       near_completions = near-brought (λ bound. IsOneSync lines slave master) reach slack
@@ -112,9 +113,9 @@ module _ (network : Network) (slave master : NodeName) (own other : PortSetup) (
     -- a message on the general port
     pub holds-general : (heard : Reading) (tag : ℕ)
         → ((e : Entry SyncValue) → usable_two_step_sync setup history (calls.General heard tag) ≡ Some e
-        → IsHeldSync network slave master other lines syncs (reach.late + slack) e)
+        → IsHeldSync network slave master moved other lines syncs (reach.late + slack) e)
         → ((e : Entry FollowValue) → usable_follow_up setup history (calls.General heard tag) ≡ Some e
-        → IsHeldFollow network slave master other lines syncs (reach.late + slack) e)
+        → IsHeldFollow network slave master moved other lines syncs (reach.late + slack) e)
         → ((c : SyncCompletion) → sync_completion setup history (calls.General heard tag) ≡ Some c
         → IsOneSync lines slave master c)
         → ((c : DelayCompletion) → delay_completion setup history (calls.General heard tag) ≡ Some c
@@ -122,10 +123,10 @@ module _ (network : Network) (slave master : NodeName) (own other : PortSetup) (
         → Holds lines syncs sent slack setup (calls.General heard tag ∷ history)
     holds-general heard tag sync follow completion delay = record {
       follows_master = holds.follows_master;
-      near_syncs = near-brought (IsHeldSync network slave master other lines syncs) reach slack
+      near_syncs = near-brought (IsHeldSync network slave master moved other lines syncs) reach slack
           (usable_two_step_sync setup history (calls.General heard tag)) (kept setup history).syncs sync
           holds.near_syncs;
-      near_follows = near-brought (IsHeldFollow network slave master other lines syncs) reach slack
+      near_follows = near-brought (IsHeldFollow network slave master moved other lines syncs) reach slack
           (usable_follow_up setup history (calls.General heard tag)) (kept setup history).follows follow
           holds.near_follows;
       near_completions = near-brought (λ bound. IsOneSync lines slave master) reach slack
@@ -152,9 +153,9 @@ module _ (network : Network) (slave master : NodeName) (own other : PortSetup) (
         let same = drawn-kept count tag in
         record {
           follows_master = same.0 ∙ holds.follows_master;
-          near_syncs = subst (λ (k : Kept). AreNear (IsHeldSync network slave master other lines syncs) reach slack
+          near_syncs = subst (λ (k : Kept). AreNear (IsHeldSync network slave master moved other lines syncs) reach slack
               k.syncs) (sym same.1) holds.near_syncs;
-          near_follows = subst (λ (k : Kept). AreNear (IsHeldFollow network slave master other lines syncs) reach slack
+          near_follows = subst (λ (k : Kept). AreNear (IsHeldFollow network slave master moved other lines syncs) reach slack
               k.follows) (sym same.1)
               holds.near_follows;
           near_completions = subst (λ (k : Kept). AreNear (λ bound. IsOneSync lines slave master) reach slack

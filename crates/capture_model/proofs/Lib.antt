@@ -1,4 +1,6 @@
+mod WhatIsRead
 mod Lines
+mod Agreeing
 mod Near
 mod HeldMessages
 mod Completions
@@ -9,6 +11,7 @@ mod ToldEvents
 mod Standing
 mod Reported
 mod Steps
+mod Aside
 mod Listened
 mod Short
 mod Tags
@@ -17,3 +20,5 @@ mod Known
 mod HeldPairs
 mod Pairs
 mod Worked
+mod WorkedSlave
+mod WorkedClock

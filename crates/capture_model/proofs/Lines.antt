@@ -1,18 +1,19 @@
 -- The events that lines tell: each is an event of the run, and each further line tells another one.
 use Rattle.std.proofs.Common.{◌≡◌, ◌∙◌, ℕ, ◌<◌, Bool, true, false, List, [], ◌∷◌, Option, Some, refl, ap, subst, arith}
 use Rattle.std.proofs.Common.{if◌then◌else◌}
-use Rattle.std.specs.Prelude.{◌==◌, Ok}
+use Rattle.std.specs.Prelude.{◌==◌}
 use Rattle.std.specs.List.{All}
 use Rattle.std.proofs.lemmas.Bool.{ne_eqb, eq-eqb, eqb-true}
 use Rattle.std.proofs.lemmas.List.Elements.{All-nil, All-cons, All-head, All-tail, All-weaker}
-use Rattle.event_codec.specs.Packet.{Contents}
 use Rattle.network_model.specs.declared.event.Event.{Event}
 use Rattle.network_model.specs.Network.{Network, NodeName}
 use Rattle.network_model.specs.Run.{Run, Place, place, tag_of, IsIn}
 use Rattle.network_model.proofs.Places.{place_at-later}
 use Rattle.network_model.proofs.Journeys.{IsIn-last}
 use Rattle.capture_model.specs.Recorded.{Recorded}
-use Rattle.capture_model.specs.Told.{Tells, Nothing, Untold, Told, Other, told_at, IsTimed, AreNumbered, event_told}
+use Rattle.capture_model.specs.declared.watched.Watched.{Watched}
+use Rattle.capture_model.specs.Agreement.{Moved}
+use Rattle.capture_model.specs.Told.{Tells, IsToldBy, Nothing, Untold, Told, Other, AreNumbered, event_told}
 
 -- the event that each line tells
 abbrev pub Lines : Type 0
@@ -40,13 +41,13 @@ pub numbered-rest : (d : Recorded) (ds : List Recorded) → AreNumbered (d ∷ d
 numbered-rest d [] numbered = tt
 numbered-rest d (before ∷ earlier) numbered = numbered.1
 
-module _ (network : Network) (slave : NodeName) where
-  pub told-in : {run : Run} {ds : List Recorded} (tells : Tells network slave run ds) → AreIn (event_told tells) run
+module _ (network : Network) (slave : NodeName) {w : Watched} {moved : Moved} where
+  pub told-in : {run : Run} {ds : List Recorded} (tells : Tells network slave w moved run ds) → AreIn (event_told tells) run
   told-in Nothing line p is = cc
   told-in (Untold event earlier ds tells) line p is = place_at-later event earlier (tag_of p) p
       (told-in tells line p is)
   told-in (Other run d ds nothing tells) line p is = told-in tells line p is
-  told-in (Told event earlier m d ds made said timed tells) line p is = by (d.line == line) is (told-in tells line p)
+  told-in (Told event earlier d ds one tells) line p is = by (d.line == line) is (told-in tells line p)
     where
       by : (same : Bool) → (if same then Some (place event earlier) else event_told tells line) ≡ Some p
           → (event_told tells line ≡ Some p → IsIn earlier p) → IsIn (event ∷ earlier) p
@@ -55,14 +56,14 @@ module _ (network : Network) (slave : NodeName) where
       by false is rest = place_at-later event earlier (tag_of p) p (rest is)
 
   -- a line that tells an event is one of the datagrams'
-  lines-below : {run : Run} {ds : List Recorded} (n : ℕ) (tells : Tells network slave run ds)
+  lines-below : {run : Run} {ds : List Recorded} (n : ℕ) (tells : Tells network slave w moved run ds)
       → All (λ (d : Recorded). d.line < n) ds
       → (line : ℕ) (p : Place) → event_told tells line ≡ Some p → line < n
   lines-below n Nothing below line p is = cc
   lines-below n (Untold event earlier ds tells) below line p is = lines-below n tells below line p is
   lines-below n (Other run d ds nothing tells) below line p is =
       lines-below n tells (All-tail (λ (d : Recorded). d.line < n) d ds below) line p is
-  lines-below n (Told event earlier m d ds made said timed tells) below line p is =
+  lines-below n (Told event earlier d ds one tells) below line p is =
       by (d.line == line) refl is (lines-below n tells (All-tail (λ (d : Recorded). d.line < n) d ds below) line p)
     where
       by : (same : Bool) → (d.line == line) ≡ same
@@ -72,16 +73,15 @@ module _ (network : Network) (slave : NodeName) where
           (arith, eqb-true d.line line e)
       by false e is rest = rest is
 
-  module _ {ds : List Recorded} (event : Event) (earlier : Run) (m : Contents) (d : Recorded)
-      (made : told_at network slave event earlier ≡ Some m)
-      (said : d.said ≡ Ok m) (timed : IsTimed event earlier d.time) (tells : Tells network slave earlier ds) where
+  module _ {ds : List Recorded} (event : Event) (earlier : Run) (d : Recorded)
+      (one : IsToldBy network slave moved event earlier d) (tells : Tells network slave w moved earlier ds) where
     pub told-more : AreNumbered (d ∷ ds) → Extends (event_told tells)
-        (event_told (Told event earlier m d ds made said timed tells))
+        (event_told (Told event earlier d ds one tells))
     told-more numbered line p is =
         let below = lines-below d.line tells (numbered-below d ds numbered) line p is in
         ap (λ (same : Bool). if same then Some (place event earlier) else event_told tells line)
         (ne_eqb d.line line (λ (e : d.line ≡ line). omega arith)) ∙ is
 
-    pub told-now : event_told (Told event earlier m d ds made said timed tells) d.line ≡ Some (place event earlier)
+    pub told-now : event_told (Told event earlier d ds one tells) d.line ≡ Some (place event earlier)
     told-now = ap (λ (same : Bool). if same then Some (place event earlier) else event_told tells d.line)
         (eq-eqb d.line d.line refl)

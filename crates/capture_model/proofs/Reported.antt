@@ -14,6 +14,8 @@ use Rattle.network_model.specs.Exact.{LearnsDeparture}
 use Rattle.network_model.proofs.Places.{IsIn-within, IsIn-place_at}
 use Rattle.event_codec.specs.declared.port.PortIdentity.{PortIdentity}
 use Rattle.capture_model.specs.Recorded.{Recorded}
+use Rattle.capture_model.specs.declared.watched.Watched.{Watched}
+use Rattle.capture_model.specs.Agreement.{Moved}
 use Rattle.capture_model.specs.Told.{Tells, event_told}
 use Rattle.capture_model.specs.Exact.{IsExact, TellsTags}
 use Rattle.capture_model.proofs.Lines.{Lines, Extends, told-in}
@@ -41,12 +43,12 @@ made-later lines more slave master extends report made = record {
 }
 
 -- a report that a port answers
-pub made_of : (network : Network) (slave master : NodeName) (own other : PortSetup) (identity : PortIdentity)
+pub made_of : (network : Network) (slave master : NodeName) (moved : Moved) (own other : PortSetup) (identity : PortIdentity)
     (reach : Reach) (lines : Lines)
     (syncs sent slack : ℕ) (setup : Setup) (history : List Call) (call : Call) (report : Report)
-    → Holds network slave master own other identity reach lines syncs sent slack setup (call ∷ history)
+    → Holds network slave master moved own other identity reach lines syncs sent slack setup (call ∷ history)
     → answer setup history call ≡ answers.Report report → IsMadeOf lines slave master report
-made_of network slave master own other identity reach lines syncs sent slack setup history call report holds is =
+made_of network slave master moved own other identity reach lines syncs sent slack setup history call report holds is =
     let parts = report_parts setup history call report is in
     record {
       sync = parts.0;
@@ -66,8 +68,8 @@ abbrev follow_tag : (lines : Lines) (slave master : NodeName) (origin : Place) (
 follow_tag lines slave master origin None learnt = None
 follow_tag lines slave master origin (Some line) learnt = Some (tag_of learnt.hearing)
 
-module _ (network : Network) (slave master : NodeName) {run : Run} {ds : List Recorded}
-    (tells : Tells network slave run ds) where
+module _ (network : Network) (slave master : NodeName) {w : Watched} {moved : Moved} {run : Run}
+    {ds : List Recorded} (tells : Tells network slave w moved run ds) where
   tells_follow : (line : Option ℕ) (origin : Place) (learnt : IsLearnt (event_told tells) slave master line origin)
       → TellsTags tells line (follow_tag (event_told tells) slave master origin line learnt)
   tells_follow None origin learnt = refl

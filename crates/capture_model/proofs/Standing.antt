@@ -25,6 +25,7 @@ use Rattle.network_model.specs.Run.{Place}
 use Rattle.network_model.specs.Kinds.{is_at, is_request}
 use Rattle.network_model.specs.Clock.{reading}
 use Rattle.capture_model.specs.declared.watched.Watched.{Watched}
+use Rattle.capture_model.specs.Agreement.{Moved}
 use Rattle.capture_model.specs.Listening.{Listening, setup_in, is_of, told, draws, asks, anew, hears_request}
 use Rattle.capture_model.specs.Listening.{is_stale, answer_in, with_count, ticks_every, table_capacity, arrival_of}
 use Rattle.capture_model.specs.Listening.{with_master_anew, ready_refused, ready_newer, ready_judged, ready_sync}
@@ -78,11 +79,12 @@ since-low before slack l = by (ticks_in l == before)
     by true = omega arith
     by false = omega arith
 
-module _ (network : Network) (slave master : NodeName) (w : Watched) (watches : Watches network slave master w)
+module _ (network : Network) (slave master : NodeName) (moved : Moved) (w : Watched)
+    (watches : Watches network slave master w)
     (reach : Reach) (lines : Lines) where
   -- what holds of the port's calls
   abbrev pub HoldsIn : (syncs sent slack : ℕ) → Setup → List Call → Type 0
-  HoldsIn = Holds network slave master watches.own watches.other w.master reach lines
+  HoldsIn = Holds network slave master moved watches.own watches.other w.master reach lines
 
   -- what holds of a listening port, the next number of its requests among it
   pub record Stands (syncs sent slack : ℕ) (l : Listening) : Type 0 where
@@ -111,7 +113,7 @@ module _ (network : Network) (slave master : NodeName) (w : Watched) (watches : 
           more = omega arith;
           stands = record {
             holds = subst (λ (s : ℕ). HoldsIn syncs sent s (setup_in w l) (calls.Tick ∷ l.calls)) (sym none)
-                (holds-ticked network slave master watches.own watches.other w.master reach lines syncs sent
+                (holds-ticked network slave master moved watches.own watches.other w.master reach lines syncs sent
                 (since_tick before slack l) (setup_in w l) l.calls after.stands.holds
                 (omega (arith, since-low before slack l)));
             next = after.stands.next;
@@ -376,7 +378,7 @@ module _ (network : Network) (slave master : NodeName) (w : Watched) (watches : 
         let next : ℕ = next_number (setup_in w l) l.calls in
         let count : ℕ = count_by (is_at is_request slave) p.earlier in
         record {
-          holds = holds-asked network slave master watches.own watches.other w.master reach lines syncs sent slack
+          holds = holds-asked network slave master moved watches.own watches.other w.master reach lines syncs sent slack
               (setup_in w l) l.calls holds
               (ahead number next + 1) line number time (count + 1)
               (requests-asked slave watches.own (setup_in w l) lines p line number time l.calls low line_is drawn

@@ -1,12 +1,12 @@
 -- A datagram that tells an event: what holds of the listening port holds after it, and what it reports then is made of
 -- events that lines tell.
 use Rattle.std.proofs.Common.{◌≡◌, ◌∙◌, ℕ, ◌+◌, ◌<◌, ◌≤◌, true, false, List, ◌∷◌, Some, None, Ok, refl, sym, ap, subst}
-use Rattle.std.proofs.Common.{arith, Bool, option_and_then, if◌then◌else◌}
+use Rattle.std.proofs.Common.{ℤ, arith, Bool, option_and_then, if◌then◌else◌}
 use Rattle.std.specs.Prelude.{◌==◌, count_by, IfSome, IsTrue, Option, option_map}
 use Rattle.std.specs.Option.{option_map_or, option_or}
 use Rattle.std.specs.Result.{result_ok}
 use Rattle.std.proofs.lemmas.Bool.{and_from, eq-eqb}
-use Rattle.ptp_units.specs.Moment.{Stamp}
+use Rattle.ptp_units.specs.Moment.{Stamp, stamp}
 use Rattle.ptp_units.specs.Sequence.{of_count, next}
 use Rattle.event_codec.specs.declared.message.Body.{Body}
 use Rattle.event_codec.specs.declared.message.Body.TheVariants as bodies
@@ -38,11 +38,13 @@ use Rattle.capture_model.specs.declared.watched.Watched.{Watched}
 use Rattle.capture_model.specs.Recorded.{Recorded}
 use Rattle.capture_model.specs.Listening.{Listening, setup_in, is_of, hears, hear, hears_ready, hears_request, told}
 use Rattle.capture_model.specs.Listening.{ready_sync, ready_follow_up, ready_response, after_all, answer_in}
-use Rattle.capture_model.specs.Listening.{answered, answered_to, report_in, report_at}
-use Rattle.capture_model.specs.Told.{told_at, is_own, own_request, last_request, IsTimed}
-use Rattle.capture_model.specs.Premises.{is_used, ticks_in}
+use Rattle.capture_model.specs.Listening.{answered, answered_to, report_in, is_used, report_at}
+use Rattle.capture_model.specs.Agreement.{Moved, moved_at}
+use Rattle.capture_model.specs.Told.{IsToldBy, own_request, last_request, IsTimed}
+use Rattle.capture_model.specs.Premises.{ticks_in}
 use Rattle.capture_model.specs.Exact.{Watches}
 use Rattle.capture_model.proofs.Lines.{Lines, Extends, AreIn}
+use Rattle.capture_model.proofs.Agreeing.{tells_sync, tells_request, tells_follow_up, tells_response}
 use Rattle.capture_model.proofs.Near.{Reach}
 use Rattle.capture_model.proofs.ToldEvents as events
 use Rattle.capture_model.proofs.ToldEvents.{IsTold, IsGeneral, told_is}
@@ -71,7 +73,7 @@ report-in answers.Held report is = cc
 report-in answers.Completed report is = cc
 report-in (answers.Ignored reason) report is = cc
 
-module _ (network : Network) (slave master : NodeName) (w : Watched) (apart : IsNetwork network)
+module _ (network : Network) (slave master : NodeName) (moved : Moved) (w : Watched) (apart : IsNetwork network)
     (watches : Watches network slave master w) where
   -- how many Syncs the master drew, and how many requests the slave
   abbrev pub syncs_in : Run → ℕ
@@ -83,7 +85,7 @@ module _ (network : Network) (slave master : NodeName) (w : Watched) (apart : Is
   -- the number of the last Delay_Req that datagrams say is the last one that the port knows of
   abbrev pub FollowsLast : List Recorded → (known : ℕ) → Listening → Type 0
   FollowsLast ds known l =
-      (n : ℕ) → last_request network slave ds ≡ Some n
+      (n : ℕ) → last_request w ds ≡ Some n
       → (l.asked ≡ true) × (n < 65536) × (next n ≡ of_count (watches.own.first + known))
 
   -- over a datagram that tells an event: what holds of the port, how many requests of the slave it knows of and how
@@ -92,27 +94,27 @@ module _ (network : Network) (slave master : NodeName) (w : Watched) (apart : Is
       (d : Recorded) : Type 0 where
     pub known : ℕ
     pub counted : known + (if is_request event then 0 else missing) ≡ sent_in (event ∷ earlier)
-    pub stands : Stands network slave master w watches within lines (syncs_in (event ∷ earlier)) known
+    pub stands : Stands network slave master moved w watches within lines (syncs_in (event ∷ earlier)) known
         (since_tick (ticks_in (after_all w ds)) slack (hear w d (after_all w ds))) (hear w d (after_all w ds))
     pub last : FollowsLast (d ∷ ds) known (hear w d (after_all w ds))
     pub reported : (report : Report) → report_at w ds d ≡ Some report → IsMadeOf lines slave master report
 
-  module _ (event : Event) (earlier : Run) (m : Contents) (d : Recorded) (ds : List Recorded)
+  module _ (event : Event) (earlier : Run) (d : Recorded) (ds : List Recorded)
       (accepted : IsRun network (event ∷ earlier))
       (lines more : Lines) (extends : Extends lines more) (inside : AreIn more (event ∷ earlier))
       (now : more d.line ≡ Some (place event earlier))
-      (said : d.said ≡ Ok m) (timed : IsTimed event earlier d.time) (slack : ℕ) (few : slack ≤ 16384)
+      (one : IsToldBy network slave moved event earlier d) (slack : ℕ) (few : slack ≤ 16384)
       (known missing : ℕ) (few_missing : missing < 32768)
       (counted : known + missing ≡ sent_in earlier)
-      (before : Stands network slave master w watches within lines (syncs_in earlier) known slack (after_all w ds))
+      (before : Stands network slave master moved w watches within lines (syncs_in earlier) known slack (after_all w ds))
       (last_before : FollowsLast ds known (after_all w ds))
       (fresh : IsTrue (is_used w ds d) → IfSome (origin_heard (place event earlier))
       (λ origin. drawn_later origin earlier < 32768)) where
     -- what held before, with the lines of now
     lifted : is_at draws_sync master event ≡ false
-        → Stands network slave master w watches within more (syncs_in (event ∷ earlier)) known slack (after_all w ds)
+        → Stands network slave master moved w watches within more (syncs_in (event ∷ earlier)) known slack (after_all w ds)
     lifted none = record {
-      holds = holds-later network slave master watches.own watches.other w.master within lines more (syncs_in earlier)
+      holds = holds-later network slave master moved watches.own watches.other w.master within lines more (syncs_in earlier)
           (syncs_in (event ∷ earlier)) known known
           slack slack (setup_in w (after_all w ds)) (after_all w ds).calls extends
           (omega (arith, count-no (is_at draws_sync master) event earlier none))
@@ -134,27 +136,28 @@ module _ (network : Network) (slave master : NodeName) (w : Watched) (apart : Is
 
       -- a report that is answered is made of events that lines tell
       reported_by : (syncs sent since : ℕ)
-          → Holds network slave master watches.own watches.other w.master within more syncs sent since
+          → Holds network slave master moved watches.own watches.other w.master within more syncs sent since
           (setup_in w ready) (call ∷ ready.calls)
           → (report : Report) → report_at w ds d ≡ Some report → IsMadeOf more slave master report
       reported_by syncs sent since holds report is =
-          made_of network slave master watches.own watches.other w.master within more syncs sent since
+          made_of network slave master moved watches.own watches.other w.master within more syncs sent since
           (setup_in w ready) ready.calls call report holds
           (report-in (answer_in w ready call) report (sym (ap (option_and_then report_in) answer_is) ∙ is))
 
     -- what is heard of a message
-    hears_it : (body : Body) → m.body ≡ body → hear w d (after_all w ds) ≡ hears w d.line d.time m body (after_all w ds)
+    hears_it : (body : Body) → one.said.body ≡ body
+        → hear w d (after_all w ds) ≡ hears w d.line d.time one.said body (after_all w ds)
     hears_it body is =
         ap (λ (r : Reading). option_map_or (λ m. hears w d.line d.time m m.body (after_all w ds)) (result_ok r)
-        (after_all w ds)) said
-        ∙ ap (λ (b : Body). hears w d.line d.time m b (after_all w ds)) is
+        (after_all w ds)) one.says
+        ∙ ap (λ (b : Body). hears w d.line d.time one.said b (after_all w ds)) is
 
-    answers_it : (body : Body) → m.body ≡ body
-        → answered_to w d (after_all w ds) ≡ answered w d.line d.time m body (after_all w ds)
+    answers_it : (body : Body) → one.said.body ≡ body
+        → answered_to w d (after_all w ds) ≡ answered w d.line d.time one.said body (after_all w ds)
     answers_it body is =
         ap (λ (r : Reading). option_and_then (λ m. answered w d.line d.time m m.body (after_all w ds)) (result_ok r))
-        said
-        ∙ ap (λ (b : Body). answered w d.line d.time m b (after_all w ds)) is
+        one.says
+        ∙ ap (λ (b : Body). answered w d.line d.time one.said b (after_all w ds)) is
 
     -- no more requests are missing where the event is none
     still_counted : is_request event ≡ false → is_at is_request slave event ≡ false
@@ -164,46 +167,46 @@ module _ (network : Network) (slave master : NodeName) (w : Watched) (apart : Is
         ∙ sym (count-no (is_at is_request slave) event earlier asks_none)
 
     -- what is no Delay_Req leaves the last one as it was
-    still_last : (body : Body) → m.body ≡ body → own_request network slave m.header body ≡ None → (after : Listening)
+    still_last : (body : Body) → one.said.body ≡ body → own_request w one.said.header body ≡ None → (after : Listening)
         → after.asked ≡ (after_all w ds).asked → hear w d (after_all w ds) ≡ after
         → FollowsLast (d ∷ ds) known (hear w d (after_all w ds))
     still_last body is none after same heard_is n last =
-        let own : option_and_then (λ m. own_request network slave m.header m.body) (result_ok d.said) ≡ None =
-        ap (λ (r : Reading). option_and_then (λ m. own_request network slave m.header m.body) (result_ok r)) said
-        ∙ ap (own_request network slave m.header) is ∙ none in
-        let before = last_before n (sym (ap (λ (o : Option ℕ). option_or o (last_request network slave ds)) own)
+        let own : option_and_then (λ m. own_request w m.header m.body) (result_ok d.said) ≡ None =
+        ap (λ (r : Reading). option_and_then (λ m. own_request w m.header m.body) (result_ok r)) one.says
+        ∙ ap (own_request w one.said.header) is ∙ none in
+        let before = last_before n (sym (ap (λ (o : Option ℕ). option_or o (last_request w ds)) own)
         ∙ last) in
         (ap (λ (l : Listening). l.asked) heard_is ∙ same ∙ before.0, before.1, before.2)
 
     -- a message that a port hears, where one is ready
-    message_step : (body : Body) (counts : Bool) (call : Call) (ready : Option Listening) → m.body ≡ body
-        → own_request network slave m.header body ≡ None
+    message_step : (body : Body) (counts : Bool) (call : Call) (ready : Option Listening) → one.said.body ≡ body
+        → own_request w one.said.header body ≡ None
         → is_at is_request slave event ≡ false → is_request event ≡ false → is_at draws_sync master event ≡ false
         → hear w d (after_all w ds) ≡ hears_ready counts call ready (after_all w ds)
         → answered_to w d (after_all w ds) ≡ option_map (λ l. answer_in w l call) ready
         → ((l : Listening) → ready ≡ Some l
-        → IsReady network slave master w watches within more (syncs_in (event ∷ earlier)) known slack (after_all w ds) l)
+        → IsReady network slave master moved w watches within more (syncs_in (event ∷ earlier)) known slack (after_all w ds) l)
         → ((l : Listening) → answered_to w d (after_all w ds) ≡ Some (answer_in w l call)
-        → Holds network slave master watches.own watches.other w.master within more (syncs_in (event ∷ earlier)) known
+        → Holds network slave master moved watches.own watches.other w.master within more (syncs_in (event ∷ earlier)) known
         (since_tick (ticks_in (after_all w ds)) slack l) (setup_in w l) l.calls
-        → Holds network slave master watches.own watches.other w.master within more (syncs_in (event ∷ earlier)) known
+        → Holds network slave master moved watches.own watches.other w.master within more (syncs_in (event ∷ earlier)) known
         (since_tick (ticks_in (after_all w ds)) slack l) (setup_in w l) (call ∷ l.calls))
         → ((l : Listening)
-        → Holds network slave master watches.own watches.other w.master within more (syncs_in (event ∷ earlier)) known
+        → Holds network slave master moved watches.own watches.other w.master within more (syncs_in (event ∷ earlier)) known
         (since_tick (ticks_in (after_all w ds)) slack l) (setup_in w l) (call ∷ l.calls)
-        → StandsAfter network slave master w watches within more (ticks_in (after_all w ds)) (syncs_in (event ∷ earlier))
+        → StandsAfter network slave master moved w watches within more (ticks_in (after_all w ds)) (syncs_in (event ∷ earlier))
         known slack l
-        → StandsAfter network slave master w watches within more (ticks_in (after_all w ds)) (syncs_in (event ∷ earlier))
+        → StandsAfter network slave master moved w watches within more (ticks_in (after_all w ds)) (syncs_in (event ∷ earlier))
         known slack (told call l))
         → IsStep more event earlier missing slack ds d
     message_step body counts call None body_is no_request asks_none no_asking draws_none heard_is answer_is is_ready
         hears tells = record {
           known = known;
           counted = still_counted no_asking asks_none;
-          stands = subst (λ (after : Listening). Stands network slave master w watches within more
+          stands = subst (λ (after : Listening). Stands network slave master moved w watches within more
               (syncs_in (event ∷ earlier)) known (since_tick (ticks_in (after_all w ds)) slack after) after)
               (sym heard_is)
-              (subst (λ (s : ℕ). Stands network slave master w watches within more (syncs_in (event ∷ earlier)) known s
+              (subst (λ (s : ℕ). Stands network slave master moved w watches within more (syncs_in (event ∷ earlier)) known s
               (after_all w ds)) (sym (since-no_tick (ticks_in (after_all w ds)) slack (after_all w ds) refl))
               (lifted draws_none));
           last = still_last body body_is no_request (after_all w ds) refl heard_is;
@@ -215,18 +218,18 @@ module _ (network : Network) (slave master : NodeName) (w : Watched) (apart : Is
         is_ready hears tells =
         let l : Listening = after_all w ds in
         let syncs : ℕ = syncs_in (event ∷ earlier) in
-        let one = is_ready ready refl in
-        let holds = hears ready answer_is one.after.stands.holds in
+        let readied = is_ready ready refl in
+        let holds = hears ready answer_is readied.after.stands.holds in
         record {
           known = known;
           counted = still_counted no_asking asks_none;
-          stands = subst (λ (after : Listening). Stands network slave master w watches within more syncs known
+          stands = subst (λ (after : Listening). Stands network slave master moved w watches within more syncs known
               (since_tick (ticks_in l) slack after) after)
               (sym heard_is)
-              (heard-stands network slave master w watches within more (ticks_in l) syncs known slack few counts call
-              ready l (tells ready holds one.after)).stands;
+              (heard-stands network slave master moved w watches within more (ticks_in l) syncs known slack few counts call
+              ready l (tells ready holds readied.after)).stands;
           last = still_last body body_is no_request (hears_ready counts call (Some ready) l)
-              (heard-asked network slave master w watches within more counts call ready l ∙ one.asked) heard_is;
+              (heard-asked network slave master moved w watches within more counts call ready l ∙ readied.asked) heard_is;
           reported = reported_by call ready answer_is syncs known (since_tick (ticks_in l) slack ready) holds;
         }
 
@@ -236,66 +239,72 @@ module _ (network : Network) (slave master : NodeName) (w : Watched) (apart : Is
 
     -- a Sync
     sync_step : (copy moment : ℕ) (origin : Stamp) → event ≡ Arrive slave copy moment
-        → copy_of network earlier copy ≡ Some m → m.body ≡ bodies.Sync origin
+        → copy_of network earlier copy ≡ Some one.m → one.m.body ≡ bodies.Sync origin
         → IsStep more event earlier missing slack ds d
     sync_step copy moment origin event_is copy_is body =
         let l : Listening = after_all w ds in
         let syncs : ℕ = syncs_in (event ∷ earlier) in
         let draws_none : is_at draws_sync master event ≡ false = ap (is_at draws_sync master) event_is in
         let asks_none : is_at is_request slave event ≡ false = ap (is_at is_request slave) event_is in
-        let call : Call = calls.Event (Ok m) d.time d.line in
+        let call : Call = calls.Event (Ok one.said) d.time d.line in
         let time : d.time ≡ reading (place event earlier) =
-        subst (λ (e : Event). IsTimed e earlier d.time) event_is timed
+        subst (λ (e : Event). IsTimed e earlier d.time) event_is one.timed
         ∙ ap (λ (e : Event). reading (place e earlier)) (sym event_is) in
-        message_step (bodies.Sync origin) (is_of w w.master m.header) call (ready_sync w d.line d.time m l) body refl
-        asks_none (ap is_request event_is) draws_none (hears_it (bodies.Sync origin) body)
-        (answers_it (bodies.Sync origin) body)
-        (sync-ready network slave master w watches within more syncs known slack l (lifted draws_none) d.line d.time m)
+        let read = tells_sync (moved_at moved (place event earlier)) one.m one.said one.agrees origin body in
+        message_step (bodies.Sync read.0) (is_of w w.master one.said.header) call
+        (ready_sync w d.line d.time one.said l) read.1 refl
+        asks_none (ap is_request event_is) draws_none (hears_it (bodies.Sync read.0) read.1)
+        (answers_it (bodies.Sync read.0) read.1)
+        (sync-ready network slave master moved w watches within more syncs known slack l (lifted draws_none) d.line
+        d.time one.said)
         (λ ready answer_is holds.
-        subst (λ (t : ℕ). Holds network slave master watches.own watches.other w.master within more syncs known
-        (since_tick (ticks_in l) slack ready) (setup_in w ready) (calls.Event (Ok m) t d.line ∷ ready.calls)) (sym time)
-        (arrived network slave master w apart watches within event earlier accepted more inside d.line now syncs known
-        (since_tick (ticks_in l) slack ready) (count-no (is_at draws_sync master) event earlier draws_none) refl
+        subst (λ (t : ℕ). Holds network slave master moved watches.own watches.other w.master within more syncs known
+        (since_tick (ticks_in l) slack ready) (setup_in w ready) (calls.Event (Ok one.said) t d.line ∷ ready.calls))
+        (sym time)
+        (arrived network slave master moved w apart watches within event earlier accepted more inside d.line now syncs
+        known (since_tick (ticks_in l) slack ready) (count-no (is_at draws_sync master) event earlier draws_none) refl
         (setup_in w ready) refl
         (omega (arith, counted, count-no (is_at is_request slave) event earlier asks_none)) ready.calls holds
-        (few_since ready) m copy (ap heard_copy event_is) copy_is moment event_is
+        (few_since ready) one.m one.said one.agrees copy (ap heard_copy event_is) copy_is moment event_is
         (subst (λ (t : ℕ). IsFreshUse (setup_in w ready) ready.calls 32768 (place event earlier)
-        (calls.Event (Ok m) t d.line)) time (fresh_use call ready answer_is))))
+        (calls.Event (Ok one.said) t d.line)) time (fresh_use call ready answer_is))))
         (λ ready holds after.
-        told-event network slave master w watches within more (ticks_in l) syncs known slack ready (Ok m) d.time d.line
-        holds after)
+        told-event network slave master moved w watches within more (ticks_in l) syncs known slack ready (Ok one.said)
+        d.time d.line holds after)
 
     -- a Follow_Up or a Delay_Resp
-    general_step : (copy : ℕ) (body : Body) (ready : Option Listening) → m.body ≡ body
-        → own_request network slave m.header body ≡ None
-        → event ≡ Hear slave copy → copy_of network earlier copy ≡ Some m
-        → hear w d (after_all w ds) ≡ hears_ready false (calls.General (Ok m) d.line) ready (after_all w ds)
-        → answered_to w d (after_all w ds) ≡ option_map (λ l. answer_in w l (calls.General (Ok m) d.line)) ready
-        → (Stands network slave master w watches within more (syncs_in (event ∷ earlier)) known slack (after_all w ds)
+    general_step : (copy : ℕ) (body : Body) (ready : Option Listening) → one.said.body ≡ body
+        → own_request w one.said.header body ≡ None
+        → event ≡ Hear slave copy → copy_of network earlier copy ≡ Some one.m
+        → hear w d (after_all w ds) ≡ hears_ready false (calls.General (Ok one.said) d.line) ready (after_all w ds)
+        → answered_to w d (after_all w ds) ≡ option_map (λ l. answer_in w l (calls.General (Ok one.said) d.line)) ready
+        → (Stands network slave master moved w watches within more (syncs_in (event ∷ earlier)) known slack (after_all w ds)
         → (l : Listening) → ready ≡ Some l
-        → IsReady network slave master w watches within more (syncs_in (event ∷ earlier)) known slack (after_all w ds) l)
+        → IsReady network slave master moved w watches within more (syncs_in (event ∷ earlier)) known slack (after_all w ds) l)
         → IsStep more event earlier missing slack ds d
     general_step copy body ready body_is no_request event_is copy_is heard_is answer_is is_ready =
         let l : Listening = after_all w ds in
         let syncs : ℕ = syncs_in (event ∷ earlier) in
         let draws_none : is_at draws_sync master event ≡ false = ap (is_at draws_sync master) event_is in
         let asks_none : is_at is_request slave event ≡ false = ap (is_at is_request slave) event_is in
-        let call : Call = calls.General (Ok m) d.line in
+        let call : Call = calls.General (Ok one.said) d.line in
         message_step body false call ready body_is no_request asks_none (ap is_request event_is) draws_none heard_is
         answer_is (is_ready (lifted draws_none))
         (λ ready answer_is holds.
-        heard network slave master w apart watches within event earlier accepted more inside d.line now syncs known
+        heard network slave master moved w apart watches within event earlier accepted more inside d.line now syncs known
         (since_tick (ticks_in l) slack ready) (count-no (is_at draws_sync master) event earlier draws_none) refl
         (setup_in w ready) refl
         (omega (arith, counted, count-no (is_at is_request slave) event earlier asks_none)) ready.calls holds
-        (few_since ready) m copy (ap heard_copy event_is) copy_is event_is (fresh_use call ready answer_is))
+        (few_since ready) one.m one.said one.agrees copy (ap heard_copy event_is) copy_is event_is
+        (fresh_use call ready answer_is))
         (λ ready holds after.
-        told-general network slave master w watches within more (ticks_in l) syncs known slack ready (Ok m) d.line
+        told-general network slave master moved w watches within more (ticks_in l) syncs known slack ready (Ok one.said)
+        d.line
         holds after)
 
     -- a Delay_Req
     request_step : (moment : ℕ) (port : PortSetup) → event ≡ Request slave moment → slave_at network slave ≡ Some port
-        → m ≡ delay_req port.config (of_count (number_of port (place event earlier)))
+        → one.m ≡ delay_req port.config (of_count (number_of port (place event earlier)))
         → IsStep more event earlier missing slack ds d
     request_step moment port event_is port_is m_is =
         let l : Listening = after_all w ds in
@@ -303,82 +312,84 @@ module _ (network : Network) (slave master : NodeName) (w : Watched) (apart : Is
         let ports : Some port ≡ Some watches.own = sym port_is ∙ watches.slave_port in
         let own : port ≡ watches.own = cc in
         let asks : is_at is_request slave event ≡ true = ap (is_at is_request slave) event_is ∙ named-self slave in
-        let number : ℕ = m.header.sequence.0 in
-        let said_is : Contents = delay_req port.config (of_count (number_of port (place event earlier))) in
+        let heard : Contents = one.said in
+        let number : ℕ = heard.header.sequence.0 in
+        let drawn_is : Contents = delay_req port.config (of_count (number_of port (place event earlier))) in
         let number_is : number ≡ of_count (watches.own.first + sent_in earlier) =
-        ap (λ (m : Contents). m.header.sequence.0) m_is
+        one.agrees.number ∙ ap (λ (m : Contents). m.header.sequence.0) m_is
         ∙ ap (λ (o : PortSetup). of_count (number_of o (place event earlier))) own
         ∙ ap (λ (kind : Event → Bool). of_count (watches.own.first + count_by kind earlier))
         (draws_with-request slave event asks) in
         let time : d.time ≡ reading (place event earlier) =
-        subst (λ (e : Event). IsTimed e earlier d.time) event_is timed
+        subst (λ (e : Event). IsTimed e earlier d.time) event_is one.timed
         ∙ ap (λ (e : Event). reading (place e earlier)) (sym event_is) in
-        let body : m.body ≡ said_is.body = ap (λ (m : Contents). m.body) m_is in
-        let identity : port.config.identity ≡ w.slave = ap (λ (o : PortSetup). o.config.identity) own
-        ∙ sym watches.slave_is in
-        let domain : port.config.domain ≡ w.domain = ap (λ (o : PortSetup). o.config.domain) own
-        ∙ sym watches.domain_is in
-        let of_slave : is_of w w.slave m.header ≡ true =
-        ap (λ (m : Contents). is_of w w.slave m.header) m_is
-        ∙ and_from (port.config.domain == w.domain) (is_same_port port.config.identity w.slave)
-        (eq-eqb port.config.domain w.domain domain)
+        let read = tells_request (moved_at moved (place event earlier)) one.m heard one.agrees (stamp 0 0)
+        (ap (λ (m : Contents). m.body) m_is) in
+        let body : Body = bodies.DelayReq read.0 in
+        let identity : heard.header.source ≡ w.slave =
+        one.agrees.source ∙ ap (λ (m : Contents). m.header.source) m_is
+        ∙ ap (λ (o : PortSetup). o.config.identity) own ∙ sym watches.slave_is in
+        let domain : heard.header.domain ≡ w.domain =
+        one.agrees.domain ∙ ap (λ (m : Contents). m.header.domain) m_is
+        ∙ ap (λ (o : PortSetup). o.config.domain) own ∙ sym watches.domain_is in
+        let of_slave : is_of w w.slave heard.header ≡ true =
+        and_from (heard.header.domain == w.domain) (is_same_port heard.header.source w.slave)
+        (eq-eqb heard.header.domain w.domain domain)
         (ap (λ (i : PortIdentity). is_same_port i w.slave) identity ∙ same_identity w.slave) in
         let heard_is : hear w d l ≡ hears_request w d.line d.time number l =
-        hears_it said_is.body body ∙ ap (λ (b : Bool). if b then hears_request w d.line d.time number l else l) of_slave
-        in
-        let none : report_at w ds d ≡ None = ap (option_and_then report_in) (answers_it said_is.body body) in
-        let own_port : is_own network slave m.header ≡ true =
-        ap (λ (o : Option PortSetup). option_map_or (λ port. is_same_port m.header.source port.config.identity) o
-        false) port_is
-        ∙ ap (λ (m : Contents). is_same_port m.header.source port.config.identity) m_is
-        ∙ same_identity port.config.identity in
-        let own_number : option_and_then (λ m. own_request network slave m.header m.body) (result_ok d.said) ≡ Some
-        number =
-        ap (λ (r : Reading). option_and_then (λ m. own_request network slave m.header m.body) (result_ok r)) said
-        ∙ ap (own_request network slave m.header) body ∙ ap (λ (b : Bool). if b then Some number else None) own_port in
-        let asked = asked-stands network slave master w watches within more syncs (place event earlier) d.line d.time
-        number
+        hears_it body read.1 ∙ ap (λ (b : Bool). if b then hears_request w d.line d.time number l else l) of_slave in
+        let none : report_at w ds d ≡ None = ap (option_and_then report_in) (answers_it body read.1) in
+        let own_number : option_and_then (λ m. own_request w m.header m.body) (result_ok d.said) ≡ Some number =
+        ap (λ (r : Reading). option_and_then (λ m. own_request w m.header m.body) (result_ok r)) one.says
+        ∙ ap (own_request w heard.header) read.1 ∙ ap (λ (b : Bool). if b then Some number else None) of_slave in
+        let asked = asked-stands network slave master moved w watches within more syncs (place event earlier) d.line
+        d.time number
         now asks number_is time known missing slack l (lifted (ap (is_at draws_sync master) event_is)) counted
         few_missing in
         record {
           known = sent_in earlier + 1;
           counted = ap (λ (b : Bool). sent_in earlier + 1 + (if b then 0 else missing)) (ap is_request event_is)
               ∙ omega (arith, count-yes (is_at is_request slave) event earlier asks);
-          stands = subst (λ (after : Listening). Stands network slave master w watches within more syncs
+          stands = subst (λ (after : Listening). Stands network slave master moved w watches within more syncs
               (sent_in earlier + 1) (since_tick (ticks_in l) slack after) after)
               (sym heard_is)
               asked.0;
           last = λ n last.
               let same : Some number ≡ Some n =
-              sym (ap (λ (o : Option ℕ). option_or o (last_request network slave ds)) own_number) ∙ last in
-              let one : number ≡ n = cc in (
+              sym (ap (λ (o : Option ℕ). option_or o (last_request w ds)) own_number) ∙ last in
+              let same_number : number ≡ n = cc in (
                 ap (λ (l : Listening). l.asked) heard_is ∙ asked.1,
-                omega (arith, one, number_is),
-                omega (arith, one, number_is),
+                omega (arith, same_number, number_is),
+                omega (arith, same_number, number_is),
               );
           reported = λ report is. let same : Some report ≡ None = sym is ∙ none in cc;
         }
 
     -- each of them
-    pub step : told_at network slave event earlier ≡ Some m → IsStep more event earlier missing slack ds d
-    step made = by (told_is network slave earlier m event made)
+    pub step : IsStep more event earlier missing slack ds d
+    step = by (told_is network slave earlier one.m event one.made)
       where
-        general : (copy : ℕ) → event ≡ Hear slave copy → copy_of network earlier copy ≡ Some m → IsGeneral m.body
-            → IsStep more event earlier missing slack ds d
-        general copy event_is copy_is (events.FollowUp precise body) =
-            general_step copy (bodies.FollowUp precise) (ready_follow_up w d.time m (after_all w ds)) body refl event_is
-            copy_is (hears_it (bodies.FollowUp precise) body) (answers_it (bodies.FollowUp precise) body)
-            (λ stands. follow_up-ready network slave master w watches within more (syncs_in (event ∷ earlier)) known slack
-            (after_all w ds) stands d.time m)
-        general copy event_is copy_is (events.DelayResp receive requesting body) =
-            general_step copy (bodies.DelayResp receive requesting)
-            (ready_response w d.time m requesting (after_all w ds)) body refl event_is copy_is
-            (hears_it (bodies.DelayResp receive requesting) body)
-            (answers_it (bodies.DelayResp receive requesting) body)
-            (λ stands. response-ready network slave master w watches within more (syncs_in (event ∷ earlier)) known slack
-            (after_all w ds) stands d.time m requesting)
+        amount : ℤ
+        amount = moved_at moved (place event earlier)
 
-        by : IsTold network slave event earlier m → IsStep more event earlier missing slack ds d
+        general : (copy : ℕ) → event ≡ Hear slave copy → copy_of network earlier copy ≡ Some one.m
+            → IsGeneral one.m.body → IsStep more event earlier missing slack ds d
+        general copy event_is copy_is (events.FollowUp precise body) =
+            let read = tells_follow_up amount one.m one.said one.agrees precise body in
+            general_step copy (bodies.FollowUp precise) (ready_follow_up w d.time one.said (after_all w ds)) read refl
+            event_is copy_is (hears_it (bodies.FollowUp precise) read) (answers_it (bodies.FollowUp precise) read)
+            (λ stands. follow_up-ready network slave master moved w watches within more (syncs_in (event ∷ earlier))
+            known slack (after_all w ds) stands d.time one.said)
+        general copy event_is copy_is (events.DelayResp receive requesting body) =
+            let read = tells_response amount one.m one.said one.agrees receive requesting body in
+            general_step copy (bodies.DelayResp receive requesting)
+            (ready_response w d.time one.said requesting (after_all w ds)) read refl event_is copy_is
+            (hears_it (bodies.DelayResp receive requesting) read)
+            (answers_it (bodies.DelayResp receive requesting) read)
+            (λ stands. response-ready network slave master moved w watches within more (syncs_in (event ∷ earlier))
+            known slack (after_all w ds) stands d.time one.said requesting)
+
+        by : IsTold network slave event earlier one.m → IsStep more event earlier missing slack ds d
         by (events.Arrived copy moment origin event_is copy_is body) = sync_step copy moment origin event_is copy_is
             body
         by (events.Heard copy event_is copy_is body) = general copy event_is copy_is body

@@ -23,6 +23,7 @@ use Rattle.network_model.proofs.WorkedExchange.{after, whole}
 use Rattle.capture_model.specs.declared.watched.Watched.{Watched}
 use Rattle.capture_model.specs.Recorded.{Recorded}
 use Rattle.capture_model.specs.Listening.{after_all, reports}
+use Rattle.capture_model.specs.Agreement.{Moved}
 use Rattle.capture_model.specs.Told.{Tells, Nothing, Untold, Told, Other}
 use Rattle.capture_model.specs.Premises.{IsFreshAndTicked, ticks_in}
 use Rattle.capture_model.specs.Exact.{Watches}
@@ -98,21 +99,25 @@ report = record {
 one_report : reports watched recording ≡ report ∷ []
 one_report = refl
 
+-- nothing stands in a Follow_Up in place of its Sync
+abbrev pub unmoved : Moved
+unmoved origin = pos 0
+
 -- event by event
-abbrev tells : Tells small_network s whole recording
+abbrev tells : Tells small_network s watched unmoved whole recording
 tells =
-    Told (Hear s 11) (after 13) response_said (line 7 0 (Ok response_said)) _ refl refl tt
+    Told (Hear s 11) (after 13) _ _ (record { m = response_said; made = refl; said = response_said; says = refl; agrees = record { domain = refl; source = refl; number = refl; body = (refl, refl, refl) }; timed = tt })
     (Other (after 13) _ _ refl
     (Untold (Stamped s) (after 12) _
     (Untold (Arrive m 10 (at 2 4500 16384)) (after 11) _
     (Untold (Leave t 9 (at 2 4000 16384)) (after 10) _
     (Untold (Enter t 8 (at 2 500 0)) (after 9) _
     (Other (after 9) _ _ refl
-    (Told (Request s (at 2 0 0)) (after 8) request_said _ _ refl refl refl
-    (Told (Hear s 6) (after 7) follow_said _ _ refl refl tt
+    (Told (Request s (at 2 0 0)) (after 8) _ _ (record { m = request_said; made = refl; said = request_said; says = refl; agrees = record { domain = refl; source = refl; number = refl; body = tt }; timed = refl })
+    (Told (Hear s 6) (after 7) _ _ (record { m = follow_said; made = refl; said = follow_said; says = refl; agrees = record { domain = refl; source = refl; number = refl; body = (refl, refl) }; timed = tt })
     (Untold (Follow m) (after 6) _
     (Other (after 6) _ _ refl
-    (Told (Arrive s 4 (at 1 3000 0)) (after 5) sync_said _ _ refl refl refl
+    (Told (Arrive s 4 (at 1 3000 0)) (after 5) _ _ (record { m = sync_said; made = refl; said = sync_said; says = refl; agrees = record { domain = refl; source = refl; number = refl; body = (refl, (refl, λ big. big)) }; timed = refl })
     (Untold (Leave t 3 (at 1 2500 0)) (after 4) _
     (Untold (Enter t 2 (at 1 500 0)) (after 3) _
     (Untold (Sync m (at 1 0 0)) (after 2) _
@@ -120,13 +125,84 @@ tells =
     (Untold (StepClock s (pos 65536000)) (after 0) _ Nothing))))))))))))))))
 
 -- it meets the premises
-fresh_and_ticked : IsFreshAndTicked exact_limits m watched tells
+fresh_and_ticked : IsFreshAndTicked exact_limits m tells
 fresh_and_ticked = record {
   numbered = (omega arith, (omega arith, (omega arith, (omega arith, (omega arith, (omega arith, tt))))));
   fresh = IsFresh-short small_network s m watched 32768 tells (omega arith);
   missing = MissesFew-short small_network s m watched 32768 tells (omega arith);
   ticked = IsTicked-short small_network s m watched 16384 tells (omega arith);
 }
+
+-- the same behind a two-step clock, which puts the residence into the Follow_Up; a TLV stands behind the Sync, and Syncs
+-- of another master and of another domain, and a Delay_Resp to another slave, stand between
+abbrev all_moved : Moved
+all_moved origin = pos 131072000
+
+abbrev bare_sync : Contents
+bare_sync = record (sync m_config 0) { suffix = 0 ∷ 8 ∷ 0 ∷ 0 ∷ [] }
+
+abbrev late_sync_follow : Contents
+late_sync_follow = with_correction follow_said (record { 0 = pos 131072000 })
+
+abbrev recording_behind : List Recorded
+recording_behind =
+    response_line
+    ∷ line 6 (at 2 1500 0) (Ok (record response_said { body = DelayResp (stamp 2 4500) b_config.identity }))
+    ∷ line 5 (at 2 1000 0) (Ok request_said)
+    ∷ line 4 (at 1 6000 0) (Ok (record (sync m_config 1) { header = record (sync m_config 1).header { domain = 4 } }))
+    ∷ line 3 (at 1 5000 0) (Ok late_sync_follow) ∷ line 2 (at 1 4500 0) (Ok (sync b_config 0))
+    ∷ line 1 (at 1 4000 0) (Ok bare_sync) ∷ []
+
+tells_behind : Tells small_network s watched all_moved whole recording_behind
+tells_behind =
+    Told (Hear s 11) (after 13) _ _ (record {
+      m = response_said;
+      made = refl;
+      said = response_said;
+      says = refl;
+      agrees = record { domain = refl; source = refl; number = refl; body = (refl, refl, refl) };
+      timed = tt;
+    })
+    (Other (after 13) _ _ refl
+    (Untold (Stamped s) (after 12) _
+    (Untold (Arrive m 10 (at 2 4500 16384)) (after 11) _
+    (Untold (Leave t 9 (at 2 4000 16384)) (after 10) _
+    (Untold (Enter t 8 (at 2 500 0)) (after 9) _
+    (Told (Request s (at 2 0 0)) (after 8) _ _ (record {
+      m = request_said;
+      made = refl;
+      said = request_said;
+      says = refl;
+      agrees = record { domain = refl; source = refl; number = refl; body = tt };
+      timed = refl;
+    })
+    (Other (after 8) _ _ refl
+    (Told (Hear s 6) (after 7) _ _ (record {
+      m = follow_said;
+      made = refl;
+      said = late_sync_follow;
+      says = refl;
+      agrees = record { domain = refl; source = refl; number = refl; body = (refl, refl) };
+      timed = tt;
+    })
+    (Untold (Follow m) (after 6) _
+    (Other (after 6) _ _ refl
+    (Told (Arrive s 4 (at 1 3000 0)) (after 5) _ _ (record {
+      m = sync_said;
+      made = refl;
+      said = bare_sync;
+      says = refl;
+      agrees = record { domain = refl; source = refl; number = refl; body = (refl, (refl, λ big. big)) };
+      timed = refl;
+    })
+    (Untold (Leave t 3 (at 1 2500 0)) (after 4) _
+    (Untold (Enter t 2 (at 1 500 0)) (after 3) _
+    (Untold (Sync m (at 1 0 0)) (after 2) _
+    (Untold (SetMaster s m) (after 1) _
+    (Untold (StepClock s (pos 65536000)) (after 0) _ Nothing))))))))))))))))
+
+report_behind : reports watched recording_behind ≡ record report { request_tag = 5 } ∷ []
+report_behind = refl
 
 -- Delay_Reqs of S
 abbrev asked : (number sequence : ℕ) → Recorded

@@ -12,6 +12,7 @@ use Rattle.network_model.specs.Exact.{OfOneSync, OfOneRequest, IsTwice}
 use Rattle.capture_model.specs.declared.watched.Watched.{Watched}
 use Rattle.capture_model.specs.Recorded.{Recorded}
 use Rattle.capture_model.specs.Listening.{reports}
+use Rattle.capture_model.specs.Agreement.{Moved}
 use Rattle.capture_model.specs.Told.{Tells, event_told}
 use Rattle.capture_model.specs.Premises.{IsFreshAndTicked}
 
@@ -26,19 +27,19 @@ pub record Watches (network : Network) (slave master : NodeName) (w : Watched) :
   pub domain_is : w.domain ≡ own.config.domain
 
 -- a tag is that of the event which the line of this number tells
-abbrev pub TellsTag : {network : Network} {slave : NodeName} {run : Run} {ds : List Recorded}
-    → Tells network slave run ds → (line tag : ℕ) → Type 0
+abbrev pub TellsTag : {network : Network} {slave : NodeName} {w : Watched} {moved : Moved} {run : Run} {ds : List Recorded}
+    → Tells network slave w moved run ds → (line tag : ℕ) → Type 0
 TellsTag tells line tag = option_map tag_of (event_told tells line) ≡ Some tag
 
 -- the same where there is a line, and none where there is none
-abbrev pub TellsTags : {network : Network} {slave : NodeName} {run : Run} {ds : List Recorded}
-    → Tells network slave run ds → (line tag : Option ℕ) → Type 0
+abbrev pub TellsTags : {network : Network} {slave : NodeName} {w : Watched} {moved : Moved} {run : Run} {ds : List Recorded}
+    → Tells network slave w moved run ds → (line tag : Option ℕ) → Type 0
 TellsTags tells None tag = tag ≡ None
 TellsTags tells (Some line) tag = (event : ℕ) × TellsTag tells line event × (tag ≡ Some event)
 
 -- a report with the tags of the events that its lines tell, and its own results
-pub record IsOfEvents {network : Network} {slave : NodeName} {run : Run} {ds : List Recorded}
-    (tells : Tells network slave run ds) (report told : Report) : Type 0 where
+pub record IsOfEvents {network : Network} {slave : NodeName} {w : Watched} {moved : Moved} {run : Run} {ds : List Recorded}
+    (tells : Tells network slave w moved run ds) (report told : Report) : Type 0 where
   pub offset : told.offset2 ≡ report.offset2
   pub path : told.path2 ≡ report.path2
   pub sync : TellsTag tells report.sync_tag told.sync_tag
@@ -48,8 +49,8 @@ pub record IsOfEvents {network : Network} {slave : NodeName} {run : Run} {ds : L
 
 -- the report is exact for the events that its lines tell: of one Sync of this master and of one Delay_Req to it, and
 -- exactly twice the standard's two results over them
-pub record IsExact {network : Network} {slave : NodeName} {run : Run} {ds : List Recorded} (master : NodeName)
-    (tells : Tells network slave run ds) (report : Report) : Type 0 where
+pub record IsExact {network : Network} {slave : NodeName} {w : Watched} {moved : Moved} {run : Run} {ds : List Recorded} (master : NodeName)
+    (tells : Tells network slave w moved run ds) (report : Report) : Type 0 where
   pub told : Report
   pub events : IsOfEvents tells report told
   pub sync_arrival : Place
@@ -60,11 +61,13 @@ pub record IsExact {network : Network} {slave : NodeName} {run : Run} {ds : List
   pub of_request : OfOneRequest run slave master told request_arrival request
   pub exact : IsTwice sync_arrival sync request_arrival request told
 
--- Over any accepted run of a network and a recording that tells it at one of its slaves: each report is exact, where no
--- number is too old when it is used, ticks come often enough, and few Delay_Reqs are missing in a row.
+-- Over any accepted run of a network and a recording that tells it at one of its slaves, whatever two-step transparent
+-- clocks moved from Syncs to their Follow_Ups: each report is exact, where no number is too old when it is used, ticks
+-- come often enough, and few Delay_Reqs are missing in a row.
 abbrev pub EachReportIsExact : Type 0
 EachReportIsExact =
-    (network : Network) (run : Run) (slave master : NodeName) (w : Watched) (ds : List Recorded)
+    (network : Network) (run : Run) (slave master : NodeName) (w : Watched) (moved : Moved)
+    (ds : List Recorded)
     → IsAcceptedRun network run → Watches network slave master w
-    → (tells : Tells network slave run ds) → IsFreshAndTicked exact_limits master w tells
+    → (tells : Tells network slave w moved run ds) → IsFreshAndTicked exact_limits master tells
     → All (IsExact master tells) (reports w ds)

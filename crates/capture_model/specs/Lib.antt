@@ -1,5 +1,7 @@
 pub mod Recorded
 pub mod Listening
+pub mod WhatIsRead
+pub mod Agreement
 pub mod Told
 pub mod Premises
 pub mod Exact

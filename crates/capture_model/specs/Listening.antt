@@ -24,6 +24,7 @@ use Rattle.slave_port.specs.declared.reason.Reason.TheVariants.{NotNewer}
 use Rattle.slave_port.specs.History as calls
 use Rattle.slave_port.specs.History.{Setup, Call, setup_of, next_number}
 use Rattle.slave_port.specs.Answer.{answer}
+use Rattle.network_model.specs.Premises.{is_of_use}
 use Rattle.capture_model.specs.declared.watched.Watched.{Watched}
 use Rattle.capture_model.specs.Recorded.{Recorded}
 
@@ -242,6 +243,10 @@ answered w line time m body l = option_and_then
 -- the same of any datagram
 abbrev pub answered_to : Watched → Recorded → Listening → Option Heard
 answered_to w d l = option_and_then (λ m. answered w d.line d.time m m.body l) (result_ok d.said)
+
+-- the port uses what a datagram says, after these
+abbrev pub is_used : Watched → List Recorded → Recorded → Bool
+is_used w earlier d = option_map_or is_of_use (answered_to w d (after_all w earlier)) false
 
 -- the report that a datagram brings, after these
 abbrev pub report_at : Watched → List Recorded → Recorded → Option Report

@@ -2,7 +2,6 @@
 -- and few Delay_Reqs are missing in a row.
 use Rattle.std.specs.Prelude.{ℕ, ◌+◌, ◌<◌, ◌≤◌, ⊤, Bool, true, false, not, ◌&&◌, ◌==◌, List, [], ◌∷◌, count_by}
 use Rattle.std.specs.Prelude.{if◌then◌else◌, IsTrue, IfSome}
-use Rattle.std.specs.Option.{option_map_or}
 use Rattle.slave_port.specs.History as calls
 use Rattle.slave_port.specs.History.{Call}
 use Rattle.network_model.specs.Network.{Network, NodeName}
@@ -10,26 +9,23 @@ use Rattle.network_model.specs.Run.{Run, place}
 use Rattle.network_model.specs.Kinds.{is_at, draws_sync, is_request}
 use Rattle.network_model.specs.Numbering.{drawn_later}
 use Rattle.network_model.specs.Truth.{origin_heard}
-use Rattle.network_model.specs.Premises.{Limits, is_of_use}
+use Rattle.network_model.specs.Premises.{Limits}
 use Rattle.capture_model.specs.declared.watched.Watched.{Watched}
 use Rattle.capture_model.specs.Recorded.{Recorded}
-use Rattle.capture_model.specs.Listening.{Listening, after_all, hear, answered_to}
+use Rattle.capture_model.specs.Listening.{Listening, after_all, hear, is_used}
+use Rattle.capture_model.specs.Agreement.{Moved}
 use Rattle.capture_model.specs.Told.{Tells, Nothing, Untold, Told, Other, AreNumbered}
 
--- the port uses what a datagram says
-abbrev pub is_used : Watched → List Recorded → Recorded → Bool
-is_used w earlier d = option_map_or is_of_use (answered_to w d (after_all w earlier)) false
-
 -- where the port uses a message that is told, fewer numbers than this are later than its own in its sequence
-abbrev pub IsFresh : {network : Network} {slave : NodeName} {run : Run} {ds : List Recorded} → (late : ℕ) → Watched
-    → Tells network slave run ds → Type 0
-IsFresh late w Nothing = ⊤
-IsFresh late w (Untold event earlier ds tells) = IsFresh late w tells
-IsFresh late w (Told event earlier m d ds made said timed tells) =
+abbrev pub IsFresh : {network : Network} {slave : NodeName} {w : Watched} {moved : Moved} {run : Run} {ds : List Recorded} → (late : ℕ)
+    → Tells network slave w moved run ds → Type 0
+IsFresh late Nothing = ⊤
+IsFresh late (Untold event earlier ds tells) = IsFresh late tells
+IsFresh {w = w} late (Told event earlier d ds one tells) =
     (IsTrue (is_used w ds d)
     → IfSome (origin_heard (place event earlier)) (λ origin. drawn_later origin earlier < late))
-    × IsFresh late w tells
-IsFresh late w (Other run d ds nothing tells) = IsFresh late w tells
+    × IsFresh late tells
+IsFresh late (Other run d ds nothing tells) = IsFresh late tells
 
 -- a call that is a tick, or that tells the port its master, after which nothing is held that came before
 abbrev pub is_tick : Call → Bool
@@ -46,51 +42,51 @@ abbrev pub brings_tick : Watched → List Recorded → Recorded → Bool
 brings_tick w earlier d = not (ticks_in (hear w d (after_all w earlier)) == ticks_in (after_all w earlier))
 
 -- how many Syncs the master drew since the port's last tick, or since the first datagram
-abbrev pub syncs_since_tick : {network : Network} {slave : NodeName} {run : Run} {ds : List Recorded}
-    → (master : NodeName) → Watched → Tells network slave run ds → ℕ
-syncs_since_tick master w Nothing = 0
-syncs_since_tick master w (Untold event earlier [] tells) = 0
-syncs_since_tick master w (Untold event earlier (d ∷ ds) tells) =
-    if is_at draws_sync master event then syncs_since_tick master w tells + 1 else syncs_since_tick master w tells
-syncs_since_tick master w (Told event earlier m d ds made said timed tells) =
-    if brings_tick w ds d then 0 else syncs_since_tick master w tells
-syncs_since_tick master w (Other run d ds nothing tells) = syncs_since_tick master w tells
+abbrev pub syncs_since_tick : {network : Network} {slave : NodeName} {w : Watched} {moved : Moved} {run : Run} {ds : List Recorded}
+    → (master : NodeName) → Tells network slave w moved run ds → ℕ
+syncs_since_tick master Nothing = 0
+syncs_since_tick master (Untold event earlier [] tells) = 0
+syncs_since_tick master (Untold event earlier (d ∷ ds) tells) =
+    if is_at draws_sync master event then syncs_since_tick master tells + 1 else syncs_since_tick master tells
+syncs_since_tick {w = w} master (Told event earlier d ds one tells) =
+    if brings_tick w ds d then 0 else syncs_since_tick master tells
+syncs_since_tick master (Other run d ds nothing tells) = syncs_since_tick master tells
 
 -- at no point are these more; they grow where an event isn't told
-abbrev pub IsTicked : {network : Network} {slave : NodeName} {run : Run} {ds : List Recorded}
-    → (between_ticks : ℕ) → (master : NodeName) → Watched → Tells network slave run ds → Type 0
-IsTicked between_ticks master w Nothing = ⊤
-IsTicked between_ticks master w (Untold event earlier ds tells) =
-    (syncs_since_tick master w (Untold event earlier ds tells) ≤ between_ticks) × IsTicked between_ticks master w tells
-IsTicked between_ticks master w (Told event earlier m d ds made said timed tells) =
-    IsTicked between_ticks master w tells
-IsTicked between_ticks master w (Other run d ds nothing tells) = IsTicked between_ticks master w tells
+abbrev pub IsTicked : {network : Network} {slave : NodeName} {w : Watched} {moved : Moved} {run : Run} {ds : List Recorded}
+    → (between_ticks : ℕ) → (master : NodeName) → Tells network slave w moved run ds → Type 0
+IsTicked between_ticks master Nothing = ⊤
+IsTicked between_ticks master (Untold event earlier ds tells) =
+    (syncs_since_tick master (Untold event earlier ds tells) ≤ between_ticks) × IsTicked between_ticks master tells
+IsTicked between_ticks master (Told event earlier d ds one tells) =
+    IsTicked between_ticks master tells
+IsTicked between_ticks master (Other run d ds nothing tells) = IsTicked between_ticks master tells
 
 -- how many Delay_Reqs the slave sent since the last one that is told, once one was
-abbrev pub requests_missing : {network : Network} {slave : NodeName} {run : Run} {ds : List Recorded}
-    → Watched → Tells network slave run ds → ℕ
-requests_missing w Nothing = 0
-requests_missing {slave = slave} w (Untold event earlier ds tells) =
-    if (after_all w ds).asked && is_at is_request slave event then requests_missing w tells + 1
-    else requests_missing w tells
-requests_missing w (Told event earlier m d ds made said timed tells) =
-    if is_request event then 0 else requests_missing w tells
-requests_missing w (Other run d ds nothing tells) = requests_missing w tells
+abbrev pub requests_missing : {network : Network} {slave : NodeName} {w : Watched} {moved : Moved} {run : Run} {ds : List Recorded}
+    → Tells network slave w moved run ds → ℕ
+requests_missing Nothing = 0
+requests_missing {slave = slave} {w = w} (Untold event earlier ds tells) =
+    if (after_all w ds).asked && is_at is_request slave event then requests_missing tells + 1
+    else requests_missing tells
+requests_missing (Told event earlier d ds one tells) =
+    if is_request event then 0 else requests_missing tells
+requests_missing (Other run d ds nothing tells) = requests_missing tells
 
 -- at no point are these as many; they grow where an event isn't told
-abbrev pub MissesFew : {network : Network} {slave : NodeName} {run : Run} {ds : List Recorded}
-    → (late : ℕ) → Watched → Tells network slave run ds → Type 0
-MissesFew late w Nothing = ⊤
-MissesFew late w (Untold event earlier ds tells) =
-    (requests_missing w (Untold event earlier ds tells) < late) × MissesFew late w tells
-MissesFew late w (Told event earlier m d ds made said timed tells) = MissesFew late w tells
-MissesFew late w (Other run d ds nothing tells) = MissesFew late w tells
+abbrev pub MissesFew : {network : Network} {slave : NodeName} {w : Watched} {moved : Moved} {run : Run} {ds : List Recorded}
+    → (late : ℕ) → Tells network slave w moved run ds → Type 0
+MissesFew late Nothing = ⊤
+MissesFew late (Untold event earlier ds tells) =
+    (requests_missing (Untold event earlier ds tells) < late) × MissesFew late tells
+MissesFew late (Told event earlier d ds one tells) = MissesFew late tells
+MissesFew late (Other run d ds nothing tells) = MissesFew late tells
 
 -- The recording of a slave and of a master that it follows: its lines are numbered, no number is too old when it is
 -- used, ticks come often enough, and not too many Delay_Reqs are missing in a row.
-pub record IsFreshAndTicked (limits : Limits) {network : Network} {slave : NodeName} {run : Run} {ds : List Recorded}
-    (master : NodeName) (w : Watched) (tells : Tells network slave run ds) : Type 0 where
+pub record IsFreshAndTicked (limits : Limits) {network : Network} {slave : NodeName} {w : Watched} {moved : Moved} {run : Run} {ds : List Recorded}
+    (master : NodeName) (tells : Tells network slave w moved run ds) : Type 0 where
   pub numbered : AreNumbered ds
-  pub fresh : IsFresh limits.late w tells
-  pub ticked : IsTicked limits.between_ticks master w tells
-  pub missing : MissesFew limits.late w tells
+  pub fresh : IsFresh limits.late tells
+  pub ticked : IsTicked limits.between_ticks master tells
+  pub missing : MissesFew limits.late tells

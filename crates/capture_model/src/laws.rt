@@ -4,12 +4,27 @@
 ghost use Rattle.capture_model.specs.Exact.{EachReportIsExact};
 ghost use Rattle.capture_model.specs.Lives.{NoReportMixesLives};
 ghost use Rattle.capture_model.specs.Pairs.{NoReportedPairIsApart};
+ghost use Rattle.capture_model.specs.WhatIsRead.{EachAnswerRestsOnWhatIsRead};
+
+/// What a slave's port answers to messages rests on what it reads of them: on their type; of a Sync, a Follow_Up or
+/// a Delay_Resp on domain, source, sequenceId and correction; of a Sync on the twoStepFlag, and where it is
+/// one-step on originTimestamp; of a Follow_Up on preciseOriginTimestamp; of a Delay_Resp on receiveTimestamp and
+/// requestingPortIdentity. To messages with nothing else in them it answers the same, whatever it is told.
+pub fn each_answer_rests_on_what_is_read()
+    ensures { EachAnswerRestsOnWhatIsRead }
+{}
 
 /// What a port reports that listens to a recording at a slave is exact: of one Sync of the master and of one
 /// Delay_Req to it, those that its lines tell, and twice the standard's two results for them, without any
 /// error. This holds over every accepted run of a network, of whatever length, that the recording tells at
 /// the slave, and in which no number is too old when it is used, ticks come often enough, and few
 /// Delay_Reqs are missing in a row.
+///
+/// A recorded message tells one of the run where both agree in what a slave's port reads, and of a Delay_Req in
+/// domain, source and sequenceId; all else of it is free. Any part of the correction of a two-step Sync may stand
+/// in its Follow_Up instead, by the same amount in all copies of both, as two-step transparent clocks have it.
+/// Between may stand what is none of the four messages, a Sync, Follow_Up or Delay_Resp that the port doesn't
+/// use, Delay_Reqs of other ports, and the slave's last one again.
 pub fn each_report_is_exact()
     ensures { EachReportIsExact }
 {}
