@@ -19,6 +19,14 @@ mod Lives
 mod Known
 mod HeldPairs
 mod Pairs
+mod Completes
+mod Hearing
+mod Newest
+mod Said
+mod Onward
+mod Takes
+mod Finds
 mod Worked
 mod WorkedSlave
 mod WorkedClock
+mod WorkedFinds

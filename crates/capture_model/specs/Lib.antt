@@ -7,3 +7,5 @@ pub mod Premises
 pub mod Exact
 pub mod Lives
 pub mod Pairs
+pub mod Completes
+pub mod Finds

@@ -1,0 +1,254 @@
+-- The law: an exchange that stands in a recording is found. `laws::each_exchange_is_found` promises it.
+use Rattle.std.specs.Prelude.{◌≡◌, ◌⊎◌, ℕ, ◌<◌, ◌≤◌, ◌==◌, nat_lt, Bool, true, false, not, ◌&&◌, ◌||◌, ⊤, int_lt}
+use Rattle.std.specs.Prelude.{List, [], ◌∷◌, ◌++◌, count_by, if◌then◌else◌, Option, Some, None, Ok, IfSome, IsTrue}
+use Rattle.std.specs.Prelude.{option_and_then}
+use Rattle.std.specs.Option.{option_map_or, option_or}
+use Rattle.std.specs.Result.{result_ok}
+use Rattle.std.specs.List.{All}
+use Rattle.ptp_units.specs.Interval.{too_big}
+use Rattle.ptp_units.specs.Moment.{Stamp}
+use Rattle.ptp_units.specs.Sequence.{of_count, ahead}
+use Rattle.event_codec.specs.declared.message.Body.{Body}
+use Rattle.event_codec.specs.declared.message.Body.TheVariants as bodies
+use Rattle.event_codec.specs.declared.port.PortIdentity.{PortIdentity}
+use Rattle.event_codec.specs.Packet.{Contents}
+use Rattle.event_codec.specs.Port.{is_same_port}
+use Rattle.sync_watch.specs.Judged.{is_apart}
+use Rattle.slave_port.specs.declared.heard.Heard.{Heard}
+use Rattle.slave_port.specs.declared.heard.Heard.TheVariants as answers
+use Rattle.slave_port.specs.Usable.{is_two_step, is_not_newer}
+use Rattle.slave_port.specs.Completion.{SyncCompletion, DelayCompletion, pair, responded}
+use Rattle.slave_port.specs.Answer.{report_of}
+use Rattle.capture_model.specs.declared.watched.Watched.{Watched}
+use Rattle.capture_model.specs.Recorded.{Recorded}
+use Rattle.capture_model.specs.Listening.{table_capacity, ticks_every, is_of, after_all, answered_to}
+use Rattle.capture_model.specs.Listening.{report_at}
+use Rattle.capture_model.specs.Told.{is_sync, AreNumbered}
+use Rattle.capture_model.specs.Listening.{is_used}
+use Rattle.capture_model.specs.Pairs.{is_heard}
+
+-- a Sync of the master
+abbrev pub is_master_sync : Watched → Contents → Bool
+is_master_sync w m = is_of w w.master m.header && is_sync m.body
+
+abbrev pub is_follow_up : Body → Bool
+is_follow_up (bodies.FollowUp precise) = true
+is_follow_up _ = false
+
+-- a Follow_Up of the master
+abbrev pub is_master_follow_up : Watched → Contents → Bool
+is_master_follow_up w m = is_of w w.master m.header && is_follow_up m.body
+
+-- what says when a Sync of the master left: a Follow_Up, or a one-step Sync
+abbrev pub tells_departure : Watched → Contents → Bool
+tells_departure w m = is_master_follow_up w m || (is_master_sync w m && not (is_two_step m.header))
+
+abbrev pub is_response_to : PortIdentity → Body → Bool
+is_response_to port (bodies.DelayResp receive requesting) = is_same_port requesting port
+is_response_to port _ = false
+
+-- a Delay_Resp of the master to the slave
+abbrev pub is_own_response : Watched → Contents → Bool
+is_own_response w m = is_of w w.master m.header && is_response_to w.slave m.body
+
+abbrev pub is_delay_req : Body → Bool
+is_delay_req (bodies.DelayReq origin) = true
+is_delay_req _ = false
+
+-- a Delay_Req of the slave
+abbrev pub is_own_request : Watched → Contents → Bool
+is_own_request w m = is_of w w.slave m.header && is_delay_req m.body
+
+-- the same of this number
+abbrev pub with_number : (Contents → Bool) → (number : ℕ) → Contents → Bool
+with_number test number m = test m && m.header.sequence.0 == number
+
+-- what a datagram says passes a test
+abbrev pub says : (Contents → Bool) → Recorded → Bool
+says test d = option_map_or test (result_ok d.said) false
+
+-- none of these says what passes it
+abbrev pub NoneSays : (Contents → Bool) → List Recorded → Type 0
+NoneSays test ds = All (λ d. says test d ≡ false) ds
+
+-- the number of the last Delay_Req of the slave that these say
+abbrev pub last_number : Watched → List Recorded → Option ℕ
+last_number w [] = None
+last_number w (d ∷ earlier) =
+    option_or (option_and_then (λ m. if is_own_request w m then Some m.header.sequence.0 else None) (result_ok d.said))
+    (last_number w earlier)
+
+-- A two-step Sync of the master and its Follow_Up: of one number, less than a second apart, and neither correction too
+-- big.
+pub record AreOfOneSync (w : Watched) (sync follow : Recorded) (s f : Contents) (precise : Stamp) : Type 0 where
+  pub sync_said : sync.said ≡ Ok s
+  pub follow_said : follow.said ≡ Ok f
+  pub sync_is : is_master_sync w s ≡ true
+  pub two_step : is_two_step s.header ≡ true
+  pub of_master : is_of w w.master f.header ≡ true
+  pub follow_is : f.body ≡ bodies.FollowUp precise
+  pub number : f.header.sequence.0 ≡ s.header.sequence.0
+  pub near : is_apart sync.time follow.time ≡ false
+  pub small_sync : int_lt s.header.correction.0 too_big ≡ true
+  pub small_follow : int_lt f.header.correction.0 too_big ≡ true
+
+-- what they complete
+abbrev pub completion_of : (sync follow : Recorded) (s f : Contents) (precise : Stamp) → SyncCompletion
+completion_of sync follow s f precise = pair s.header.sequence.0
+    (record { t2 = sync.time; correction = s.header.correction.0; tag = sync.line })
+    (record { precise = precise; correction = f.header.correction.0; tag = follow.line })
+
+-- the number isn't behind any that says when it left
+abbrev pub IsNotBehind : Watched → (number : ℕ) → List Recorded → Type 0
+IsNotBehind w number ds =
+    NoneSays (λ m. tells_departure w m && is_not_newer (Some m.header.sequence.0) number) ds
+
+-- a Sync or a Follow_Up of the master with this number
+abbrev pub is_of_number : Watched → (number : ℕ) → Contents → Bool
+is_of_number w number = with_number (λ m. is_master_sync w m || is_master_follow_up w m) number
+
+-- of what came after these, none that the port hears is another Sync or Follow_Up of the number
+abbrev pub NoOtherIsHeard : Watched → (number : ℕ) → (later before : List Recorded) → Type 0
+NoOtherIsHeard w number [] before = ⊤
+NoOtherIsHeard w number (d ∷ later) before =
+    ((says (is_of_number w number) d ≡ false) ⊎ (is_heard w (later ++ before) d ≡ false))
+    × NoOtherIsHeard w number later before
+
+-- The port uses two such, one of which stands before the other: since no other of their number was recorded, and their
+-- number isn't behind. Or it does so for whatever reason, where the number came before.
+abbrev pub AreTaken : Watched → (number : ℕ) → (between before : List Recorded) → (first d : Recorded) → Type 0
+AreTaken w number between before first d =
+    (NoneSays (is_of_number w number) (between ++ before) × IsNotBehind w number (between ++ before))
+    ⊎ (IsTrue (is_used w before first) × IsTrue (is_used w (between ++ first ∷ before) d))
+
+-- The later of such two comes, in whichever order, and the port uses both. Between them stand at most 255 Syncs of the
+-- master and 255 Follow_Ups, and it hears none of these that has their number. The earlier one isn't from before the line
+-- at which the port began.
+pub record ComesSync (w : Watched) (begun : ℕ) (earlier : List Recorded) (d : Recorded) (c : SyncCompletion) : Type 0
+  where
+    pub sync : Recorded
+    pub follow : Recorded
+    pub s : Contents
+    pub f : Contents
+    pub precise : Stamp
+    pub between : List Recorded
+    pub first : Recorded
+    pub before : List Recorded
+    pub of_one : AreOfOneSync w sync follow s f precise
+    pub is : c ≡ completion_of sync follow s f precise
+    pub order : ((first ≡ sync) × (d ≡ follow)) ⊎ ((first ≡ follow) × (d ≡ sync))
+    pub there : earlier ≡ between ++ first ∷ before
+    pub taken : AreTaken w s.header.sequence.0 between before first d
+    pub alone : NoOtherIsHeard w s.header.sequence.0 between (first ∷ before)
+    pub few_syncs : count_by (says (is_master_sync w)) between < table_capacity
+    pub few_follow_ups : count_by (says (is_master_follow_up w)) between < table_capacity
+    pub one_life : begun ≤ first.line
+
+-- A Delay_Req of the slave and its Delay_Resp of the master: of one number, and the correction isn't too big.
+pub record AreOfOneRequest (w : Watched) (request response : Recorded) (q r : Contents) (receive : Stamp) : Type 0 where
+  pub request_said : request.said ≡ Ok q
+  pub response_said : response.said ≡ Ok r
+  pub request_is : is_own_request w q ≡ true
+  pub of_master : is_of w w.master r.header ≡ true
+  pub requesting : PortIdentity
+  pub response_is : r.body ≡ bodies.DelayResp receive requesting
+  pub to_slave : is_same_port requesting w.slave ≡ true
+  pub number : r.header.sequence.0 ≡ q.header.sequence.0
+  pub in_range : q.header.sequence.0 < 65536
+  pub small : int_lt r.header.correction.0 too_big ≡ true
+
+-- what they complete
+abbrev pub answer_of : (request response : Recorded) (q r : Contents) (receive : Stamp) → DelayCompletion
+answer_of request response q r receive = responded q.header.sequence.0
+    (record { receive = receive; correction = r.header.correction.0; tag = response.line })
+    (record { t3 = Some request.time; tag = request.line })
+    request.time
+
+-- The Delay_Resp of such two comes, and the port uses it, as it does where no other Delay_Resp to the slave with this
+-- number was recorded before. The Delay_Req isn't the last one again, the Delay_Reqs of the slave between them are at
+-- most 255 numbers ahead of it, and it isn't from before the line at which the port began.
+pub record ComesDelay (w : Watched) (begun : ℕ) (earlier : List Recorded) (d : Recorded) (c : DelayCompletion) : Type 0
+  where
+    pub request : Recorded
+    pub q : Contents
+    pub r : Contents
+    pub receive : Stamp
+    pub between : List Recorded
+    pub before : List Recorded
+    pub of_one : AreOfOneRequest w request d q r receive
+    pub is : c ≡ answer_of request d q r receive
+    pub there : earlier ≡ between ++ request ∷ before
+    pub another : IfSome (last_number w before) (λ last. (of_count last == q.header.sequence.0) ≡ false)
+    pub taken : NoneSays (with_number (is_own_response w) q.header.sequence.0) (between ++ before)
+        ⊎ IsTrue (is_used w (between ++ request ∷ before) d)
+    pub few : NoneSays
+        (λ m. is_own_request w m && not (nat_lt (ahead m.header.sequence.0 q.header.sequence.0) table_capacity)) between
+    pub one_life : begun ≤ request.line
+
+-- an answer that something completed
+abbrev pub is_completion : Heard → Bool
+is_completion answers.Completed = true
+is_completion (answers.Report report) = true
+is_completion _ = false
+
+-- what the port answers to a datagram, after these
+abbrev pub completes : Watched → List Recorded → Recorded → Bool
+completes w earlier d = option_map_or is_completion (answered_to w d (after_all w earlier)) false
+
+-- It completes no Sync: it says of none when it left, and if it is a two-step Sync, no Follow_Up before has its number.
+-- Or the answer to it says so.
+abbrev pub CompletesNoSync : Watched → List Recorded → Recorded → Type 0
+CompletesNoSync w earlier d =
+    ((says (tells_departure w) d ≡ false)
+    × ((m : Contents) → d.said ≡ Ok m → is_master_sync w m ≡ true
+    → NoneSays (with_number (is_master_follow_up w) m.header.sequence.0) earlier))
+    ⊎ (completes w earlier d ≡ false)
+
+-- it answers no request of the slave, or none that completes
+abbrev pub CompletesNoDelay : Watched → List Recorded → Recorded → Type 0
+CompletesNoDelay w earlier d = (says (is_own_response w) d ≡ false) ⊎ (completes w earlier d ≡ false)
+
+-- the same of each of these, after those before them
+abbrev pub CompleteNoSync : Watched → (later before : List Recorded) → Type 0
+CompleteNoSync w [] before = ⊤
+CompleteNoSync w (d ∷ later) before = CompletesNoSync w (later ++ before) d × CompleteNoSync w later before
+
+abbrev pub CompleteNoDelay : Watched → (later before : List Recorded) → Type 0
+CompleteNoDelay w [] before = ⊤
+CompleteNoDelay w (d ∷ later) before = CompletesNoDelay w (later ++ before) d × CompleteNoDelay w later before
+
+-- a pair came, and after it nothing that completes another, nor 4,096 Syncs of the master
+pub record StandsSync (w : Watched) (begun : ℕ) (earlier : List Recorded) (c : SyncCompletion) : Type 0 where
+  pub later : List Recorded
+  pub last : Recorded
+  pub before : List Recorded
+  pub there : earlier ≡ later ++ last ∷ before
+  pub comes : ComesSync w begun before last c
+  pub quiet : CompleteNoSync w later (last ∷ before)
+  pub few : count_by (says (is_master_sync w)) later < ticks_every
+
+-- a request was answered, and after it nothing came that completes another, nor 4,096 Syncs of the master
+pub record StandsDelay (w : Watched) (begun : ℕ) (earlier : List Recorded) (c : DelayCompletion) : Type 0 where
+  pub later : List Recorded
+  pub last : Recorded
+  pub before : List Recorded
+  pub there : earlier ≡ later ++ last ∷ before
+  pub comes : ComesDelay w begun before last c
+  pub quiet : CompleteNoDelay w later (last ∷ before)
+  pub few : count_by (says (is_master_sync w)) later < ticks_every
+
+-- one of the two comes, and the other one stands
+abbrev pub ComesAnExchange : Watched → (begun : ℕ) → (earlier : List Recorded) → (d : Recorded) → SyncCompletion
+    → DelayCompletion → Type 0
+ComesAnExchange w begun earlier d sync delay =
+    (ComesSync w begun earlier d sync × StandsDelay w begun earlier delay)
+    ⊎ (StandsSync w begun earlier sync × ComesDelay w begun earlier d delay)
+
+-- Whatever else is recorded, in lines with growing numbers: where a Sync, its Follow_Up, a Delay_Req and its Delay_Resp
+-- stand in one life of the slave and of the master, the last of them brings the report of these four.
+abbrev pub EachExchangeIsFound : Type 0
+EachExchangeIsFound =
+    (w : Watched) (earlier : List Recorded) (d : Recorded) (sync : SyncCompletion) (delay : DelayCompletion)
+    → AreNumbered (d ∷ earlier)
+    → ComesAnExchange w (after_all w (d ∷ earlier)).begun earlier d sync delay
+    → report_at w earlier d ≡ Some (report_of sync delay)
