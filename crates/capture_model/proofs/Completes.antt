@@ -26,7 +26,7 @@ use Rattle.capture_model.specs.Listening.{report_at}
 use Rattle.std.proofs.lemmas.Bool.{and_right}
 use Rattle.capture_model.specs.Finds.{is_completion}
 use Rattle.capture_model.specs.Completes.{HeardAt, setup_at, EachSyncPairs, EachFollowUpPairs, EachDelayRespPairs}
-use Rattle.capture_model.specs.Completes.{report_of_both, EachCompletionIsReported, NoPairIsMissed}
+use Rattle.capture_model.specs.Completes.{report_of_both, EachCompletionIsReported, WhatIsHeldCompletes}
 
 -- the report of an answer that both halves are there, or not
 reported : (sync : Option SyncCompletion) (delay : Option DelayCompletion)
@@ -155,7 +155,7 @@ each_completion : EachCompletionIsReported
 each_completion w earlier d heard =
     report_is w earlier d heard ∙ answered_report (setup_at w heard) heard.port.calls heard.call
 
-pub no_pair : NoPairIsMissed
+pub no_pair : WhatIsHeldCompletes
 no_pair = record {
   syncs = each_sync;
   follow_ups = each_follow_up;

@@ -1,7 +1,8 @@
 -- An exchange that stands in a recording is reported: its messages are heard and used, what came first is held until what
 -- completes it comes, and what completed is the last until the other half completes.
-use Rattle.std.proofs.Common.{◌≡◌, ◌∙◌, ℕ, suc, ◌+◌, ◌<◌, ◌≤◌, Bool, true, false, List, [], ◌∷◌, ◌++◌, Option, Some}
-use Rattle.std.proofs.Common.{None, Ok, refl, sym, ap, subst, arith, is_none, if◌then◌else◌, option_map}
+use Rattle.std.proofs.Common.{◌≡◌, ◌∙◌, ℕ, zero, suc, ◌+◌, ◌<◌, ◌≤◌, Bool, true, false, List, [], ◌∷◌, ◌++◌, Option}
+use Rattle.std.proofs.Common.{Some}
+use Rattle.std.proofs.Common.{None, Ok, take, refl, sym, ap, subst, arith, is_none, if◌then◌else◌, option_map}
 use Rattle.std.proofs.Common.{option_and_then, inl, inr}
 use Rattle.std.specs.Prelude.{◌==◌, ◌&&◌, ◌||◌, ◌-◌, not, nat_le, nat_lt, count_by, IfSome, ◌⊎◌, IsTrue}
 use Rattle.std.specs.Option.{option_map_or}
@@ -11,7 +12,7 @@ use Rattle.std.proofs.lemmas.Bool.{and_left, and_right, and_parts, or_right, or_
 use Rattle.std.proofs.lemmas.Bool.{not-false, both_ways}
 use Rattle.std.proofs.lemmas.List.Elements.{All-nil, All-cons, All-head, All-tail, All-weaker}
 use Rattle.ptp_units.specs.Moment.{Stamp}
-use Rattle.ptp_units.specs.Sequence.{of_count, next, ahead, is_newer}
+use Rattle.ptp_units.specs.Sequence.{of_count, next, ahead}
 use Rattle.event_codec.specs.declared.message.Body.{Body}
 use Rattle.event_codec.specs.declared.message.Body.TheVariants as bodies
 use Rattle.event_codec.specs.declared.port.PortIdentity.{PortIdentity}
@@ -34,29 +35,38 @@ use Rattle.capture_model.specs.declared.watched.Watched.{Watched}
 use Rattle.capture_model.specs.Recorded.{Recorded}
 use Rattle.capture_model.specs.Listening.{Listening, setup_in, table_capacity, ticks_every, is_of, told, with_count}
 use Rattle.capture_model.specs.Listening.{ready, hears, hears_request, asks, draws, anew, hear, after_all, hearing}
-use Rattle.capture_model.specs.Listening.{report_at}
+use Rattle.capture_model.specs.Listening.{report_at, is_unicast}
 use Rattle.capture_model.specs.Told.{is_sync, AreNumbered}
 use Rattle.capture_model.specs.Listening.{is_used}
 use Rattle.capture_model.specs.Completes.{HeardAt, setup_at, report_of_both}
-use Rattle.capture_model.specs.Finds.{is_master_sync, is_follow_up, is_master_follow_up, tells_departure, is_response_to}
+use Rattle.capture_model.specs.Finds.{is_master_sync, is_follow_up, is_master_follow_up, tells_departure}
+use Rattle.capture_model.specs.Finds.{is_response_to}
 use Rattle.capture_model.specs.Finds.{is_own_response, is_delay_req, is_own_request, with_number, says, NoneSays}
-use Rattle.capture_model.specs.Finds.{last_number, AreOfOneSync, completion_of, is_of_number, NoOtherIsHeard, IsNotBehind, AreTaken, ComesSync}
-use Rattle.capture_model.specs.Finds.{AreOfOneRequest, ComesDelay, CompleteNoSync, CompleteNoDelay, StandsSync, StandsDelay}
+use Rattle.capture_model.specs.Finds.{last_number, AreOfOneSync, completion_of, is_of_number, NoOtherIsHeard}
+use Rattle.capture_model.specs.Finds.{IsNotBehind, AreTaken, NoneIsKnown, recent_syncs, with_flag, heard_of}
+use Rattle.capture_model.specs.Finds.{last_heard, within_syncs, ComesSync}
+use Rattle.capture_model.specs.Finds.{AreOfOneRequest, ComesDelay, CompleteNoSync, CompleteNoDelay, StandsSync}
+use Rattle.capture_model.specs.Finds.{StandsDelay}
 use Rattle.capture_model.specs.Finds.{EachExchangeIsFound}
 use Rattle.capture_model.proofs.Lines.{numbered-below, numbered-rest}
 use Rattle.capture_model.proofs.Requests.{drawn-draws, next-draws}
 use Rattle.capture_model.proofs.Completes.{answered_report, report_is, sync_completes, follow_completes}
 use Rattle.capture_model.proofs.Completes.{response_completes}
 use Rattle.capture_model.proofs.Hearing.{ready_holds, is_near}
-use Rattle.capture_model.proofs.Newest.{IsNewest, newest-now, IsHeldIn, held-now, held-ticked, held-found, IsLastIn, last-now}
+use Rattle.capture_model.proofs.Newest.{IsNewest, newest-now, IsHeldIn, held-now, held-ticked, held-found, IsLastIn}
+use Rattle.capture_model.proofs.Newest.{last-now}
 use Rattle.capture_model.proofs.Newest.{last-ticked, last-found}
 use Rattle.capture_model.proofs.Said.{IsOf, is_of-later, keeps-is_of, after-is_of, says-of, after-last}
 use Rattle.capture_model.proofs.Said.{event_answers_none, general_completes, general_answers}
 use Rattle.capture_model.proofs.Onward.{HoldsSync, HoldsFollow, EndsWithSync, EndsWithDelay, HasRequest, count-one}
 use Rattle.capture_model.proofs.Onward.{count-more, carried, goes-after, goes-sync, goes-follow, goes-last_sync}
 use Rattle.capture_model.proofs.Onward.{goes-last_delay, goes-request, none_of}
-use Rattle.capture_model.proofs.Takes.{all-right, all-between, says-weaker, first-below, hears-sync}
-use Rattle.capture_model.proofs.Takes.{hears-follow_up, hears-response, counted-so, TakesSync, TakesFollow, TakesResponse}
+use Rattle.capture_model.specs.Pairs.{is_heard}
+use Rattle.capture_model.proofs.Latest.{IsNearBy}
+use Rattle.capture_model.proofs.Recent.{within-fewer}
+use Rattle.capture_model.proofs.Takes.{all-right, says-weaker, first-below, hears-sync}
+use Rattle.capture_model.proofs.Takes.{hears-follow_up, hears-response, counted-so, TakesSync, TakesFollow}
+use Rattle.capture_model.proofs.Takes.{TakesResponse}
 use Rattle.capture_model.proofs.Takes.{takes-sync, takes-follow, takes-response, takes-used_sync, takes-used_follow}
 use Rattle.capture_model.proofs.Takes.{takes-used_response}
 
@@ -94,21 +104,6 @@ module _ (w : Watched) where
       (is_of_number-follow number) d none)
   other-follow number d (inr none) = inr none
 
-  none-sync : (number : ℕ) (ds : List Recorded) → NoneSays (is_of_number w number) ds
-      → NoneSays (with_number (is_master_sync w) number) ds
-  none-sync number ds none =
-      All-weaker (λ (d : Recorded). says (is_of_number w number) d ≡ false)
-      (λ (d : Recorded). says (with_number (is_master_sync w) number) d ≡ false)
-      (says-weaker (is_of_number w number) (with_number (is_master_sync w) number) (is_of_number-sync number)) ds none
-
-  none-follow : (number : ℕ) (ds : List Recorded) → NoneSays (is_of_number w number) ds
-      → NoneSays (with_number (is_master_follow_up w) number) ds
-  none-follow number ds none =
-      All-weaker (λ (d : Recorded). says (is_of_number w number) d ≡ false)
-      (λ (d : Recorded). says (with_number (is_master_follow_up w) number) d ≡ false)
-      (says-weaker (is_of_number w number) (with_number (is_master_follow_up w) number) (is_of_number-follow number)) ds
-      none
-
   -- nothing of a number, or what is near
   near-one : (kind : Contents → Bool) (number time : ℕ) (d : Recorded) → says (with_number kind number) d ≡ false
       → says (λ m. kind m && (m.header.sequence.0 == number && is_apart time d.time)) d ≡ false
@@ -133,32 +128,82 @@ module _ (w : Watched) where
       ∙ and_right (kind m) (m.header.sequence.0 == number && is_apart time d.time)
       (and_right (m.header.sequence.0 == number) (is_apart time d.time) near)
 
-  -- each of a kind and of this number that stands behind one, before it or is itself, is near
-  near-all : (kind : Contents → Bool) (number time : ℕ) (first : Recorded) (m : Contents) (between before : List Recorded)
-      → first.said ≡ Ok m → is_apart time first.time ≡ false → NoneSays (with_number kind number) (between ++ before)
-      → All (λ (d : Recorded). says (λ m. kind m && (m.header.sequence.0 == number && is_apart time d.time)) d ≡ false)
-      (between ++ first ∷ before)
-  near-all kind number time first m between before said near none =
-      all-between
-      (λ (d : Recorded). says (λ m. kind m && (m.header.sequence.0 == number && is_apart time d.time)) d ≡ false) first
-      between before (near-now kind number time first m said near)
-      (All-weaker (λ (d : Recorded). says (with_number kind number) d ≡ false)
-      (λ (d : Recorded). says (λ m. kind m && (m.header.sequence.0 == number && is_apart time d.time)) d ≡ false)
-      (near-one kind number time) (between ++ before) none)
+-- what holds of more holds of fewer
+take-fewer : {X : Type 0} (P : X → Type 0) (xs : List X) (a b : ℕ) → a ≤ b → All P (take b xs) → All P (take a xs)
+take-fewer P xs zero b low are = All-nil P
+take-fewer P [] (suc a) b low are = All-nil P
+take-fewer P (x ∷ xs) (suc a) zero low are = absurd (omega arith)
+take-fewer P (x ∷ xs) (suc a) (suc b) low are =
+    All-cons P x (take a xs) (All-head P x (take b xs) are)
+    (take-fewer P xs a b (omega arith) (All-tail P x (take b xs) are))
 
-  -- nothing says when it left, of one that says nothing of it
-  behind-now : (number : ℕ) (first : Recorded) (m : Contents) (between before : List Recorded) → first.said ≡ Ok m
-      → m.header.sequence.0 ≡ number → IsNotBehind w number (between ++ before)
-      → IsNotBehind w number (between ++ first ∷ before)
-  behind-now number first m between before said same none =
-      all-between
-      (λ (d : Recorded). says (λ m. tells_departure w m && is_not_newer (Some m.header.sequence.0) number) d ≡ false)
-      first between before
-      (says-of (λ m. tells_departure w m && is_not_newer (Some m.header.sequence.0) number) first m said
-      ∙ and_right (tells_departure w m) (is_not_newer (Some m.header.sequence.0) number)
-      (ap (λ (b : Bool). not b && not (is_newer number m.header.sequence.0))
-      (eq-eqb number m.header.sequence.0 (sym same))))
-      none
+-- what holds of the last that are heard holds with more of which it holds
+module _ (w : Watched) (test : Contents → Bool) (P : Recorded → Type 0) where
+  over-one : (x : Recorded) (ds : List Recorded) (c : ℕ) → ((says test x && is_heard w ds x) ≡ true → P x)
+      → All P (take c (heard_of w test ds)) → All P (take c (heard_of w test (x ∷ ds)))
+  over-one x ds c each are = by (says test x && is_heard w ds x) refl
+    where
+      more : (c : ℕ) → P x → All P (take c (heard_of w test ds)) → All P (take c (x ∷ heard_of w test ds))
+      more zero one are = All-nil P
+      more (suc k) one are =
+          All-cons P x (take k (heard_of w test ds)) one
+          (take-fewer P (heard_of w test ds) k (suc k) (omega arith) are)
+
+      by : (counts : Bool) → (says test x && is_heard w ds x) ≡ counts
+          → All P (take c (if counts then x ∷ heard_of w test ds else heard_of w test ds))
+      by true is = more c (each is) are
+      by false is = are
+
+  over : (number c : ℕ) (first : Recorded) (before : List Recorded)
+      → ((x : Recorded) (ds : List Recorded)
+      → ((says (is_of_number w number) x ≡ false) ⊎ (is_heard w ds x ≡ false))
+      → (says test x && is_heard w ds x) ≡ true → P x)
+      → P first → All P (take c (heard_of w test before)) → (between : List Recorded)
+      → NoOtherIsHeard w number between (first ∷ before) → All P (take c (heard_of w test (between ++ first ∷ before)))
+  over number c first before each one are [] alone = over-one first before c (λ is. one) are
+  over number c first before each one are (x ∷ between) alone =
+      over-one x (between ++ first ∷ before) c (each x (between ++ first ∷ before) alone.0)
+      (over number c first before each one are between alone.1)
+
+-- a message of a kind and number is another that isn't heard
+another-one : (w : Watched) (kind test : Contents → Bool) (number : ℕ) (P : Recorded → Type 0)
+    → ((m : Contents) → is_of_number w number m ≡ false → with_number kind number m ≡ false)
+    → ((x : Recorded) → says (with_number kind number) x ≡ false → P x) → (x : Recorded) (ds : List Recorded)
+    → ((says (is_of_number w number) x ≡ false) ⊎ (is_heard w ds x ≡ false))
+    → (says test x && is_heard w ds x) ≡ true → P x
+another-one w kind test number P of each x ds (inl none) counts =
+    each x (says-weaker (is_of_number w number) (with_number kind number) of x none)
+another-one w kind test number P of each x ds (inr unheard) counts =
+    absurd (both_ways (is_heard w ds x) unheard (and_parts (says test x) (is_heard w ds x) counts).1)
+
+-- what holds within so many Syncs of a pair holds within fewer before its first message
+within-before : (w : Watched) (P : Recorded → Type 0) (first : Recorded) (before between : List Recorded) (b c : ℕ)
+    → count_by (says (is_master_sync w)) between + 1 + b ≤ c
+    → All P (within_syncs w (between ++ first ∷ before) c) → All P (within_syncs w before b)
+within-before w P first before [] b zero low are = absurd (omega arith)
+within-before w P first before [] b (suc k) low are =
+    within-fewer w P before b (if says (is_master_sync w) first && is_heard w before first then k else suc k)
+    (by (says (is_master_sync w) first && is_heard w before first))
+    (All-tail P first
+    (within_syncs w before (if says (is_master_sync w) first && is_heard w before first then k else suc k)) are)
+  where
+    by : (counts : Bool) → b ≤ (if counts then k else suc k)
+    by true = omega arith
+    by false = omega arith
+within-before w P first before (x ∷ between) b zero low are = absurd (omega arith)
+within-before w P first before (x ∷ between) b (suc k) low are =
+    within-before w P first before between b
+    (if says (is_master_sync w) x && is_heard w (between ++ first ∷ before) x then k else suc k)
+    (by (says (is_master_sync w) x) refl (is_heard w (between ++ first ∷ before) x))
+    (All-tail P x
+    (within_syncs w (between ++ first ∷ before)
+    (if says (is_master_sync w) x && is_heard w (between ++ first ∷ before) x then k else suc k)) are)
+  where
+    by : (said : Bool) → says (is_master_sync w) x ≡ said → (heard : Bool)
+        → count_by (says (is_master_sync w)) between + 1 + b ≤ (if said && heard then k else suc k)
+    by true is true = omega (arith, count-one (says (is_master_sync w)) x between is)
+    by true is false = omega (arith, count-more (says (is_master_sync w)) x between)
+    by false is heard = omega (arith, count-more (says (is_master_sync w)) x between)
 
 -- a pair in a recording, one of which stands behind the other
 module _ (w : Watched) (first later : Recorded) (between before : List Recorded)
@@ -325,7 +370,8 @@ pub record CompletesDelay (w : Watched) (earlier : List Recorded) (d : Recorded)
 port-follows : (w : Watched) (ds : List Recorded) (x : Recorded) (m : Contents) → x.said ≡ Ok m → (r : Listening)
     → ready w x.line x.time m m.body (after_all w ds) ≡ Some r → present_master r.calls ≡ Some w.master
 port-follows w ds x m said r is_ready =
-    (ready_holds w x (after_all w ds) (IsOf w (x ∷ ds)) (IsOf w (x ∷ ds)) (keeps-is_of w x ds (after_all w ds))
+    (ready_holds w x (after_all w ds) (IsOf w (x ∷ ds)) (IsOf w (x ∷ ds)) (IsOf w (x ∷ ds))
+    (keeps-is_of w x ds (after_all w ds))
     (is_of-later w x ds (after_all w ds) (after-is_of w ds)) m said r is_ready).follows_master
 
 -- a message of the master that comes after these
@@ -694,12 +740,6 @@ sync-body (bodies.DelayReq origin) is = cc
 sync-body (bodies.FollowUp precise) is = cc
 sync-body (bodies.DelayResp receive requesting) is = cc
 
-request-no_response : (port : PortIdentity) (b : Body) → is_delay_req b ≡ true → is_response_to port b ≡ false
-request-no_response port (bodies.Sync origin) is = refl
-request-no_response port (bodies.DelayReq origin) is = refl
-request-no_response port (bodies.FollowUp precise) is = refl
-request-no_response port (bodies.DelayResp receive requesting) is = cc
-
 -- a message of another kind doesn't pass
 other-kind : (w : Watched) (kind : Body → Bool) (number : ℕ) (d : Recorded) (m : Contents) → d.said ≡ Ok m
     → kind m.body ≡ false → says (with_number (λ m. is_of w w.master m.header && kind m.body) number) d ≡ false
@@ -725,21 +765,41 @@ module _ (w : Watched) (first d : Recorded) (s f : Contents) (precise : Stamp) (
   below : first.line < d.line
   below = first-below d first between before numbered
 
-  none-before : NoneSays (is_of_number w n) (between ++ before) → NoneSays (is_of_number w n) before
-  none-before none = all-right (λ (e : Recorded). says (is_of_number w n) e ≡ false) between before none
+  abbrev IsBehind : Recorded → Type 0
+  IsBehind e = says (λ m. tells_departure w m && is_not_newer (Some m.header.sequence.0) n) e ≡ false
 
-  newest-of : IsNotBehind w n (between ++ before) → IsNotBehind w n before
-  newest-of newest =
-      all-right
-      (λ (e : Recorded). says (λ m. tells_departure w m && is_not_newer (Some m.header.sequence.0) n) e ≡ false) between
-      before newest
+  newest-of : IsNotBehind w n (within_syncs w (between ++ first ∷ before) recent_syncs)
+      → IsNotBehind w n (within_syncs w before 12288)
+  newest-of newest = within-before w IsBehind first before between 12288 recent_syncs (omega arith) newest
 
-  near-of : (kind : Contents → Bool) (time : ℕ) → NoneSays (with_number kind n) before
-      → All (λ (e : Recorded). says (λ m. kind m && (m.header.sequence.0 == n && is_apart time e.time)) e ≡ false) before
-  near-of kind time none =
-      All-weaker (λ (e : Recorded). says (with_number kind n) e ≡ false)
-      (λ (e : Recorded). says (λ m. kind m && (m.header.sequence.0 == n && is_apart time e.time)) e ≡ false)
-      (near-one w kind n time) before none
+  newest-all : IsNotBehind w n (within_syncs w (between ++ first ∷ before) recent_syncs)
+      → IsNotBehind w n (within_syncs w (between ++ first ∷ before) 12288)
+  newest-all newest = within-fewer w IsBehind (between ++ first ∷ before) 12288 recent_syncs (omega arith) newest
+
+  near-of : (kind test : Contents → Bool) (time : ℕ) → NoneSays (with_number kind n) (last_heard w test before)
+      → All (IsNearBy kind n time) (last_heard w test before)
+  near-of kind test time none =
+      All-weaker (λ (e : Recorded). says (with_number kind n) e ≡ false) (IsNearBy kind n time) (near-one w kind n time)
+      (last_heard w test before) none
+
+  -- none of a kind, or what is near, up to the later one
+  none-until : (kind test : Contents → Bool)
+      → ((m : Contents) → is_of_number w n m ≡ false → with_number kind n m ≡ false)
+      → says (with_number kind n) first ≡ false → NoneSays (with_number kind n) (last_heard w test before)
+      → NoneSays (with_number kind n) (last_heard w test (between ++ first ∷ before))
+  none-until kind test of one none =
+      over w test (λ (e : Recorded). says (with_number kind n) e ≡ false) n table_capacity first before
+      (another-one w kind test n (λ (e : Recorded). says (with_number kind n) e ≡ false) of (λ x none. none)) one none
+      between alone
+
+  near-until : (kind test : Contents → Bool) (time : ℕ)
+      → ((m : Contents) → is_of_number w n m ≡ false → with_number kind n m ≡ false)
+      → IsNearBy kind n time first → NoneSays (with_number kind n) (last_heard w test before)
+      → All (IsNearBy kind n time) (last_heard w test (between ++ first ∷ before))
+  near-until kind test time of one none =
+      over w test (IsNearBy kind n time) n table_capacity first before
+      (another-one w kind test n (IsNearBy kind n time) of (near-one w kind n time)) one (near-of kind test time none)
+      between alone
 
   -- the Follow_Up comes last
   module _ (of_one : AreOfOneSync w first d s f precise) where
@@ -752,38 +812,44 @@ module _ (w : Watched) (first d : Recorded) (s f : Contents) (precise : Stamp) (
     takes-first_sync : TakesSync w before first s
     takes-first_sync = by taken
       where
-        by : ((NoneSays (is_of_number w n) (between ++ before) × IsNotBehind w n (between ++ before))
+        by : ((NoneIsKnown w n before
+            × IsNotBehind w n (within_syncs w (between ++ first ∷ before) recent_syncs))
             ⊎ (IsTrue (is_used w before first) × IsTrue (is_used w (between ++ first ∷ before) d)))
             → TakesSync w before first s
         by (inl new) =
             takes-sync w before first s of_one.sync_said sync_parts.0 of_one.small_sync sync_origin.0 sync_origin.1
-            of_one.two_step (newest-of new.1) (none-sync w n before (none-before new.0))
-            (near-of (is_master_follow_up w) first.time (none-follow w n before (none-before new.0)))
+            of_one.two_step (newest-of new.1) (new.0 (is_unicast s.header)).0
+            (near-of (is_master_follow_up w) (with_flag (is_master_follow_up w) (is_unicast s.header)) first.time
+            (new.0 (is_unicast s.header)).1)
         by (inr used) =
             takes-used_sync w before first s of_one.sync_said sync_origin.0 sync_origin.1 of_one.two_step used.0
 
     takes-last_follow : TakesFollow w all_until d f precise
     takes-last_follow = by taken
       where
-        by : ((NoneSays (is_of_number w n) (between ++ before) × IsNotBehind w n (between ++ before))
+        by : ((NoneIsKnown w n before
+            × IsNotBehind w n (within_syncs w (between ++ first ∷ before) recent_syncs))
             ⊎ (IsTrue (is_used w before first) × IsTrue (is_used w (between ++ first ∷ before) d)))
             → TakesFollow w (between ++ first ∷ before) d f precise
         by (inl new) =
             takes-follow w (between ++ first ∷ before) d f of_one.follow_said of_one.of_master of_one.small_follow precise
             of_one.follow_is
-            (subst (λ (number : ℕ). IsNotBehind w number (between ++ first ∷ before)) (sym of_one.number)
-            (behind-now w n first s between before of_one.sync_said refl new.1))
-            (subst (λ (number : ℕ). NoneSays (with_number (is_master_follow_up w) number) (between ++ first ∷ before))
+            (subst (λ (number : ℕ). IsNotBehind w number (within_syncs w (between ++ first ∷ before) 12288))
+            (sym of_one.number) (newest-all new.1))
+            (subst (λ (number : ℕ). NoneSays (with_number (is_master_follow_up w) number)
+            (last_heard w (with_flag (is_master_follow_up w) (is_unicast f.header)) (between ++ first ∷ before)))
             (sym of_one.number)
-            (all-between (λ (e : Recorded). says (with_number (is_master_follow_up w) n) e ≡ false) first between before
+            (none-until (is_master_follow_up w) (with_flag (is_master_follow_up w) (is_unicast f.header))
+            (is_of_number-follow w n)
             (other-kind w is_follow_up n first s of_one.sync_said (ap is_follow_up sync_origin.1))
-            (none-follow w n (between ++ before) new.0)))
-            (subst (λ (number : ℕ). All (λ (e : Recorded). says
-            (λ m. is_master_sync w m && (m.header.sequence.0 == number && is_apart d.time e.time)) e ≡ false)
-            (between ++ first ∷ before))
+            (new.0 (is_unicast f.header)).1))
+            (subst (λ (number : ℕ). All (IsNearBy (is_master_sync w) number d.time)
+            (last_heard w (with_flag (is_master_sync w) (is_unicast f.header)) (between ++ first ∷ before)))
             (sym of_one.number)
-            (near-all w (is_master_sync w) n d.time first s between before of_one.sync_said
-            (apart-other first.time d.time of_one.near) (none-sync w n (between ++ before) new.0)))
+            (near-until (is_master_sync w) (with_flag (is_master_sync w) (is_unicast f.header)) d.time
+            (is_of_number-sync w n)
+            (near-now w (is_master_sync w) n d.time first s of_one.sync_said
+            (apart-other first.time d.time of_one.near)) (new.0 (is_unicast f.header)).0))
         by (inr used) =
             takes-used_follow w (between ++ first ∷ before) d f of_one.follow_said precise of_one.follow_is used.1
 
@@ -843,34 +909,40 @@ module _ (w : Watched) (first d : Recorded) (s f : Contents) (precise : Stamp) (
     takes-first_follow : TakesFollow w before first f precise
     takes-first_follow = by taken
       where
-        by : ((NoneSays (is_of_number w n) (between ++ before) × IsNotBehind w n (between ++ before))
+        by : ((NoneIsKnown w n before
+            × IsNotBehind w n (within_syncs w (between ++ first ∷ before) recent_syncs))
             ⊎ (IsTrue (is_used w before first) × IsTrue (is_used w (between ++ first ∷ before) d)))
             → TakesFollow w before first f precise
         by (inl new) =
             takes-follow w before first f of_one.follow_said of_one.of_master of_one.small_follow precise of_one.follow_is
-            (subst (λ (number : ℕ). IsNotBehind w number before) (sym of_one.number) (newest-of new.1))
-            (subst (λ (number : ℕ). NoneSays (with_number (is_master_follow_up w) number) before) (sym of_one.number)
-            (none-follow w n before (none-before new.0)))
-            (subst (λ (number : ℕ). All (λ (e : Recorded). says
-            (λ m. is_master_sync w m && (m.header.sequence.0 == number && is_apart first.time e.time)) e ≡ false) before)
-            (sym of_one.number) (near-of (is_master_sync w) first.time (none-sync w n before (none-before new.0))))
+            (subst (λ (number : ℕ). IsNotBehind w number (within_syncs w before 12288)) (sym of_one.number)
+            (newest-of new.1))
+            (subst (λ (number : ℕ). NoneSays (with_number (is_master_follow_up w) number)
+            (last_heard w (with_flag (is_master_follow_up w) (is_unicast f.header)) before)) (sym of_one.number)
+            (new.0 (is_unicast f.header)).1)
+            (subst (λ (number : ℕ). All (IsNearBy (is_master_sync w) number first.time)
+            (last_heard w (with_flag (is_master_sync w) (is_unicast f.header)) before)) (sym of_one.number)
+            (near-of (is_master_sync w) (with_flag (is_master_sync w) (is_unicast f.header)) first.time
+            (new.0 (is_unicast f.header)).0))
         by (inr used) = takes-used_follow w before first f of_one.follow_said precise of_one.follow_is used.0
 
     takes-last_sync : TakesSync w all_until d s
     takes-last_sync = by taken
       where
-        by : ((NoneSays (is_of_number w n) (between ++ before) × IsNotBehind w n (between ++ before))
+        by : ((NoneIsKnown w n before
+            × IsNotBehind w n (within_syncs w (between ++ first ∷ before) recent_syncs))
             ⊎ (IsTrue (is_used w before first) × IsTrue (is_used w (between ++ first ∷ before) d)))
             → TakesSync w (between ++ first ∷ before) d s
         by (inl new) =
             takes-sync w (between ++ first ∷ before) d s of_one.sync_said last_parts.0 of_one.small_sync last_origin.0
-            last_origin.1 of_one.two_step
-            (behind-now w n first f between before of_one.follow_said of_one.number new.1)
-            (all-between (λ (e : Recorded). says (with_number (is_master_sync w) n) e ≡ false) first between before
+            last_origin.1 of_one.two_step (newest-all new.1)
+            (none-until (is_master_sync w) (with_flag (is_master_sync w) (is_unicast s.header)) (is_of_number-sync w n)
             (other-kind w is_sync n first f of_one.follow_said (ap is_sync of_one.follow_is))
-            (none-sync w n (between ++ before) new.0))
-            (near-all w (is_master_follow_up w) n d.time first f between before of_one.follow_said of_one.near
-            (none-follow w n (between ++ before) new.0))
+            (new.0 (is_unicast s.header)).0)
+            (near-until (is_master_follow_up w) (with_flag (is_master_follow_up w) (is_unicast s.header)) d.time
+            (is_of_number-follow w n)
+            (near-now w (is_master_follow_up w) n d.time first f of_one.follow_said of_one.near)
+            (new.0 (is_unicast s.header)).1)
         by (inr used) =
             takes-used_sync w (between ++ first ∷ before) d s of_one.sync_said last_origin.0 last_origin.1 of_one.two_step
             used.1
@@ -991,26 +1063,19 @@ module _ (w : Watched) (earlier : List Recorded) (d : Recorded) (begun : ℕ) (n
         low_so : (after_all w (d ∷ (comes.between ++ comes.request ∷ comes.before))).begun ≤ comes.request.line
         low_so = subst (λ (ds : List Recorded). (after_all w (d ∷ ds)).begun ≤ comes.request.line) comes.there low
 
-        no_response : says (with_number (is_own_response w) comes.q.header.sequence.0) comes.request ≡ false
-        no_response =
-            let parts = and_parts (is_of w w.slave comes.q.header) (is_delay_req comes.q.body) of_one.request_is in
-            other-kind w (is_response_to w.slave) comes.q.header.sequence.0 comes.request comes.q of_one.request_said
-            (request-no_response w.slave comes.q.body parts.1)
-
         takes : TakesResponse w (comes.between ++ comes.request ∷ comes.before) d comes.r comes.receive of_one.requesting
         takes = by comes.taken
           where
-            by : (NoneSays (with_number (is_own_response w) comes.q.header.sequence.0) (comes.between ++ comes.before)
+            by : (NoneSays (with_number (is_own_response w) comes.q.header.sequence.0)
+                (last_heard w (is_own_response w) (comes.between ++ comes.request ∷ comes.before))
                 ⊎ IsTrue (is_used w (comes.between ++ comes.request ∷ comes.before) d))
                 → TakesResponse w (comes.between ++ comes.request ∷ comes.before) d comes.r comes.receive of_one.requesting
             by (inl alone) =
                 takes-response w (comes.between ++ comes.request ∷ comes.before) d comes.r of_one.response_said
                 of_one.of_master of_one.small comes.receive of_one.requesting of_one.response_is of_one.to_slave
                 (subst (λ (number : ℕ). NoneSays (with_number (is_own_response w) number)
-                (comes.between ++ comes.request ∷ comes.before)) (sym of_one.number)
-                (all-between
-                (λ (e : Recorded). says (with_number (is_own_response w) comes.q.header.sequence.0) e ≡ false) comes.request
-                comes.between comes.before no_response alone))
+                (last_heard w (is_own_response w) (comes.between ++ comes.request ∷ comes.before))) (sym of_one.number)
+                alone)
             by (inr used) =
                 takes-used_response w (comes.between ++ comes.request ∷ comes.before) d comes.r of_one.response_said
                 comes.receive of_one.requesting of_one.response_is used

@@ -4,7 +4,7 @@ use Rattle.std.proofs.Common.{Ok, Err, refl, ap, subst, is_some, option_map, opt
 use Rattle.std.specs.Prelude.{◌==◌, ◌&&◌, ◌||◌, not, nat_lt}
 use Rattle.std.specs.Option.{option_map_or}
 use Rattle.std.specs.Result.{result_ok}
-use Rattle.std.proofs.lemmas.Bool.{and_parts, and_right, eqb-true}
+use Rattle.std.proofs.lemmas.Bool.{and_parts, and_left, and_right, or_from, eqb-true, eqb-false}
 use Rattle.ptp_units.specs.Moment.{Stamp}
 use Rattle.ptp_units.specs.Sequence.{ahead}
 use Rattle.event_codec.specs.declared.message.Body.{Body}
@@ -28,7 +28,9 @@ use Rattle.capture_model.specs.Listening.{ready_judged, ready_sync, ready_follow
 use Rattle.capture_model.specs.Listening.{ready, hears_ready, asks, anew, hears_request, hears, hear}
 use Rattle.capture_model.specs.Listening.{answered, answered_to, hearing}
 use Rattle.capture_model.specs.Told.{is_general}
-use Rattle.capture_model.specs.Finds.{is_own_request}
+use Rattle.capture_model.specs.Told.{is_sync}
+use Rattle.capture_model.specs.Finds.{is_own_request, is_master_sync, is_follow_up, is_master_follow_up, is_response_to}
+use Rattle.capture_model.specs.Finds.{is_own_response}
 
 -- the number of the Delay_Req of the slave that a message is
 abbrev pub asked_number : Watched → Contents → Option ℕ
@@ -45,38 +47,54 @@ asks_anew w line time number l = asks w line time number (anew w line number l)
 abbrev pub is_near : Watched → (number : ℕ) → Listening → Bool
 is_near w number l = not l.asked || nat_lt (ahead number (next_number (setup_in w l) l.calls)) table_capacity
 
-module _ (w : Watched) (x : Recorded) (l : Listening) (P Q : Listening → Type 0) where
+-- what is heard of a general message
+pub general-hearing : (line time : ℕ) (m : Contents) (body : Body) → is_general body ≡ true
+    → hearing line time m body ≡ Some (calls.General (Ok m) line)
+general-hearing line time m (bodies.Sync origin) is = cc
+general-hearing line time m (bodies.DelayReq origin) is = cc
+general-hearing line time m (bodies.FollowUp precise) is = refl
+general-hearing line time m (bodies.DelayResp receive requesting) is = refl
+
+-- what the port knows numbers of: a Sync or a Follow_Up of the master, and its Delay_Resp to the slave
+abbrev pub is_own_message : Watched → Contents → Bool
+is_own_message w m = is_master_sync w m || (is_master_follow_up w m || is_own_response w m)
+
+module _ (w : Watched) (x : Recorded) (l : Listening) (P R Q : Listening → Type 0) where
   -- What may come of a datagram: it isn't heard; its number and time become known, or that it was refused, or that the
   -- master began anew, which leaves P of the port; and it is heard or asked for, which makes it Q.
   pub record Keeps : Type 0 where
-    pub unheard : asked_by w x ≡ None → (r : Listening) → P r → Q r
+    pub unheard : answered_to w x l ≡ None → asked_by w x ≡ None → (r : Listening) → P r → Q r
+    pub as_is : (m : Contents) → x.said ≡ Ok m → is_own_message w m ≡ false → (r : Listening) → P r → R r
     pub sync : (m : Contents) (origin : Stamp) → x.said ≡ Ok m → m.body ≡ bodies.Sync origin
         → is_of w w.master m.header ≡ true → (r : Listening) → P r
-        → P (record r { heard = Sync (arrival_of m.header x.time) ∷ r.heard })
-    pub refused : (number : ℕ) (r : Listening) → P r → P (record r { heard = Refused number ∷ r.heard })
+        → R (record r { heard = Sync (arrival_of m.header x.time) ∷ r.heard })
+    pub refused : (number : ℕ) (r : Listening) → R r → R (record r { heard = Refused number ∷ r.heard })
     pub master : (m : Contents) (origin : Stamp) → x.said ≡ Ok m → m.body ≡ bodies.Sync origin
         → is_of w w.master m.header ≡ true → (r : Listening) → P r
-        → P (with_master_anew w x.line (arrival_of m.header x.time) r)
+        → R (with_master_anew w x.line (arrival_of m.header x.time) r)
     pub renewed : (m : Contents) (origin : Stamp) → x.said ≡ Ok m → m.body ≡ bodies.Sync origin
-        → is_of w w.master m.header ≡ true → (r : Listening) → P r
-        → P (with_master_anew w x.line (arrival_of m.header x.time) (told (calls.Event (Ok m) x.time x.line) r))
+        → is_of w w.master m.header ≡ true → (r : Listening) → R r
+        → R (with_master_anew w x.line (arrival_of m.header x.time) (told (calls.Event (Ok m) x.time x.line) r))
     pub follow : (m : Contents) (precise : Stamp) → x.said ≡ Ok m → m.body ≡ bodies.FollowUp precise
         → is_of w w.master m.header ≡ true → (r : Listening) → P r
-        → P (record r { heard = FollowUp (arrival_of m.header x.time) ∷ r.heard })
+        → R (record r { heard = FollowUp (arrival_of m.header x.time) ∷ r.heard })
     pub response : (m : Contents) (receive : Stamp) (requesting : PortIdentity) → x.said ≡ Ok m
         → m.body ≡ bodies.DelayResp receive requesting → is_of w w.master m.header ≡ true
         → is_same_port requesting w.slave ≡ true → (r : Listening) → P r
-        → P (record r { responses = entry m.header.sequence.0 x.time ∷ r.responses })
+        → R (record r { responses = entry m.header.sequence.0 x.time ∷ r.responses })
     pub other : (m : Contents) (origin : Stamp) → x.said ≡ Ok m → m.body ≡ bodies.Sync origin
-        → is_of w w.master m.header ≡ false → (r : Listening) → ready w x.line x.time m m.body l ≡ Some r → P r
+        → is_of w w.master m.header ≡ false → (r : Listening) → ready w x.line x.time m m.body l ≡ Some r → R r
         → Q (record r { calls = calls.Event (Ok m) x.time x.line ∷ r.calls })
     pub counted : (m : Contents) (origin : Stamp) → x.said ≡ Ok m → m.body ≡ bodies.Sync origin
-        → is_of w w.master m.header ≡ true → (r : Listening) → ready w x.line x.time m m.body l ≡ Some r → P r
+        → is_of w w.master m.header ≡ true → (r : Listening) → (r.syncs + 1 ≡ ticks_every → ⊥)
+        → ready w x.line x.time m m.body l ≡ Some r → R r
         → Q (record r { calls = calls.Event (Ok m) x.time x.line ∷ r.calls; syncs = r.syncs + 1 })
     pub ticked : (m : Contents) (origin : Stamp) → x.said ≡ Ok m → m.body ≡ bodies.Sync origin
-        → is_of w w.master m.header ≡ true → (r : Listening) → r.syncs + 1 ≡ ticks_every → ready w x.line x.time m m.body l ≡ Some r → P r
+        → is_of w w.master m.header ≡ true → (r : Listening) → r.syncs + 1 ≡ ticks_every
+        → ready w x.line x.time m m.body l ≡ Some r → R r
         → Q (record r { calls = calls.Tick ∷ calls.Event (Ok m) x.time x.line ∷ r.calls; syncs = 0 })
-    pub general : (m : Contents) → x.said ≡ Ok m → is_general m.body ≡ true → (r : Listening) → ready w x.line x.time m m.body l ≡ Some r → P r
+    pub general : (m : Contents) → x.said ≡ Ok m → is_general m.body ≡ true → (r : Listening)
+        → ready w x.line x.time m m.body l ≡ Some r → R r
         → Q (record r { calls = calls.General (Ok m) x.line ∷ r.calls })
     pub again : (m : Contents) → x.said ≡ Ok m → is_own_request w m ≡ true → (r : Listening)
         → ahead m.header.sequence.0 (next_number (setup_in w r) r.calls) ≡ 65535 → P r → Q r
@@ -97,20 +115,33 @@ module _ (w : Watched) (x : Recorded) (l : Listening) (P Q : Listening → Type 
         ∙ ap (λ (own : Bool). if own then Some m.header.sequence.0 else None) same
 
     module _ (m : Contents) (said : x.said ≡ Ok m) where
+      answered-by : (body : Body) → m.body ≡ body → answered_to w x l ≡ answered w x.line x.time m body l
+      answered-by body is =
+          ap (λ (r : Reading). option_and_then (λ m. answered w x.line x.time m m.body l) (result_ok r)) said
+          ∙ ap (λ (b : Body). answered w x.line x.time m b l) is
+
+      answered-none : (body : Body) → m.body ≡ body → (call : Call) → hearing x.line x.time m body ≡ Some call
+          → ready w x.line x.time m body l ≡ None → answered_to w x l ≡ None
+      answered-none body is call is_call none =
+          answered-by body is
+          ∙ ap (λ (c : Option Call). option_and_then
+          (λ call. option_map (λ l. answer_in w l call) (ready w x.line x.time m body l)) c) is_call
+          ∙ ap (λ (o : Option Listening). option_map (λ l. answer_in w l call) o) none
+
       -- the port that is to hear a Sync
       module _ (origin : Stamp) (body : m.body ≡ bodies.Sync origin) where
-        refused_holds : is_of w w.master m.header ≡ true → (j : Judgement) (r : Listening) → P r
-            → P (ready_refused j w x.line (calls.Event (Ok m) x.time x.line) (arrival_of m.header x.time) r)
+        refused_holds : is_of w w.master m.header ≡ true → (j : Judgement) (r : Listening) → R r
+            → R (ready_refused j w x.line (calls.Event (Ok m) x.time x.line) (arrival_of m.header x.time) r)
         refused_holds of_master Newer r is = keeps.refused (arrival_of m.header x.time).number r is
         refused_holds of_master Repeated r is = is
         refused_holds of_master BeganAnew r is =
             keeps.renewed m origin said body of_master r is
 
-        newer_holds : is_of w w.master m.header ≡ true → (r : Listening) → P r
-            → P (ready_newer w x.line (calls.Event (Ok m) x.time x.line) (arrival_of m.header x.time) r)
+        newer_holds : is_of w w.master m.header ≡ true → (r : Listening) → R r
+            → R (ready_newer w x.line (calls.Event (Ok m) x.time x.line) (arrival_of m.header x.time) r)
         newer_holds of_master r is = by (is_stale (answer_in w r (calls.Event (Ok m) x.time x.line)))
           where
-            by : (stale : Bool) → P
+            by : (stale : Bool) → R
                 (if stale then ready_refused (judged_refused (arrival_of m.header x.time) table_capacity r.heard) w x.line
                 (calls.Event (Ok m) x.time x.line) (arrival_of m.header x.time) r
                 else r)
@@ -118,18 +149,18 @@ module _ (w : Watched) (x : Recorded) (l : Listening) (P Q : Listening → Type 
             by false = is
 
         judged_holds : is_of w w.master m.header ≡ true → (j : Judgement) (r : Listening)
-            → ready_judged j w x.line (calls.Event (Ok m) x.time x.line) (arrival_of m.header x.time) l ≡ Some r → P r
+            → ready_judged j w x.line (calls.Event (Ok m) x.time x.line) (arrival_of m.header x.time) l ≡ Some r → R r
         judged_holds of_master Newer r same =
             let heard : Listening = record l { heard = Sync (arrival_of m.header x.time) ∷ l.heard } in
             let one : ready_newer w x.line (calls.Event (Ok m) x.time x.line) (arrival_of m.header x.time) heard ≡ r = cc
             in
-            subst P one (newer_holds of_master heard (keeps.sync m origin said body of_master l holds))
+            subst R one (newer_holds of_master heard (keeps.sync m origin said body of_master l holds))
         judged_holds of_master Repeated r same = cc
         judged_holds of_master BeganAnew r same =
             let one : with_master_anew w x.line (arrival_of m.header x.time) l ≡ r = cc in
-            subst P one (keeps.master m origin said body of_master l holds)
+            subst R one (keeps.master m origin said body of_master l holds)
 
-        pub sync_ready : (r : Listening) → ready_sync w x.line x.time m l ≡ Some r → P r
+        pub sync_ready : (r : Listening) → ready_sync w x.line x.time m l ≡ Some r → R r
         sync_ready r same = by (is_of w w.master m.header) refl same
           where
             by : (of_master : Bool) → is_of w w.master m.header ≡ of_master
@@ -137,14 +168,23 @@ module _ (w : Watched) (x : Recorded) (l : Listening) (P Q : Listening → Type 
                 then ready_judged (judged_sync (arrival_of m.header x.time) table_capacity l.heard) w x.line
                 (calls.Event (Ok m) x.time x.line) (arrival_of m.header x.time) l
                 else Some l) ≡ Some r
-                → P r
+                → R r
             by true is same =
                 judged_holds is (judged_sync (arrival_of m.header x.time) table_capacity l.heard) r same
-            by false is same = let one : l ≡ r = cc in subst P one holds
+            by false is same =
+                let one : l ≡ r = cc in
+                subst R one
+                (keeps.as_is m said
+                (or_from (is_master_sync w m) (is_master_follow_up w m || is_own_response w m)
+                (and_left (is_of w w.master m.header) (is_sync m.body) is)
+                (or_from (is_master_follow_up w m) (is_own_response w m)
+                (and_left (is_of w w.master m.header) (is_follow_up m.body) is)
+                (and_left (is_of w w.master m.header) (is_response_to w.slave m.body) is))) l holds)
 
         -- a Sync of the master counts
         counted_holds : is_of w w.master m.header ≡ true → (r : Listening)
-            → ready w x.line x.time m m.body l ≡ Some r → P r → Q (hears_ready true (calls.Event (Ok m) x.time x.line) (Some r) l)
+            → ready w x.line x.time m m.body l ≡ Some r → R r
+            → Q (hears_ready true (calls.Event (Ok m) x.time x.line) (Some r) l)
         counted_holds of_master r is_ready is = by (r.syncs + 1 == ticks_every) refl
           where
             by : (full : Bool) → (r.syncs + 1 == ticks_every) ≡ full
@@ -153,33 +193,37 @@ module _ (w : Watched) (x : Recorded) (l : Listening) (P Q : Listening → Type 
                   syncs = 0;
                 } else record r { calls = calls.Event (Ok m) x.time x.line ∷ r.calls; syncs = r.syncs + 1 })
             by true full = keeps.ticked m origin said body of_master r (eqb-true (r.syncs + 1) ticks_every full) is_ready is
-            by false full = keeps.counted m origin said body of_master r is_ready is
+            by false full = keeps.counted m origin said body of_master r
+                (eqb-false (r.syncs + 1) ticks_every full) is_ready is
 
         sync_heard : Q (hears_ready (is_of w w.master m.header) (calls.Event (Ok m) x.time x.line)
             (ready_sync w x.line x.time m l) l)
         sync_heard = by (is_of w w.master m.header) refl (ready_sync w x.line x.time m l)
+            (answered-none (bodies.Sync origin) body (calls.Event (Ok m) x.time x.line) refl)
             (λ r same. (ap (λ (b : Body). ready w x.line x.time m b l) body ∙ same, sync_ready r same))
           where
             by : (of_master : Bool) → is_of w w.master m.header ≡ of_master → (o : Option Listening)
-                → ((r : Listening) → o ≡ Some r → (ready w x.line x.time m m.body l ≡ Some r) × P r)
+                → (o ≡ None → answered_to w x l ≡ None)
+                → ((r : Listening) → o ≡ Some r → (ready w x.line x.time m m.body l ≡ Some r) × R r)
                 → Q (hears_ready of_master (calls.Event (Ok m) x.time x.line) o l)
-            by of_master is None each =
-                keeps.unheard (asks-none m (bodies.Sync origin) said body (and_right (is_of w w.slave m.header) false refl)) l
+            by of_master is None gone each =
+                keeps.unheard (gone refl)
+                (asks-none m (bodies.Sync origin) said body (and_right (is_of w w.slave m.header) false refl)) l
                 holds
-            by true is (Some r) each = let one = each r refl in counted_holds is r one.0 one.1
-            by false is (Some r) each = let one = each r refl in keeps.other m origin said body is r one.0 one.1
+            by true is (Some r) gone each = let one = each r refl in counted_holds is r one.0 one.1
+            by false is (Some r) gone each = let one = each r refl in keeps.other m origin said body is r one.0 one.1
 
       -- the port that is to hear a Follow_Up
       module _ (precise : Stamp) (body : m.body ≡ bodies.FollowUp precise) where
         followed_holds : is_of w w.master m.header ≡ true → (j : Judgement) (r : Listening)
-            → ready_followed j (arrival_of m.header x.time) l ≡ Some r → P r
+            → ready_followed j (arrival_of m.header x.time) l ≡ Some r → R r
         followed_holds of_master Newer r same =
             let one : record l { heard = FollowUp (arrival_of m.header x.time) ∷ l.heard } ≡ r = cc in
-            subst P one (keeps.follow m precise said body of_master l holds)
+            subst R one (keeps.follow m precise said body of_master l holds)
         followed_holds of_master Repeated r same = cc
         followed_holds of_master BeganAnew r same = cc
 
-        pub follow_up_ready : (r : Listening) → ready_follow_up w x.time m l ≡ Some r → P r
+        pub follow_up_ready : (r : Listening) → ready_follow_up w x.time m l ≡ Some r → R r
         follow_up_ready r same = by (is_of w w.master m.header) refl same
           where
             by : (of_master : Bool) → is_of w w.master m.header ≡ of_master
@@ -187,14 +231,22 @@ module _ (w : Watched) (x : Recorded) (l : Listening) (P Q : Listening → Type 
                 then ready_followed (judged_follow_up (arrival_of m.header x.time) table_capacity l.heard)
                 (arrival_of m.header x.time) l
                 else Some l) ≡ Some r
-                → P r
+                → R r
             by true is same =
                 followed_holds is (judged_follow_up (arrival_of m.header x.time) table_capacity l.heard) r same
-            by false is same = let one : l ≡ r = cc in subst P one holds
+            by false is same =
+                let one : l ≡ r = cc in
+                subst R one
+                (keeps.as_is m said
+                (or_from (is_master_sync w m) (is_master_follow_up w m || is_own_response w m)
+                (and_left (is_of w w.master m.header) (is_sync m.body) is)
+                (or_from (is_master_follow_up w m) (is_own_response w m)
+                (and_left (is_of w w.master m.header) (is_follow_up m.body) is)
+                (and_left (is_of w w.master m.header) (is_response_to w.slave m.body) is))) l holds)
 
       -- the port that is to hear a Delay_Resp
       module _ (receive : Stamp) (requesting : PortIdentity) (body : m.body ≡ bodies.DelayResp receive requesting) where
-        pub response_ready : (r : Listening) → ready_response w x.time m requesting l ≡ Some r → P r
+        pub response_ready : (r : Listening) → ready_response w x.time m requesting l ≡ Some r → R r
         response_ready r same =
             by (is_of w w.master m.header && is_same_port requesting w.slave) refl
             (is_some (known table_capacity m.header.sequence.0 l.responses)) same
@@ -202,20 +254,30 @@ module _ (w : Watched) (x : Recorded) (l : Listening) (P Q : Listening → Type 
             by : (to : Bool) → (is_of w w.master m.header && is_same_port requesting w.slave) ≡ to → (again : Bool)
                 → (if not to then Some l else if again then None
                 else Some (record l { responses = entry m.header.sequence.0 x.time ∷ l.responses })) ≡ Some r
-                → P r
-            by false is again same = let one : l ≡ r = cc in subst P one holds
+                → R r
+            by false is again same =
+                let one : l ≡ r = cc in
+                subst R one
+                (keeps.as_is m said
+                (or_from (is_master_sync w m) (is_master_follow_up w m || is_own_response w m)
+                (and_right (is_of w w.master m.header) (is_sync m.body) (ap is_sync body))
+                (or_from (is_master_follow_up w m) (is_own_response w m)
+                (and_right (is_of w w.master m.header) (is_follow_up m.body) (ap is_follow_up body))
+                (ap (λ (b : Body). is_of w w.master m.header && is_response_to w.slave b) body ∙ is))) l holds)
             by true is true same = cc
             by true is false same =
                 let one : record l { responses = entry m.header.sequence.0 x.time ∷ l.responses } ≡ r = cc in
                 let parts = and_parts (is_of w w.master m.header) (is_same_port requesting w.slave) is in
-                subst P one (keeps.response m receive requesting said body parts.0 parts.1 l holds)
+                subst R one (keeps.response m receive requesting said body parts.0 parts.1 l holds)
 
       general_heard : (body : Body) → m.body ≡ body → is_general body ≡ true → (o : Option Listening)
-          → ready w x.line x.time m body l ≡ o → ((r : Listening) → o ≡ Some r → P r)
+          → ready w x.line x.time m body l ≡ o → ((r : Listening) → o ≡ Some r → R r)
           → is_own_request w (record { header = m.header; body = body; suffix = m.suffix }) ≡ false
           → Q (hears_ready false (calls.General (Ok m) x.line) o l)
       general_heard body body_is kind None is_ready each none =
-          keeps.unheard (asks-none m body said body_is none) l holds
+          keeps.unheard
+          (answered-none body body_is (calls.General (Ok m) x.line) (general-hearing x.line x.time m body kind) is_ready)
+          (asks-none m body said body_is none) l holds
       general_heard body body_is kind (Some r) is_ready each none =
           keeps.general m said (ap is_general body_is ∙ kind) r
           (ap (λ (b : Body). ready w x.line x.time m b l) body_is ∙ is_ready) (each r refl)
@@ -247,7 +309,8 @@ module _ (w : Watched) (x : Recorded) (l : Listening) (P Q : Listening → Type 
               (ap (λ (b : Body). is_own_request w (record { header = m.header; body = b; suffix = m.suffix })) is
               ∙ ap (λ (b : Bool). b && true) own)
           by false own =
-              keeps.unheard (asks-none m (bodies.DelayReq origin) said is (ap (λ (b : Bool). b && true) own)) l holds
+              keeps.unheard (answered-by (bodies.DelayReq origin) is)
+              (asks-none m (bodies.DelayReq origin) said is (ap (λ (b : Bool). b && true) own)) l holds
       hears_holds (bodies.FollowUp precise) is =
           general_heard (bodies.FollowUp precise) is refl (ready_follow_up w x.time m l) refl (follow_up_ready precise is)
           (and_right (is_of w w.slave m.header) false refl)
@@ -256,13 +319,13 @@ module _ (w : Watched) (x : Recorded) (l : Listening) (P Q : Listening → Type 
           (response_ready receive requesting is) (and_right (is_of w w.slave m.header) false refl)
 
       -- the port that is to hear a message
-      ready_by : (body : Body) → m.body ≡ body → (r : Listening) → ready w x.line x.time m body l ≡ Some r → P r
+      ready_by : (body : Body) → m.body ≡ body → (r : Listening) → ready w x.line x.time m body l ≡ Some r → R r
       ready_by (bodies.Sync origin) is r same = sync_ready origin is r same
       ready_by (bodies.DelayReq origin) is r same = cc
       ready_by (bodies.FollowUp precise) is r same = follow_up_ready precise is r same
       ready_by (bodies.DelayResp receive requesting) is r same = response_ready receive requesting is r same
 
-      pub ready_holds : (r : Listening) → ready w x.line x.time m m.body l ≡ Some r → P r
+      pub ready_holds : (r : Listening) → ready w x.line x.time m m.body l ≡ Some r → R r
       ready_holds r same = ready_by m.body refl r same
 
     -- the port after it
@@ -273,7 +336,9 @@ module _ (w : Watched) (x : Recorded) (l : Listening) (P Q : Listening → Type 
             → Q (option_map_or (λ m. hears w x.line x.time m m.body l) (result_ok said) l)
         by (Ok m) is = hears_holds m is m.body refl
         by (Err refusal) is =
-            keeps.unheard (ap (λ (r : Reading). option_and_then (asked_number w) (result_ok r)) is) l holds
+            keeps.unheard
+            (ap (λ (r : Reading). option_and_then (λ m. answered w x.line x.time m m.body l) (result_ok r)) is)
+            (ap (λ (r : Reading). option_and_then (asked_number w) (result_ok r)) is) l holds
 
 -- what is answered to a message that a port is to hear
 pub answered-ready : (w : Watched) (x : Recorded) (m : Contents) (call : Call) (l r : Listening) → x.said ≡ Ok m
@@ -284,10 +349,3 @@ answered-ready w x m call l r said is_call is_ready =
     ∙ ap (λ (c : Option Call). option_and_then
     (λ call. option_map (λ l. answer_in w l call) (ready w x.line x.time m m.body l)) c) is_call
     ∙ ap (λ (o : Option Listening). option_map (λ l. answer_in w l call) o) is_ready
-
-pub general-hearing : (line time : ℕ) (m : Contents) (body : Body) → is_general body ≡ true
-    → hearing line time m body ≡ Some (calls.General (Ok m) line)
-general-hearing line time m (bodies.Sync origin) is = cc
-general-hearing line time m (bodies.DelayReq origin) is = cc
-general-hearing line time m (bodies.FollowUp precise) is = refl
-general-hearing line time m (bodies.DelayResp receive requesting) is = refl

@@ -23,6 +23,8 @@ mod Completes
 mod Hearing
 mod Newest
 mod Said
+mod Latest
+mod Recent
 mod Onward
 mod Takes
 mod Finds

@@ -16,7 +16,7 @@ module _ {V : Type 0} where
   IsNewest count number value es = (c : ℕ) → count < c → first_value number (take c es) ≡ Some value
 
   -- one more
-  first-cons : (c number : ℕ) (e : Entry V) (es : List (Entry V))
+  pub first-cons : (c number : ℕ) (e : Entry V) (es : List (Entry V))
       → first_value number (take (suc c) (e ∷ es))
       ≡ (if nat_eq e.number number then Some e.value else first_value number (take c es))
   first-cons c number e es = by (nat_eq e.number number)

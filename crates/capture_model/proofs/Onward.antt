@@ -1,6 +1,7 @@
 -- What a listening port holds, and what completed last, stays while no beginning and nothing of its number comes, and not
 -- too many messages of its kind.
-use Rattle.std.proofs.Common.{◌≡◌, ◌∙◌, ℕ, zero, suc, ◌+◌, ◌%◌, ◌<◌, ◌≤◌, Bool, true, false, List, ◌∷◌, Option, Some, None}
+use Rattle.std.proofs.Common.{◌≡◌, ◌∙◌, ℕ, zero, suc, ◌+◌, ◌%◌, ◌<◌, ◌≤◌, Bool, true, false, List, ◌∷◌, Option, Some}
+use Rattle.std.proofs.Common.{None}
 use Rattle.std.proofs.Common.{Ok, refl, sym, ap, subst, arith, is_some, if◌then◌else◌}
 use Rattle.std.specs.Option.{option_map_or}
 use Rattle.std.specs.Prelude.{◌==◌, ◌&&◌, ◌||◌, not, nat_lt, count_by, ◌⊎◌}
@@ -42,7 +43,8 @@ use Rattle.capture_model.proofs.Newest.{IsNewest, newest-more, newest-fewer, new
 use Rattle.capture_model.proofs.Newest.{held-ticked, held-brought, IsLastIn, last-later, last-ticked, last-brought}
 use Rattle.capture_model.proofs.Hearing.{Keeps, hear_holds, ready_holds, asked_by, is_near, answered-ready}
 use Rattle.capture_model.proofs.Hearing.{general-hearing}
-use Rattle.capture_model.proofs.Said.{IsOf, is_of-later, keeps-is_of, after-is_of, says-of, unlike, sync_brought, no_sync_brought, follow_brought}
+use Rattle.capture_model.proofs.Said.{IsOf, is_of-later, keeps-is_of, after-is_of, says-of, unlike, sync_brought}
+use Rattle.capture_model.proofs.Said.{no_sync_brought, follow_brought}
 use Rattle.capture_model.proofs.Said.{no_follow_brought, event_completes, general_completes, general_answers}
 use Rattle.capture_model.proofs.Said.{event_answers_none, drawn-kept, SaidIn}
 
@@ -111,16 +113,19 @@ module _ (w : Watched) (x : Recorded) (ds : List Recorded) (since : ℕ) (later 
         → H l.first l.calls l.syncs l.asked
         → J l.first (calls.Event (Ok m) x.time x.line ∷ l.calls) l.syncs l.asked
     pub counted : (m : Contents) (origin : Stamp) → x.said ≡ Ok m → m.body ≡ bodies.Sync origin
-        → is_of w w.master m.header ≡ true → (l : Listening) → ready w x.line x.time m m.body (after_all w ds) ≡ Some l
+        → is_of w w.master m.header ≡ true → (l : Listening)
+        → ready w x.line x.time m m.body (after_all w ds) ≡ Some l
         → IsOf w (x ∷ ds) l
         → H l.first l.calls l.syncs l.asked
         → J l.first (calls.Event (Ok m) x.time x.line ∷ l.calls) (l.syncs + 1) l.asked
     pub ticked : (m : Contents) (origin : Stamp) → x.said ≡ Ok m → m.body ≡ bodies.Sync origin
-        → is_of w w.master m.header ≡ true → (l : Listening) → ready w x.line x.time m m.body (after_all w ds) ≡ Some l
+        → is_of w w.master m.header ≡ true → (l : Listening)
+        → ready w x.line x.time m m.body (after_all w ds) ≡ Some l
         → IsOf w (x ∷ ds) l → l.syncs + 1 ≡ ticks_every
         → H l.first l.calls l.syncs l.asked
         → J l.first (calls.Tick ∷ calls.Event (Ok m) x.time x.line ∷ l.calls) 0 l.asked
-    pub general : (m : Contents) → x.said ≡ Ok m → is_general m.body ≡ true → (l : Listening) → ready w x.line x.time m m.body (after_all w ds) ≡ Some l
+    pub general : (m : Contents) → x.said ≡ Ok m → is_general m.body ≡ true → (l : Listening)
+        → ready w x.line x.time m m.body (after_all w ds) ≡ Some l
         → IsOf w (x ∷ ds) l
         → H l.first l.calls l.syncs l.asked
         → J l.first (calls.General (Ok m) x.line ∷ l.calls) l.syncs l.asked
@@ -132,9 +137,10 @@ module _ (w : Watched) (x : Recorded) (ds : List Recorded) (since : ℕ) (later 
         (calls.RequestLeft m.header.sequence.0 x.time
         ∷ draws (ahead m.header.sequence.0 (next_number (setup_in w l) l.calls) + 1) x.line l.calls) l.syncs true
 
-  pub onward : Goes → Keeps w x (after_all w ds) (Stands H) (Stands J)
+  pub onward : Goes → Keeps w x (after_all w ds) (Stands H) (Stands H) (Stands J)
   onward goes = record {
-    unheard = λ none l is. (known.unheard none l is.0, λ low. goes.unheard none l (is.1 low));
+    as_is = λ m said none l is. is;
+    unheard = λ gone none l is. (known.unheard gone none l is.0, λ low. goes.unheard none l (is.1 low));
     sync = λ m origin said body of_master l is. (known.sync m origin said body of_master l is.0, is.1);
     refused = λ number l is. (known.refused number l is.0, is.1);
     master = λ m origin said body of_master l is. (
@@ -154,8 +160,8 @@ module _ (w : Watched) (x : Recorded) (ds : List Recorded) (since : ℕ) (later 
       known.other m origin said body other l is_ready is.0,
       λ low. goes.other m origin said body other l is_ready is.0 (is.1 low),
     );
-    counted = λ m origin said body of_master l is_ready is. (
-      known.counted m origin said body of_master l is_ready is.0,
+    counted = λ m origin said body of_master l room is_ready is. (
+      known.counted m origin said body of_master l room is_ready is.0,
       λ low. goes.counted m origin said body of_master l is_ready is.0 (is.1 low),
     );
     ticked = λ m origin said body of_master l full is_ready is. (
@@ -177,7 +183,7 @@ module _ (w : Watched) (x : Recorded) (ds : List Recorded) (since : ℕ) (later 
     );
   }
     where
-      known : Keeps w x (after_all w ds) (IsOf w (x ∷ ds)) (IsOf w (x ∷ ds))
+      known : Keeps w x (after_all w ds) (IsOf w (x ∷ ds)) (IsOf w (x ∷ ds)) (IsOf w (x ∷ ds))
       known = keeps-is_of w x ds (after_all w ds)
 
   -- what holds after it, and after all
@@ -188,7 +194,7 @@ module _ (w : Watched) (x : Recorded) (ds : List Recorded) (since : ℕ) (later 
       → J (after_all w (x ∷ ds)).first (after_all w (x ∷ ds)).calls (after_all w (x ∷ ds)).syncs
       (after_all w (x ∷ ds)).asked
   goes-after goes is low =
-      (hear_holds w x (after_all w ds) (Stands H) (Stands J) (onward goes)
+      (hear_holds w x (after_all w ds) (Stands H) (Stands H) (Stands J) (onward goes)
       (is_of-later w x ds (after_all w ds) (after-is_of w ds), is)).1 low
 
 module _ (w : Watched) (x : Recorded) (since : ℕ) (later : since < x.line)
@@ -197,9 +203,10 @@ module _ (w : Watched) (x : Recorded) (since : ℕ) (later : since < x.line)
   abbrev Since : Listening → Type 0
   Since l = l.begun ≤ since → H l.first l.calls l.syncs l.asked
 
-  keeps-ready : (before : Listening) → Keeps w x before Since (λ l. Unit {0})
+  keeps-ready : (before : Listening) → Keeps w x before Since Since (λ l. Unit {0})
   keeps-ready before = record {
-    unheard = λ none l is. tt;
+    as_is = λ m said none l is. is;
+    unheard = λ gone none l is. tt;
     sync = λ m origin said body of_master l is. is;
     refused = λ number l is. is;
     master = λ m origin said body of_master l is low. let early : x.line ≤ since = low in absurd (omega arith);
@@ -207,7 +214,7 @@ module _ (w : Watched) (x : Recorded) (since : ℕ) (later : since < x.line)
     follow = λ m precise said body of_master l is. is;
     response = λ m receive requesting said body of_master to_slave l is. is;
     other = λ m origin said body other l is_ready is. tt;
-    counted = λ m origin said body of_master l is_ready is. tt;
+    counted = λ m origin said body of_master l room is_ready is. tt;
     ticked = λ m origin said body of_master l full is_ready is. tt;
     general = λ m said kind l is_ready is. tt;
     again = λ m said own l same is. tt;
@@ -218,7 +225,8 @@ module _ (w : Watched) (x : Recorded) (since : ℕ) (later : since < x.line)
   -- it holds of the port that is to hear a later datagram
   pub carried : (m : Contents) → x.said ≡ Ok m → (l r : Listening) → ready w x.line x.time m m.body l ≡ Some r
       → Since l → r.begun ≤ since → H r.first r.calls r.syncs r.asked
-  carried m said l r is_ready is low = ready_holds w x l Since (λ l. Unit {0}) (keeps-ready l) is m said r is_ready low
+  carried m said l r is_ready is low =
+      ready_holds w x l Since Since (λ l. Unit {0}) (keeps-ready l) is m said r is_ready low
 
 module _ (w : Watched) (x : Recorded) (ds : List Recorded) (since : ℕ) (later : since < x.line) where
   -- requests leave what is held of messages as it is
@@ -299,7 +307,8 @@ module _ (w : Watched) (x : Recorded) (ds : List Recorded) (since : ℕ) (later 
       pub goes-sync : Goes w x ds since later (HoldsSync w number value count came) (HoldsSync w number value more grown)
       goes-sync = record {
         unheard = λ none l is. widened l is;
-        other = λ m origin said body other l is_ready known is. grown-to m l (sync_event m origin said body l is_ready known is);
+        other = λ m origin said body other l is_ready known is.
+            grown-to m l (sync_event m origin said body l is_ready known is);
         counted = λ m origin said body of_master l is_ready known is.
             held-later more more number value
             (kept (setup_in w l) (calls.Event (Ok m) x.time x.line ∷ l.calls)).syncs l.syncs came (l.syncs + 1) grown
@@ -352,7 +361,8 @@ module _ (w : Watched) (x : Recorded) (ds : List Recorded) (since : ℕ) (later 
           (kept (setup_in w l) l.calls).follows l.syncs came room
           (λ e same. no_follow_brought w l.first l.calls known.follows_master m x.time x.line e same) is
 
-      pub goes-follow : Goes w x ds since later (HoldsFollow w number value count came) (HoldsFollow w number value more grown)
+      pub goes-follow : Goes w x ds since later (HoldsFollow w number value count came)
+          (HoldsFollow w number value more grown)
       goes-follow = record {
         unheard = λ none l is. widened l is;
         other = λ m origin said body other l is_ready known is.

@@ -1,15 +1,15 @@
--- What a listening port knows and holds was said by the datagrams before: numbers that are known came, Follow_Ups that are
--- held were said, and what completed was told to have left.
-use Rattle.std.proofs.Common.{◌≡◌, ◌∙◌, ℕ, zero, suc, ◌+◌, Bool, true, false, List, [], ◌∷◌, Option, Some, None, Ok, Err}
+-- The Follow_Ups that a listening port holds were said by the datagrams before, and the last Delay_Req that it knows is
+-- the last that they say.
+use Rattle.std.proofs.Common.{◌≡◌, ◌∙◌, ℕ, zero, suc, ◌+◌, Bool, true, false, List, [], ◌∷◌, Option, Some, None, Ok}
+use Rattle.std.proofs.Common.{Err}
 use Rattle.std.proofs.Common.{refl, sym, ap, subst, arith, option_and_then, if◌then◌else◌}
-use Rattle.std.specs.Prelude.{◌==◌, ◌&&◌, not, ◌⊎◌}
+use Rattle.std.specs.Prelude.{◌==◌, ◌&&◌, ◌⊎◌}
 use Rattle.std.proofs.Common.{inl, inr}
 use Rattle.std.specs.Option.{option_map_or, option_or}
 use Rattle.std.specs.Result.{result_ok}
 use Rattle.std.specs.List.{All}
-use Rattle.std.proofs.lemmas.Bool.{and_from, and_right, or_left, or_right, eq-eqb, both_ways}
-use Rattle.std.proofs.lemmas.List.Elements.{All-nil, All-cons, All-head, All-tail, All-weaker, All-take}
-use Rattle.ptp_units.specs.Moment.{Stamp}
+use Rattle.std.proofs.lemmas.Bool.{and_from, and_right, eq-eqb, both_ways}
+use Rattle.std.proofs.lemmas.List.Elements.{All-nil, All-head, All-tail, All-weaker}
 use Rattle.ptp_units.specs.Sequence.{next, ahead}
 use Rattle.event_codec.specs.declared.message.Body.{Body}
 use Rattle.event_codec.specs.declared.message.Body.TheVariants as bodies
@@ -18,32 +18,30 @@ use Rattle.event_codec.specs.declared.port.PortIdentity.{PortIdentity}
 use Rattle.event_codec.specs.Packet.{Contents}
 use Rattle.event_codec.specs.Port.{is_same_port}
 use Rattle.event_codec.specs.Reading.{Reading}
-use Rattle.pairing.specs.Marked.{Entry, entry, first_value}
-use Rattle.sync_watch.specs.Told.{Told, Sync, of_flag, syncs, follow_ups}
+use Rattle.pairing.specs.Marked.{Entry, first_value}
 use Rattle.slave_port.specs.History as calls
 use Rattle.slave_port.specs.History.{Call, Setup, present_master, next_number}
 use Rattle.slave_port.specs.Usable.{is_two_step}
 use Rattle.slave_port.specs.Values.{SyncValue, FollowValue}
 use Rattle.slave_port.specs.Completion.{SyncCompletion, DelayCompletion}
-use Rattle.slave_port.specs.Window.{all, with_brought}
+use Rattle.slave_port.specs.Window.{with_brought}
 use Rattle.slave_port.specs.Kept.{Kept, kept, criteria, delay_completions, held_follows, usable_two_step_sync}
 use Rattle.slave_port.specs.Kept.{usable_follow_up, sync_completion, delay_completion}
 use Rattle.slave_port.proofs.Uses.{Passes, HeardSync, HeardFollowUp, HeardDelayResp, two_step_entry, follow_entry}
 use Rattle.slave_port.proofs.Uses.{sync_completion_of, delay_completion_of, IsSyncCompletion, BySync, Alone, ByFollowUp}
-use Rattle.network_model.proofs.Pairing.{found_in}
 use Rattle.capture_model.specs.declared.watched.Watched.{Watched}
 use Rattle.capture_model.specs.Recorded.{Recorded}
-use Rattle.capture_model.specs.Listening.{Listening, setup_with, setup_in, is_of, arrival_of}
+use Rattle.capture_model.specs.Listening.{Listening, setup_with, setup_in, is_of}
 use Rattle.capture_model.specs.Listening.{draws, asks, anew, after_all}
 use Rattle.capture_model.specs.Told.{is_sync, is_general}
-use Rattle.capture_model.specs.Finds.{is_master_sync, is_follow_up, is_master_follow_up, tells_departure}
+use Rattle.capture_model.specs.Finds.{is_master_sync, is_follow_up, is_master_follow_up}
 use Rattle.capture_model.specs.Finds.{is_response_to, is_own_response, is_delay_req, is_own_request, with_number, says}
 use Rattle.capture_model.specs.Finds.{NoneSays}
 use Rattle.capture_model.specs.Finds.{last_number}
 use Rattle.capture_model.proofs.Near.{All-brought}
 use Rattle.capture_model.proofs.Requests.{drawn-draws}
 use Rattle.capture_model.proofs.Steps.{same_identity}
-use Rattle.capture_model.proofs.Tags.{AllIn, all-in}
+use Rattle.capture_model.proofs.Tags.{AllIn}
 use Rattle.capture_model.proofs.Hearing.{Keeps, hear_holds, asked_number, asked_by}
 
 -- what a datagram says
@@ -63,24 +61,11 @@ module _ (kind : Contents → Bool) where
   SaidIn ds number =
       (test : ℕ → Bool) → NoneSays (λ (m : Contents). kind m && test m.header.sequence.0) ds → test number ≡ false
 
-  -- the same of its number and the time at which it came
-  abbrev pub CameIn : List Recorded → (number time : ℕ) → Type 0
-  CameIn ds number time =
-      (test : ℕ → ℕ → Bool)
-      → All (λ (d : Recorded). says (λ (m : Contents). kind m && test m.header.sequence.0 d.time) d ≡ false) ds
-      → test number time ≡ false
-
   module _ (x : Recorded) (ds : List Recorded) where
-    said-later : (number : ℕ) → SaidIn ds number → SaidIn (x ∷ ds) number
+    pub said-later : (number : ℕ) → SaidIn ds number → SaidIn (x ∷ ds) number
     said-later number is test none =
         is test
         (All-tail (λ (d : Recorded). says (λ (m : Contents). kind m && test m.header.sequence.0) d ≡ false) x ds none)
-
-    came-later : (number time : ℕ) → CameIn ds number time → CameIn (x ∷ ds) number time
-    came-later number time is test none =
-        is test
-        (All-tail (λ (d : Recorded). says (λ (m : Contents). kind m && test m.header.sequence.0 d.time) d ≡ false) x ds
-        none)
 
     module _ (m : Contents) (said : x.said ≡ Ok m) (kind_is : kind m ≡ true) where
       pub said-now : SaidIn (x ∷ ds) m.header.sequence.0
@@ -88,13 +73,6 @@ module _ (kind : Contents → Bool) where
           sym (ap (λ (b : Bool). b && test m.header.sequence.0) kind_is)
           ∙ sym (says-of (λ (m : Contents). kind m && test m.header.sequence.0) x m said)
           ∙ All-head (λ (d : Recorded). says (λ (m : Contents). kind m && test m.header.sequence.0) d ≡ false) x ds none
-
-      pub came-now : CameIn (x ∷ ds) m.header.sequence.0 x.time
-      came-now test none =
-          sym (ap (λ (b : Bool). b && test m.header.sequence.0 x.time) kind_is)
-          ∙ sym (says-of (λ (m : Contents). kind m && test m.header.sequence.0 x.time) x m said)
-          ∙ All-head (λ (d : Recorded). says (λ (m : Contents). kind m && test m.header.sequence.0 d.time) d ≡ false) x
-          ds none
 
 -- what is of a kind is of a wider one
 pub said-wider : (kind other : Contents → Bool) → ((m : Contents) → kind m ≡ true → other m ≡ true)
@@ -258,197 +236,68 @@ drawn-kept given history zero tag = (refl, refl, refl)
 drawn-kept given history (suc count) tag = drawn-kept given history count tag
 
 module _ (w : Watched) where
-  -- a port follows the master, and all that it knows and holds was said by these
-  pub record IsSaid (ds : List Recorded) (first : ℕ) (history : List Call) (heard : List Told)
-      (responses : List (Entry ℕ)) : Type 0 where
+  -- a port follows the master, and the Follow_Ups that it holds were said by these
+  pub record IsSaid (ds : List Recorded) (first : ℕ) (history : List Call) : Type 0 where
     pub follows_master : present_master history ≡ Some w.master
-    pub syncs_came : (flag : Bool)
-        → All (λ (e : Entry ℕ). CameIn (is_master_sync w) ds e.number e.value) (syncs flag heard)
-    pub follow_ups_came : (flag : Bool)
-        → All (λ (e : Entry ℕ). CameIn (is_master_follow_up w) ds e.number e.value) (follow_ups flag heard)
-    pub responses_came : All (λ (e : Entry ℕ). SaidIn (is_own_response w) ds e.number) responses
     pub follows_said : AllIn (λ (e : Entry FollowValue). SaidIn (is_master_follow_up w) ds e.number)
         (kept (setup_with w first) history).follows
-    pub completions_said : AllIn (λ (c : SyncCompletion). SaidIn (tells_departure w) ds c.number)
-        (kept (setup_with w first) history).completions
 
   abbrev pub IsOf : List Recorded → Listening → Type 0
-  IsOf ds l = IsSaid ds l.first l.calls l.heard l.responses
+  IsOf ds l = IsSaid ds l.first l.calls
 
   module _ (x : Recorded) (ds : List Recorded) where
+    abbrev IsFollow : Entry FollowValue → Type 0
+    IsFollow e = SaidIn (is_master_follow_up w) (x ∷ ds) e.number
+
     pub is_of-later : (l : Listening) → IsOf ds l → IsOf (x ∷ ds) l
     is_of-later l is = record {
       follows_master = is.follows_master;
-      syncs_came = λ flag.
-          All-weaker (λ (e : Entry ℕ). CameIn (is_master_sync w) ds e.number e.value)
-          (λ (e : Entry ℕ). CameIn (is_master_sync w) (x ∷ ds) e.number e.value)
-          (λ e. came-later (is_master_sync w) x ds e.number e.value) (syncs flag l.heard) (is.syncs_came flag);
-      follow_ups_came = λ flag.
-          All-weaker (λ (e : Entry ℕ). CameIn (is_master_follow_up w) ds e.number e.value)
-          (λ (e : Entry ℕ). CameIn (is_master_follow_up w) (x ∷ ds) e.number e.value)
-          (λ e. came-later (is_master_follow_up w) x ds e.number e.value) (follow_ups flag l.heard)
-          (is.follow_ups_came flag);
-      responses_came =
-          All-weaker (λ (e : Entry ℕ). SaidIn (is_own_response w) ds e.number)
-          (λ (e : Entry ℕ). SaidIn (is_own_response w) (x ∷ ds) e.number)
-          (λ e. said-later (is_own_response w) x ds e.number) l.responses is.responses_came;
       follows_said = (
         follows_of (kept (setup_in w l) l.calls).follows.since is.follows_said.0,
         follows_of (kept (setup_in w l) l.calls).follows.before is.follows_said.1,
       );
-      completions_said = (
-        completions_of (kept (setup_in w l) l.calls).completions.since is.completions_said.0,
-        completions_of (kept (setup_in w l) l.calls).completions.before is.completions_said.1,
-      );
     }
       where
         follows_of : (es : List (Entry FollowValue))
-            → All (λ (e : Entry FollowValue). SaidIn (is_master_follow_up w) ds e.number) es
-            → All (λ (e : Entry FollowValue). SaidIn (is_master_follow_up w) (x ∷ ds) e.number) es
+            → All (λ (e : Entry FollowValue). SaidIn (is_master_follow_up w) ds e.number) es → All IsFollow es
         follows_of es are =
-            All-weaker (λ (e : Entry FollowValue). SaidIn (is_master_follow_up w) ds e.number)
-            (λ (e : Entry FollowValue). SaidIn (is_master_follow_up w) (x ∷ ds) e.number)
+            All-weaker (λ (e : Entry FollowValue). SaidIn (is_master_follow_up w) ds e.number) IsFollow
             (λ e. said-later (is_master_follow_up w) x ds e.number) es are
 
-        completions_of : (cs : List SyncCompletion)
-            → All (λ (c : SyncCompletion). SaidIn (tells_departure w) ds c.number) cs
-            → All (λ (c : SyncCompletion). SaidIn (tells_departure w) (x ∷ ds) c.number) cs
-        completions_of cs are =
-            All-weaker (λ (c : SyncCompletion). SaidIn (tells_departure w) ds c.number)
-            (λ (c : SyncCompletion). SaidIn (tells_departure w) (x ∷ ds) c.number)
-            (λ c. said-later (tells_departure w) x ds c.number) cs are
-
-    -- the two lists that are kept after a message
+    -- with what a call brings
     follows-brought : (first : ℕ) (history : List Call) (brings : Option (Entry FollowValue))
-        → ((e : Entry FollowValue) → brings ≡ Some e → SaidIn (is_master_follow_up w) (x ∷ ds) e.number)
-        → AllIn (λ (e : Entry FollowValue). SaidIn (is_master_follow_up w) (x ∷ ds) e.number)
-        (kept (setup_with w first) history).follows
-        → AllIn (λ (e : Entry FollowValue). SaidIn (is_master_follow_up w) (x ∷ ds) e.number)
-        (with_brought brings (kept (setup_with w first) history).follows)
-    follows-brought first history brings each are = (
-      All-brought (λ (e : Entry FollowValue). SaidIn (is_master_follow_up w) (x ∷ ds) e.number) brings
-          (kept (setup_with w first) history).follows.since each are.0,
-      are.1,
-    )
+        → ((e : Entry FollowValue) → brings ≡ Some e → IsFollow e)
+        → AllIn IsFollow (kept (setup_with w first) history).follows
+        → AllIn IsFollow (with_brought brings (kept (setup_with w first) history).follows)
+    follows-brought first history brings each are =
+        (All-brought IsFollow brings (kept (setup_with w first) history).follows.since each are.0, are.1)
 
-    completions-brought : (first : ℕ) (history : List Call) (brings : Option SyncCompletion)
-        → ((c : SyncCompletion) → brings ≡ Some c → SaidIn (tells_departure w) (x ∷ ds) c.number)
-        → AllIn (λ (c : SyncCompletion). SaidIn (tells_departure w) (x ∷ ds) c.number)
-        (kept (setup_with w first) history).completions
-        → AllIn (λ (c : SyncCompletion). SaidIn (tells_departure w) (x ∷ ds) c.number)
-        (with_brought brings (kept (setup_with w first) history).completions)
-    completions-brought first history brings each are = (
-      All-brought (λ (c : SyncCompletion). SaidIn (tells_departure w) (x ∷ ds) c.number) brings
-          (kept (setup_with w first) history).completions.since each are.0,
-      are.1,
-    )
-
-    -- an arrival of a flag
-    arrived : (kind : Contents → Bool) (m : Contents) → x.said ≡ Ok m → kind m ≡ true → (flag : Bool) (es : List (Entry ℕ))
-        → All (λ (e : Entry ℕ). CameIn kind (x ∷ ds) e.number e.value) es
-        → All (λ (e : Entry ℕ). CameIn kind (x ∷ ds) e.number e.value) (of_flag flag (arrival_of m.header x.time) es)
-    arrived kind m said kind_is flag es are = by flag (arrival_of m.header x.time).is_unicast
-      where
-        one : All (λ (e : Entry ℕ). CameIn kind (x ∷ ds) e.number e.value) (entry m.header.sequence.0 x.time ∷ es)
-        one = All-cons (λ (e : Entry ℕ). CameIn kind (x ∷ ds) e.number e.value) (entry m.header.sequence.0 x.time) es
-            (came-now kind x ds m said kind_is) are
-
-        by : (flag unicast : Bool) → All (λ (e : Entry ℕ). CameIn kind (x ∷ ds) e.number e.value)
-            (of_flag flag (record { number = m.header.sequence.0; is_unicast = unicast; time = x.time }) es)
-        by true true = one
-        by true false = are
-        by false true = are
-        by false false = one
-
-    -- a Sync or a Follow_Up of the master says when a Sync left
-    follow-departs : (m : Contents) → is_master_follow_up w m ≡ true → tells_departure w m ≡ true
-    follow-departs m is = or_left (is_master_follow_up w m) (is_master_sync w m && not (is_two_step m.header)) is
-
-    -- what a Sync brings
+    -- with a message, or a tick
     module _ (m : Contents) (said : x.said ≡ Ok m) (l : Listening) (is : IsOf (x ∷ ds) l) where
-      event_completed : (c : SyncCompletion)
-          → sync_completion (setup_in w l) l.calls (calls.Event (Ok m) x.time x.line) ≡ Some c
-          → SaidIn (tells_departure w) (x ∷ ds) c.number
-      event_completed c same =
-          let one = event_completes w l.first l.calls is.follows_master m x.time x.line c same in
-          subst (SaidIn (tells_departure w) (x ∷ ds)) (sym one.1) (by one.0 one.2)
-        where
-          by : is_master_sync w m ≡ true
-              → ((is_two_step m.header ≡ false)
-              ⊎ ((value : FollowValue)
-              × (first_value m.header.sequence.0 (held_follows (setup_in w l) l.calls) ≡ Some value)))
-              → SaidIn (tells_departure w) (x ∷ ds) m.header.sequence.0
-          by sync (inl one_step) =
-              said-now (tells_departure w) x ds m said
-              (or_right (is_master_follow_up w m) (is_master_sync w m && not (is_two_step m.header))
-              (and_from (is_master_sync w m) (not (is_two_step m.header)) sync (ap not one_step)))
-          by sync (inr found) =
-              let P : Entry FollowValue → Type 0 = λ e. SaidIn (is_master_follow_up w) (x ∷ ds) e.number in
-              let held = found_in P (held_follows (setup_in w l) l.calls) m.header.sequence.0 found.0
-              (All-take P 256 (all (kept (setup_in w l) l.calls).follows)
-              (all-in P (kept (setup_in w l) l.calls).follows is.follows_said)) found.1 in
-              said-wider (is_master_follow_up w) (tells_departure w) follow-departs (x ∷ ds) m.header.sequence.0
-              (subst (SaidIn (is_master_follow_up w) (x ∷ ds)) held.2 held.1)
-
-      event-follows : AllIn (λ (e : Entry FollowValue). SaidIn (is_master_follow_up w) (x ∷ ds) e.number)
-          (kept (setup_in w l) (calls.Event (Ok m) x.time x.line ∷ l.calls)).follows
-      event-follows =
-          follows-brought l.first l.calls (usable_follow_up (setup_in w l) l.calls (calls.Event (Ok m) x.time x.line))
-          (λ e. no_follow_brought w l.first l.calls is.follows_master m x.time x.line e) is.follows_said
-
-      event-completions : AllIn (λ (c : SyncCompletion). SaidIn (tells_departure w) (x ∷ ds) c.number)
-          (kept (setup_in w l) (calls.Event (Ok m) x.time x.line ∷ l.calls)).completions
-      event-completions =
-          completions-brought l.first l.calls
-          (sync_completion (setup_in w l) l.calls (calls.Event (Ok m) x.time x.line)) event_completed
-          is.completions_said
-
       event-is_of : IsOf (x ∷ ds) (record l { calls = calls.Event (Ok m) x.time x.line ∷ l.calls })
       event-is_of = record {
         follows_master = is.follows_master;
-        syncs_came = is.syncs_came;
-        follow_ups_came = is.follow_ups_came;
-        responses_came = is.responses_came;
-        follows_said = event-follows;
-        completions_said = event-completions;
+        follows_said = follows-brought l.first l.calls
+            (usable_follow_up (setup_in w l) l.calls (calls.Event (Ok m) x.time x.line))
+            (λ e. no_follow_brought w l.first l.calls is.follows_master m x.time x.line e) is.follows_said;
       }
 
       general-is_of : IsOf (x ∷ ds) (record l { calls = calls.General (Ok m) x.line ∷ l.calls })
       general-is_of = record {
         follows_master = is.follows_master;
-        syncs_came = is.syncs_came;
-        follow_ups_came = is.follow_ups_came;
-        responses_came = is.responses_came;
         follows_said = follows-brought l.first l.calls
             (usable_follow_up (setup_in w l) l.calls (calls.General (Ok m) x.line))
             (λ e same.
             let one = follow_brought w l.first l.calls is.follows_master m x.time x.line e same in
             subst (SaidIn (is_master_follow_up w) (x ∷ ds)) (sym one.1)
             (said-now (is_master_follow_up w) x ds m said one.0)) is.follows_said;
-        completions_said = completions-brought l.first l.calls
-            (sync_completion (setup_in w l) l.calls (calls.General (Ok m) x.line))
-            (λ c same.
-            let one = general_completes w l.first l.calls is.follows_master m x.time x.line c same in
-            subst (SaidIn (tells_departure w) (x ∷ ds)) (sym one.1)
-            (said-now (tells_departure w) x ds m said (follow-departs m one.0))) is.completions_said;
       }
 
-    -- a tick leaves what it leaves
     ticked-is_of : (l : Listening) → IsOf (x ∷ ds) l
         → IsOf (x ∷ ds) (record l { calls = calls.Tick ∷ l.calls; syncs = 0 })
     ticked-is_of l is = record {
       follows_master = is.follows_master;
-      syncs_came = is.syncs_came;
-      follow_ups_came = is.follow_ups_came;
-      responses_came = is.responses_came;
-      follows_said = (
-        All-nil (λ (e : Entry FollowValue). SaidIn (is_master_follow_up w) (x ∷ ds) e.number),
-        is.follows_said.0,
-      );
-      completions_said = (
-        All-nil (λ (c : SyncCompletion). SaidIn (tells_departure w) (x ∷ ds) c.number),
-        is.completions_said.0,
-      );
+      follows_said = (All-nil IsFollow, is.follows_said.0);
     }
 
     asked-is_of : (l : Listening) (line time number : ℕ) → IsOf (x ∷ ds) l → IsOf (x ∷ ds) (asks w line time number l)
@@ -457,107 +306,29 @@ module _ (w : Watched) where
         let same = drawn-kept (setup_in w l) l.calls count line in
         record {
           follows_master = same.0 ∙ is.follows_master;
-          syncs_came = is.syncs_came;
-          follow_ups_came = is.follow_ups_came;
-          responses_came = is.responses_came;
-          follows_said = subst (λ (k : Kept). AllIn (λ (e : Entry FollowValue). SaidIn (is_master_follow_up w) (x ∷ ds)
-              e.number) k.follows) (sym same.1) is.follows_said;
-          completions_said = subst (λ (k : Kept). AllIn (λ (c : SyncCompletion). SaidIn (tells_departure w) (x ∷ ds)
-              c.number) k.completions) (sym same.1) is.completions_said;
+          follows_said = subst (λ (k : Kept). AllIn IsFollow k.follows) (sym same.1) is.follows_said;
         }
 
-    follows-none : AllIn (λ (e : Entry FollowValue). SaidIn (is_master_follow_up w) (x ∷ ds) e.number)
-        (record { since = []; before = [] })
-    follows-none = (
-      All-nil (λ (e : Entry FollowValue). SaidIn (is_master_follow_up w) (x ∷ ds) e.number),
-      All-nil (λ (e : Entry FollowValue). SaidIn (is_master_follow_up w) (x ∷ ds) e.number),
-    )
-
-    completions-none : AllIn (λ (c : SyncCompletion). SaidIn (tells_departure w) (x ∷ ds) c.number)
-        (record { since = []; before = [] })
-    completions-none = (
-      All-nil (λ (c : SyncCompletion). SaidIn (tells_departure w) (x ∷ ds) c.number),
-      All-nil (λ (c : SyncCompletion). SaidIn (tells_departure w) (x ∷ ds) c.number),
-    )
-
-    -- of a slave that began anew, all that is known of its master stays
-    anew-is_of : (l : Listening) (line number : ℕ) → IsOf (x ∷ ds) l → IsOf (x ∷ ds) (anew w line number l)
-    anew-is_of l line number is = record {
+    -- a port that is told its master holds nothing
+    told-is_of : (first : ℕ) (history : List Call) → IsSaid (x ∷ ds) first (calls.SetMaster w.master ∷ history)
+    told-is_of first history = record {
       follows_master = refl;
-      syncs_came = is.syncs_came;
-      follow_ups_came = is.follow_ups_came;
-      responses_came = All-nil (λ (e : Entry ℕ). SaidIn (is_own_response w) (x ∷ ds) e.number);
-      follows_said = follows-none;
-      completions_said = completions-none;
+      follows_said = (All-nil IsFollow, All-nil IsFollow);
     }
 
-    -- of a master that began anew, its first Sync alone is known
-    master-is_of : (m : Contents) (origin : Stamp) → x.said ≡ Ok m → m.body ≡ bodies.Sync origin
-        → is_of w w.master m.header ≡ true → (first : ℕ) (history : List Call)
-        → IsSaid (x ∷ ds) first (calls.SetMaster w.master ∷ history) (Sync (arrival_of m.header x.time) ∷ []) []
-    master-is_of m origin said body of_master first history = record {
-      follows_master = refl;
-      syncs_came = λ flag.
-          arrived (is_master_sync w) m said
-          (and_from (is_of w w.master m.header) (is_sync m.body) of_master (ap is_sync body)) flag []
-          (All-nil (λ (e : Entry ℕ). CameIn (is_master_sync w) (x ∷ ds) e.number e.value));
-      follow_ups_came = λ flag.
-          All-nil (λ (e : Entry ℕ). CameIn (is_master_follow_up w) (x ∷ ds) e.number e.value);
-      responses_came = All-nil (λ (e : Entry ℕ). SaidIn (is_own_response w) (x ∷ ds) e.number);
-      follows_said = follows-none;
-      completions_said = completions-none;
-    }
-
-    pub keeps-is_of : (before : Listening) → Keeps w x before (IsOf (x ∷ ds)) (IsOf (x ∷ ds))
+    pub keeps-is_of : (before : Listening) → Keeps w x before (IsOf (x ∷ ds)) (IsOf (x ∷ ds)) (IsOf (x ∷ ds))
     keeps-is_of before = record {
-      unheard = λ none l is. is;
-      sync = λ m origin said body of_master l is. record {
-        follows_master = is.follows_master;
-        syncs_came = λ flag.
-            arrived (is_master_sync w) m said
-            (and_from (is_of w w.master m.header) (is_sync m.body) of_master (ap is_sync body)) flag
-            (syncs flag l.heard) (is.syncs_came flag);
-        follow_ups_came = is.follow_ups_came;
-        responses_came = is.responses_came;
-        follows_said = is.follows_said;
-        completions_said = is.completions_said;
-      };
-      refused = λ number l is. record {
-        follows_master = is.follows_master;
-        syncs_came = is.syncs_came;
-        follow_ups_came = is.follow_ups_came;
-        responses_came = is.responses_came;
-        follows_said = is.follows_said;
-        completions_said = is.completions_said;
-      };
-      master = λ m origin said body of_master l is. master-is_of m origin said body of_master l.first l.calls;
+      unheard = λ gone none l is. is;
+      as_is = λ m said none l is. is;
+      sync = λ m origin said body of_master l is. is;
+      refused = λ number l is. is;
+      master = λ m origin said body of_master l is. told-is_of l.first l.calls;
       renewed = λ m origin said body of_master l is.
-          master-is_of m origin said body of_master l.first (calls.Event (Ok m) x.time x.line ∷ l.calls);
-      follow = λ m precise said body of_master l is. record {
-        follows_master = is.follows_master;
-        syncs_came = is.syncs_came;
-        follow_ups_came = λ flag.
-            arrived (is_master_follow_up w) m said
-            (and_from (is_of w w.master m.header) (is_follow_up m.body) of_master (ap is_follow_up body)) flag
-            (follow_ups flag l.heard) (is.follow_ups_came flag);
-        responses_came = is.responses_came;
-        follows_said = is.follows_said;
-        completions_said = is.completions_said;
-      };
-      response = λ m receive requesting said body of_master to_slave l is. record {
-        follows_master = is.follows_master;
-        syncs_came = is.syncs_came;
-        follow_ups_came = is.follow_ups_came;
-        responses_came = All-cons (λ (e : Entry ℕ). SaidIn (is_own_response w) (x ∷ ds) e.number)
-            (entry m.header.sequence.0 x.time) l.responses
-            (said-now (is_own_response w) x ds m said
-            (and_from (is_of w w.master m.header) (is_response_to w.slave m.body) of_master
-            (ap (is_response_to w.slave) body ∙ to_slave))) is.responses_came;
-        follows_said = is.follows_said;
-        completions_said = is.completions_said;
-      };
+          told-is_of l.first (calls.Event (Ok m) x.time x.line ∷ l.calls);
+      follow = λ m precise said body of_master l is. is;
+      response = λ m receive requesting said body of_master to_slave l is. is;
       other = λ m origin said body other l is_ready is. event-is_of m said l is;
-      counted = λ m origin said body of_master l is_ready is. event-is_of m said l is;
+      counted = λ m origin said body of_master l room is_ready is. event-is_of m said l is;
       ticked = λ m origin said body of_master l full is_ready is.
           ticked-is_of (record l { calls = calls.Event (Ok m) x.time x.line ∷ l.calls }) (event-is_of m said l is);
       general = λ m said kind l is_ready is. general-is_of m said l is;
@@ -565,27 +336,20 @@ module _ (w : Watched) where
       asked = λ m said own l near is. asked-is_of l x.line x.time m.header.sequence.0 is;
       begun = λ m said own l is.
           asked-is_of (anew w x.line m.header.sequence.0 l) x.line x.time m.header.sequence.0
-          (anew-is_of l x.line m.header.sequence.0 is);
+          (told-is_of m.header.sequence.0 []);
     }
 
   -- so it is after all
   pub after-is_of : (ds : List Recorded) → IsOf ds (after_all w ds)
   after-is_of [] = record {
     follows_master = refl;
-    syncs_came = λ flag. All-nil (λ (e : Entry ℕ). CameIn (is_master_sync w) [] e.number e.value);
-    follow_ups_came = λ flag. All-nil (λ (e : Entry ℕ). CameIn (is_master_follow_up w) [] e.number e.value);
-    responses_came = All-nil (λ (e : Entry ℕ). SaidIn (is_own_response w) [] e.number);
     follows_said = (
       All-nil (λ (e : Entry FollowValue). SaidIn (is_master_follow_up w) [] e.number),
       All-nil (λ (e : Entry FollowValue). SaidIn (is_master_follow_up w) [] e.number),
     );
-    completions_said = (
-      All-nil (λ (c : SyncCompletion). SaidIn (tells_departure w) [] c.number),
-      All-nil (λ (c : SyncCompletion). SaidIn (tells_departure w) [] c.number),
-    );
   }
   after-is_of (x ∷ ds) =
-      hear_holds w x (after_all w ds) (IsOf (x ∷ ds)) (IsOf (x ∷ ds)) (keeps-is_of x ds (after_all w ds))
+      hear_holds w x (after_all w ds) (IsOf (x ∷ ds)) (IsOf (x ∷ ds)) (IsOf (x ∷ ds)) (keeps-is_of x ds (after_all w ds))
       (is_of-later x ds (after_all w ds) (after-is_of ds))
 
   -- the port knows the last Delay_Req of the slave where it was asked for one
@@ -641,9 +405,10 @@ module _ (w : Watched) where
         let count : ℕ = ahead number (next_number (setup_in w l) l.calls) in
         omega (arith, drawn-draws (count + 1) line l.calls)
 
-    keeps-last : (before : Listening) → Keeps w x before (KnowsLast ds) (KnowsLast (x ∷ ds))
+    keeps-last : (before : Listening) → Keeps w x before (KnowsLast ds) (KnowsLast ds) (KnowsLast (x ∷ ds))
     keeps-last before = record {
-      unheard = λ none l is. last-later none (next_number (setup_in w l) l.calls) l.asked is;
+      as_is = λ m said none l is. is;
+      unheard = λ gone none l is. last-later none (next_number (setup_in w l) l.calls) l.asked is;
       sync = λ m origin said body of_master l is. is;
       refused = λ number l is. is;
       master = λ m origin said body of_master l is. is;
@@ -653,7 +418,7 @@ module _ (w : Watched) where
       other = λ m origin said body other l is_ready is.
           last-later (no-request is_sync m said (ap is_sync body) sync-apart) (next_number (setup_in w l) l.calls) l.asked
           is;
-      counted = λ m origin said body of_master l is_ready is.
+      counted = λ m origin said body of_master l room is_ready is.
           last-later (no-request is_sync m said (ap is_sync body) sync-apart) (next_number (setup_in w l) l.calls) l.asked
           is;
       ticked = λ m origin said body of_master l full is_ready is.
@@ -679,5 +444,5 @@ module _ (w : Watched) where
   pub after-last : (ds : List Recorded) → KnowsLast ds (after_all w ds)
   after-last [] = record { last = λ e. cc }
   after-last (x ∷ ds) =
-      hear_holds w x (after_all w ds) (KnowsLast ds) (KnowsLast (x ∷ ds)) (keeps-last x ds (after_all w ds))
+      hear_holds w x (after_all w ds) (KnowsLast ds) (KnowsLast ds) (KnowsLast (x ∷ ds)) (keeps-last x ds (after_all w ds))
       (after-last ds)

@@ -1,15 +1,15 @@
 -- What a listening port takes: the messages that it hears and uses, since nothing that was recorded before keeps it from
 -- that, or since its answer says so; and what they leave of it.
-use Rattle.std.proofs.Common.{◌≡◌, ◌∙◌, ℕ, ◌+◌, ◌<◌, Bool, true, false, List, [], ◌∷◌, ◌++◌, Option, Some}
-use Rattle.std.proofs.Common.{None, Ok, Err, refl, sym, ap, subst, take, is_some, is_none, if◌then◌else◌, option_map}
+use Rattle.std.proofs.Common.{◌≡◌, ◌∙◌, ℕ, ◌+◌, ◌<◌, ◌≤◌, Bool, true, false, List, [], ◌∷◌, ◌++◌, Option, Some}
+use Rattle.std.proofs.Common.{None, Ok, Err, refl, sym, ap, arith, is_some, is_none, if◌then◌else◌, option_map}
 use Rattle.std.proofs.Common.{option_and_then, int_lt}
 use Rattle.std.specs.Prelude.{◌==◌, ◌&&◌, not}
 use Rattle.std.specs.Option.{option_map_or, option_or}
 use Rattle.std.specs.Result.{result_ok}
 use Rattle.std.specs.List.{All}
-use Rattle.std.proofs.lemmas.Bool.{and_from, and_parts, eq-eqb, eqb-true, both_ways}
+use Rattle.std.proofs.lemmas.Bool.{and_from, and_parts, eqb-true}
 use Rattle.std.proofs.lemmas.Bool.{not_from_true}
-use Rattle.std.proofs.lemmas.List.Elements.{All-cons, All-head, All-tail, All-weaker, All-take}
+use Rattle.std.proofs.lemmas.List.Elements.{All-append, All-head, All-tail, All-weaker}
 use Rattle.ptp_units.specs.Interval.{too_big}
 use Rattle.ptp_units.specs.Moment.{Stamp}
 use Rattle.event_codec.specs.declared.message.Body.{Body}
@@ -22,7 +22,7 @@ use Rattle.event_codec.specs.Reading.{Reading}
 use Rattle.pairing.specs.Marked.{Entry, entry}
 use Rattle.sync_watch.specs.declared.judgement.Judgement.{Judgement}
 use Rattle.sync_watch.specs.declared.judgement.Judgement.TheVariants.{Newer, Repeated, BeganAnew}
-use Rattle.sync_watch.specs.Told.{Told, Sync, FollowUp, known, syncs, follow_ups}
+use Rattle.sync_watch.specs.Told.{Sync, FollowUp, known, syncs, follow_ups}
 use Rattle.sync_watch.specs.Judged.{is_apart, sync_judgement, is_repeat, judged_sync, judged_follow_up, judged_refused}
 use Rattle.sync_watch.specs.Judged.{is_repeated}
 use Rattle.slave_port.specs.declared.heard.Heard.TheVariants as answers
@@ -41,11 +41,11 @@ use Rattle.slave_port.specs.Kept.{delay_completion, last_sync_completion, last_d
 use Rattle.slave_port.specs.Answer.{answer, used, unanswerable, unless_ignored, completed}
 use Rattle.network_model.specs.Premises.{is_of_use}
 use Rattle.slave_port.proofs.Uses.{two_step_entry}
-use Rattle.network_model.proofs.Pairing.{found_in}
 use Rattle.network_model.proofs.Reports.{first_of}
 use Rattle.capture_model.specs.declared.watched.Watched.{Watched}
 use Rattle.capture_model.specs.Recorded.{Recorded}
-use Rattle.capture_model.specs.Listening.{Listening, setup_with, setup_in, table_capacity, ticks_every, is_of, is_unicast}
+use Rattle.capture_model.specs.Listening.{Listening, setup_with, setup_in, table_capacity, ticks_every, is_of}
+use Rattle.capture_model.specs.Listening.{is_unicast}
 use Rattle.capture_model.specs.Listening.{is_stale, with_count, told, answer_in, arrival_of, ready_judged}
 use Rattle.capture_model.specs.Listening.{ready_refused, ready_sync, ready_followed, ready_follow_up, ready_response}
 use Rattle.capture_model.specs.Listening.{ready, hears_ready, hears, hear, after_all, answered}
@@ -53,23 +53,16 @@ use Rattle.capture_model.specs.Told.{AreNumbered}
 use Rattle.capture_model.specs.Listening.{is_used}
 use Rattle.capture_model.specs.Finds.{is_master_sync, is_master_follow_up, tells_departure}
 use Rattle.capture_model.specs.Finds.{is_own_response, with_number, says, NoneSays}
-use Rattle.capture_model.specs.Finds.{IsNotBehind}
+use Rattle.capture_model.specs.Finds.{with_flag, heard_of, last_heard, within_syncs, IsNotBehind}
+use Rattle.capture_model.proofs.Latest.{AreLatest, IsNearBy, entry-none, entry-near, after-known}
+use Rattle.capture_model.proofs.Recent.{AreRecent, within-fewer, after-recent}
 use Rattle.capture_model.proofs.Lines.{numbered-below}
-use Rattle.capture_model.proofs.Tags.{all-in}
-use Rattle.capture_model.proofs.Said.{CameIn, SaidIn, IsSaid, IsOf, after-is_of}
-use Rattle.capture_model.proofs.Onward.{none_of}
+use Rattle.capture_model.proofs.Said.{SaidIn, IsSaid, IsOf, after-is_of}
 
 -- what holds of each of two lists joined holds of each of the second
 pub all-right : {X : Type 0} (P : X → Type 0) (xs ys : List X) → All P (xs ++ ys) → All P ys
 all-right P [] ys are = are
 all-right P (x ∷ xs) ys are = all-right P xs ys (All-tail P x (xs ++ ys) are)
-
--- what holds of them holds with one between them of which it holds
-pub all-between : {X : Type 0} (P : X → Type 0) (x : X) (xs ys : List X) → P x → All P (xs ++ ys) → All P (xs ++ x ∷ ys)
-all-between P x [] ys one are = All-cons P x ys one are
-all-between P x (y ∷ xs) ys one are =
-    All-cons P y (xs ++ x ∷ ys) (All-head P y (xs ++ ys) are)
-    (all-between P x xs ys one (All-tail P y (xs ++ ys) are))
 
 -- no message passes a test that none passes of which it is a part
 pub says-weaker : (test other : Contents → Bool) → ((m : Contents) → test m ≡ false → other m ≡ false) → (d : Recorded)
@@ -88,37 +81,6 @@ first-below x first between before numbered =
     All-head (λ (e : Recorded). e.line < x.line) first before
     (all-right (λ (e : Recorded). e.line < x.line) between (first ∷ before)
     (numbered-below x (between ++ first ∷ before) numbered))
-
--- a number that none has isn't known
-known-none : (kind : Contents → Bool) (ds : List Recorded) (number capacity : ℕ) (es : List (Entry ℕ))
-    → All (λ (e : Entry ℕ). SaidIn kind ds e.number) es
-    → NoneSays (with_number kind number) ds → known capacity number es ≡ None
-known-none kind ds number capacity es said none =
-    none_of (known capacity number es)
-    (λ time found.
-    let P : Entry ℕ → Type 0 = λ e. SaidIn kind ds e.number in
-    let one = found_in P (take capacity es) number time (All-take P capacity es said) found in
-    both_ways (one.0.number == number) (one.1 (λ n. n == number) none) (eq-eqb one.0.number number one.2))
-
--- what came was said
-came-said : (kind : Contents → Bool) (ds : List Recorded) (es : List (Entry ℕ))
-    → All (λ (e : Entry ℕ). CameIn kind ds e.number e.value) es → All (λ (e : Entry ℕ). SaidIn kind ds e.number) es
-came-said kind ds es came =
-    All-weaker (λ (e : Entry ℕ). CameIn kind ds e.number e.value) (λ (e : Entry ℕ). SaidIn kind ds e.number)
-    (λ e is test none. is (λ n t. test n) none) es came
-
--- what is known of a number is near, where each of these is that has it
-known-near : (kind : Contents → Bool) (ds : List Recorded) (number capacity time : ℕ) (es : List (Entry ℕ))
-    → All (λ (e : Entry ℕ). CameIn kind ds e.number e.value) es
-    → All (λ (d : Recorded). says (λ m. kind m && (m.header.sequence.0 == number && is_apart time d.time)) d ≡ false) ds
-    → (other : ℕ) → known capacity number es ≡ Some other → is_apart time other ≡ false
-known-near kind ds number capacity time es came near other found =
-    let P : Entry ℕ → Type 0 = λ e. CameIn kind ds e.number e.value in
-    let one = found_in P (take capacity es) number other (All-take P capacity es came) found in
-    let none : (one.0.number == number && is_apart time one.0.value) ≡ false =
-    one.1 (λ n t. n == number && is_apart time t) near in
-    subst (λ (t : ℕ). is_apart time t ≡ false) one.3
-    (sym (ap (λ (b : Bool). b && is_apart time one.0.value) (eq-eqb one.0.number number one.2)) ∙ none)
 
 -- what a port knows is none, or near
 newer-sync : (time : ℕ) (sync follow : Option ℕ) → sync ≡ None
@@ -162,26 +124,46 @@ module _ (w : Watched) where
       (not_from_true (int_lt header.correction.0 too_big) small)
       ∙ passed t [] none
 
-  module _ (ds : List Recorded) (first : ℕ) (history : List Call) (heard : List Told) (responses : List (Entry ℕ))
-      (said : IsSaid w ds first history heard responses) (m : Contents) (of_master : is_of w w.master m.header ≡ true)
+  module _ (ds : List Recorded) (first : ℕ) (history : List Call) (said : IsSaid w ds first history) (syncs : ℕ)
+      (recent : AreRecent w ds first history syncs)
+      (m : Contents) (of_master : is_of w w.master m.header ≡ true)
       (small : int_lt m.header.correction.0 too_big ≡ true) where
     -- a number that isn't behind is used
-    not-behind : IsNotBehind w m.header.sequence.0 ds
+    not-behind : IsNotBehind w m.header.sequence.0 (within_syncs w ds 12288)
         → is_not_newer (criteria (setup_with w first) history).last m.header.sequence.0 ≡ false
     not-behind newest = by (last (kept (setup_with w first) history).completions) refl
       where
         P : SyncCompletion → Type 0
-        P c = SaidIn (tells_departure w) ds c.number
+        P c = SaidIn (tells_departure w) (within_syncs w ds 12288) c.number
+
+        wider : (bound : ℕ) → bound ≤ 12288 → (c : SyncCompletion)
+            → SaidIn (tells_departure w) (within_syncs w ds bound) c.number
+            → SaidIn (tells_departure w) (within_syncs w ds 12288) c.number
+        wider bound low c is test none =
+            is test
+            (within-fewer w (λ d. says (λ (m : Contents). tells_departure w m && test m.header.sequence.0) d ≡ false) ds
+            bound 12288 low none)
+
+        all_of : All P (all (kept (setup_with w first) history).completions)
+        all_of =
+            let low : syncs < ticks_every = recent.low in
+            All-append P (kept (setup_with w first) history).completions.since
+            (kept (setup_with w first) history).completions.before
+            (All-weaker (λ (c : SyncCompletion). SaidIn (tells_departure w) (within_syncs w ds (syncs + 4097)) c.number) P
+            (wider (syncs + 4097) (omega arith)) (kept (setup_with w first) history).completions.since
+            recent.within.completions_since)
+            (All-weaker (λ (c : SyncCompletion). SaidIn (tells_departure w) (within_syncs w ds (syncs + 8193)) c.number) P
+            (wider (syncs + 8193) (omega arith)) (kept (setup_with w first) history).completions.before
+            recent.within.completions_before)
 
         by : (o : Option SyncCompletion) → last (kept (setup_with w first) history).completions ≡ o
             → is_not_newer (option_map (λ c. c.number) o) m.header.sequence.0 ≡ false
         by None is = refl
         by (Some c) is =
-            first_of P (all (kept (setup_with w first) history).completions) c
-            (all-in P (kept (setup_with w first) history).completions said.completions_said) is
+            first_of P (all (kept (setup_with w first) history).completions) c all_of is
             (λ n. is_not_newer (Some n) m.header.sequence.0) newest
 
-    no-reason : IsNotBehind w m.header.sequence.0 ds
+    no-reason : IsNotBehind w m.header.sequence.0 (within_syncs w ds 12288)
         → sync_reason (criteria (setup_with w first) history) m.header ≡ None
     no-reason newest =
         passes-common (criteria (setup_with w first) history) m.header
@@ -382,33 +364,38 @@ pub record TakesResponse (w : Watched) (ds : List Recorded) (x : Recorded) (m : 
       (record { receive = receive; correction = m.header.correction.0; tag = x.line }))
 
 module _ (w : Watched) (ds : List Recorded) (x : Recorded) (m : Contents) (said : x.said ≡ Ok m) where
-  -- each of a kind and of its number that was recorded is near
-  abbrev pub AreNear : (Contents → Bool) → Type 0
-  AreNear kind =
-      All (λ (d : Recorded). says (λ other. kind other && (other.header.sequence.0 == m.header.sequence.0
-      && is_apart x.time d.time)) d ≡ false) ds
-
   -- by what was recorded before
   module _ (of_master : is_of w w.master m.header ≡ true) (small : int_lt m.header.correction.0 too_big ≡ true) where
     is_said : IsOf w ds (after_all w ds)
     is_said = after-is_of w ds
 
+    is_recent : AreRecent w ds (after_all w ds).first (after_all w ds).calls (after_all w ds).syncs
+    is_recent = after-recent w ds
+
+    is_latest : AreLatest w ds (after_all w ds).heard (after_all w ds).responses
+    is_latest = after-known w ds
+
     pub takes-sync : (origin : Stamp) → m.body ≡ bodies.Sync origin → is_two_step m.header ≡ true
-        → IsNotBehind w m.header.sequence.0 ds → NoneSays (with_number (is_master_sync w) m.header.sequence.0) ds
-        → AreNear (is_master_follow_up w) → TakesSync w ds x m
+        → IsNotBehind w m.header.sequence.0 (within_syncs w ds 12288)
+        → NoneSays (with_number (is_master_sync w) m.header.sequence.0)
+        (last_heard w (with_flag (is_master_sync w) (is_unicast m.header)) ds)
+        → All (IsNearBy (is_master_follow_up w) m.header.sequence.0 x.time)
+        (last_heard w (with_flag (is_master_follow_up w) (is_unicast m.header)) ds)
+        → TakesSync w ds x m
     takes-sync origin body two_step newest alone near = record {
       port = record (after_all w ds) { heard = Sync (arrival_of m.header x.time) ∷ (after_all w ds).heard };
       ready_is = sync-is_ready w x m said (after_all w ds) of_master
           (entry m.header.sequence.0 (record { t2 = x.time; correction = m.header.correction.0; tag = x.line })) use_is
           (newer-sync x.time (known table_capacity m.header.sequence.0 (syncs (is_unicast m.header) (after_all w ds).heard))
           (known table_capacity m.header.sequence.0 (follow_ups (is_unicast m.header) (after_all w ds).heard))
-          (known-none (is_master_sync w) ds m.header.sequence.0 table_capacity
+          (entry-none (is_master_sync w) m.header.sequence.0 table_capacity
           (syncs (is_unicast m.header) (after_all w ds).heard)
-          (came-said (is_master_sync w) ds (syncs (is_unicast m.header) (after_all w ds).heard)
-          (is_said.syncs_came (is_unicast m.header))) alone)
-          (known-near (is_master_follow_up w) ds m.header.sequence.0 table_capacity x.time
-          (follow_ups (is_unicast m.header) (after_all w ds).heard) (is_said.follow_ups_came (is_unicast m.header))
-          near));
+          (heard_of w (with_flag (is_master_sync w) (is_unicast m.header)) ds)
+          (is_latest.syncs_of (is_unicast m.header)) alone)
+          (λ other. entry-near (is_master_follow_up w) m.header.sequence.0 x.time table_capacity other
+          (follow_ups (is_unicast m.header) (after_all w ds).heard)
+          (heard_of w (with_flag (is_master_follow_up w) (is_unicast m.header)) ds)
+          (is_latest.follow_ups_of (is_unicast m.header)) near));
       use_is = use_is;
     }
       where
@@ -418,11 +405,15 @@ module _ (w : Watched) (ds : List Recorded) (x : Recorded) (m : Contents) (said 
             (record { t2 = x.time; correction = m.header.correction.0; tag = x.line }))
         use_is =
             usable_sync w (after_all w ds).first (after_all w ds).calls m origin x.time x.line body two_step
-            (no-reason w ds (after_all w ds).first (after_all w ds).calls (after_all w ds).heard
-            (after_all w ds).responses is_said m of_master small newest)
+            (no-reason w ds (after_all w ds).first (after_all w ds).calls is_said (after_all w ds).syncs is_recent m
+            of_master small newest)
 
-    pub takes-follow : (precise : Stamp) → m.body ≡ bodies.FollowUp precise → IsNotBehind w m.header.sequence.0 ds
-        → NoneSays (with_number (is_master_follow_up w) m.header.sequence.0) ds → AreNear (is_master_sync w)
+    pub takes-follow : (precise : Stamp) → m.body ≡ bodies.FollowUp precise
+        → IsNotBehind w m.header.sequence.0 (within_syncs w ds 12288)
+        → NoneSays (with_number (is_master_follow_up w) m.header.sequence.0)
+        (last_heard w (with_flag (is_master_follow_up w) (is_unicast m.header)) ds)
+        → All (IsNearBy (is_master_sync w) m.header.sequence.0 x.time)
+        (last_heard w (with_flag (is_master_sync w) (is_unicast m.header)) ds)
         → TakesFollow w ds x m precise
     takes-follow precise body newest alone near = record {
       port = record (after_all w ds) { heard = FollowUp (arrival_of m.header x.time) ∷ (after_all w ds).heard };
@@ -430,29 +421,31 @@ module _ (w : Watched) (ds : List Recorded) (x : Recorded) (m : Contents) (said 
           (newer-follow_up x.time
           (known table_capacity m.header.sequence.0 (syncs (is_unicast m.header) (after_all w ds).heard))
           (known table_capacity m.header.sequence.0 (follow_ups (is_unicast m.header) (after_all w ds).heard))
-          (known-none (is_master_follow_up w) ds m.header.sequence.0 table_capacity
+          (entry-none (is_master_follow_up w) m.header.sequence.0 table_capacity
           (follow_ups (is_unicast m.header) (after_all w ds).heard)
-          (came-said (is_master_follow_up w) ds (follow_ups (is_unicast m.header) (after_all w ds).heard)
-          (is_said.follow_ups_came (is_unicast m.header))) alone)
-          (known-near (is_master_sync w) ds m.header.sequence.0 table_capacity x.time
-          (syncs (is_unicast m.header) (after_all w ds).heard) (is_said.syncs_came (is_unicast m.header)) near));
+          (heard_of w (with_flag (is_master_follow_up w) (is_unicast m.header)) ds)
+          (is_latest.follow_ups_of (is_unicast m.header)) alone)
+          (λ other. entry-near (is_master_sync w) m.header.sequence.0 x.time table_capacity other
+          (syncs (is_unicast m.header) (after_all w ds).heard)
+          (heard_of w (with_flag (is_master_sync w) (is_unicast m.header)) ds)
+          (is_latest.syncs_of (is_unicast m.header)) near));
       use_is = usable_follow w (after_all w ds).first (after_all w ds).calls m precise x.line body
-          (no-reason w ds (after_all w ds).first (after_all w ds).calls (after_all w ds).heard
-          (after_all w ds).responses is_said m of_master small newest);
+          (no-reason w ds (after_all w ds).first (after_all w ds).calls is_said (after_all w ds).syncs is_recent m
+          of_master small newest);
     }
 
     pub takes-response : (receive : Stamp) (requesting : PortIdentity) → m.body ≡ bodies.DelayResp receive requesting
         → is_same_port requesting w.slave ≡ true
-        → NoneSays (with_number (is_own_response w) m.header.sequence.0) ds
+        → NoneSays (with_number (is_own_response w) m.header.sequence.0) (last_heard w (is_own_response w) ds)
         → TakesResponse w ds x m receive requesting
     takes-response receive requesting body to_slave alone = record {
       port = record (after_all w ds) { responses = entry m.header.sequence.0 x.time ∷ (after_all w ds).responses };
       ready_is = response-is_ready w x m said (after_all w ds) of_master requesting to_slave
-          (known-none (is_own_response w) ds m.header.sequence.0 table_capacity (after_all w ds).responses
-          is_said.responses_came alone);
+          (entry-none (is_own_response w) m.header.sequence.0 table_capacity (after_all w ds).responses
+          (heard_of w (is_own_response w) ds) is_latest.responses_of alone);
       use_is = usable_response w (after_all w ds).first (after_all w ds).calls m receive requesting x.line body
-          (no-response_reason w ds (after_all w ds).first (after_all w ds).calls (after_all w ds).heard
-          (after_all w ds).responses is_said m of_master small requesting to_slave);
+          (no-response_reason w ds (after_all w ds).first (after_all w ds).calls is_said (after_all w ds).syncs is_recent
+          m of_master small requesting to_slave);
     }
 
   -- by its answer

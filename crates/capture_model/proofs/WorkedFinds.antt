@@ -20,7 +20,9 @@ use Rattle.capture_model.specs.Recorded.{Recorded}
 use Rattle.capture_model.specs.Listening.{table_capacity, reports, report_at}
 use Rattle.capture_model.specs.Told.{AreNumbered}
 use Rattle.capture_model.specs.Finds.{is_master_sync, is_master_follow_up, tells_departure, is_own_response}
-use Rattle.capture_model.specs.Finds.{is_own_request, with_number, is_of_number, says, NoneSays, AreOfOneSync, completion_of, ComesSync, AreOfOneRequest, answer_of}
+use Rattle.capture_model.specs.Finds.{is_own_request, with_number, with_flag, last_heard, within_syncs, recent_syncs}
+use Rattle.capture_model.specs.Finds.{says, NoneSays, AreOfOneSync, completion_of, ComesSync, AreOfOneRequest}
+use Rattle.capture_model.specs.Finds.{answer_of}
 use Rattle.capture_model.specs.Finds.{ComesDelay, StandsSync, StandsDelay}
 use Rattle.capture_model.proofs.Finds.{each_exchange}
 
@@ -113,7 +115,13 @@ comes_sync = record {
   is = refl;
   order = inl (refl, refl);
   there = refl;
-  taken = inl (none_says (is_of_number watched 5) until refl, none_says not_newer until refl);
+  taken = inl (
+    λ flag. (
+      All-nil (λ (d : Recorded). says (with_number (is_master_sync watched) 5) d ≡ false),
+      All-nil (λ (d : Recorded). says (with_number (is_master_follow_up watched) 5) d ≡ false),
+    ),
+    none_says not_newer (within_syncs watched three_lines recent_syncs) refl,
+  );
   alone = (inl refl, (inl refl, tt));
   few_syncs =
       let one : count_by (says (is_master_sync watched)) until ≡ 1 = refl in
@@ -153,7 +161,8 @@ comes_delay = record {
   is = refl;
   there = refl;
   another = tt;
-  taken = inl (none_says (with_number (is_own_response watched) 9) (follow_line ∷ later_line ∷ sync_line ∷ []) refl);
+  taken = inl (none_says (with_number (is_own_response watched) 9)
+      (last_heard watched (is_own_response watched) four_lines) refl);
   few = none_says far (follow_line ∷ later_line ∷ []) refl;
   one_life = omega arith;
 }
@@ -240,7 +249,15 @@ sync_comes_last = record {
   is = refl;
   order = inr (refl, refl);
   there = refl;
-  taken = inl (none_says (is_of_number watched 5) two_before refl, none_says not_newer two_before refl);
+  taken = inl (
+    λ flag. (
+      none_says (with_number (is_master_sync watched) 5)
+          (last_heard watched (with_flag (is_master_sync watched) flag) two_before) refl,
+      none_says (with_number (is_master_follow_up watched) 5)
+          (last_heard watched (with_flag (is_master_follow_up watched) flag) two_before) refl,
+    ),
+    none_says not_newer (within_syncs watched three_before recent_syncs) refl,
+  );
   alone = tt;
   few_syncs =
       let none : count_by (says (is_master_sync watched)) [] ≡ 0 = refl in
@@ -279,7 +296,8 @@ delay_stands = record {
     is = refl;
     there = refl;
     another = tt;
-    taken = inl (All-nil (λ (d : Recorded). says (with_number (is_own_response watched) 9) d ≡ false));
+    taken = inl (none_says (with_number (is_own_response watched) 9)
+        (last_heard watched (is_own_response watched) (request_before ∷ [])) refl);
     few = All-nil (λ (d : Recorded). says far d ≡ false);
     one_life = omega arith;
   };

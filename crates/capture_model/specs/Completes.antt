@@ -1,5 +1,5 @@
 -- The law: what a listening port uses completes exactly where its counterpart is held, and there is a report exactly
--- where both halves stand then. `laws::no_pair_is_missed` promises it.
+-- where both halves stand then. `laws::what_is_held_completes` promises it.
 use Rattle.std.specs.Prelude.{◌≡◌, is_none, ◌&&◌, if◌then◌else◌, List, ◌∷◌, Option, Some, None, Ok, option_map}
 use Rattle.std.specs.Prelude.{option_and_then}
 use Rattle.event_codec.specs.Packet.{Contents}
@@ -73,7 +73,7 @@ EachCompletionIsReported =
     (last_delay_completion (setup_at w heard) (heard.call ∷ heard.port.calls)))
 
 -- No pair is missed, whatever is recorded.
-pub record NoPairIsMissed : Type 0 where
+pub record WhatIsHeldCompletes : Type 0 where
   pub syncs : EachSyncPairs
   pub follow_ups : EachFollowUpPairs
   pub delay_resps : EachDelayRespPairs

@@ -1,7 +1,9 @@
 -- The law: an exchange that stands in a recording is found. `laws::each_exchange_is_found` promises it.
-use Rattle.std.specs.Prelude.{◌≡◌, ◌⊎◌, ℕ, ◌<◌, ◌≤◌, ◌==◌, nat_lt, Bool, true, false, not, ◌&&◌, ◌||◌, ⊤, int_lt}
+use Rattle.std.specs.Prelude.{◌≡◌, ◌⊎◌, ℕ, ◌<◌, ◌≤◌, ◌==◌, nat_lt, zero, suc, take, Bool, true, false, not, ◌&&◌}
+use Rattle.std.specs.Prelude.{◌||◌, ⊤, int_lt}
 use Rattle.std.specs.Prelude.{List, [], ◌∷◌, ◌++◌, count_by, if◌then◌else◌, Option, Some, None, Ok, IfSome, IsTrue}
 use Rattle.std.specs.Prelude.{option_and_then}
+use Rattle.std.specs.Bool.{beq}
 use Rattle.std.specs.Option.{option_map_or, option_or}
 use Rattle.std.specs.Result.{result_ok}
 use Rattle.std.specs.List.{All}
@@ -21,7 +23,7 @@ use Rattle.slave_port.specs.Completion.{SyncCompletion, DelayCompletion, pair, r
 use Rattle.slave_port.specs.Answer.{report_of}
 use Rattle.capture_model.specs.declared.watched.Watched.{Watched}
 use Rattle.capture_model.specs.Recorded.{Recorded}
-use Rattle.capture_model.specs.Listening.{table_capacity, ticks_every, is_of, after_all, answered_to}
+use Rattle.capture_model.specs.Listening.{table_capacity, ticks_every, is_of, is_unicast, after_all, answered_to}
 use Rattle.capture_model.specs.Listening.{report_at}
 use Rattle.capture_model.specs.Told.{is_sync, AreNumbered}
 use Rattle.capture_model.specs.Listening.{is_used}
@@ -78,6 +80,26 @@ last_number w (d ∷ earlier) =
     option_or (option_and_then (λ m. if is_own_request w m then Some m.header.sequence.0 else None) (result_ok d.said))
     (last_number w earlier)
 
+-- with this unicastFlag (13.3.2.8)
+abbrev pub with_flag : (Contents → Bool) → (flag : Bool) → Contents → Bool
+with_flag test flag m = test m && beq (is_unicast m.header) flag
+
+-- those of these that say what passes a test, and that the port hears
+abbrev pub heard_of : Watched → (Contents → Bool) → List Recorded → List Recorded
+heard_of w test [] = []
+heard_of w test (d ∷ ds) = if says test d && is_heard w ds d then d ∷ heard_of w test ds else heard_of w test ds
+
+-- the last of them, as many as it knows
+abbrev pub last_heard : Watched → (Contents → Bool) → List Recorded → List Recorded
+last_heard w test ds = take table_capacity (heard_of w test ds)
+
+-- those behind which fewer Syncs of the master came that the port hears than so many
+abbrev pub within_syncs : Watched → List Recorded → (count : ℕ) → List Recorded
+within_syncs w [] count = []
+within_syncs w (d ∷ ds) zero = []
+within_syncs w (d ∷ ds) (suc count) =
+    d ∷ within_syncs w ds (if says (is_master_sync w) d && is_heard w ds d then count else suc count)
+
 -- A two-step Sync of the master and its Follow_Up: of one number, less than a second apart, and neither correction too
 -- big.
 pub record AreOfOneSync (w : Watched) (sync follow : Recorded) (s f : Contents) (precise : Stamp) : Type 0 where
@@ -114,11 +136,22 @@ NoOtherIsHeard w number (d ∷ later) before =
     ((says (is_of_number w number) d ≡ false) ⊎ (is_heard w (later ++ before) d ≡ false))
     × NoOtherIsHeard w number later before
 
--- The port uses two such, one of which stands before the other: since no other of their number was recorded, and their
--- number isn't behind. Or it does so for whatever reason, where the number came before.
+-- of these the port knows no Sync and no Follow_Up of the number: none is among the last 256 of their kind and flag
+abbrev pub NoneIsKnown : Watched → (number : ℕ) → List Recorded → Type 0
+NoneIsKnown w number ds =
+    (flag : Bool)
+    → NoneSays (with_number (is_master_sync w) number) (last_heard w (with_flag (is_master_sync w) flag) ds)
+    × NoneSays (with_number (is_master_follow_up w) number) (last_heard w (with_flag (is_master_follow_up w) flag) ds)
+
+-- within so many Syncs a number isn't to be behind
+abbrev pub recent_syncs : ℕ
+recent_syncs = 16384
+
+-- The port uses two such, one of which stands before the other: since it knows none of their number, and their number
+-- isn't behind any that is recent. Or it does so for whatever reason.
 abbrev pub AreTaken : Watched → (number : ℕ) → (between before : List Recorded) → (first d : Recorded) → Type 0
 AreTaken w number between before first d =
-    (NoneSays (is_of_number w number) (between ++ before) × IsNotBehind w number (between ++ before))
+    (NoneIsKnown w number before × IsNotBehind w number (within_syncs w (between ++ first ∷ before) recent_syncs))
     ⊎ (IsTrue (is_used w before first) × IsTrue (is_used w (between ++ first ∷ before) d))
 
 -- The later of such two comes, in whichever order, and the port uses both. Between them stand at most 255 Syncs of the
@@ -164,8 +197,8 @@ answer_of request response q r receive = responded q.header.sequence.0
     (record { t3 = Some request.time; tag = request.line })
     request.time
 
--- The Delay_Resp of such two comes, and the port uses it, as it does where no other Delay_Resp to the slave with this
--- number was recorded before. The Delay_Req isn't the last one again, the Delay_Reqs of the slave between them are at
+-- The Delay_Resp of such two comes, and the port uses it, as it does where no other with this number is among the last 256
+-- to the slave that it heard. The Delay_Req isn't the last one again, the Delay_Reqs of the slave between them are at
 -- most 255 numbers ahead of it, and it isn't from before the line at which the port began.
 pub record ComesDelay (w : Watched) (begun : ℕ) (earlier : List Recorded) (d : Recorded) (c : DelayCompletion) : Type 0
   where
@@ -179,7 +212,8 @@ pub record ComesDelay (w : Watched) (begun : ℕ) (earlier : List Recorded) (d :
     pub is : c ≡ answer_of request d q r receive
     pub there : earlier ≡ between ++ request ∷ before
     pub another : IfSome (last_number w before) (λ last. (of_count last == q.header.sequence.0) ≡ false)
-    pub taken : NoneSays (with_number (is_own_response w) q.header.sequence.0) (between ++ before)
+    pub taken : NoneSays (with_number (is_own_response w) q.header.sequence.0)
+        (last_heard w (is_own_response w) (between ++ request ∷ before))
         ⊎ IsTrue (is_used w (between ++ request ∷ before) d)
     pub few : NoneSays
         (λ m. is_own_request w m && not (nat_lt (ahead m.header.sequence.0 q.header.sequence.0) table_capacity)) between

@@ -1,7 +1,7 @@
 //! Laws of recordings, each the contract of a function that does nothing: a caller that needs the law in its
 //! proof calls it.
 
-ghost use Rattle.capture_model.specs.Completes.{NoPairIsMissed};
+ghost use Rattle.capture_model.specs.Completes.{WhatIsHeldCompletes};
 ghost use Rattle.capture_model.specs.Exact.{EachReportIsExact};
 ghost use Rattle.capture_model.specs.Finds.{EachExchangeIsFound};
 ghost use Rattle.capture_model.specs.Lives.{NoReportMixesLives};
@@ -52,13 +52,13 @@ pub fn no_reported_pair_is_apart()
     ensures { NoReportedPairIsApart }
 {}
 
-/// A port that listens to a recording misses no pair, whatever is recorded. A two-step Sync that it uses completes with
-/// the newest Follow_Up that it holds under its number, and exactly where it holds one; a Follow_Up with the newest
-/// two-step Sync; and a Delay_Resp with the newest request of which it is known when it left. At each such completion,
-/// and at that of a one-step Sync, there is a report exactly where a Sync and a request completed in the window: the
-/// last two that did.
-pub fn no_pair_is_missed()
-    ensures { NoPairIsMissed }
+/// What a port holds that listens to a recording completes, whatever is recorded. A two-step Sync that it uses completes
+/// with the newest Follow_Up that it holds under its number, and exactly where it holds one; a Follow_Up with the
+/// newest two-step Sync; and a Delay_Resp with the newest request of which it is known when it left. At each such
+/// completion, and at that of a one-step Sync, there is a report exactly where a Sync and a request completed in the
+/// window: the last two that did. Which messages it hears and holds is said by [`each_exchange_is_found`] alone.
+pub fn what_is_held_completes()
+    ensures { WhatIsHeldCompletes }
 {}
 
 /// An exchange that stands in a recording is found: the last of a two-step Sync, its Follow_Up, a Delay_Req of the
@@ -68,18 +68,22 @@ pub fn no_pair_is_missed()
 /// - The Sync and the Follow_Up are of the master, have one number, and are less than a second apart, and neither
 ///   correction is too big. At most 255 Syncs and 255 Follow_Ups of the master stand between them, and the port hears
 ///   none of these that has their number: copies may stand there.
-/// - The port uses both. It does so where no other of their number was recorded, and each number of which it was said
-///   until the later one when its Sync left, by a Follow_Up or as a one-step Sync, is the same or at most 32,767 behind.
+/// - The port uses both. It does so where none of their number is among the last 256 Syncs of a flag that it heard until
+///   the first of the two, nor among the last 256 Follow_Ups, and each number of which it was said when its Sync left, by
+///   a Follow_Up or as a one-step Sync, behind which fewer than 16,384 Syncs were heard, is the same or at most 32,767
+///   behind.
 /// - The Delay_Resp is to the slave, and its correction isn't too big. The Delay_Req, whose number it has, isn't the
 ///   slave's last one again, and those between them are at most 255 numbers ahead of it. The port uses the Delay_Resp,
-///   as it does where no other one to the slave with this number was recorded before.
+///   as it does where no other of this number is among the last 256 to the slave that it heard.
 /// - After the half that completes first fewer than 4,096 Syncs of the master come, and nothing that completes another:
 ///   no Delay_Resp to the slave, or else no Follow_Up, no one-step Sync, and no Sync whose Follow_Up came before it, but
 ///   for what the port doesn't hear, ignores or merely holds.
-/// - Neither the slave nor the master is told to have begun anew behind the first of the four.
+/// - The line at which the port began last isn't behind the first of the four.
 ///
-/// The premises are on what is recorded, but for these that name the port: whether it uses, hears or answers a message
-/// whose number came before, and the line at which it began last.
+/// The premises are on what is recorded, with numbers below 65,536, as octets have them, but that the port is asked what it
+/// hears, so that copies don't count, and at which line it began last; and in place of two of them what it answers may
+/// stand. Of one-step Syncs the law says nothing, nor of what more is reported: that each report is right is said by
+/// [`each_report_is_exact`].
 pub fn each_exchange_is_found()
     ensures { EachExchangeIsFound }
 {}

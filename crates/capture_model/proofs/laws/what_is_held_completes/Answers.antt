@@ -1,6 +1,6 @@
 -- What is used completes where its counterpart is held.
 use Rattle.capture_model.proofs.Completes.{no_pair}
-use Rattle.capture_model.proofs.laws.no_pair_is_missed.Goals as goal
+use Rattle.capture_model.proofs.laws.what_is_held_completes.Goals as goal
 
 pub returns : goal.returns
 returns c = no_pair
