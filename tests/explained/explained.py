@@ -92,9 +92,9 @@ VERSIONS = [
 OTHER = "the input isn't lines of JSON, but "
 FOREIGN = [
     ('\xd4\xc3\xb2\xa1\x02\n',
-     'a capture (pcap); show its messages by: ptpx extract --octets | ptpx show\n'),
+     'a capture (pcap); measure by it with: ptpx measure\n'),
     ('\n\r\r\n\x1c\x00\x00\x00',
-     'a capture (pcapng); show its messages by: ptpx extract --octets | ptpx show\n'),
+     'a capture (pcapng); measure by it with: ptpx measure\n'),
     ('\x1f\x8b\x08\x00\n', 'compressed by gzip; unpack it by: gzip -dc\n'),
     ('\xef\xbb\xbf{"kind":"clock","node":"T"}\n', 'text behind a byte order mark; take the mark away by: tail -c +4\n'),
     ('{"kind":"clock","node":"T"}\r{"kind":"clock","node":"U"}\r', "objects with CR between them; make LF of each CR by: tr '\\r' '\\n'\n"),

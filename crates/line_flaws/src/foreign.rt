@@ -89,11 +89,10 @@ impl Foreign {
         }
     }
 
-    /// A command that makes of the input, as standard input, what is wanted or what another
-    /// subcommand reads.
+    /// A command that takes the input as its standard input, and makes of it what is wanted, or reads it
+    /// as it is.
     pub fn command(self) -> &'static str {
         match self {
-            Foreign::Pcap | Foreign::PcapNg => "ptpx extract --octets | ptpx show",
             Foreign::Gzip => "gzip -dc",
             Foreign::ByteOrderMark => "tail -c +4",
             Foreign::CarriageReturns => "tr '\\r' '\\n'",
@@ -101,7 +100,7 @@ impl Foreign {
             Foreign::Utf16LowFirst => "iconv -f UTF-16LE -t UTF-8",
             Foreign::Utf16HighFirst => "iconv -f UTF-16BE -t UTF-8",
             Foreign::Datagrams => "ptpx show",
-            Foreign::Recording => "ptpx measure",
+            Foreign::Pcap | Foreign::PcapNg | Foreign::Recording => "ptpx measure",
             Foreign::ObjectOverLines => "jq -c .",
             Foreign::ArrayOfLines => "jq -c '.[]'",
             Foreign::SingleQuotes => {
@@ -117,8 +116,8 @@ impl Foreign {
 impl Display for Foreign {
     fn fmt<W: fmt::Write>(&self, f: &mut Formatter<W>) -> fmt::Result {
         f.write_str(match self {
-            Foreign::Pcap => "a capture (pcap); show its messages by: ",
-            Foreign::PcapNg => "a capture (pcapng); show its messages by: ",
+            Foreign::Pcap => "a capture (pcap); measure by it with: ",
+            Foreign::PcapNg => "a capture (pcapng); measure by it with: ",
             Foreign::Gzip => "compressed by gzip; unpack it by: ",
             Foreign::ByteOrderMark => "text behind a byte order mark; take the mark away by: ",
             Foreign::CarriageReturns => "objects with CR between them; make LF of each CR by: ",
