@@ -8,6 +8,7 @@ mod flaw;
 mod foreign;
 mod json_fault;
 mod key;
+pub mod laws;
 mod line;
 mod pieces;
 mod search;
