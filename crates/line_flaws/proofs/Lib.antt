@@ -1,1 +1,2 @@
+mod Searched
 mod Values

@@ -1,3 +1,6 @@
+pub mod Keys
 pub mod Read
 pub mod Sound
 pub mod Truth
+pub mod Wanted
+pub mod Inner

@@ -1,9 +1,14 @@
 //! What is wrong with a line.
+ghost use Rattle.std.specs.Prelude.{◌≡◌};
+ghost use Rattle.serde_json.specs.View.{view};
+ghost use Rattle.line_flaws.specs.Wanted.{is_wanted_part, part_wanted};
+ghost use Rattle.line_flaws.specs.Inner.Met.{place_of};
 
 use crate::excerpt::Excerpt;
 use crate::json_fault::JsonFault;
 use crate::key::Key;
 use crate::wanted::Wanted;
+use serde_json::Value;
 use std::fmt;
 use std::fmt::{Display, Formatter};
 
@@ -74,7 +79,8 @@ pub enum Flaw<'a> {
         part: Part,
         found: &'a [u8],
     },
-    /// A key has no place in a line of this `ev` or `kind`, and of this `out`, where that decides.
+    /// A key has no place in a line of this `ev` or `kind`, and of this `out`, where that decides. It is
+    /// empty where each such key has escapes.
     TooMuch {
         key: &'a [u8],
         kind: &'a [u8],
@@ -91,8 +97,6 @@ pub enum Flaw<'a> {
         number: u64,
         place: u64,
     },
-    /// It isn't a line of the form; why wasn't found.
-    Unknown(Form),
 }
 
 impl Flaw<'_> {
@@ -116,17 +120,44 @@ impl Display for Form {
 
 impl Part {
     /// What is wanted of the part.
-    pub fn wanted(self) -> Wanted {
+    pub fn wanted(self) -> Wanted
+        ensures { result ≡ part_wanted self }
+    {
         match self {
-            Part::Seconds => Wanted::Whole {
-                most: (1 << 48) - 1,
+            Part::Seconds => Wanted::Whole { bound: 1 << 48 },
+            Part::Nanoseconds => Wanted::Whole {
+                bound: 1_000_000_000,
             },
-            Part::Nanoseconds => Wanted::Whole { most: 999_999_999 },
-            Part::Fraction => Wanted::Whole { most: 65_535 },
-            Part::SyncTag | Part::RequestTag | Part::ResponseTag => {
-                Wanted::Whole { most: u64::MAX }
-            }
+            Part::Fraction => Wanted::Whole { bound: 65_536 },
+            Part::SyncTag => Wanted::Tag,
             Part::FollowTag => Wanted::TagOrNull,
+            Part::RequestTag => Wanted::Tag,
+            Part::ResponseTag => Wanted::Tag,
+        }
+    }
+
+    /// The place of the part in its array, from 0.
+    pub(crate) fn place(self) -> usize
+        ensures { result ≡ place_of self }
+    {
+        match self {
+            Part::Seconds => 0,
+            Part::Nanoseconds => 1,
+            Part::Fraction => 2,
+            Part::SyncTag => 0,
+            Part::FollowTag => 1,
+            Part::RequestTag => 2,
+            Part::ResponseTag => 3,
+        }
+    }
+
+    /// Whether an array has what is wanted at the place of the part.
+    pub(crate) fn is_in(self, array: &Value) -> bool
+        ensures { result ≡ is_wanted_part self (view array.now) }
+    {
+        match array.get(self.place()) {
+            Some(item) => self.wanted().is_met(item),
+            None => false,
         }
     }
 
@@ -201,12 +232,11 @@ impl Display for Flaw<'_> {
                 write_wrong(f, verb, found, part.wanted())
             }
             Flaw::TooMuch { key, kind, out } => {
-                write!(
-                    f,
-                    "{} is a key too much for {}",
-                    Excerpt(key),
-                    Excerpt(kind)
-                )?;
+                match key {
+                    [] => f.write_str("a key with escapes is too much for ")?,
+                    _ => write!(f, "{} is a key too much for ", Excerpt(key))?,
+                }
+                write!(f, "{}", Excerpt(kind))?;
                 match out {
                     Some(out) => write!(f, " with \"out\" {}", Excerpt(out)),
                     None => Ok(()),
@@ -234,7 +264,6 @@ impl Display for Flaw<'_> {
                     "\"n\" is {number}; wanted is {place}, the place among the events from 0: {why}, or \"n\" is wrong"
                 )
             }
-            Flaw::Unknown(form) => write!(f, "no line of a {form}"),
         }
     }
 }

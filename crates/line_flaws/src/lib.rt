@@ -4,6 +4,7 @@
 
 mod class;
 mod excerpt;
+mod fields;
 mod flaw;
 mod foreign;
 mod json_fault;

@@ -3,6 +3,8 @@ ghost use Rattle.std.specs.Prelude.{◌≡◌, ◌==◌, IfOk, IfSome, MatchResu
 ghost use Rattle.serde_json.specs.Data.{Data};
 ghost use Rattle.serde_json.specs.View.{view};
 ghost use Rattle.schedule_lines.specs.Json.{value_in};
+ghost use Rattle.line_flaws.specs.declared.flaw.Form.{Form};
+ghost use Rattle.line_flaws.specs.declared.flaw.Form.TheVariants.{Schedule, Transcript};
 ghost use Rattle.line_flaws.specs.Sound.{is_schedule_line, is_transcript_line};
 ghost use Rattle.line_flaws.specs.Sound.{is_schedule_value, is_transcript_value};
 ghost use Rattle.line_flaws.specs.Truth.{IsSo, IsSoOfOctets, IsSoOfValue, IsNodeLine, IsEventLine};
@@ -35,7 +37,7 @@ pub fn schedule_flaw<'a>(
     events: u64,
 ) -> Result<Option<Flaw<'a>>, AllocError>
     ensures flawless { IfOk result (λ flaw. is_none flaw ≡ is_schedule_line events line.now) }
-    ensures so { IfOk result (λ flaw. IfSome flaw (IsSo events line.now (value_in line.now))) }
+    ensures so { IfOk result (λ flaw. IfSome flaw (IsSo Schedule events line.now (value_in line.now))) }
 {
     let value = match read_value(alloc, line)? {
         Ok(value) => value,
@@ -47,7 +49,7 @@ pub fn schedule_flaw<'a>(
 /// The flaw of a line of a schedule, by its value.
 fn scheduled_flaw<'a>(line: &'a [u8], value: &Value, events: u64) -> Option<Flaw<'a>>
     ensures flawless { is_none result ≡ is_schedule_value events (view value.now) }
-    ensures so { IfSome result (IsSoOfValue events (view value.now)) }
+    ensures so { IfSome result (IsSoOfValue Schedule events (view value.now)) }
 {
     match Line::of(value) {
         Some(Line::Event(_)) => None,
@@ -64,7 +66,7 @@ pub fn transcript_flaw<'a>(
     events: u64,
 ) -> Result<Option<Flaw<'a>>, AllocError>
     ensures flawless { IfOk result (λ flaw. is_none flaw ≡ is_transcript_line events line.now) }
-    ensures so { IfOk result (λ flaw. IfSome flaw (IsSo events line.now (value_in line.now))) }
+    ensures so { IfOk result (λ flaw. IfSome flaw (IsSo Transcript events line.now (value_in line.now))) }
 {
     let value = match read_value(alloc, line)? {
         Ok(value) => value,
@@ -76,7 +78,7 @@ pub fn transcript_flaw<'a>(
 /// The flaw of a line of a transcript, by its value.
 fn told_flaw<'a>(line: &'a [u8], value: &Value, events: u64) -> Option<Flaw<'a>>
     ensures flawless { is_none result ≡ is_transcript_value events (view value.now) }
-    ensures so { IfSome result (IsSoOfValue events (view value.now)) }
+    ensures so { IfSome result (IsSoOfValue Transcript events (view value.now)) }
 {
     match TranscriptLine::of(value) {
         Some(TranscriptLine::Event { number, .. }) => misplaced_event(number, events),
@@ -88,7 +90,7 @@ fn told_flaw<'a>(line: &'a [u8], value: &Value, events: u64) -> Option<Flaw<'a>>
 /// The flaw of a node after so many events.
 fn misplaced_node<'a>(events: u64) -> Option<Flaw<'a>>
     ensures flawless { is_none result ≡ (events == 0) }
-    ensures so { (d : Data) → IsNodeLine d → IfSome result (IsSoOfValue events d) }
+    ensures so { (form : Form) (d : Data) → IsNodeLine d → IfSome result (IsSoOfValue form events d) }
 {
     if events == 0 {
         None
@@ -100,7 +102,7 @@ fn misplaced_node<'a>(events: u64) -> Option<Flaw<'a>>
 /// The flaw of an event of this number after so many events.
 fn misplaced_event<'a>(number: u64, events: u64) -> Option<Flaw<'a>>
     ensures flawless { is_none result ≡ (number == events) }
-    ensures so { (d : Data) → IsEventLine number d → IfSome result (IsSoOfValue events d) }
+    ensures so { (form : Form) (d : Data) → IsEventLine number d → IfSome result (IsSoOfValue form events d) }
 {
     if number == events {
         None

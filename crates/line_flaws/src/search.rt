@@ -1,19 +1,27 @@
 //! The search for the flaw of a line that is JSON.
-ghost use Rattle.std.specs.Prelude.{◌≡◌, codes, is_some, IfSome, IsSome, ℕ, None};
+ghost use Rattle.std.specs.Prelude.{◌≡◌, ◌++◌, ◌∷◌, [], All, MatchOption, ℕ, true, false, Some, None};
+ghost use Rattle.std.specs.Prelude.{is_some, option_map};
 ghost use Rattle.serde_json.specs.View.{view};
-ghost use Rattle.serde_json.specs.Find.{get};
-ghost use Rattle.line_flaws.specs.Truth.{text_of, IsSoOfValue};
+ghost use Rattle.serde_json.specs.Find.{as_str, get};
+ghost use Rattle.schedule_lines.specs.Json.{field, has_items};
+ghost use Rattle.line_flaws.specs.declared.flaw.Form.TheVariants.{Schedule, Transcript};
+ghost use Rattle.line_flaws.specs.declared.key.Key.TheVariants.{At, Ev, Kind, Node, Out, Tags};
+ghost use Rattle.line_flaws.specs.Keys.{is_timed, needed_keys, outcome_keys_in, text_of, told_keys};
+ghost use Rattle.line_flaws.specs.Wanted.{HasWanted, is_wanted, is_wanted_part, wanted_at, wanted_of};
+ghost use Rattle.line_flaws.specs.Truth.{HasNeeded, IsNeeded, IsSoOfValue};
+ghost use Rattle.line_flaws.specs.Inner.Met.{is_met};
 
 use crate::flaw::{Flaw, Form, Part};
-use crate::key::{Key, event_keys, node_keys, outcome_keys};
+use crate::key::{Key, node_keys, outcome_keys, own_keys, told_keys};
 use crate::pieces::{Members, item_text, unquoted, value_text};
 use serde_json::Value;
 
-/// A line, and the value that it is.
+/// A line, the value that it is, and the form that it isn't a line of.
 #[derive(Clone, Copy)]
 struct Search<'a, 'v> {
     line: &'a [u8],
     value: &'v Value,
+    form: Form,
 }
 
 /// The keys that a line may have.
@@ -30,14 +38,6 @@ struct Allowed {
 }
 
 impl Allowed {
-    /// No key.
-    const NONE: Allowed = Allowed {
-        common: &[],
-        own: &[],
-        told: &[],
-        outcome: &[],
-    };
-
     /// Whether a key is one of these, without its quotes.
     fn has(self, name: &[u8]) -> bool {
         is_among(self.common, name)
@@ -90,13 +90,9 @@ fn key_too_much<'a>(line: &'a [u8], allowed: Allowed) -> Option<&'a [u8]> {
 
 /// The flaw of a value that isn't a line of the form.
 pub(crate) fn flaw_in<'a>(form: Form, line: &'a [u8], value: &Value) -> Flaw<'a>
-    ensures { (events : ℕ) → IsSoOfValue events (view value.now) result }
+    ensures { (events : ℕ) → IsSoOfValue form events (view value.now) result }
 {
-    let search = Search { line, value };
-    match search.flaw(form) {
-        Some(flaw) => flaw,
-        None => Flaw::Unknown(form),
-    }
+    Search { line, value, form }.flaw()
 }
 
 impl<'a, 'v> Search<'a, 'v> {
@@ -113,110 +109,168 @@ impl<'a, 'v> Search<'a, 'v> {
     }
 
     /// The text that a key's value is.
-    fn text_at(self, key: Key) -> Option<&'v str> {
+    fn text_at(self, key: Key) -> Option<&'v str>
+        ensures { option_map (λ text. text.now) result ≡ field as_str (text_of key) (view self.entry.value.now) }
+    {
         self.value.get(key.text())?.as_str()
     }
 
-    /// The flaw of the value, where one is found.
-    fn flaw(self, form: Form) -> Option<Flaw<'a>>
-        ensures { IfSome result (λ flaw. (events : ℕ) → IsSoOfValue events (view self.entry.value.now) flaw) }
+    /// The flaw of the value.
+    fn flaw(self) -> Flaw<'a>
+        ensures { (events : ℕ) → IsSoOfValue self.entry.form events (view self.entry.value.now) result }
     {
         if !self.value.is_object() {
-            return Some(Flaw::NoObject {
+            return Flaw::NoObject {
                 found: self.line.trim_ascii(),
-            });
+            };
         }
-        if self.value.get("ev").is_some() {
-            self.event_flaw(form)
-        } else if self.value.get("kind").is_some() {
+        if self.has(Key::Ev) {
+            self.event_flaw()
+        } else if self.has(Key::Kind) {
             self.node_flaw()
         } else {
-            Some(self.no_kind())
+            self.no_kind()
         }
     }
 
     /// The flaw of a node.
-    fn node_flaw(self) -> Option<Flaw<'a>>
-        requires { IsSome (get (codes "kind") (view self.value.now)) }
-        ensures { IfSome result (λ flaw. (events : ℕ) → IsSoOfValue events (view self.entry.value.now) flaw) }
+    fn node_flaw(self) -> Flaw<'a>
+        requires node { is_some (get (text_of Kind) (view self.value.now)) ≡ true }
+        requires no_event { is_some (get (text_of Ev) (view self.value.now)) ≡ false }
+        ensures { (events : ℕ) → IsSoOfValue self.entry.form events (view self.entry.value.now) result }
     {
-        let Some(common) = self.text_at(Key::Kind).and_then(node_keys) else {
-            return Some(self.wrong(Key::Kind));
+        let Some(kind) = self.text_at(Key::Kind) else {
+            return self.wrong(Key::Kind);
         };
-        let allowed = Allowed {
-            common,
-            ..Allowed::NONE
+        let Some(common) = node_keys(kind) else {
+            return self.wrong(Key::Kind);
         };
-        self.flaw_of(Key::Kind, allowed)
+        self.flaw_of(
+            Key::Kind,
+            Allowed {
+                common,
+                own: &[],
+                told: &[],
+                outcome: &[],
+            },
+        )
     }
 
     /// The flaw of an event.
-    fn event_flaw(self, form: Form) -> Option<Flaw<'a>>
-        requires { IsSome (get (codes "ev") (view self.value.now)) }
-        ensures { IfSome result (λ flaw. (events : ℕ) → IsSoOfValue events (view self.entry.value.now) flaw) }
+    fn event_flaw(self) -> Flaw<'a>
+        requires event { is_some (get (text_of Ev) (view self.value.now)) ≡ true }
+        ensures { (events : ℕ) → IsSoOfValue self.entry.form events (view self.entry.value.now) result }
     {
-        let Some(own) = self.text_at(Key::Ev).and_then(event_keys) else {
-            return Some(self.wrong(Key::Ev));
+        let Some(kind) = self.text_at(Key::Ev) else {
+            return self.wrong(Key::Ev);
         };
+        let Some(own) = own_keys(kind) else {
+            return self.wrong(Key::Ev);
+        };
+        match self.form {
+            Form::Schedule => self.scheduled_flaw(own),
+            Form::Transcript => self.told_flaw(kind, own),
+        }
+    }
+
+    /// The flaw of an event of a schedule, of a kind with these keys of its own.
+    fn scheduled_flaw(self, own: &'static [Key]) -> Flaw<'a>
+        requires form { self.form ≡ Schedule }
+        requires keys { needed_keys Schedule (view self.value.now) ≡ Some (Ev ∷ Node ∷ own.now) }
+        ensures { (events : ℕ) → IsSoOfValue self.entry.form events (view self.entry.value.now) result }
+    {
+        if self.has(Key::Number) && self.has(Key::Out) {
+            return Flaw::HasOutcome;
+        }
+        self.flaw_of(
+            Key::Ev,
+            Allowed {
+                common: &[Key::Ev, Key::Node],
+                own,
+                told: &[],
+                outcome: &[],
+            },
+        )
+    }
+
+    /// The flaw of an event of a transcript, of a kind with these keys of its own.
+    fn told_flaw(self, kind: &str, own: &'static [Key]) -> Flaw<'a>
+        requires form { self.form ≡ Transcript }
+        requires keys { needed_keys Transcript (view self.value.now)
+            ≡ Some (Ev ∷ Node ∷ (own.now ++ (told_keys (is_timed kind.now) ++ outcome_keys_in (view self.value.now)))) }
+        ensures { (events : ℕ) → IsSoOfValue self.entry.form events (view self.entry.value.now) result }
+    {
+        if !self.has(Key::Number) && !self.has(Key::Out) {
+            return Flaw::NoOutcome;
+        }
         let allowed = Allowed {
             common: &[Key::Ev, Key::Node],
             own,
-            ..Allowed::NONE
+            told: told_keys(kind),
+            outcome: &[],
         };
-        match (form, self.has(Key::Number), self.has(Key::Out)) {
-            (Form::Schedule, true, true) => Some(Flaw::HasOutcome),
-            (Form::Schedule, _, _) => self.flaw_of(Key::Ev, allowed),
-            (Form::Transcript, false, false) => Some(Flaw::NoOutcome),
-            (Form::Transcript, _, _) => self.told_flaw(allowed),
-        }
+        let Some(out) = self.text_at(Key::Out) else {
+            return self.out_flaw(allowed);
+        };
+        let Some(outcome) = outcome_keys(out) else {
+            return self.wrong(Key::Out);
+        };
+        self.flaw_of(Key::Ev, Allowed { outcome, ..allowed })
     }
 
-    /// The flaw of an event that tells what came of it, from the keys that it has in a schedule.
-    fn told_flaw(self, scheduled: Allowed) -> Option<Flaw<'a>>
-        ensures { IfSome result (λ flaw. (events : ℕ) → IsSoOfValue events (view self.entry.value.now) flaw) }
+    /// The flaw of an `out` that is no text.
+    fn out_flaw(self, allowed: Allowed) -> Flaw<'a>
+        requires text { field as_str (text_of Out) (view self.value.now) ≡ None }
+        requires needed { IsNeeded self.form (view self.value.now) Out }
+        ensures { (events : ℕ) → IsSoOfValue self.entry.form events (view self.entry.value.now) result }
     {
-        let told: &'static [Key] = if scheduled.own.contains(&Key::At) {
-            &[Key::Number, Key::Reading, Key::Out]
+        if self.has(Key::Out) {
+            self.wrong(Key::Out)
         } else {
-            &[Key::Number, Key::Out]
-        };
-        let allowed = Allowed { told, ..scheduled };
-        match self.text_at(Key::Out).and_then(outcome_keys) {
-            Some(outcome) => self.flaw_of(Key::Ev, Allowed { outcome, ..allowed }),
-            None if self.has(Key::Out) => Some(self.wrong(Key::Out)),
-            None => Some(self.missing(Key::Out, allowed)),
+            self.missing(Key::Out, allowed)
         }
     }
 
-    /// The first flaw of the values of these keys, and then the first key that isn't one of them.
-    fn flaw_of(self, kind: Key, allowed: Allowed) -> Option<Flaw<'a>>
-        ensures { IfSome result (λ flaw. (events : ℕ) → IsSoOfValue events (view self.entry.value.now) flaw) }
+    /// The first flaw of the values of these keys, which the line needs, and else that there are more.
+    fn flaw_of(self, kind: Key, allowed: Allowed) -> Flaw<'a>
+        requires keys { needed_keys self.form (view self.value.now)
+            ≡ Some (allowed.common.now ++ (allowed.own.now ++ (allowed.told.now ++ allowed.outcome.now))) }
+        ensures { (events : ℕ) → IsSoOfValue self.entry.form events (view self.entry.value.now) result }
     {
-        for keys in [allowed.common, allowed.own, allowed.told, allowed.outcome] {
-            let flaw = self.flaw_among(keys, allowed);
-            if flaw.is_some() {
-                return flaw;
-            }
+        if let Some(flaw) = self.flaw_among(allowed.common, allowed) {
+            return flaw;
+        }
+        if let Some(flaw) = self.flaw_among(allowed.own, allowed) {
+            return flaw;
+        }
+        if let Some(flaw) = self.flaw_among(allowed.told, allowed) {
+            return flaw;
+        }
+        if let Some(flaw) = self.flaw_among(allowed.outcome, allowed) {
+            return flaw;
         }
         self.too_much(kind, allowed)
     }
 
-    /// The first flaw of the values of some keys.
+    /// The first flaw of the values of some keys, which the line needs.
     fn flaw_among(self, keys: &'static [Key], allowed: Allowed) -> Option<Flaw<'a>>
-        ensures { IfSome result (λ flaw. (events : ℕ) → IsSoOfValue events (view self.entry.value.now) flaw) }
+        requires { All (IsNeeded self.form (view self.value.now)) keys.now }
+        ensures { MatchOption result (All (HasWanted (view self.entry.value.now)) keys.now)
+            (λ flaw. (events : ℕ) → IsSoOfValue self.entry.form events (view self.entry.value.now) flaw) }
     {
         for key in keys {
-            let flaw = self.key_flaw(*key, allowed);
-            if flaw.is_some() {
-                return flaw;
+            if let Some(flaw) = self.key_flaw(*key, allowed) {
+                return Some(flaw);
             }
         }
         None
     }
 
-    /// The flaw of a key: it is missing, or its value isn't what is wanted.
+    /// The flaw of a key that the line needs: it is missing, or its value isn't what is wanted.
     fn key_flaw(self, key: Key, allowed: Allowed) -> Option<Flaw<'a>>
-        ensures { IfSome result (λ flaw. (events : ℕ) → IsSoOfValue events (view self.entry.value.now) flaw) }
+        requires { IsNeeded self.form (view self.value.now) key }
+        ensures { MatchOption result (HasWanted (view self.entry.value.now) key)
+            (λ flaw. (events : ℕ) → IsSoOfValue self.entry.form events (view self.entry.value.now) flaw) }
     {
         match self.value.get(key.text()) {
             Some(value) => self.value_flaw(key, value),
@@ -226,32 +280,23 @@ impl<'a, 'v> Search<'a, 'v> {
 
     /// The flaw of a key's value.
     fn value_flaw(self, key: Key, value: &Value) -> Option<Flaw<'a>>
-        requires { IsSome (get (text_of key) (view self.value.now)) }
-        ensures { IfSome result (λ flaw. (events : ℕ) → IsSoOfValue events (view self.entry.value.now) flaw) }
+        requires { get (text_of key) (view self.value.now) ≡ Some (view value.now) }
+        ensures { MatchOption result (HasWanted (view self.entry.value.now) key)
+            (λ flaw. (events : ℕ) → IsSoOfValue self.entry.form events (view self.entry.value.now) flaw) }
     {
         if !key.wanted().is_met(value) {
             return Some(self.wrong(key));
         }
-        for (index, part) in parts_of(key).iter().enumerate() {
-            let fits = match value.get(index) {
-                Some(item) => part.wanted().is_met(item),
-                None => false,
-            };
-            if !fits {
-                return Some(Flaw::WrongPart {
-                    key,
-                    part: *part,
-                    found: item_text(self.found(key), index),
-                });
-            }
+        match wrong_part(key, value) {
+            Some(part) => Some(self.wrong_at(key, part)),
+            None => None,
         }
-        None
     }
 
     /// That a key's value isn't what is wanted.
     fn wrong(self, key: Key) -> Flaw<'a>
-        requires { IsSome (get (text_of key) (view self.value.now)) }
-        ensures { (events : ℕ) → IsSoOfValue events (view self.entry.value.now) result }
+        requires { wanted_at key (view self.value.now) ≡ Some false }
+        ensures { (events : ℕ) → IsSoOfValue self.entry.form events (view self.entry.value.now) result }
     {
         Flaw::Wrong {
             key,
@@ -259,10 +304,24 @@ impl<'a, 'v> Search<'a, 'v> {
         }
     }
 
+    /// That a part of a key's value isn't what is wanted.
+    fn wrong_at(self, key: Key, part: Part) -> Flaw<'a>
+        requires key { wanted_at key (view self.value.now) ≡ Some false }
+        requires part { option_map (is_wanted_part part) (get (text_of key) (view self.value.now)) ≡ Some false }
+        ensures { (events : ℕ) → IsSoOfValue self.entry.form events (view self.entry.value.now) result }
+    {
+        Flaw::WrongPart {
+            key,
+            part,
+            found: item_text(self.found(key), part.place()),
+        }
+    }
+
     /// That a key is missing, with the first near it that has no place.
     fn missing(self, key: Key, allowed: Allowed) -> Flaw<'a>
-        requires { get (text_of key) (view self.value.now) ≡ None }
-        ensures { (events : ℕ) → IsSoOfValue events (view self.entry.value.now) result }
+        requires missing { get (text_of key) (view self.value.now) ≡ None }
+        requires needed { IsNeeded self.form (view self.value.now) key }
+        ensures { (events : ℕ) → IsSoOfValue self.entry.form events (view self.entry.value.now) result }
     {
         Flaw::Missing {
             key,
@@ -272,45 +331,94 @@ impl<'a, 'v> Search<'a, 'v> {
 
     /// That neither an event nor a node is named.
     fn no_kind(self) -> Flaw<'a>
-        requires event { get (codes "ev") (view self.value.now) ≡ None }
-        requires node { get (codes "kind") (view self.value.now) ≡ None }
-        ensures { (events : ℕ) → IsSoOfValue events (view self.entry.value.now) result }
+        requires event { is_some (get (text_of Ev) (view self.value.now)) ≡ false }
+        requires node { is_some (get (text_of Kind) (view self.value.now)) ≡ false }
+        ensures { (events : ℕ) → IsSoOfValue self.entry.form events (view self.entry.value.now) result }
     {
+        let allowed = Allowed {
+            common: &[],
+            own: &[],
+            told: &[],
+            outcome: &[],
+        };
         Flaw::NoKind {
-            near: key_near(self.line, &[Key::Ev, Key::Kind], Allowed::NONE),
+            near: key_near(self.line, &[Key::Ev, Key::Kind], allowed),
         }
     }
 
-    /// The first key without escapes that isn't allowed.
-    fn too_much(self, kind: Key, allowed: Allowed) -> Option<Flaw<'a>>
-        ensures { IfSome result (λ flaw. (events : ℕ) → IsSoOfValue events (view self.entry.value.now) flaw) }
+    /// That a key isn't allowed: the first without escapes, where there is one.
+    fn too_much(self, kind: Key, allowed: Allowed) -> Flaw<'a>
+        requires { HasNeeded self.form (view self.value.now) }
+        ensures { (events : ℕ) → IsSoOfValue self.entry.form events (view self.entry.value.now) result }
     {
-        let key = key_too_much(self.line, allowed)?;
+        let key: &'a [u8] = match key_too_much(self.line, allowed) {
+            Some(key) => key,
+            None => &[],
+        };
         let out = if is_among(&OF_OUTCOMES, unquoted(key)) && self.has(Key::Out) {
             Some(self.found(Key::Out))
         } else {
             None
         };
-        Some(Flaw::TooMuch {
+        Flaw::TooMuch {
             key,
             kind: self.found(kind),
             out,
-        })
+        }
     }
 }
 
-/// The parts of a key's value, where that is an array.
-fn parts_of(key: Key) -> &'static [Part] {
+/// The first part of a key's value that isn't what is wanted, where that is an array.
+fn wrong_part(key: Key, value: &Value) -> Option<Part>
+    requires { is_met (wanted_of key) (view value.now) ≡ true }
+    ensures { MatchOption result (is_wanted key (view value.now) ≡ true) (λ part.
+        (is_wanted key (view value.now) ≡ false) × (is_wanted_part part (view value.now) ≡ false)) }
+{
     match key {
-        Key::At | Key::Reading => &[Part::Seconds, Part::Nanoseconds, Part::Fraction],
-        Key::Tags => &[
-            Part::SyncTag,
-            Part::FollowTag,
-            Part::RequestTag,
-            Part::ResponseTag,
-        ],
-        _ => &[],
+        Key::At => wrong_in_moment(value),
+        Key::Reading => wrong_in_moment(value),
+        Key::Tags => wrong_in_tags(value),
+        _ => None,
     }
+}
+
+/// The first part of an array of three that isn't what is wanted of a moment.
+fn wrong_in_moment(value: &Value) -> Option<Part>
+    requires { has_items 3 (view value.now) ≡ true }
+    ensures { MatchOption result (is_wanted At (view value.now) ≡ true) (λ part.
+        (is_wanted At (view value.now) ≡ false) × (is_wanted_part part (view value.now) ≡ false)) }
+{
+    if !Part::Seconds.is_in(value) {
+        return Some(Part::Seconds);
+    }
+    if !Part::Nanoseconds.is_in(value) {
+        return Some(Part::Nanoseconds);
+    }
+    if !Part::Fraction.is_in(value) {
+        return Some(Part::Fraction);
+    }
+    None
+}
+
+/// The first part of an array of four that isn't what is wanted of tags.
+fn wrong_in_tags(value: &Value) -> Option<Part>
+    requires { has_items 4 (view value.now) ≡ true }
+    ensures { MatchOption result (is_wanted Tags (view value.now) ≡ true) (λ part.
+        (is_wanted Tags (view value.now) ≡ false) × (is_wanted_part part (view value.now) ≡ false)) }
+{
+    if !Part::SyncTag.is_in(value) {
+        return Some(Part::SyncTag);
+    }
+    if !Part::FollowTag.is_in(value) {
+        return Some(Part::FollowTag);
+    }
+    if !Part::RequestTag.is_in(value) {
+        return Some(Part::RequestTag);
+    }
+    if !Part::ResponseTag.is_in(value) {
+        return Some(Part::ResponseTag);
+    }
+    None
 }
 
 /// The keys that tell an outcome, beside `out`.

@@ -1,7 +1,15 @@
 //! What is wanted of a value.
+ghost use Rattle.std.specs.Prelude.{◌≡◌, is_some, option_and_then};
+ghost use Rattle.serde_json.specs.View.{view};
+ghost use Rattle.serde_json.specs.Find.{as_str};
+ghost use Rattle.schedule_lines.specs.Line.{kind_of};
+ghost use Rattle.line_flaws.specs.Keys.{node_keys, outcome_keys};
+ghost use Rattle.line_flaws.specs.Inner.Met.{is_met};
 
-use crate::class::Class;
-use network_model::Name;
+use crate::fields::{
+    clock_in, difference_in, follow_in, has_items, is_octets, name_in, signed_octet_in, whole_below,
+};
+use crate::key::{node_keys, outcome_keys, own_keys};
 use serde_json::Value;
 use std::fmt;
 use std::fmt::{Display, Formatter};
@@ -19,8 +27,10 @@ pub enum Wanted {
     Name,
     /// A text of 16 hexadecimal digits.
     Identity,
-    /// A whole number from 0 to this one.
-    Whole { most: u64 },
+    /// A whole number from 0 to below this one.
+    Whole { bound: u64 },
+    /// A whole number from 0 to 2^64 - 1.
+    Tag,
     /// A whole number from -128 to 127.
     SignedOctet,
     /// An array of seconds, nanoseconds and units of 2^-16 ns.
@@ -35,30 +45,55 @@ pub enum Wanted {
     TagOrNull,
 }
 
+/// Whether it is a text that names a kind of node.
+fn is_node_kind(value: &Value) -> bool
+    ensures { result ≡ is_some (option_and_then node_keys (as_str (view value.now))) }
+{
+    match value.as_str() {
+        Some(text) => node_keys(text).is_some(),
+        None => false,
+    }
+}
+
+/// Whether it is a text that names a kind of event.
+fn is_event_kind(value: &Value) -> bool
+    ensures { result ≡ is_some (option_and_then kind_of (as_str (view value.now))) }
+{
+    match value.as_str() {
+        Some(text) => own_keys(text).is_some(),
+        None => false,
+    }
+}
+
+/// Whether it is a text that names what came of an event.
+fn is_outcome(value: &Value) -> bool
+    ensures { result ≡ is_some (option_and_then outcome_keys (as_str (view value.now))) }
+{
+    match value.as_str() {
+        Some(text) => outcome_keys(text).is_some(),
+        None => false,
+    }
+}
+
 impl Wanted {
     /// Whether a value is what is wanted. Of an array only the count is looked at.
-    pub(crate) fn is_met(self, value: &Value) -> bool {
+    pub(crate) fn is_met(self, value: &Value) -> bool
+        ensures { result ≡ is_met self (view value.now) }
+    {
         match self {
-            Wanted::Whole { most } => is_whole(value, most),
-            Wanted::SignedOctet => is_signed_octet(value),
-            Wanted::TagOrNull => value.is_null() || value.as_u64().is_some(),
+            Wanted::NodeKind => is_node_kind(value),
+            Wanted::EventKind => is_event_kind(value),
+            Wanted::Outcome => is_outcome(value),
+            Wanted::Name => name_in(value).is_some(),
+            Wanted::Identity => clock_in(value).is_some(),
+            Wanted::Whole { bound } => whole_below(value, bound).is_some(),
+            Wanted::Tag => value.as_u64().is_some(),
+            Wanted::SignedOctet => signed_octet_in(value).is_some(),
             Wanted::Moment => has_items(value, 3),
+            Wanted::Difference => difference_in(value).is_some(),
+            Wanted::Octets => is_octets(value),
             Wanted::Tags => has_items(value, 4),
-            _ => match value.as_str() {
-                Some(text) => self.is_met_by_text(text),
-                None => false,
-            },
-        }
-    }
-
-    /// Whether a text is what is wanted. The text of a kind or an outcome is looked at elsewhere.
-    fn is_met_by_text(self, text: &str) -> bool {
-        match self {
-            Wanted::Name => Name::new(text).is_some(),
-            Wanted::Identity => text.len() == 16 && is_hexadecimal(text),
-            Wanted::Octets => text.len() <= 108 && text.len() % 2 == 0 && is_hexadecimal(text),
-            Wanted::Difference => is_difference(text.as_bytes()),
-            _ => true,
+            Wanted::TagOrNull => follow_in(value).is_some(),
         }
     }
 
@@ -66,7 +101,7 @@ impl Wanted {
     fn is_number(self) -> bool {
         matches!(
             self,
-            Wanted::Whole { .. } | Wanted::SignedOctet | Wanted::TagOrNull
+            Wanted::Whole { .. } | Wanted::Tag | Wanted::SignedOctet | Wanted::TagOrNull
         )
     }
 
@@ -104,10 +139,12 @@ impl Display for Wanted {
             Wanted::Identity => f.write_str(
                 "wanted are 16 hexadecimal digits of either case, and nothing between them",
             ),
-            Wanted::Whole { most: u64::MAX } => {
-                f.write_str("wanted is a whole number from 0 to 2^64 - 1")
-            }
-            Wanted::Whole { most } => write!(f, "wanted is a whole number from 0 to {most}"),
+            Wanted::Whole { bound } => write!(
+                f,
+                "wanted is a whole number from 0 to {}",
+                bound.saturating_sub(1)
+            ),
+            Wanted::Tag => f.write_str("wanted is a whole number from 0 to 2^64 - 1"),
             Wanted::SignedOctet => f.write_str("wanted is a whole number from -128 to 127"),
             Wanted::Moment => f.write_str("wanted is [seconds, nanoseconds, units of 2^-16 ns]"),
             Wanted::Difference => f.write_str(
@@ -122,48 +159,6 @@ impl Display for Wanted {
             Wanted::TagOrNull => f.write_str("wanted is null or a whole number from 0 to 2^64 - 1"),
         }
     }
-}
-
-/// Whether it is a whole number from 0 to the most.
-fn is_whole(value: &Value, most: u64) -> bool {
-    match value.as_u64() {
-        Some(number) => number <= most,
-        None => false,
-    }
-}
-
-/// Whether it is a whole number from -128 to 127.
-fn is_signed_octet(value: &Value) -> bool {
-    match value.as_i64() {
-        Some(number) => -128 <= number && number <= 127,
-        None => false,
-    }
-}
-
-/// Whether it is an array of this many.
-fn has_items(value: &Value, count: usize) -> bool {
-    match value.as_array() {
-        Some(items) => items.len() == count,
-        None => false,
-    }
-}
-
-/// Whether all are hexadecimal digits, of either case.
-fn is_hexadecimal(text: &str) -> bool {
-    Class::HexDigit.has_all(text.as_bytes())
-}
-
-/// Whether it is a whole number in decimal, within 32 octets, in its one spelling.
-fn is_difference(text: &[u8]) -> bool {
-    match text {
-        b"0" => true,
-        [b'-', digits @ ..] | digits => text.len() <= 32 && is_positive(digits),
-    }
-}
-
-/// Whether these are decimal digits that don't begin with 0.
-fn is_positive(digits: &[u8]) -> bool {
-    matches!(digits, [b'1'..=b'9', ..]) && Class::Digit.has_all(digits)
 }
 
 /// Whether a point or an exponent is there.

@@ -20,15 +20,14 @@ fn sentence(alloc: Global, line: u64, flaw: Option<Flaw<'_>>) -> Result<String, 
     }
 }
 
-/// Whether it says why: that a line is none, without more, is said where the search finds nothing.
+/// Whether it says why, as each flaw does but that of octets which are no JSON for a reason that isn't found.
 pub(crate) fn says_why(flaw: &Flaw<'_>) -> bool {
     !matches!(
         flaw,
-        Flaw::Unknown(_)
-            | Flaw::NoJson {
-                why: JsonFault::Other,
-                ..
-            }
+        Flaw::NoJson {
+            why: JsonFault::Other,
+            ..
+        }
     )
 }
 

@@ -1,10 +1,11 @@
 use Rattle.std.proofs.Common.{◌∙◌, sym, ap, inl, Some}
 use Rattle.serde_json.specs.View.{view}
+use Rattle.line_flaws.specs.declared.flaw.Form.TheVariants.{Schedule}
 use Rattle.line_flaws.proofs.line.scheduled_flaw.Goals as goal
 
 pub returns-in-Some-Node-clause-so : goal.returns-in-Some-Node-clause-so
 returns-in-Some-Node-clause-so c =
-    c.misplaced_node.ensures.so (view c.args.value.now)
+    c.misplaced_node.ensures.so Schedule (view c.args.value.now)
     (inl (_, sym c.of.ensures ∙ c.in-Some-Node.is ∙ ap Some c.in-Some-Node.field-0-is))
 
 pub returns-in-None-clause-so : goal.returns-in-None-clause-so

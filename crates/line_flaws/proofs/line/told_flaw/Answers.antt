@@ -1,15 +1,16 @@
 use Rattle.std.proofs.Common.{◌∙◌, sym, ap, inr, Some}
 use Rattle.serde_json.specs.View.{view}
+use Rattle.line_flaws.specs.declared.flaw.Form.TheVariants.{Transcript}
 use Rattle.line_flaws.proofs.line.told_flaw.Goals as goal
 
 pub returns-in-Some-Event-clause-so : goal.returns-in-Some-Event-clause-so
 returns-in-Some-Event-clause-so c =
-    c.misplaced_event.ensures.so (view c.args.value.now)
+    c.misplaced_event.ensures.so Transcript (view c.args.value.now)
     (_, sym c.of.ensures ∙ c.in-Some-Event.is ∙ ap Some c.in-Some-Event.field-0-is)
 
 pub returns-in-Some-Node-clause-so : goal.returns-in-Some-Node-clause-so
 returns-in-Some-Node-clause-so c =
-    c.misplaced_node.ensures.so (view c.args.value.now)
+    c.misplaced_node.ensures.so Transcript (view c.args.value.now)
     (inr (_, sym c.of.ensures ∙ c.in-Some-Node.is ∙ ap Some c.in-Some-Node.field-0-is))
 
 pub returns-in-None-clause-so : goal.returns-in-None-clause-so

@@ -1,0 +1,11 @@
+use Rattle.std.proofs.Common.{sym, subst}
+use Rattle.serde_json.specs.View.{view}
+use Rattle.line_flaws.specs.declared.key.Key.TheVariants.{Out}
+use Rattle.line_flaws.specs.Truth.{IsNeeded}
+use Rattle.line_flaws.proofs.Searched.{out_needed}
+use Rattle.line_flaws.proofs.search.Search.told_flaw.Goals as goal
+
+pub out_flaw-requires-clause-needed : goal.out_flaw-requires-clause-needed
+out_flaw-requires-clause-needed c =
+    subst (λ form. IsNeeded form (view c.args.self.value.now) Out) (sym c.requires.form)
+    (out_needed (view c.args.self.value.now) c.args.kind.now c.args.own.now c.requires.keys)

@@ -1,0 +1,91 @@
+-- What is wanted of a key's value: that it is read.
+use Rattle.std.specs.Prelude.{◌≡◌, pos, Bool, true, Option, Some, is_some, option_map, option_and_then}
+use Rattle.serde_json.specs.Data.{Data}
+use Rattle.serde_json.specs.Find.{get, as_str}
+use Rattle.schedule_lines.specs.Json.{item_at, whole_in, whole_below, signed_octet_in, name_in, clock_in}
+use Rattle.schedule_lines.specs.Json.{octets_in, moment_in, difference_in}
+use Rattle.schedule_lines.specs.Line.{kind_of}
+use Rattle.schedule_lines.specs.TranscriptLine.{follow_in, report_of}
+use Rattle.line_flaws.specs.Keys.{node_keys, outcome_keys, text_of}
+use Rattle.line_flaws.specs.declared.flaw.Part.{Part}
+use Rattle.line_flaws.specs.declared.flaw.Part.TheVariants as parts
+use Rattle.line_flaws.specs.declared.key.Key.{Key}
+use Rattle.line_flaws.specs.declared.key.Key.TheVariants as keys
+use Rattle.line_flaws.specs.declared.wanted.Wanted.{Wanted}
+use Rattle.line_flaws.specs.declared.wanted.Wanted.TheVariants as wanteds
+
+-- whether a value is one that is wanted of a key: by `ev`, `kind` and `out` something is named, and any other is read
+abbrev pub is_wanted : Key → Data → Bool
+is_wanted keys.Ev d = is_some (option_and_then kind_of (as_str d))
+is_wanted keys.Kind d = is_some (option_and_then node_keys (as_str d))
+is_wanted keys.Node d = is_some (name_in d)
+is_wanted keys.Id d = is_some (clock_in d)
+is_wanted keys.Port d = is_some (whole_below 65536 d)
+is_wanted keys.Domain d = is_some (whole_below 256 d)
+is_wanted keys.First d = is_some (whole_below 65536 d)
+is_wanted keys.Log d = is_some (signed_octet_in d)
+is_wanted keys.At d = is_some (moment_in d)
+is_wanted keys.CopyTag d = is_some (whole_in d)
+is_wanted keys.TransitTag d = is_some (whole_in d)
+is_wanted keys.Master d = is_some (name_in d)
+is_wanted keys.Diff d = is_some (difference_in d)
+is_wanted keys.Number d = is_some (whole_in d)
+is_wanted keys.Reading d = is_some (moment_in d)
+is_wanted keys.Out d = is_some (option_and_then outcome_keys (as_str d))
+is_wanted keys.Hex d = is_some (octets_in d)
+is_wanted keys.Code d = is_some (whole_below 65536 d)
+is_wanted keys.Offset2 d = is_some (difference_in d)
+is_wanted keys.Path2 d = is_some (difference_in d)
+is_wanted keys.Tags d = is_some (report_of (pos 0) (pos 0) d)
+
+-- whether an array has at the place of a part what is read there
+abbrev pub is_wanted_part : Part → Data → Bool
+is_wanted_part parts.Seconds d = is_some (item_at (whole_below 281474976710656) 0 d)
+is_wanted_part parts.Nanoseconds d = is_some (item_at (whole_below 1000000000) 1 d)
+is_wanted_part parts.Fraction d = is_some (item_at (whole_below 65536) 2 d)
+is_wanted_part parts.SyncTag d = is_some (item_at whole_in 0 d)
+is_wanted_part parts.FollowTag d = is_some (item_at follow_in 1 d)
+is_wanted_part parts.RequestTag d = is_some (item_at whole_in 2 d)
+is_wanted_part parts.ResponseTag d = is_some (item_at whole_in 3 d)
+
+-- whether the value of a key is one that is wanted; None where the key isn't there
+abbrev pub wanted_at : Key → Data → Option Bool
+wanted_at key d = option_map (is_wanted key) (get (text_of key) d)
+
+-- a key is there, with a value that is wanted
+abbrev pub HasWanted : Data → Key → Type 0
+HasWanted d key = wanted_at key d ≡ Some true
+
+-- what is told to be wanted of a key's value
+abbrev pub wanted_of : Key → Wanted
+wanted_of keys.Ev = wanteds.EventKind
+wanted_of keys.Kind = wanteds.NodeKind
+wanted_of keys.Node = wanteds.Name
+wanted_of keys.Id = wanteds.Identity
+wanted_of keys.Port = wanteds.Whole 65536
+wanted_of keys.Domain = wanteds.Whole 256
+wanted_of keys.First = wanteds.Whole 65536
+wanted_of keys.Log = wanteds.SignedOctet
+wanted_of keys.At = wanteds.Moment
+wanted_of keys.CopyTag = wanteds.Tag
+wanted_of keys.TransitTag = wanteds.Tag
+wanted_of keys.Master = wanteds.Name
+wanted_of keys.Diff = wanteds.Difference
+wanted_of keys.Number = wanteds.Tag
+wanted_of keys.Reading = wanteds.Moment
+wanted_of keys.Out = wanteds.Outcome
+wanted_of keys.Hex = wanteds.Octets
+wanted_of keys.Code = wanteds.Whole 65536
+wanted_of keys.Offset2 = wanteds.Difference
+wanted_of keys.Path2 = wanteds.Difference
+wanted_of keys.Tags = wanteds.Tags
+
+-- what is told to be wanted of a part
+abbrev pub part_wanted : Part → Wanted
+part_wanted parts.Seconds = wanteds.Whole 281474976710656
+part_wanted parts.Nanoseconds = wanteds.Whole 1000000000
+part_wanted parts.Fraction = wanteds.Whole 65536
+part_wanted parts.SyncTag = wanteds.Tag
+part_wanted parts.FollowTag = wanteds.TagOrNull
+part_wanted parts.RequestTag = wanteds.Tag
+part_wanted parts.ResponseTag = wanteds.Tag
