@@ -1,4 +1,7 @@
 //! A report that is refused, with what each reason against it met.
+ghost use Rattle.std.specs.Prelude.{◌≡◌, ◌++◌, List, ℕ, OnOk, codes};
+ghost use Rattle.std.specs.String.{string_bytes};
+ghost use Rattle.exchange_story.specs.Report.{begin_text, TellsReasons};
 
 use crate::exchange::push_exchange;
 use crate::record::Record;
@@ -19,17 +22,46 @@ pub(crate) struct Case<'a> {
 
 impl Case<'_> {
     /// Appends the reasons against the report, each with what it met, and then the report's lines and results.
-    pub(crate) fn push(&self, text: &mut String) -> Result<(), AllocError> {
+    pub(crate) fn push(&self, text: &mut String) -> Result<(), AllocError>
+        ensures { OnOk result ((reasons : List ℕ) × (lines : List ℕ)
+            × TellsReasons (codes "refused, ") self.now.reported.now.judgement.reasons reasons
+            × (string_bytes text.new ≡ string_bytes text.old ++ (begin_text self.now.reported.now ++ (reasons ++ lines)))) }
+    {
         push_begin(text, self.reported)?;
+        self.push_reasons(text)?;
+        self.push_lines(text)
+    }
+
+    /// Appends the reasons, each with what it met.
+    fn push_reasons(&self, text: &mut String) -> Result<(), AllocError>
+        ensures { OnOk result ((reasons : List ℕ)
+            × TellsReasons (codes "refused, ") self.now.reported.now.judgement.reasons reasons
+            × (string_bytes text.new ≡ string_bytes text.old ++ reasons)) }
+    {
         let reasons = self.reported.judgement.reasons.as_slice();
-        for (index, why) in reasons.iter().enumerate() {
-            push_reason(text, index, *why)?;
-            self.push_met(text, *why)?;
+        let mut met = String::new(self.alloc);
+        let mut lead = "refused, ";
+        for why in reasons {
+            push_reason(text, lead, *why)?;
+            lead = "  and ";
+            met.clear();
+            write!(met, "{why}\n")?;
+            self.push_met(&mut met, *why)?;
+            text.push_str(met.as_str())?;
         }
+        Ok(())
+    }
+
+    /// Appends the lines of the report's exchange, where there is one, and its results.
+    fn push_lines(&self, text: &mut String) -> Result<(), AllocError>
+        ensures { OnOk result ((lines : List ℕ) × (string_bytes text.new ≡ string_bytes text.old ++ lines)) }
+    {
+        let mut lines = String::new(self.alloc);
         if let Some(exchange) = self.exchange {
-            push_exchange(text, self.record.nodes().len() as u64, exchange)?;
+            push_exchange(&mut lines, self.record.nodes().len() as u64, exchange)?;
         }
-        push_results(text, self.reported)
+        push_results(&mut lines, self.reported)?;
+        text.push_str(lines.as_str())
     }
 
     /// Appends what a reason met.

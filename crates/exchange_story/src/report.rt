@@ -1,4 +1,8 @@
 //! What a report is judged to be, for a person.
+ghost use Rattle.std.specs.Prelude.{◌≡◌, ◌++◌, OnOk, codes};
+ghost use Rattle.std.specs.String.{string_bytes};
+ghost use Rattle.exchange_story.specs.Report.{begin_text, reason_text};
+ghost use Rattle.exchange_story.specs.Inner.Sound.{is_sound};
 
 use exchange_check::{Judgement, Why};
 use network_model::{Name, Report};
@@ -19,16 +23,6 @@ pub struct Reported {
     pub report: Report,
     /// What the report is judged to be.
     pub judgement: Judgement,
-}
-
-/// A reason by its number and in words.
-#[derive(Clone, Copy)]
-struct Reason(Why);
-
-impl Display for Reason {
-    fn fmt<W: fmt::Write>(&self, f: &mut Formatter<W>) -> fmt::Result {
-        write!(f, "{}: {}", self.0.code(), self.0)
-    }
 }
 
 /// By how much a reported number differs from the one by the readings.
@@ -62,31 +56,38 @@ impl Display for Difference {
 }
 
 /// Whether no reason stands against a report.
-pub(crate) fn is_sound(reported: &Reported) -> bool {
+pub(crate) fn is_sound(reported: &Reported) -> bool
+    ensures { result ≡ is_sound reported.now.judgement.reasons }
+{
     reported.judgement.reasons.as_slice().is_empty()
 }
 
 /// Appends the beginning of a report's first line.
-pub(crate) fn push_begin(text: &mut String, reported: &Reported) -> Result<(), AllocError> {
-    let Reported {
-        line,
-        event,
-        node,
-        ..
-    } = reported;
-    write!(text, "event {event}, line {line}, slave {}: ", node.text())
+pub(crate) fn push_begin(text: &mut String, reported: &Reported) -> Result<(), AllocError>
+    ensures { OnOk result (string_bytes text.new ≡ string_bytes text.old ++ begin_text reported.now) }
+{
+    write!(
+        text,
+        "event {}, line {}, slave {}: ",
+        reported.event,
+        reported.line,
+        reported.node.text()
+    )
 }
 
 /// Appends the line of a sound report.
-pub(crate) fn push_sound(text: &mut String, reported: &Reported) -> Result<(), AllocError> {
+pub(crate) fn push_sound(text: &mut String, reported: &Reported) -> Result<(), AllocError>
+    ensures { OnOk result (string_bytes text.new ≡ string_bytes text.old ++ (begin_text reported.now ++ codes "sound\n")) }
+{
     push_begin(text, reported)?;
     text.push_str("sound\n")
 }
 
-/// Appends one of the reasons, after what leads to it in its line.
-pub(crate) fn push_reason(text: &mut String, index: usize, why: Why) -> Result<(), AllocError> {
-    let lead = if index == 0 { "refused, " } else { "  and " };
-    write!(text, "{lead}{}\n", Reason(why))
+/// Appends the number of a reason, after what leads to it in its line.
+pub(crate) fn push_reason(text: &mut String, lead: &str, why: Why) -> Result<(), AllocError>
+    ensures { OnOk result (string_bytes text.new ≡ string_bytes text.old ++ reason_text lead.now why) }
+{
+    write!(text, "{lead}{}: ", why.code())
 }
 
 /// Appends the two results, as they are reported and by the readings; nothing where no readings are found.

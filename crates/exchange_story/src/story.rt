@@ -1,4 +1,7 @@
 //! What is told of a transcript's reports.
+ghost use Rattle.std.specs.Prelude.{◌≡◌, ◌++◌, List, ℕ, OnOk};
+ghost use Rattle.std.specs.String.{string_bytes};
+ghost use Rattle.exchange_story.specs.Report.{TellsReport};
 
 use crate::case::Case;
 use crate::record::Record;
@@ -53,7 +56,10 @@ impl Story {
         text: &mut String,
         checker: &'a Checker,
         reported: &'a Reported,
-    ) -> Result<(), AllocError> {
+    ) -> Result<(), AllocError>
+        ensures { OnOk result ((told : List ℕ) × TellsReport reported.now told
+            × (string_bytes text.new ≡ string_bytes text.old ++ told)) }
+    {
         if is_sound(reported) {
             return push_sound(text, reported);
         }

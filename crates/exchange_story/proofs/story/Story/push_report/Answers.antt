@@ -1,0 +1,10 @@
+use Rattle.std.proofs.Common.{◌∙◌, sym}
+use Rattle.exchange_story.proofs.Told.{refused_told, sound_told}
+use Rattle.exchange_story.proofs.story.Story.push_report.Goals as goal
+
+pub returns-then-is_sound : goal.returns-then-is_sound
+returns-then-is_sound c =
+    sound_told c.push_sound.result c.args.reported.now _ _ _ (sym c.is_sound.ensures ∙ c.if-is_sound.true) c.push_sound.ensures
+
+pub returns : goal.returns
+returns c = refused_told c.push.result c.args.reported.now _ _ _ (sym c.is_sound.ensures ∙ c.if-is_sound.false) c.push.ensures
