@@ -1,5 +1,6 @@
 """Asks the reader and the program for a capture's lines, and says what is wrong with what they answer."""
 import collections
+import concurrent.futures
 import itertools
 import os
 import pathlib
@@ -16,6 +17,9 @@ PROGRAM = None if '--reader' in sys.argv[1:] else os.environ.get('PTPX', TOP / '
 
 # With --pcap the program is asked for captures of that kind alone.
 PCAP_ALONE = '--pcap' in sys.argv[1:]
+
+# How many cases are tried at once.
+AT_ONCE = 4
 
 FAULT = re.compile(rb'^ptpx: fault (\d+) at octet (\d+), after (\d+) packets?: .+\n', re.M)
 
@@ -83,6 +87,20 @@ def fail(text, octets=None):
             file.write(octets)
         text += f'; the capture is {file.name}'
     raise SystemExit(f'captures: {text}')
+
+
+def try_kinds(kinds, what, wanted):
+    """Tries all cases of each kind, which has how one is tried by its number and how many there are, and says what they were. Ends where one of these
+    things was never seen."""
+    seen = collections.Counter()
+    with concurrent.futures.ProcessPoolExecutor(AT_ONCE) as pool:
+        for kind, (try_one, count) in kinds.items():
+            for one in pool.map(try_one, range(count()), chunksize=10):
+                seen += one
+            print(f'captures: {count()} {kind}, {what}')
+    missed = [name for name in wanted if name not in seen]
+    if missed:
+        fail(f'nothing {what} had {", ".join(missed)}')
 
 
 def see(name, case):

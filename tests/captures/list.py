@@ -3,10 +3,10 @@ of `ptpx extract` over the same capture.
 
 - Captures of messages of every type, by a seed, at interfaces of all kinds of names, with more rows than a table has.
 - Captures of exchanges, which are made by exchanging.py, and the example.
+- Of captures that have interfaces, one is asked for: each that is met, by its name, and one that none has.
 - Captures of every form are those of captures.py, also cut at each octet, bent and broken.
 - A writer that fails is told, and of a capture that has a fault, the fault."""
 import collections
-import concurrent.futures
 import functools
 import random
 import subprocess
@@ -17,12 +17,11 @@ import exchanging
 import made
 import making
 import reading
-from asking import PROGRAM, TOP, difference, fail
+from asking import PROGRAM, TOP, difference, fail, try_kinds
 from cases import SMALL
 from listing import Listing
 
 EXAMPLE = TOP / 'examples/slave.pcap'
-AT_ONCE = 4
 
 # Names of interfaces: none, plain ones, ones that a shell has to be given in quotes, and ones that are cut in a row.
 INTERFACES = [None, 'eth0', 'eth1', 'br-lan.7', 'if0', 'Local Area Connection', r'\Device\NPF_{0}', "it's", '"', '\t\n', 'ä', '-', 'n' * 64, 'm' * 65, 'é' * 40]
@@ -33,7 +32,8 @@ PORTS = [bytes.fromhex('001122fffe334455') + number.to_bytes(2, 'big') for numbe
 CORRECTIONS = [0, 1, -1, 65536, -65536, 2**63 - 1, 2**63 - 2, -2**63, 98304, 0x1234_5678_9abc, *(2**bit for bit in range(16))]
 
 # What must have been seen.
-SEEN = ['no message', 'a message', 'calls', 'further rows', 'another version', 'too short', 'a fault', 'no fault']
+SEEN = ['no message', 'a message', 'calls', 'further rows', 'another version', 'too short', 'a fault', 'no fault', 'some at one interface', 'all at one interface',
+        'none at one interface']
 
 
 class Said(typing.NamedTuple):
@@ -84,19 +84,20 @@ def many_interfaces():
     return bytes(capture.octets)
 
 
-def owed(octets):
+def owed(octets, interface=None):
     """The text that is owed, and what was seen."""
-    answer = reading.read(octets)
+    answer = reading.read(octets, interface)
     listing = Listing(answer.rows)
     seen = ['a message' if listing.rows else 'no message', 'a fault' if answer.fault else 'no fault']
     counts = {'further rows': listing.further, 'another version': listing.other_version, 'too short': listing.too_short, 'calls': any(listing.calls())}
     return listing.text().encode(), [*seen, *(name for name, count in counts.items() if count)]
 
 
-def see(name, octets):
+def see(name, octets, interface=None):
     """Ends where an answer is wrong. Else answers what was seen."""
-    text, seen = owed(octets)
-    said, extracted = ask(octets, '--list'), ask(octets)
+    text, seen = owed(octets, interface)
+    of_interface = [] if interface is None else ['--interface', interface]
+    said, extracted = ask(octets, '--list', *of_interface), ask(octets, *of_interface)
     if said.output != text:
         fail(f'{name}: {difference(said.output, text)}', octets)
     if (said.status, said.errors) != (extracted.status, extracted.errors):
@@ -116,6 +117,30 @@ def try_made(number):
 
 def try_messages(number):
     return see(f'of messages, number {number}', messages(number))
+
+
+def try_interfaces(name, octets):
+    """Asks for each interface that is met, by its name, and for one that none has."""
+    rows, seen = reading.read(octets).rows, collections.Counter()
+    for one in [*sorted({row.interface.name for row in rows}), b'eth9']:
+        seen += see(f'{name}, at {one!r}', octets, one)
+        met = len(reading.read(octets, one).rows)
+        seen[f'{"none" if not met else "all" if met == len(rows) else "some"} at one interface'] += 1
+    return seen
+
+
+@functools.cache
+def with_interfaces():
+    """The captures that are made by hand and describe interfaces, but for that of very many."""
+    return [(name, octets) for name, octets in made_by_hand() if octets[:4] == reading.SECTION_TYPE and name != 'many interfaces']
+
+
+def try_made_at_one(number):
+    return try_interfaces(*with_interfaces()[number])
+
+
+def try_messages_at_one(number):
+    return try_interfaces(f'of messages, number {number}', messages(number))
 
 
 @functools.cache
@@ -140,7 +165,9 @@ def try_bent(number):
 # Of each kind how a case is tried by its number, and how many there are.
 KINDS = {
     'of exchanges': (try_made, lambda: len(made_by_hand())),
+    'of exchanges at one interface': (try_made_at_one, lambda: len(with_interfaces())),
     'of messages by a seed': (try_messages, lambda: 200),
+    'of messages at one interface': (try_messages_at_one, lambda: 40),
     'cut': (try_cut, lambda: len(cuts())),
     'of every form': (try_of_every_form, lambda: 100),
     'bent': (try_bent, lambda: 200),
@@ -158,15 +185,7 @@ def try_devices():
 
 
 def main():
-    seen = collections.Counter()
-    with concurrent.futures.ProcessPoolExecutor(AT_ONCE) as pool:
-        for kind, (try_one, count) in KINDS.items():
-            for one in pool.map(try_one, range(count()), chunksize=10):
-                seen += one
-            print(f'captures: {count()} {kind}, listed')
-    unseen = [name for name in SEEN if name not in seen]
-    if unseen:
-        fail(f'nothing listed had {", ".join(unseen)}')
+    try_kinds(KINDS, 'listed', SEEN)
     try_devices()
 
 

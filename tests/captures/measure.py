@@ -8,7 +8,6 @@ the same.
 - Inputs that are no capture are lines, whatever they begin with.
 - A writer and a reader that fail are told at the packet, or at a line before all packets."""
 import collections
-import concurrent.futures
 import functools
 import itertools
 import json
@@ -24,12 +23,11 @@ import judges
 import made
 import pausing
 import reading
-from asking import PCAP_ALONE, PROGRAM, TOP, difference, fail
+from asking import PCAP_ALONE, PROGRAM, TOP, difference, fail, try_kinds
 from cases import SMALL
 from choosing import Wanted
 
 EXAMPLE = TOP / 'examples/slave.pcap'
-AT_ONCE = 4
 HEAD = b'time,offset_ns,path_ns,by,line\n'
 WHOLE = b'ptpx: all times are of whole microseconds\n'
 NO_INTERFACE = b'ptpx: lines have no interface, so --interface changes nothing\n'
@@ -225,7 +223,14 @@ def try_lines(number):
     return see(f'no capture, {octets[:40]!r}', Case(octets, wanted), forms=(True, False))
 
 
-def try_edited(name, octets):
+@functools.cache
+def edited():
+    """What other programs make of the example, where they are there."""
+    return list(judges.edited(EXAMPLE)) if judges.are_there('editcap', 'mergecap') else []
+
+
+def try_edited(number):
+    name, octets = edited()[number]
     return see(name, Case(octets), forms=(True, False))
 
 
@@ -239,6 +244,7 @@ KINDS = {
     'bent': (try_bent, lambda: 400),
     'of exchanges, bent': (try_bent_exchanges, lambda: 500),
     'that are none, but lines': (try_lines, lambda: len(inputs_of_lines())),
+    'by editcap and mergecap': (try_edited, lambda: len(edited())),
 }
 
 
@@ -285,17 +291,7 @@ def try_pipes():
 
 
 def main():
-    seen = collections.Counter()
-    with concurrent.futures.ProcessPoolExecutor(AT_ONCE) as pool:
-        for kind, (try_one, count) in KINDS.items():
-            for one in pool.map(try_one, range(count()), chunksize=10):
-                seen += one
-            print(f'captures: {count()} {kind}, measured')
-        if judges.are_there('editcap', 'mergecap'):
-            list(pool.map(try_edited, *zip(*judges.edited(EXAMPLE))))
-    unseen = [name for name in SEEN if name not in seen]
-    if unseen:
-        fail(f'nothing measured had {", ".join(unseen)}')
+    try_kinds(KINDS, 'measured', SEEN)
     try_devices()
     try_pipes()
 

@@ -203,11 +203,10 @@ def read_description(octets, block, interfaces):
     options = read_options(octets, block)
     name = options.get(NAME, b'')
     own = name if name and name not in [other.own for other in interfaces] else None
-    if not name or name in [other.name for other in interfaces]:
-        name = b'if%d' % len(interfaces)
+    called = b'if%d' % len(interfaces) if own is None else own
     resolution = options.get(RESOLUTION, b'\x06')[0]
     offset = int.from_bytes(options.get(OFFSET, b''), octets.order, signed=True)
-    return Interface(name, link, resolution, offset, len(interfaces), own)
+    return Interface(called, link, resolution, offset, len(interfaces), own)
 
 
 def read_enhanced(octets, block, interfaces):
