@@ -13,7 +13,7 @@ use Rattle.capture_measure.specs.declared.watch.Wanted.{Wanted}
 use Rattle.capture_measure.specs.Watch.{is_request, port_in, watched_by, watched_in}
 use Rattle.capture_model.specs.Told.{is_sync}
 use Rattle.capture_measure.specs.Row.{Row, datagrams, heard, kept_most}
-use Rattle.capture_measure.specs.Measured.{reports_text}
+use Rattle.capture_measure.specs.Measured.{texts_as, measurements}
 use Rattle.capture_measure.specs.Interfaces.{InterfaceRow, rows_at, is_among, interfaces_in, interfaces_most}
 use Rattle.capture_measure.specs.Chosen.{is_domain_met, is_port_met, is_met, watched_at, chosen_by, chosen, heard_with, heard_at}
 use Rattle.capture_measure.specs.Chosen.{capture_watched}
@@ -130,5 +130,5 @@ module _ (w : Wanted) (asks : AsksForNothing w) (interface : InterfaceOf) where
           ∙ ap (λ (rs : List Row). watched_in w (datagrams rs)) (all_rows interface rows at) ∙ is
 
 pub as_lines : OneInterfaceIsMeasuredAsLines
-as_lines form w interface rows asks at = λ i.
-    option_map_or (λ watched. reports_text form watched (heard_one w asks interface rows at i)) (of_one w asks interface rows at i) []
+as_lines form w interface rows asks at = λ i. texts_as form
+    (option_map_or (λ watched. measurements watched (heard_one w asks interface rows at i)) (of_one w asks interface rows at i) [])

@@ -1,21 +1,21 @@
--- Whom a capture is of stays so, and what one more row adds to all that is written.
+-- Whom a capture is of stays so, and what one more row adds to all that is measured.
 use Rattle.std.proofs.Common.{◌≡◌, ◌∙◌, ℕ, nat_le, Bool, true, false, ◌==◌, ◌&&◌, ◌||◌}
 use Rattle.std.proofs.Common.{List, [], ◌∷◌, ◌++◌, length, Option, Some, None, refl, sym, ap, append-nil}
-use Rattle.std.specs.Prelude.{if◌then◌else◌, is_some, option_and_then}
+use Rattle.std.specs.Prelude.{if◌then◌else◌, is_some, option_and_then, option_to_list}
 use Rattle.std.specs.Option.{option_or, option_map_or}
 use Rattle.std.proofs.lemmas.Bool.{and_parts, and_from}
 use Rattle.event_codec.specs.declared.port.PortIdentity.{PortIdentity}
 use Rattle.capture_file.specs.Packet.{InterfaceOf}
 use Rattle.capture_model.specs.declared.watched.Watched.{Watched}
 use Rattle.capture_model.specs.Recorded.{Recorded}
-use Rattle.capture_measure.specs.declared.measuring.Form.{Form}
+use Rattle.capture_lines.specs.Measurement.{Measured}
 use Rattle.capture_measure.specs.declared.watch.Wanted.{Wanted}
 use Rattle.capture_measure.specs.Watch.{watched_in}
 use Rattle.capture_measure.specs.Row.{Row, datagrams, kept_most}
-use Rattle.capture_measure.specs.Measured.{report_text, reports_text}
+use Rattle.capture_measure.specs.Measured.{measured_at, measurements}
 use Rattle.capture_measure.specs.Interfaces.{InterfaceRow, is_same_interface, rows_at, is_among, interfaces_in}
 use Rattle.capture_measure.specs.Chosen.{tells, is_domain_met, is_port_met, is_met, watched_at, chosen_by, chosen}
-use Rattle.capture_measure.specs.Chosen.{heard_with, heard_at, capture_watched, capture_written}
+use Rattle.capture_measure.specs.Chosen.{heard_with, heard_at, capture_watched, capture_measured}
 use Rattle.capture_measure.proofs.Told.{watched-stays}
 
 -- ---- what was met stays so
@@ -115,47 +115,42 @@ module _ (w : Wanted) (rows : List InterfaceRow) (r : InterfaceRow) where
   capture-first watched is known =
       ap (option_and_then (λ i. watched_at w (datagrams (rows_at i (r ∷ rows))))) is ∙ known
 
--- ---- what is written
-pub written-known : (form : Form) (w : Wanted) (rows : List InterfaceRow) (watched : Watched) → capture_watched w rows ≡ Some watched
-    → capture_written form w rows ≡ reports_text form watched (heard_at w rows)
-written-known form w rows watched known =
-    ap (λ o. option_map_or (λ watched. reports_text form watched (heard_at w rows)) o []) known
+-- ---- what is measured
+pub measured-known : (w : Wanted) (rows : List InterfaceRow) (watched : Watched) → capture_watched w rows ≡ Some watched
+    → capture_measured w rows ≡ measurements watched (heard_at w rows)
+measured-known w rows watched known = ap (λ o. option_map_or (λ watched. measurements watched (heard_at w rows)) o []) known
 
-pub written-unknown : (form : Form) (w : Wanted) (rows : List InterfaceRow) → chosen w rows ≡ None
-    → capture_written form w rows ≡ []
-written-unknown form w rows none =
-    ap (λ o. option_map_or (λ watched. reports_text form watched (heard_at w rows))
+pub measured-unknown : (w : Wanted) (rows : List InterfaceRow) → chosen w rows ≡ None → capture_measured w rows ≡ []
+measured-unknown w rows none =
+    ap (λ o. option_map_or (λ watched. measurements watched (heard_at w rows))
     (option_and_then (λ i. watched_at w (datagrams (rows_at i rows))) o) []) none
 
-module _ (form : Form) (w : Wanted) (rows : List InterfaceRow) (r : InterfaceRow) where
+module _ (w : Wanted) (rows : List InterfaceRow) (r : InterfaceRow) where
   -- one more that is heard
-  pub written-more : (interface : InterfaceOf) (watched : Watched) → chosen w rows ≡ Some interface
+  pub measured-more : (interface : InterfaceOf) (watched : Watched) → chosen w rows ≡ Some interface
       → capture_watched w rows ≡ Some watched → is_same_interface interface r.interface ≡ true
-      → capture_written form w (r ∷ rows) ≡ capture_written form w rows ++ report_text form watched (heard_at w rows) r.row
-  written-more interface watched is known same =
-      written-known form w (r ∷ rows) watched (capture-stays w rows r interface watched is known)
-      ∙ ap (reports_text form watched) (heard-known w rows r interface true is same)
-      ∙ ap (λ (t : List ℕ). t ++ report_text form watched (heard_at w rows) r.row) (sym (written-known form w rows watched known))
+      → capture_measured w (r ∷ rows) ≡ option_to_list (measured_at watched (heard_at w rows) r.row) ++ capture_measured w rows
+  measured-more interface watched is known same =
+      measured-known w (r ∷ rows) watched (capture-stays w rows r interface watched is known)
+      ∙ ap (measurements watched) (heard-known w rows r interface true is same)
+      ∙ ap (λ (ms : List Measured). option_to_list (measured_at watched (heard_at w rows) r.row) ++ ms)
+      (sym (measured-known w rows watched known))
 
   -- one at another interface
-  pub written-other : (interface : InterfaceOf) (watched : Watched) → chosen w rows ≡ Some interface
+  pub measured-other : (interface : InterfaceOf) (watched : Watched) → chosen w rows ≡ Some interface
       → capture_watched w rows ≡ Some watched → is_same_interface interface r.interface ≡ false
-      → capture_written form w (r ∷ rows) ≡ capture_written form w rows ++ []
-  written-other interface watched is known other =
-      written-known form w (r ∷ rows) watched (capture-stays w rows r interface watched is known)
-      ∙ ap (reports_text form watched) (heard-known w rows r interface false is other)
-      ∙ sym (written-known form w rows watched known) ∙ sym (append-nil (capture_written form w rows))
+      → capture_measured w (r ∷ rows) ≡ capture_measured w rows
+  measured-other interface watched is known other =
+      measured-known w (r ∷ rows) watched (capture-stays w rows r interface watched is known)
+      ∙ ap (measurements watched) (heard-known w rows r interface false is other) ∙ sym (measured-known w rows watched known)
 
   -- the one by which it is known whom the capture is of
-  pub written-first : (watched : Watched) (heard : List Row) → chosen w rows ≡ None → capture_watched w (r ∷ rows) ≡ Some watched
-      → heard_at w (r ∷ rows) ≡ heard
-      → capture_written form w (r ∷ rows) ≡ capture_written form w rows ++ reports_text form watched heard
-  written-first watched heard none known is =
-      written-known form w (r ∷ rows) watched known ∙ ap (reports_text form watched) is
-      ∙ ap (λ (t : List ℕ). t ++ reports_text form watched heard) (sym (written-unknown form w rows none))
+  pub measured-first : (watched : Watched) (heard : List Row) → chosen w rows ≡ None → capture_watched w (r ∷ rows) ≡ Some watched
+      → heard_at w (r ∷ rows) ≡ heard → capture_measured w (r ∷ rows) ≡ measurements watched heard ++ capture_measured w rows
+  measured-first watched heard none known is =
+      measured-known w (r ∷ rows) watched known ∙ ap (measurements watched) is ∙ sym (append-nil (measurements watched heard))
+      ∙ ap (λ (ms : List Measured). measurements watched heard ++ ms) (sym (measured-unknown w rows none))
 
-  -- while it isn't known nothing is written
-  pub written-still : chosen w rows ≡ None → chosen w (r ∷ rows) ≡ None
-      → capture_written form w (r ∷ rows) ≡ capture_written form w rows ++ []
-  written-still none still =
-      written-unknown form w (r ∷ rows) still ∙ ap (λ (t : List ℕ). t ++ []) (sym (written-unknown form w rows none))
+  -- while it isn't known nothing is measured
+  pub measured-still : chosen w rows ≡ None → chosen w (r ∷ rows) ≡ None → capture_measured w (r ∷ rows) ≡ capture_measured w rows
+  measured-still none still = measured-unknown w (r ∷ rows) still ∙ sym (measured-unknown w rows none)

@@ -19,9 +19,9 @@ use Rattle.capture_measure.specs.declared.measuring.Form.{Form}
 use Rattle.capture_measure.specs.declared.watch.Wanted.{Wanted}
 use Rattle.capture_measure.specs.Watch.{watched_in}
 use Rattle.capture_measure.specs.Row.{Row, datagrams, is_known, heard, kept_most}
-use Rattle.capture_measure.specs.Measured.{text_as, measured_at, measurements, reports_text, written}
+use Rattle.capture_measure.specs.Measured.{texts_as, measurements, written}
 use Rattle.capture_measure.specs.Measure.{Recording, begun, written_of, measure_rules}
-use Rattle.capture_measure.specs.Exact.{texts_as, EachMeasurementIsExact}
+use Rattle.capture_measure.specs.Exact.{EachMeasurementIsExact}
 
 -- one more report, or none
 all_with : (P : Report → Type 0) (report : Option Report) (rest : List Report) (make : Report → Measured)
@@ -38,19 +38,6 @@ pub all_measured : (P : Report → Type 0) (watched : Watched) (rows : List Row)
 all_measured P watched [] all = All-nil (λ m. P m.report)
 all_measured P watched (row ∷ earlier) all = all_with P (report_at watched (datagrams earlier) row.datagram) _ _ _
     (λ r holds. holds) (all_measured P watched earlier) all
-
-text_with : (form : Form) (m : Option Measured) (ms : List Measured) (text : List ℕ) → text ≡ texts_as form ms
-    → text ++ option_map_or (text_as form) m [] ≡ texts_as form (option_to_list m ++ ms)
-text_with form (Some m) ms text same = ap (λ (t : List ℕ). t ++ text_as form m) same
-text_with form None ms text same = append-nil text ∙ same
-
--- the texts of all reports are those of what is measured
-pub texts_measured : (form : Form) (watched : Watched) (rows : List Row)
-    → reports_text form watched rows ≡ texts_as form (measurements watched rows)
-texts_measured form watched [] = refl
-texts_measured form watched (row ∷ earlier) =
-    text_with form (measured_at watched earlier row) (measurements watched earlier) (reports_text form watched earlier)
-    (texts_measured form watched earlier)
 
 -- rows have the numbers of lines from 1 on
 abbrev pub AreCounted : List Row → Type 0
@@ -120,7 +107,7 @@ heard_numbered w (row ∷ rows) counted =
     (numbered_more (length rows) row.datagram (datagrams (heard w rows)) before.0 before.1 counted.0)
     (rows_numbered (row ∷ rows) counted)
 
-nothing_of : (watched : Option Watched) → option_map_or {U = List ℕ} (λ w. []) watched [] ≡ []
+nothing_of : (watched : Option Watched) → option_map_or {U = List Measured} (λ w. []) watched [] ≡ []
 nothing_of (Some w) = refl
 nothing_of None = refl
 
@@ -129,10 +116,9 @@ written_exactly : (form : Form) (wanted : Wanted) (w : Watched) (read : Recordin
     → IsReadOn (begun form wanted) read text → watched_in wanted (datagrams read.rows) ≡ Some w
     → text ≡ texts_as form (measurements w (heard wanted read.rows))
 written_exactly form wanted w read text on known =
-    sym (on.written ∙ ap (λ (t : List ℕ). t ++ text) (nothing_of (watched_in wanted [])))
+    sym (on.written ∙ ap (λ (ms : List Measured). texts_as form ms ++ text) (nothing_of (watched_in wanted [])))
     ∙ (λ i. written (on.form i) (on.wanted i) read.rows)
-    ∙ ap (λ (o : Option Watched). option_map_or (λ v. reports_text form v (heard wanted read.rows)) o []) known
-    ∙ texts_measured form w (heard wanted read.rows)
+    ∙ ap (λ (o : Option Watched). texts_as form (option_map_or (λ v. measurements v (heard wanted read.rows)) o [])) known
 
 pub each_measurement : EachReportIsExact → EachMeasurementIsExact
 each_measurement each_report network run slave master w moved form wanted lines read text accepted watches taken known tells

@@ -13,13 +13,12 @@ use Rattle.capture_model.specs.Exact.{IsExact, EachReportIsExact}
 use Rattle.capture_measure.specs.declared.measuring.Form.{Form}
 use Rattle.capture_measure.specs.declared.watch.Wanted.{Wanted}
 use Rattle.capture_measure.specs.Row.{Row, datagrams, kept_most}
-use Rattle.capture_measure.specs.Measured.{measurements, reports_text}
+use Rattle.capture_measure.specs.Measured.{texts_as, measurements}
 use Rattle.capture_measure.specs.Interfaces.{InterfaceRow, is_same_interface, rows_at}
 use Rattle.capture_measure.specs.Chosen.{chosen, heard_with, heard_at, capture_watched, capture_written}
 use Rattle.capture_measure.specs.Capture.{Capture, IsPacketRow, capture_begun, capture_text, capture_rules}
-use Rattle.capture_measure.specs.Exact.{texts_as}
 use Rattle.capture_measure.specs.ExactCapture.{EachMeasurementOfACaptureIsExact}
-use Rattle.capture_measure.proofs.Exact.{all_measured, texts_measured}
+use Rattle.capture_measure.proofs.Exact.{all_measured}
 
 -- ---- the numbers of rows rise
 abbrev AreRising : (most : ℕ) → List Row → Type 0
@@ -121,8 +120,7 @@ written_exactly : (form : Form) (wanted : Wanted) (w : Watched) (read : Capture)
 written_exactly form wanted w read text most on known =
     sym on.written
     ∙ (λ i. capture_written (on.form i) (on.wanted i) read.rows)
-    ∙ ap (λ (o : Option Watched). option_map_or (λ v. reports_text form v (heard_at wanted read.rows)) o []) known
-    ∙ texts_measured form w (heard_at wanted read.rows)
+    ∙ ap (λ (o : Option Watched). texts_as form (option_map_or (λ v. measurements v (heard_at wanted read.rows)) o [])) known
 
 pub each_measurement : EachReportIsExact → EachMeasurementOfACaptureIsExact
 each_measurement each_report network run slave master w moved form wanted packets read text accepted watches taken known tells

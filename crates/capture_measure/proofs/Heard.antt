@@ -1,6 +1,6 @@
 -- What comes of a datagram that is heard.
-use Rattle.std.proofs.Common.{◌≡◌, ◌∙◌, ℕ, List, [], Option, Some, None, Result, Ok, Err, refl, sym, ap}
-use Rattle.std.specs.Prelude.{OnOk, option_map}
+use Rattle.std.proofs.Common.{◌≡◌, ◌∙◌, ℕ, List, [], ◌∷◌, Option, Some, None, Result, Ok, Err, refl, sym, ap}
+use Rattle.std.specs.Prelude.{OnOk, option_map, option_to_list}
 use Rattle.std.specs.Option.{option_map_or}
 use Rattle.std.specs.Result.{result_ok}
 use Rattle.event_codec.specs.declared.message.Message.{Message}
@@ -13,10 +13,10 @@ use Rattle.capture_model.specs.Listening.{report_at}
 use Rattle.capture_model.specs.Recorded.{Recorded}
 use Rattle.capture_lines.specs.declared.measurement.Half.{Half}
 use Rattle.capture_lines.specs.declared.measurement.Half.TheVariants as halves
-use Rattle.capture_measure.specs.declared.measuring.Form.{Form}
+use Rattle.capture_lines.specs.Measurement.{Measured}
 use Rattle.capture_measure.specs.declared.reports.Completed.{Completed}
 use Rattle.capture_measure.specs.Row.{Row, datagrams}
-use Rattle.capture_measure.specs.Measured.{half_of, text_as, report_text}
+use Rattle.capture_measure.specs.Measured.{half_of, measured_at}
 use Rattle.capture_measure.specs.Inner.Hearing.{completion, measured_by}
 
 -- whatever holds, it holds where there is an answer
@@ -34,10 +34,10 @@ pub said_err : (refusal : DecodeRefusal) (said : Reading) → Answers (Err refus
 said_err refusal (Ok m) answers = absurd answers
 said_err refusal (Err first) answers = ap Err (sym answers)
 
--- what is written of a row by its report
-abbrev pub text_of : Form → Half → (line : ℕ) → (time : List ℕ) → Option Report → List ℕ
-text_of form by line time report = option_map_or (text_as form)
-    (option_map (λ r. record { by = by; line = line; time = time; report = r }) report) []
+-- what is measured at a row by its report
+abbrev pub measured_with : Half → (line : ℕ) → (time : List ℕ) → Option Report → List Measured
+measured_with by line time report =
+    option_to_list (option_map (λ r. record { by = by; line = line; time = time; report = r }) report)
 
 -- which half a datagram completes
 abbrev half_said : Recorded → Half
@@ -51,27 +51,27 @@ none_completed : (by : Half) (report : Option Report) → option_map (λ r. comp
 none_completed by None none = refl
 none_completed by (Some report) none = absurd cc
 
-text_completed : (form : Form) (by : Half) (line : ℕ) (time : List ℕ) (report : Option Report) (completed : Completed)
+one_completed : (by : Half) (line : ℕ) (time : List ℕ) (report : Option Report) (completed : Completed)
     → option_map (λ r. record { by = by; report = r }) report ≡ Some completed
-    → text_of form by line time report ≡ text_as form (measured_by completed time line)
-text_completed form by line time None completed is = absurd cc
-text_completed form by line time (Some report) completed is =
-    ap (λ o. option_map_or (λ (c : Completed). text_as form (measured_by c time line)) o []) is
+    → measured_with by line time report ≡ measured_by completed time line ∷ []
+one_completed by line time None completed is = absurd cc
+one_completed by line time (Some report) completed is =
+    ap (λ o. option_to_list (option_map (λ (c : Completed). measured_by c time line) o)) is
 
 module _ (watched : Watched) (earlier : List Row) (row : Row) (d : Recorded) (same : row.datagram ≡ d) where
   -- a datagram that completes nothing
-  pub nothing_said : (form : Form) (result : Option Completed) → result ≡ completion watched (datagrams earlier) d → result ≡ None
-      → report_text form watched earlier row ≡ []
-  nothing_said form result is none =
-      ap (λ (d : Recorded). text_of form (half_said d) d.line row.time (report_at watched (datagrams earlier) d)) same
-      ∙ ap (text_of form (half_said d) d.line row.time)
+  pub nothing_said : (result : Option Completed) → result ≡ completion watched (datagrams earlier) d → result ≡ None
+      → option_to_list (measured_at watched earlier row) ≡ []
+  nothing_said result is none =
+      ap (λ (d : Recorded). measured_with (half_said d) d.line row.time (report_at watched (datagrams earlier) d)) same
+      ∙ ap (measured_with (half_said d) d.line row.time)
       (none_completed (half_said d) (report_at watched (datagrams earlier) d) (sym is ∙ none))
 
   -- one that completes a report
-  pub said_at : (form : Form) (result : Option Completed) (completed : Completed) (time : List ℕ)
+  pub said_at : (result : Option Completed) (completed : Completed) (time : List ℕ)
       → result ≡ completion watched (datagrams earlier) d → result ≡ Some completed → row.time ≡ time
-      → report_text form watched earlier row ≡ text_as form (measured_by completed time d.line)
-  said_at form result completed time is some spelled =
-      ap (λ (d : Recorded). text_of form (half_said d) d.line row.time (report_at watched (datagrams earlier) d)) same
-      ∙ ap (λ (t : List ℕ). text_of form (half_said d) d.line t (report_at watched (datagrams earlier) d)) spelled
-      ∙ text_completed form (half_said d) d.line time (report_at watched (datagrams earlier) d) completed (sym is ∙ some)
+      → option_to_list (measured_at watched earlier row) ≡ measured_by completed time d.line ∷ []
+  said_at result completed time is some spelled =
+      ap (λ (d : Recorded). measured_with (half_said d) d.line row.time (report_at watched (datagrams earlier) d)) same
+      ∙ ap (λ (t : List ℕ). measured_with (half_said d) d.line t (report_at watched (datagrams earlier) d)) spelled
+      ∙ one_completed (half_said d) d.line time (report_at watched (datagrams earlier) d) completed (sym is ∙ some)

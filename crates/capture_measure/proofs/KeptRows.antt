@@ -1,14 +1,16 @@
 -- Datagrams of a capture that were kept.
 use Rattle.std.proofs.Common.{◌≡◌, ◌∙◌, ◌+◌, ◌<◌, ℕ, Bool, true, false, List, [], ◌∷◌, ◌++◌, length, drop, get_or, Option, sym, ap, subst, arith}
+use Rattle.std.specs.Prelude.{option_to_list}
 use Rattle.std.specs.Io.KnownBytes.{Appends}
 use Rattle.std.proofs.lemmas.List.{append_assoc, append-nil, drop_more}
 use Rattle.text_lines.specs.declared.line_fault.LineFault.{LineFault}
+use Rattle.capture_lines.specs.Measurement.{Measured}
 use Rattle.capture_model.specs.declared.watched.Watched.{Watched}
 use Rattle.capture_measure.specs.declared.measuring.Form.{Form}
 use Rattle.capture_measure.specs.declared.recording.Kept.{Kept}
 use Rattle.capture_measure.specs.declared.recording.Recording.{Recording}
 use Rattle.capture_measure.specs.Row.{Row}
-use Rattle.capture_measure.specs.Measured.{report_text, reports_text}
+use Rattle.capture_measure.specs.Measured.{texts_as, measured_at, measurements}
 use Rattle.capture_measure.specs.Inner.Hearing.{GoesUntil}
 use Rattle.capture_measure.specs.Inner.Recordings.{AreKeptRows, BeginsWith}
 use Rattle.capture_measure.proofs.Goes.{GoesUntil-after}
@@ -20,26 +22,35 @@ are_next earlier rows kept i k within is are =
     subst (λ (l : List Kept). AreKeptRows earlier l rows)
     (drop_more kept i k within ∙ ap (λ (x : Kept). x ∷ drop (i + 1) kept) (sym is)) are
 
--- the texts of rows go before those of the rows after them
-reports_ahead : (form : Form) (watched : Watched) (earlier rows : List Row) (kept : List Kept) → AreKeptRows earlier kept rows
-    → (rest : List ℕ) × (reports_text form watched rows ≡ reports_text form watched earlier ++ rest)
-reports_ahead form watched earlier rows [] are =
-    ([], ap (reports_text form watched) are ∙ sym (append-nil (reports_text form watched earlier)))
-reports_ahead form watched earlier rows (k ∷ kept) are =
-    let (rest, same) = reports_ahead form watched (are.0 ∷ earlier) rows kept are.2 in
-    let text = report_text form watched earlier are.0 in
-    (text ++ rest, same ∙ append_assoc (reports_text form watched earlier) text rest)
+-- what is measured at rows goes before what is at the rows after them
+measured_ahead : (watched : Watched) (earlier rows : List Row) (kept : List Kept) → AreKeptRows earlier kept rows
+    → (rest : List Measured) × (measurements watched rows ≡ rest ++ measurements watched earlier)
+measured_ahead watched earlier rows [] are = ([], ap (measurements watched) are)
+measured_ahead watched earlier rows (k ∷ kept) are =
+    let (rest, same) = measured_ahead watched (are.0 ∷ earlier) rows kept are.2 in
+    let those : List Measured = option_to_list (measured_at watched earlier are.0) in
+    (rest ++ those, same ∙ sym (append_assoc rest those (measurements watched earlier)))
 
 -- one of them stops it
-pub kept_until : (fault : LineFault) (form : Form) (watched : Watched) (earlier rows : List Row) (row said : Row) (kept : List Kept)
+pub kept_until : (form : Form) (fault : LineFault) (watched : Watched) (earlier rows : List Row) (row said : Row) (kept : List Kept)
     (a b c : Option (List ℕ)) → row ≡ said → AreKeptRows (row ∷ earlier) kept rows
-    → Appends a b (reports_text form watched earlier) → GoesUntil fault (report_text form watched earlier said) b c
-    → GoesUntil fault (reports_text form watched rows) a c
-kept_until fault form watched earlier rows row said kept a b c same are appended until =
-    let (rest, whole) = reports_ahead form watched (row ∷ earlier) rows kept are in
-    GoesUntil-after fault (reports_text form watched earlier) (report_text form watched earlier row) rest
-    (reports_text form watched rows) a b c appended
-    (subst (λ (r : Row). GoesUntil fault (report_text form watched earlier r) b c) (sym same) until) whole
+    → Appends a b (texts_as form (measurements watched earlier))
+    → GoesUntil form fault (option_to_list (measured_at watched earlier said)) b c
+    → GoesUntil form fault (measurements watched rows) a c
+kept_until form fault watched earlier rows row said kept a b c same are appended until =
+    let (rest, whole) = measured_ahead watched (row ∷ earlier) rows kept are in
+    GoesUntil-after form fault (measurements watched earlier) (option_to_list (measured_at watched earlier row)) rest
+    (measurements watched rows) a b c appended
+    (subst (λ (r : Row). GoesUntil form fault (option_to_list (measured_at watched earlier r)) b c) (sym same) until) whole
+
+-- where there is one of them alone
+pub until_alone : (form : Form) (fault : LineFault) (ms : List Measured) (a b : Option (List ℕ)) → GoesUntil form fault ms a b
+    → GoesUntil form fault (ms ++ []) a b
+until_alone form fault ms a b until = subst (λ (x : List Measured). GoesUntil form fault x a b) (sym (append-nil ms)) until
+
+pub went_alone : (form : Form) (ms : List Measured) (a b : Option (List ℕ)) → Appends a b (texts_as form ms)
+    → Appends a b (texts_as form (ms ++ []))
+went_alone form ms a b went = subst (λ (x : List Measured). Appends a b (texts_as form x)) (sym (append-nil ms)) went
 
 -- ---- the rows that a port begins with
 pub those_kept : (is_kept : Bool) (recordings : List Recording) (place : ℕ) (newest : Row) (rows : List Row) → is_kept ≡ true

@@ -1,34 +1,36 @@
 -- A datagram by which it isn't known yet whom to watch, or by which that is known.
 use Rattle.std.proofs.Common.{◌≡◌, ◌∙◌, ◌⊎◌, inl, inr, ℕ, ◌+◌, ◌≤◌, ◌<◌, nat_le, nat_lt, min, Bool, true, false, List, [], ◌∷◌, ◌++◌, length, get_or}
 use Rattle.std.proofs.Common.{Option, Some, None, Result, Ok, Err, refl, sym, ap, subst, arith}
-use Rattle.std.specs.Prelude.{if◌then◌else◌, MatchResult}
+use Rattle.std.specs.Prelude.{if◌then◌else◌, MatchResult, option_to_list}
 use Rattle.std.specs.Io.KnownBytes.{Appends}
+use Rattle.std.proofs.lemmas.List.{append-nil}
 use Rattle.std.proofs.lemmas.Bool.{cases_lt, lt-ltb, le-ltb, ltb-true, ltb-false, le-leb, lt-leb}
 use Rattle.text_lines.specs.declared.line_fault.LineFault.{LineFault}
 use Rattle.text_lines.specs.declared.line_fault.LineFault.TheVariants.{Write, Field, Memory}
 use Rattle.text_lines.specs.Fault.{is_write}
 use Rattle.text_lines.specs.Task.{WentOut}
 use Rattle.capture_file.specs.Packet.{InterfaceOf, PacketOf}
+use Rattle.capture_lines.specs.Measurement.{Measured}
 use Rattle.capture_model.specs.declared.watched.Watched.{Watched}
 use Rattle.capture_model.specs.Listening.{after_all}
 use Rattle.capture_measure.specs.declared.listener.Listener.{Listener}
-use Rattle.capture_measure.specs.declared.measuring.Form.{Form}
 use Rattle.capture_measure.specs.declared.packets.CaptureMeasuring.{CaptureMeasuring}
 use Rattle.capture_measure.specs.declared.packets.Stage.{Stage}
 use Rattle.capture_measure.specs.declared.packets.Stage.TheVariants.{Looking, Hearing}
 use Rattle.capture_measure.specs.declared.recording.Recording.{Recording}
 use Rattle.capture_measure.specs.declared.watch.Wanted.{Wanted}
 use Rattle.capture_measure.specs.Row.{Row, datagrams, kept_most}
-use Rattle.capture_measure.specs.Measured.{report_text}
+use Rattle.capture_measure.specs.Measured.{texts_as, measured_at}
 use Rattle.capture_measure.specs.Interfaces.{InterfaceRow, is_same_interface, rows_at, is_among, interfaces_in}
-use Rattle.capture_measure.specs.Chosen.{watched_at, chosen, heard_at, capture_watched, capture_written}
-use Rattle.capture_measure.specs.Capture.{Capture, IsPacketRow, TakesPacket, StopsAtPacket, with_packet, capture_text}
+use Rattle.capture_measure.specs.Chosen.{watched_at, chosen, heard_at, capture_watched, capture_measured}
+use Rattle.capture_measure.specs.Capture.{Capture, IsPacketRow, TakesPacket, StopsAtPacket, with_packet, measured_so_far}
 use Rattle.capture_measure.specs.Inner.Capturing.{IsCapturing, IsCaptureStage, IsHearingAt, AddsRow}
 use Rattle.capture_measure.specs.Inner.Listener.{IsListener}
 use Rattle.capture_measure.specs.Inner.Recordings.{interface_in, AreKeptRows, AreRecordings, BeginsWith, IsFoundAt, IsNoticed}
 use Rattle.capture_measure.proofs.KeptRows.{one_there}
-use Rattle.capture_measure.proofs.Chosen.{chosen-stays, capture-stays, heard-known, written-more, written-other}
-use Rattle.capture_measure.proofs.Chosen.{chosen-after, unlooked, unknown, known_there, capture-first, heard-first, written-unknown}
+use Rattle.capture_measure.proofs.Chosen.{chosen-stays, capture-stays, heard-known, measured-more, measured-other}
+use Rattle.capture_measure.proofs.Chosen.{chosen-after, unlooked, unknown, known_there, capture-first, heard-first, measured-unknown}
+use Rattle.capture_measure.proofs.Goes.{texts-append, until_whole}
 
 -- it isn't known yet
 pub still_looking : (task : CaptureMeasuring) (k : Capture) (r : InterfaceRow) (count : ℕ) → task.reports.reports.form ≡ k.form
@@ -43,8 +45,10 @@ still_looking task k r count form wanted stage counted none are = record {
 
 -- what one more row adds, whatever it is
 pub adds_all : (k : Capture) (r : InterfaceRow) → chosen k.wanted k.rows ≡ None
-    → capture_text (with_packet r k) ≡ capture_text k ++ capture_text (with_packet r k)
-adds_all k r none = ap (λ (t : List ℕ). t ++ capture_text (with_packet r k)) (sym (written-unknown k.form k.wanted k.rows none))
+    → measured_so_far (with_packet r k) ≡ measured_so_far (with_packet r k) ++ measured_so_far k
+adds_all k r none =
+    let all : List Measured = measured_so_far (with_packet r k) in
+    sym (append-nil all) ∙ ap (λ (ms : List Measured). all ++ ms) (sym (measured-unknown k.wanted k.rows none))
 
 -- an interface that isn't looked at
 pub unlooked_still : (w : Wanted) (rows : List InterfaceRow) (r : InterfaceRow) → chosen w rows ≡ None
@@ -138,15 +142,15 @@ module _ (w : Wanted) (rows : List InterfaceRow) (r : InterfaceRow) (recordings 
         (sym (heard-known w rows r (interface_in (get_or recordings place d)) false (is d) (other d))) listens),
   )
 
-  pub writes_more : (form : Form) → ((d : Recording) → is_same_interface (interface_in (get_or recordings place d)) r.interface ≡ true)
-      → capture_written form w (r ∷ rows) ≡ capture_written form w rows ++ report_text form watched (heard_at w rows) r.row
-  writes_more form same = one_there recordings place within
-      (λ d. written-more form w rows r (interface_in (get_or recordings place d)) watched (is d) known (same d))
+  pub measures_more : ((d : Recording) → is_same_interface (interface_in (get_or recordings place d)) r.interface ≡ true)
+      → capture_measured w (r ∷ rows) ≡ option_to_list (measured_at watched (heard_at w rows) r.row) ++ capture_measured w rows
+  measures_more same = one_there recordings place within
+      (λ d. measured-more w rows r (interface_in (get_or recordings place d)) watched (is d) known (same d))
 
-  pub writes_nothing : (form : Form) → ((d : Recording) → is_same_interface (interface_in (get_or recordings place d)) r.interface ≡ false)
-      → capture_written form w (r ∷ rows) ≡ capture_written form w rows ++ []
-  writes_nothing form other = one_there recordings place within
-      (λ d. written-other form w rows r (interface_in (get_or recordings place d)) watched (is d) known (other d))
+  pub measures_nothing : ((d : Recording) → is_same_interface (interface_in (get_or recordings place d)) r.interface ≡ false)
+      → capture_measured w (r ∷ rows) ≡ capture_measured w rows
+  measures_nothing other = one_there recordings place within
+      (λ d. measured-other w rows r (interface_in (get_or recordings place d)) watched (is d) known (other d))
 
 -- whether few came is whether the count of them is small
 pub few_by : (count rows most : ℕ) → count ≡ min rows most → nat_lt count most ≡ nat_lt rows most
@@ -162,10 +166,20 @@ pub taken_row : {T : Type 0} (result : Result T LineFault) (number : ℕ) (packe
     → MatchResult result
     (λ _. (later : Capture) × (out : List ℕ) × IsCapturing new later × TakesPacket number packet k later out × Appends a b out)
     (λ fault. (out : List ℕ) × StopsAtPacket number packet k fault out × WentOut (is_write fault) (Appends a b out))
-taken_row (Ok x) number packet k r new a b row (is, text, grown, goes) =
-    (with_packet r k, text, is, inl (r, row, refl, grown), goes)
-taken_row (Err Write) number packet k r new a b row (is, text, grown, (of_output, out, rest, split, known)) =
-    (out, (r, row, rest, grown ∙ ap (λ (t : List ℕ). capture_text k ++ t) split), known)
-taken_row (Err Field) number packet k r new a b row (is, text, grown, goes) = absurd goes.0
-taken_row (Err Memory) number packet k r new a b row (is, text, grown, (of_output, out, rest, split, known)) =
-    (out, (r, row, rest, grown ∙ ap (λ (t : List ℕ). capture_text k ++ t) split), known)
+taken_row (Ok x) number packet k r new a b row (is, ms, grown, goes) = (
+  with_packet r k,
+  texts_as k.form ms,
+  is,
+  inl (r, row, refl, ap (texts_as k.form) grown ∙ texts-append k.form ms (measured_so_far k)),
+  goes,
+)
+taken_row (Err Write) number packet k r new a b row (is, ms, grown, goes) =
+    let (left, may, out, whole, known) =
+    until_whole k.form Write ms (measured_so_far k) (measured_so_far (with_packet r k)) a b grown goes in
+    (out, (r, row, left, may, whole), known)
+taken_row (Err Field) number packet k r new a b row (is, ms, grown, goes) =
+    absurd (until_whole k.form Field ms (measured_so_far k) (measured_so_far (with_packet r k)) a b grown goes).1
+taken_row (Err Memory) number packet k r new a b row (is, ms, grown, goes) =
+    let (left, may, out, whole, known) =
+    until_whole k.form Memory ms (measured_so_far k) (measured_so_far (with_packet r k)) a b grown goes in
+    (out, (r, row, left, whole), known)

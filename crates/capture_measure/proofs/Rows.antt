@@ -1,7 +1,7 @@
--- Rows of a recording, and what is written of them.
+-- Rows of a recording, and what is measured of them.
 use Rattle.std.proofs.Common.{◌≡◌, ◌∙◌, ◌≤◌, ◌<◌, ◌/◌, ◌+◌, ℕ, Bool, List, [], ◌∷◌, ◌++◌, length, take}
 use Rattle.std.proofs.Common.{Option, Some, None, refl, sym, ap, subst, arith}
-use Rattle.std.specs.Prelude.{nat_le, not, is_some, if◌then◌else◌}
+use Rattle.std.specs.Prelude.{nat_le, not, is_some, if◌then◌else◌, option_to_list}
 use Rattle.std.specs.Option.{option_map_or}
 use Rattle.std.specs.Result.{result_ok}
 use Rattle.std.proofs.lemmas.List.{append_assoc, append-nil}
@@ -11,11 +11,11 @@ use Rattle.event_codec.specs.Reading.{Reading, IsReading}
 use Rattle.capture_lines.specs.Timed.{parts_of}
 use Rattle.capture_lines.specs.declared.timed.Timed.{Timed}
 use Rattle.capture_model.specs.declared.watched.Watched.{Watched}
-use Rattle.capture_measure.specs.declared.measuring.Form.{Form}
+use Rattle.capture_lines.specs.Measurement.{Measured}
 use Rattle.capture_measure.specs.declared.watch.Wanted.{Wanted}
 use Rattle.capture_measure.specs.Watch.{watched_in}
 use Rattle.capture_measure.specs.Row.{Row, datagrams, is_known, heard, kept_most, IsRow}
-use Rattle.capture_measure.specs.Measured.{report_text, reports_text, written}
+use Rattle.capture_measure.specs.Measured.{measured_at, measurements, measured_in}
 use Rattle.capture_measure.specs.Inner.Measuring.{row_of, IsLine, AreRows}
 use Rattle.capture_measure.proofs.Told.{watched-stays}
 
@@ -44,16 +44,14 @@ AreRows-more earlier rows [] line row are is =
 AreRows-more earlier rows (x ∷ lines) line row are is =
     (are.0, are.1, AreRows-more (are.0 ∷ earlier) rows lines line row are.2 is)
 
--- the texts of rows go before those of the rows after them
-pub reports_ahead : (form : Form) (watched : Watched) (earlier rows : List Row) (lines : List (List ℕ))
-    → AreRows earlier lines rows
-    → (rest : List ℕ) × (reports_text form watched rows ≡ reports_text form watched earlier ++ rest)
-reports_ahead form watched earlier rows [] are =
-    ([], ap (reports_text form watched) are ∙ sym (append-nil (reports_text form watched earlier)))
-reports_ahead form watched earlier rows (line ∷ lines) are =
-    let (rest, same) = reports_ahead form watched (are.0 ∷ earlier) rows lines are.2 in
-    let text = report_text form watched earlier are.0 in
-    (text ++ rest, same ∙ append_assoc (reports_text form watched earlier) text rest)
+-- what is measured at rows goes before what is at the rows after them
+pub measured_ahead : (watched : Watched) (earlier rows : List Row) (lines : List (List ℕ)) → AreRows earlier lines rows
+    → (rest : List Measured) × (measurements watched rows ≡ rest ++ measurements watched earlier)
+measured_ahead watched earlier rows [] are = ([], ap (measurements watched) are)
+measured_ahead watched earlier rows (line ∷ lines) are =
+    let (rest, same) = measured_ahead watched (are.0 ∷ earlier) rows lines are.2 in
+    let those : List Measured = option_to_list (measured_at watched earlier are.0) in
+    (rest ++ those, same ∙ sym (append_assoc rest those (measurements watched earlier)))
 
 module _ (w : Wanted) (rows : List Row) (row : Row) (watched : Watched) where
   -- where it was known whom to watch, one line more is heard
@@ -88,40 +86,36 @@ module _ (w : Wanted) (rows : List Row) (row : Row) (watched : Watched) where
       ∙ ap (λ (b : Bool). if b then row ∷ rows else row ∷ [])
       (lt-leb (length (row ∷ rows)) kept_most (omega (arith, many)))
 
-  -- what is written where it is known whom to watch
-  pub written-known : (form : Form) → watched_in w (datagrams rows) ≡ Some watched
-      → written form w rows ≡ reports_text form watched (heard w rows)
-  written-known form known =
-      ap (λ o. option_map_or (λ watched. reports_text form watched (heard w rows)) o []) known
+  -- what is measured where it is known whom to watch
+  pub measured-known : watched_in w (datagrams rows) ≡ Some watched
+      → measured_in w rows ≡ measurements watched (heard w rows)
+  measured-known known = ap (λ o. option_map_or (λ watched. measurements watched (heard w rows)) o []) known
 
-pub written-unknown : (form : Form) (w : Wanted) (rows : List Row) → watched_in w (datagrams rows) ≡ None
-    → written form w rows ≡ []
-written-unknown form w rows unknown =
-    ap (λ o. option_map_or (λ watched. reports_text form watched (heard w rows)) o []) unknown
+pub measured-unknown : (w : Wanted) (rows : List Row) → watched_in w (datagrams rows) ≡ None → measured_in w rows ≡ []
+measured-unknown w rows unknown = ap (λ o. option_map_or (λ watched. measurements watched (heard w rows)) o []) unknown
 
 -- what one more line adds where it was known whom to watch
-pub written-more : (form : Form) (w : Wanted) (rows : List Row) (row : Row) (watched : Watched)
+pub measured-more : (w : Wanted) (rows : List Row) (row : Row) (watched : Watched)
     → watched_in w (datagrams rows) ≡ Some watched
-    → written form w (row ∷ rows) ≡ written form w rows ++ report_text form watched (heard w rows) row
-written-more form w rows row watched known =
-    written-known w (row ∷ rows) row watched form (watched-stays w row.datagram (datagrams rows) watched known)
-    ∙ ap (reports_text form watched) (heard-known w rows row watched known)
-    ∙ ap (λ (t : List ℕ). t ++ report_text form watched (heard w rows) row)
-    (sym (written-known w rows row watched form known))
+    → measured_in w (row ∷ rows) ≡ option_to_list (measured_at watched (heard w rows) row) ++ measured_in w rows
+measured-more w rows row watched known =
+    measured-known w (row ∷ rows) row watched (watched-stays w row.datagram (datagrams rows) watched known)
+    ∙ ap (measurements watched) (heard-known w rows row watched known)
+    ∙ ap (λ (ms : List Measured). option_to_list (measured_at watched (heard w rows) row) ++ ms)
+    (sym (measured-known w rows row watched known))
 
--- what was written stays in front
-grows_by : (form : Form) (w : Wanted) (rows : List Row) (row : Row) (known : Option Watched)
-    → watched_in w (datagrams rows) ≡ known
-    → (rest : List ℕ) × (written form w (row ∷ rows) ≡ written form w rows ++ rest)
-grows_by form w rows row None unknown =
-    let all = written form w (row ∷ rows) in
-    (all, ap (λ (t : List ℕ). t ++ all) (sym (written-unknown form w rows unknown)))
-grows_by form w rows row (Some watched) known =
-    (report_text form watched (heard w rows) row, written-more form w rows row watched known)
+-- what was measured stays
+grows_by : (w : Wanted) (rows : List Row) (row : Row) (known : Option Watched) → watched_in w (datagrams rows) ≡ known
+    → (more : List Measured) × (measured_in w (row ∷ rows) ≡ more ++ measured_in w rows)
+grows_by w rows row None unknown =
+    let all : List Measured = measured_in w (row ∷ rows) in
+    (all, sym (append-nil all) ∙ ap (λ (ms : List Measured). all ++ ms) (sym (measured-unknown w rows unknown)))
+grows_by w rows row (Some watched) known =
+    (option_to_list (measured_at watched (heard w rows) row), measured-more w rows row watched known)
 
-pub grows : (form : Form) (w : Wanted) (rows : List Row) (row : Row)
-    → (rest : List ℕ) × (written form w (row ∷ rows) ≡ written form w rows ++ rest)
-grows form w rows row = grows_by form w rows row (watched_in w (datagrams rows)) refl
+pub grows : (w : Wanted) (rows : List Row) (row : Row)
+    → (more : List Measured) × (measured_in w (row ∷ rows) ≡ more ++ measured_in w rows)
+grows w rows row = grows_by w rows row (watched_in w (datagrams rows)) refl
 
 pub row_read : (number : ℕ) (line room : List ℕ) (timed : Timed) (said : Reading) → IsLine line room timed
     → IsReading (take (length timed.digits.now / 2) room) said → IsRow number line (row_of number timed said)

@@ -3,6 +3,8 @@ use Rattle.std.proofs.Common.{◌≡◌, ◌≢◌, ◌∙◌, ℕ, List, [], �
 use Rattle.std.proofs.Common.{refl, sym, ap, subst}
 use Rattle.std.specs.Prelude.{⊤, MatchResult, OnOk, is_some}
 use Rattle.std.proofs.KnownBytes.{Appends-nil}
+use Rattle.std.proofs.lemmas.List.{append-nil}
+use Rattle.capture_lines.specs.Measurement.{Measured}
 use Rattle.text_lines.specs.declared.counted.Counted.{Counted}
 use Rattle.text_lines.specs.Counted.{HasNotFailed, HasFailedIf}
 use Rattle.capture_model.specs.declared.watched.Watched.{Watched}
@@ -15,11 +17,12 @@ use Rattle.capture_measure.specs.declared.measuring.Stage.TheVariants.{Kept, Pas
 use Rattle.capture_measure.specs.declared.watch.Wanted.{Wanted}
 use Rattle.capture_measure.specs.Watch.{watched_in}
 use Rattle.capture_measure.specs.Row.{Row, datagrams, heard}
-use Rattle.capture_measure.specs.Measured.{reports_text, written}
+use Rattle.capture_measure.specs.Measured.{measurements, measured_in}
 use Rattle.text_lines.specs.Fault.{is_write}
 use Rattle.capture_measure.specs.Inner.Hearing.{Goes, GoesUntil}
 use Rattle.capture_measure.specs.Inner.Measuring.{AreWithin, AreKept, IsHearing, IsStage}
-use Rattle.capture_measure.proofs.Rows.{heard-few, heard-many, written-known, written-unknown}
+use Rattle.capture_measure.proofs.Goes.{GoesUntil-none}
+use Rattle.capture_measure.proofs.Rows.{heard-few, heard-many, measured-known, measured-unknown}
 use Rattle.capture_measure.proofs.Told.{watched-stays}
 
 -- what follows of an answer that is there
@@ -28,11 +31,11 @@ on_ok_then (Ok x) f p = f p
 on_ok_then (Err e) f p = tt
 
 -- where nothing is written
-pub nothing_goes : {T : Type 0} (r : Result T LineFault) (a : Option (List ℕ))
-    → MatchResult r (λ _. ⊤) (λ fault. fault ≡ Memory) → Goes r [] a a
-nothing_goes (Ok x) a is = Appends-nil a
-nothing_goes (Err fault) a is =
-    subst (λ (f : LineFault). GoesUntil f [] a a) (sym is) (tt, [], [], refl, Appends-nil a)
+pub nothing_goes : {T : Type 0} (form : Form) (r : Result T LineFault) (a : Option (List ℕ))
+    → MatchResult r (λ _. ⊤) (λ fault. fault ≡ Memory) → Goes form r [] a a
+nothing_goes form (Ok x) a is = Appends-nil a
+nothing_goes form (Err fault) a is =
+    subst (λ (f : LineFault). GoesUntil form f [] a a) (sym is) (GoesUntil-none form [] a)
 
 pub nothing_fails : {T W : Type 0} (r : Result T LineFault) (o : Counted W)
     → MatchResult r (λ _. ⊤) (λ fault. fault ≡ Memory)
@@ -69,14 +72,15 @@ heard_before w rows row watched Passed is other known =
     ([], refl, heard-many w rows row watched is.0 known is.1, is.0)
 heard_before w rows row watched (Hearing listener) is other known = absurd (other listener refl)
 
--- what is written by the line by which it is known whom to watch
-pub written-first : (form : Form) (w : Wanted) (rows : List Row) (row : Row) (watched : Watched) (earlier : List Row)
+-- what is measured by the line by which it is known whom to watch
+pub measured-first : (w : Wanted) (rows : List Row) (row : Row) (watched : Watched) (earlier : List Row)
     → watched_in w (datagrams (row ∷ rows)) ≡ Some watched → heard w (row ∷ rows) ≡ row ∷ earlier
     → watched_in w (datagrams rows) ≡ None
-    → written form w (row ∷ rows) ≡ written form w rows ++ reports_text form watched (row ∷ earlier)
-written-first form w rows row watched earlier known first unknown =
-    written-known w (row ∷ rows) row watched form known ∙ ap (reports_text form watched) first
-    ∙ ap (λ (t : List ℕ). t ++ reports_text form watched (row ∷ earlier)) (sym (written-unknown form w rows unknown))
+    → measured_in w (row ∷ rows) ≡ measurements watched (row ∷ earlier) ++ measured_in w rows
+measured-first w rows row watched earlier known first unknown =
+    let those : List Measured = measurements watched (row ∷ earlier) in
+    measured-known w (row ∷ rows) row watched known ∙ ap (measurements watched) first ∙ sym (append-nil those)
+    ∙ ap (λ (ms : List Measured). those ++ ms) (sym (measured-unknown w rows unknown))
 
 -- a port heard these lines
 pub stage_heard : (w : Wanted) (rows : List Row) (watched : Watched) (those : List Row) (stage : Stage)
@@ -93,10 +97,9 @@ unknown_by w rows row None is unknown = is
 unknown_by w rows row (Some watched) is unknown =
     absurd (true≢false (ap is_some (sym (watched-stays w row.datagram (datagrams rows) watched is) ∙ unknown)))
 
--- while it isn't known whom to watch nothing is written
-pub written-still : (form : Form) (w : Wanted) (rows : List Row) (row : Row)
-    → watched_in w (datagrams (row ∷ rows)) ≡ None → written form w (row ∷ rows) ≡ written form w rows ++ []
-written-still form w rows row unknown =
-    written-unknown form w (row ∷ rows) unknown
-    ∙ ap (λ (t : List ℕ). t ++ [])
-    (sym (written-unknown form w rows (unknown_by w rows row (watched_in w (datagrams rows)) refl unknown)))
+-- while it isn't known whom to watch nothing is measured
+pub measured-still : (w : Wanted) (rows : List Row) (row : Row)
+    → watched_in w (datagrams (row ∷ rows)) ≡ None → measured_in w (row ∷ rows) ≡ measured_in w rows
+measured-still w rows row unknown =
+    measured-unknown w (row ∷ rows) unknown
+    ∙ sym (measured-unknown w rows (unknown_by w rows row (watched_in w (datagrams rows)) refl unknown))

@@ -1,21 +1,23 @@
 -- What `measure` makes of the packets of a capture.
-use Rattle.std.specs.Prelude.{◌≡◌, ◌⊎◌, ℕ, true, List, [], ◌∷◌, ◌++◌, Option}
+use Rattle.std.specs.Prelude.{◌≡◌, ◌≢◌, ◌⊎◌, ℕ, true, List, [], ◌∷◌, ◌++◌, Option}
 use Rattle.ptp_units.specs.Moment.{Stamp, moment}
 use Rattle.event_codec.specs.Reading.{IsReading}
 use Rattle.datagram_text.specs.Shown.{stamp_text}
 use Rattle.text_lines.specs.declared.line_fault.LineFault.{LineFault}
-use Rattle.text_lines.specs.declared.line_fault.LineFault.TheVariants.{Field}
+use Rattle.text_lines.specs.declared.line_fault.LineFault.TheVariants.{Write, Field, Memory}
 use Rattle.text_lines.specs.Fault.{is_write}
 use Rattle.capture_file.specs.declared.name.InterfaceName.{InterfaceName}
 use Rattle.capture_file.specs.Name.{is_asked}
 use Rattle.capture_file.specs.Packet.{PacketOf, Captured, Timeless, Simple}
 use Rattle.capture_file.specs.Task.{PacketRules}
 use Rattle.capture_frame.specs.Found.{Datagram, IsFound}
+use Rattle.capture_lines.specs.Measurement.{Measured}
 use Rattle.capture_measure.specs.declared.measuring.Form.{Form}
 use Rattle.capture_measure.specs.declared.watch.Wanted.{Wanted}
 use Rattle.capture_measure.specs.Row.{Row}
 use Rattle.capture_measure.specs.Interfaces.{InterfaceRow}
-use Rattle.capture_measure.specs.Chosen.{capture_written}
+use Rattle.capture_measure.specs.Measured.{GoesWhole}
+use Rattle.capture_measure.specs.Chosen.{capture_measured, capture_written}
 
 -- the row of this datagram, which a packet of this number and time carries
 pub record IsDatagramRow (number : ℕ) (time : Stamp) (datagram : List ℕ) (row : Row) : Type 0 where
@@ -47,7 +49,11 @@ pub record Capture : Type 0 where
 abbrev pub capture_begun : Form → Wanted → Capture
 capture_begun form w = record { form = form; wanted = w; rows = [] }
 
--- all that is written once these packets were read
+-- all that is measured once these packets were read
+abbrev pub measured_so_far : Capture → List Measured
+measured_so_far c = capture_measured c.wanted c.rows
+
+-- all that is written of them
 abbrev pub capture_text : Capture → List ℕ
 capture_text c = capture_written c.form c.wanted c.rows
 
@@ -62,12 +68,16 @@ TakesPacket number packet c later out =
     × (capture_text later ≡ capture_text c ++ out))
     ⊎ (HasNoRow c.wanted.interface number packet × (later ≡ c) × (out ≡ []))
 
--- why a packet that has a row isn't taken: memory or the writer failed; then a part of what it adds went out
+-- Why a packet that has a row isn't taken: memory failed, or the writer did, at a report. Before that some of its reports may
+-- have gone out, each whole.
 abbrev pub StopsAtPacket : (number : ℕ) → PacketOf → Capture → LineFault → List ℕ → Type 0
+StopsAtPacket number packet c Write out =
+    (r : InterfaceRow) × IsPacketRow c.wanted.interface number packet r × (left : List Measured) × (left ≢ [])
+    × GoesWhole c.form (measured_so_far c) (measured_so_far (with_packet r c)) left out
 StopsAtPacket number packet c Field out = ⊥
-StopsAtPacket number packet c fault out =
-    (r : InterfaceRow) × IsPacketRow c.wanted.interface number packet r × (rest : List ℕ)
-    × (capture_text (with_packet r c) ≡ capture_text c ++ (out ++ rest))
+StopsAtPacket number packet c Memory out =
+    (r : InterfaceRow) × IsPacketRow c.wanted.interface number packet r × (left : List Measured)
+    × GoesWhole c.form (measured_so_far c) (measured_so_far (with_packet r c)) left out
 
 -- each packet that has a row adds to a capture, and the number of packets is answered at the end
 abbrev pub capture_rules : PacketRules Capture ℕ LineFault

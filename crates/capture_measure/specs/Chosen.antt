@@ -10,11 +10,12 @@ use Rattle.event_codec.specs.Port.{is_same_port}
 use Rattle.capture_file.specs.Packet.{InterfaceOf}
 use Rattle.capture_model.specs.declared.watched.Watched.{Watched}
 use Rattle.capture_model.specs.Recorded.{Recorded}
+use Rattle.capture_lines.specs.Measurement.{Measured}
 use Rattle.capture_measure.specs.declared.measuring.Form.{Form}
 use Rattle.capture_measure.specs.declared.watch.Wanted.{Wanted}
 use Rattle.capture_measure.specs.Watch.{watched_in}
 use Rattle.capture_measure.specs.Row.{Row, datagrams, kept_most}
-use Rattle.capture_measure.specs.Measured.{reports_text}
+use Rattle.capture_measure.specs.Measured.{texts_as, measurements}
 use Rattle.capture_measure.specs.Interfaces.{InterfaceRow, is_same_interface, rows_at, is_among, interfaces_in}
 
 -- a datagram is a message whose header is so
@@ -71,7 +72,10 @@ abbrev pub capture_watched : Wanted → List InterfaceRow → Option Watched
 capture_watched w rows =
     option_and_then (λ interface. watched_at w (datagrams (rows_at interface rows))) (chosen w rows)
 
--- all that is written once these rows were read
+-- all that is measured once these rows were read
+abbrev pub capture_measured : Wanted → List InterfaceRow → List Measured
+capture_measured w rows = option_map_or (λ watched. measurements watched (heard_at w rows)) (capture_watched w rows) []
+
+-- all that is written of them
 abbrev pub capture_written : Form → Wanted → List InterfaceRow → List ℕ
-capture_written form w rows =
-    option_map_or (λ watched. reports_text form watched (heard_at w rows)) (capture_watched w rows) []
+capture_written form w rows = texts_as form (capture_measured w rows)

@@ -1,6 +1,6 @@
 -- The law of what `measure` writes: each report is exact for the events that its lines tell.
 -- `laws::each_measurement_is_exact` promises it.
-use Rattle.std.specs.Prelude.{◌≡◌, ℕ, List, [], ◌∷◌, ◌++◌, Some}
+use Rattle.std.specs.Prelude.{◌≡◌, ℕ, List, Some}
 use Rattle.std.specs.List.{All}
 use Rattle.network_model.specs.Network.{Network, NodeName}
 use Rattle.network_model.specs.Run.{Run}
@@ -11,18 +11,12 @@ use Rattle.capture_model.specs.Agreement.{Moved}
 use Rattle.capture_model.specs.Told.{Tells}
 use Rattle.capture_model.specs.Premises.{IsFresh, IsTicked, MissesFew}
 use Rattle.capture_model.specs.Exact.{Watches, IsExact}
-use Rattle.capture_lines.specs.Measurement.{Measured}
 use Rattle.capture_measure.specs.declared.measuring.Form.{Form}
 use Rattle.capture_measure.specs.declared.watch.Wanted.{Wanted}
 use Rattle.capture_measure.specs.Watch.{watched_in}
 use Rattle.capture_measure.specs.Row.{Row, datagrams, heard}
-use Rattle.capture_measure.specs.Measured.{text_as, measurements}
+use Rattle.capture_measure.specs.Measured.{texts_as, measurements}
 use Rattle.capture_measure.specs.Measure.{Recording, begun, measure_rules}
-
--- the texts of measurements, which have the newest in front
-abbrev pub texts_as : Form → List Measured → List ℕ
-texts_as form [] = []
-texts_as form (m ∷ earlier) = texts_as form earlier ++ text_as form m
 
 -- a text is that of what is measured at lines that are heard, whose reports are exact for the events that they tell
 pub record WritesExact {network : Network} {slave : NodeName} {run : Run} {moved : Moved} (master : NodeName)

@@ -1,18 +1,18 @@
 -- What `measure` makes of the lines that it reads.
-use Rattle.std.specs.Prelude.{◌≡◌, ℕ, ◌+◌, ◌-◌, ◌^◌, List, [], ◌∷◌, ◌++◌, length, Option, Result}
+use Rattle.std.specs.Prelude.{◌≡◌, ◌≢◌, ℕ, ◌+◌, ◌-◌, ◌^◌, List, [], ◌∷◌, ◌++◌, length, Option, Result}
 use Rattle.std.specs.Io.KnownBytes.{Appends}
 use Rattle.text_lines.specs.declared.fault.Cause.{Cause}
 use Rattle.text_lines.specs.declared.fault.Stopped.{Stopped}
 use Rattle.text_lines.specs.Fault.{is_write}
 use Rattle.text_lines.specs.Task.{Rules, Answers}
-use Rattle.capture_lines.specs.Measurement.{table_head}
+use Rattle.capture_lines.specs.Measurement.{Measured, table_head}
 use Rattle.capture_measure.specs.declared.measuring.Form.{Form}
 use Rattle.capture_measure.specs.declared.measuring.Form.TheVariants.{Json, Table}
 use Rattle.text_lines.specs.declared.line_fault.LineFault.{LineFault}
-use Rattle.text_lines.specs.declared.line_fault.LineFault.TheVariants.{Field}
+use Rattle.text_lines.specs.declared.line_fault.LineFault.TheVariants.{Write, Field, Memory}
 use Rattle.capture_measure.specs.declared.watch.Wanted.{Wanted}
 use Rattle.capture_measure.specs.Row.{Row, IsRow}
-use Rattle.capture_measure.specs.Measured.{written}
+use Rattle.capture_measure.specs.Measured.{measured_in, written, GoesWhole}
 
 -- what is asked for, and the lines that were read, newest first
 pub record Recording : Type 0 where
@@ -24,7 +24,11 @@ pub record Recording : Type 0 where
 abbrev pub begun : Form → Wanted → Recording
 begun form w = record { form = form; wanted = w; rows = [] }
 
--- all that is written once these lines were read
+-- all that is measured once these lines were read
+abbrev pub measured_so_far : Recording → List Measured
+measured_so_far r = measured_in r.wanted r.rows
+
+-- all that is written of them
 abbrev pub written_of : Recording → List ℕ
 written_of r = written r.form r.wanted r.rows
 
@@ -41,12 +45,14 @@ abbrev pub Takes : List ℕ → Recording → Recording → List ℕ → Type 0
 Takes line r later out =
     (row : Row) × IsNext r line row × (later ≡ with_row row r) × (written_of later ≡ written_of r ++ out)
 
--- why a line isn't taken: it is none of a recording, or memory or the writer failed; then a part of what it adds went
--- out
+-- Why a line isn't taken: it is none of a recording, memory failed, or the writer did, at a report. Before that some of its
+-- reports may have gone out, each whole.
 abbrev pub Stops : List ℕ → Recording → LineFault → List ℕ → Type 0
+Stops line r Write out = (row : Row) × IsNext r line row × (left : List Measured) × (left ≢ [])
+    × GoesWhole r.form (measured_so_far r) (measured_so_far (with_row row r)) left out
 Stops line r Field out = ((row : Row) → IsNext r line row → ⊥) × (out ≡ [])
-Stops line r fault out =
-    (row : Row) × IsNext r line row × (rest : List ℕ) × (written_of (with_row row r) ≡ written_of r ++ (out ++ rest))
+Stops line r Memory out = (row : Row) × IsNext r line row × (left : List Measured)
+    × GoesWhole r.form (measured_so_far r) (measured_so_far (with_row row r)) left out
 
 -- each line that is taken adds to a recording, and the number of lines is answered at the end; as many lines are
 -- allowed as can be counted

@@ -1,5 +1,6 @@
--- What is written of a recording: the reports of the lines that are heard, in order.
-use Rattle.std.specs.Prelude.{ℕ, List, [], ◌∷◌, ◌++◌, Option, option_map, option_to_list}
+-- What is written of a recording: the reports of the lines that are heard, in order. A list of measurements has the
+-- newest in front.
+use Rattle.std.specs.Prelude.{◌≡◌, ℕ, List, [], ◌∷◌, ◌++◌, Option, option_map, option_to_list}
 use Rattle.std.specs.Option.{option_map_or}
 use Rattle.std.specs.Result.{result_ok}
 use Rattle.event_codec.specs.declared.message.Body.{Body}
@@ -27,6 +28,11 @@ abbrev pub text_as : Form → Measured → List ℕ
 text_as Json m = json_text m
 text_as Table m = row_text m
 
+-- the texts of measurements, in order
+abbrev pub texts_as : Form → List Measured → List ℕ
+texts_as form [] = []
+texts_as form (m ∷ earlier) = texts_as form earlier ++ text_as form m
+
 -- what is measured at a line, after these lines that were heard, if it brings a report
 abbrev pub measured_at : Watched → List Row → Row → Option Measured
 measured_at watched earlier row = option_map
@@ -38,21 +44,21 @@ measured_at watched earlier row = option_map
     })
     (report_at watched (datagrams earlier) row.datagram)
 
--- the text of it
-abbrev pub report_text : Form → Watched → List Row → Row → List ℕ
-report_text form watched earlier row = option_map_or (text_as form) (measured_at watched earlier row) []
-
--- the texts of all reports that lines bring
-abbrev pub reports_text : Form → Watched → List Row → List ℕ
-reports_text form watched [] = []
-reports_text form watched (row ∷ earlier) = reports_text form watched earlier ++ report_text form watched earlier row
-
--- all that is written once these lines were read
-abbrev pub written : Form → Wanted → List Row → List ℕ
-written form w rows =
-    option_map_or (λ watched. reports_text form watched (heard w rows)) (watched_in w (datagrams rows)) []
-
 -- all that is measured at lines that are heard
 abbrev pub measurements : Watched → List Row → List Measured
 measurements watched [] = []
 measurements watched (row ∷ earlier) = option_to_list (measured_at watched earlier row) ++ measurements watched earlier
+
+-- all that is measured once these lines were read
+abbrev pub measured_in : Wanted → List Row → List Measured
+measured_in w rows = option_map_or (λ watched. measurements watched (heard w rows)) (watched_in w (datagrams rows)) []
+
+-- all that is written of them
+abbrev pub written : Form → Wanted → List Row → List ℕ
+written form w rows = texts_as form (measured_in w rows)
+
+-- Where all that is measured grew so, the texts of some of what is new went out, each of them whole, and these are left.
+pub record GoesWhole (form : Form) (before after left : List Measured) (out : List ℕ) : Type 0 where
+  pub went : List Measured
+  pub brought : after ≡ left ++ (went ++ before)
+  pub texts : out ≡ texts_as form went

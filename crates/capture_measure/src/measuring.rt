@@ -1,7 +1,7 @@
 //! A recording that is measured line by line.
 
 ghost use Rattle.std.specs.Prelude.{◌≡◌, ◌≤◌, ◌+◌, List, [], ◌∷◌, length, map, MatchResult, MatchOption, OnOk};
-ghost use Rattle.std.specs.Prelude.{Some, None, ⊤};
+ghost use Rattle.std.specs.Prelude.{Some, None, ⊤, option_to_list};
 ghost use Rattle.std.specs.List.{All};
 ghost use Rattle.text_lines.specs.Counted.{device_of, HasFailed, HasNotFailed, HasFailedIf};
 ghost use Rattle.std.specs.Io.KnownBytes.{Appends};
@@ -12,7 +12,7 @@ ghost use Rattle.capture_model.specs.Listening.{after_all};
 ghost use Rattle.capture_lines.specs.Measurement.{measured_of};
 ghost use Rattle.capture_measure.specs.Watch.{watched_in};
 ghost use Rattle.capture_measure.specs.Row.{Row, datagrams, IsRow};
-ghost use Rattle.capture_measure.specs.Measured.{report_text, reports_text};
+ghost use Rattle.capture_measure.specs.Measured.{measured_at, measurements};
 ghost use Rattle.capture_measure.specs.Measure.{Recording, begun, head_text, measure_rules};
 ghost use Rattle.capture_measure.specs.Inner.Listener.{IsListener};
 ghost use Rattle.capture_measure.specs.Inner.Watching.{IsWatch};
@@ -165,7 +165,7 @@ impl Reports {
         ensures heard { (watched : Watched) (earlier : List Row) (row : Row) → IsRowOf read.now row
             → IsListener watched listener.old (after_all watched (datagrams earlier))
             → OnOk result (IsListener watched listener.new (after_all watched (datagrams (row ∷ earlier))))
-            × Goes result (report_text self.old.form watched earlier row)
+            × Goes self.old.form result (option_to_list (measured_at watched earlier row))
             (W.contents (device_of output.old)) (W.contents (device_of output.new)) }
         ensures of_output { MatchResult result (λ _. ⊤) IsOfOutput }
         ensures form { self.new.form ≡ self.old.form }
@@ -191,7 +191,7 @@ impl Reports {
         ensures heard { (watched : Watched) (before : List Row) (row : Row) → IsRow (earlier + 1) line.now row
             → IsListener watched listener.old (after_all watched (datagrams before))
             → OnOk result (IsListener watched listener.new (after_all watched (datagrams (row ∷ before))))
-            × Goes result (report_text self.old.form watched before row)
+            × Goes self.old.form result (option_to_list (measured_at watched before row))
             (W.contents (device_of output.old)) (W.contents (device_of output.new)) }
         ensures answered { MatchResult result
             (λ number. (number ≡ earlier + 1) × HasRow (earlier + 1) line.now)
@@ -222,7 +222,7 @@ impl Reports {
         ensures heard { (watched : Watched) (rows : List Row) → AreRows [] (map (λ line. line.items) kept.now) rows
             → IsListener watched listener.old (after_all watched [])
             → OnOk result (IsListener watched listener.new (after_all watched (datagrams rows)))
-            × Goes result (reports_text self.old.form watched rows)
+            × Goes self.old.form result (measurements watched rows)
             (W.contents (device_of output.old)) (W.contents (device_of output.new)) }
         ensures form { self.new.form ≡ self.old.form }
         ensures failures { MatchResult result
@@ -249,7 +249,7 @@ impl Reports {
         ensures heard { (watched : Watched) (rows : List Row) → AreKept stage.now rows
             → IsListener watched listener.old (after_all watched [])
             → OnOk result (IsListener watched listener.new (after_all watched (datagrams rows)))
-            × Goes result (reports_text self.old.form watched rows)
+            × Goes self.old.form result (measurements watched rows)
             (W.contents (device_of output.old)) (W.contents (device_of output.new)) }
         ensures form { self.new.form ≡ self.old.form }
         ensures failures { MatchResult result
@@ -364,7 +364,7 @@ impl Measuring {
         ensures begun { (earlier : List Row) (row : Row) → IsRowOf read.now row
             → AreKept self.old.stage earlier
             → OnOk result (IsHearing watched (row ∷ earlier) self.new.stage)
-            × Goes result (reports_text self.old.reports.form watched (row ∷ earlier))
+            × Goes self.old.reports.form result (measurements watched (row ∷ earlier))
             (W.contents (device_of output.old)) (W.contents (device_of output.new)) }
         ensures form { self.new.reports.form ≡ self.old.reports.form }
         ensures lines { self.new.lines ≡ self.old.lines }

@@ -1,6 +1,6 @@
 //! A capture that is measured packet by packet.
 
-ghost use Rattle.std.specs.Prelude.{◌≡◌, ◌∷◌, ◌<◌, ℕ, List, [], length, MatchResult, OnOk, ⊤};
+ghost use Rattle.std.specs.Prelude.{◌≡◌, ◌∷◌, ◌<◌, ℕ, List, [], length, MatchResult, OnOk, ⊤, option_to_list};
 ghost use Rattle.std.specs.String.{string_bytes};
 ghost use Rattle.std.specs.Io.KnownBytes.{Appends};
 ghost use Rattle.datagram_text.specs.Shown.{stamp_text};
@@ -10,7 +10,7 @@ ghost use Rattle.text_lines.specs.Task.{WentOut};
 ghost use Rattle.capture_file.specs.Packet.{packet_of, interface_of};
 ghost use Rattle.capture_model.specs.Listening.{after_all};
 ghost use Rattle.capture_measure.specs.Row.{Row, datagrams};
-ghost use Rattle.capture_measure.specs.Measured.{report_text, reports_text};
+ghost use Rattle.capture_measure.specs.Measured.{measured_at, measurements};
 ghost use Rattle.capture_measure.specs.Interfaces.{InterfaceRow};
 ghost use Rattle.capture_measure.specs.Capture.{Capture, capture_begun, capture_rules, IsDatagramRow, TakesPacket, StopsAtPacket};
 ghost use Rattle.capture_measure.specs.Inner.Hearing.{recorded_of, IsOfOutput, Goes};
@@ -75,7 +75,7 @@ impl PacketReports {
         ensures heard { (watched : Watched) (earlier : List Row)
             → IsListener watched listener.old (after_all watched (datagrams earlier))
             → OnOk result (IsListener watched listener.new (after_all watched (datagrams (row_at time datagram.now ∷ earlier))))
-            × Goes result (report_text self.old.reports.form watched earlier (row_at time datagram.now))
+            × Goes self.old.reports.form result (option_to_list (measured_at watched earlier (row_at time datagram.now)))
             (W.contents (device_of output.old)) (W.contents (device_of output.new)) }
         ensures of_output { MatchResult result (λ _. ⊤) IsOfOutput }
         ensures form { self.new.reports.form ≡ self.old.reports.form }
@@ -101,7 +101,7 @@ impl PacketReports {
         ensures heard { (watched : Watched) (rows : List Row) → AreKeptRows [] kept.now rows
             → IsListener watched listener.old (after_all watched [])
             → OnOk result (IsListener watched listener.new (after_all watched (datagrams rows)))
-            × Goes result (reports_text self.old.reports.form watched rows)
+            × Goes self.old.reports.form result (measurements watched rows)
             (W.contents (device_of output.old)) (W.contents (device_of output.new)) }
         ensures of_output { MatchResult result (λ _. ⊤) IsOfOutput }
         ensures form { self.new.reports.form ≡ self.old.reports.form }
@@ -304,7 +304,7 @@ impl CaptureMeasuring {
         ensures begun { (rows : List Row)
             → BeginsWith is_kept self.old.recordings.recordings.items place (row_at time datagram.now) rows
             → OnOk result (IsHearingAt watched place rows self.new.stage)
-            × Goes result (reports_text self.old.reports.reports.form watched rows)
+            × Goes self.old.reports.reports.form result (measurements watched rows)
             (W.contents (device_of output.old)) (W.contents (device_of output.new)) }
         ensures form { self.new.reports.reports.form ≡ self.old.reports.reports.form }
         ensures wanted { self.new.wanted ≡ self.old.wanted }

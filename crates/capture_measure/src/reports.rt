@@ -9,7 +9,7 @@ ghost use Rattle.capture_model.specs.Recorded.{Recorded};
 ghost use Rattle.capture_lines.specs.Measurement.{measured_of};
 ghost use Rattle.capture_measure.specs.Measured.{half_of, text_as};
 ghost use Rattle.capture_measure.specs.Inner.Listener.{IsListener, report_by};
-ghost use Rattle.capture_measure.specs.Inner.Hearing.{reading_of, recorded_of, completion, measured_by, Goes};
+ghost use Rattle.capture_measure.specs.Inner.Hearing.{reading_of, recorded_of, completion, measured_by, GoesAtOnce};
 
 use crate::listener::{Became, Listener};
 use crate::measuring::Form;
@@ -144,7 +144,7 @@ impl Reports {
         measured: &Measurement<'_>,
         output: &mut Counted<W>,
     ) -> Result<(), LineFault>
-        ensures written { Goes result (text_as self.old.form (measured_of measured.now))
+        ensures written { GoesAtOnce result (text_as self.old.form (measured_of measured.now))
             (W.contents (device_of output.old)) (W.contents (device_of output.new)) }
         ensures form { self.new.form ≡ self.old.form }
         ensures failures { MatchResult result

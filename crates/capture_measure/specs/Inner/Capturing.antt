@@ -3,6 +3,7 @@ use Rattle.std.specs.Prelude.{◌≡◌, ℕ, ◌+◌, ◌<◌, nat_lt, Bool, mi
 use Rattle.text_lines.specs.declared.line_fault.LineFault.{LineFault}
 use Rattle.capture_file.specs.declared.packet.Captured.{Captured}
 use Rattle.capture_file.specs.Packet.{interface_of}
+use Rattle.capture_lines.specs.Measurement.{Measured}
 use Rattle.capture_model.specs.declared.watched.Watched.{Watched}
 use Rattle.capture_model.specs.Listening.{after_all}
 use Rattle.capture_measure.specs.declared.packets.CaptureMeasuring.{CaptureMeasuring}
@@ -14,7 +15,7 @@ use Rattle.capture_measure.specs.declared.watch.Wanted.{Wanted}
 use Rattle.capture_measure.specs.Row.{Row, datagrams, kept_most}
 use Rattle.capture_measure.specs.Interfaces.{InterfaceRow}
 use Rattle.capture_measure.specs.Chosen.{chosen, heard_at, capture_watched}
-use Rattle.capture_measure.specs.Capture.{Capture, capture_text, with_packet}
+use Rattle.capture_measure.specs.Capture.{Capture, measured_so_far, with_packet}
 use Rattle.capture_measure.specs.Inner.Hearing.{Goes}
 use Rattle.capture_measure.specs.Inner.Listener.{IsListener}
 use Rattle.capture_measure.specs.Inner.Recordings.{interface_in, row_at, AreRecordings}
@@ -54,9 +55,9 @@ pub record IsLooking (task : CaptureMeasuring) (c : Capture) (is_kept : Bool) : 
 abbrev pub row_of_packet : Captured → Datagram → InterfaceRow
 row_of_packet captured d = record { interface = interface_of captured.interface; row = row_at captured.time d }
 
--- a datagram was taken, and what it adds to all that is written went out, or a part of it before a fault
+-- a datagram was taken, and the reports that it brings went out, or some of them before a fault
 abbrev pub AddsRow : {T : Type 0} → Result T LineFault → Capture → InterfaceRow → CaptureMeasuring
     → (before after : Option (List ℕ)) → Type 0
 AddsRow result c r new before after =
     OnOk result (IsCapturing new (with_packet r c))
-    × (text : List ℕ) × (capture_text (with_packet r c) ≡ capture_text c ++ text) × Goes result text before after
+    × (ms : List Measured) × (measured_so_far (with_packet r c) ≡ ms ++ measured_so_far c) × Goes c.form result ms before after

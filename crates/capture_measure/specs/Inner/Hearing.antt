@@ -1,5 +1,5 @@
 -- What becomes of a datagram that a port hears, and what goes out of it.
-use Rattle.std.specs.Prelude.{◌≡◌, ℕ, ⊤, List, ◌++◌, Ok, Err, Option, Result, MatchResult, option_map}
+use Rattle.std.specs.Prelude.{◌≡◌, ◌≢◌, ℕ, ⊤, List, [], ◌++◌, Ok, Err, Option, Result, MatchResult, option_map}
 use Rattle.std.specs.Option.{option_map_or}
 use Rattle.std.specs.Result.{result_ok}
 use Rattle.std.specs.Io.KnownBytes.{Appends}
@@ -18,7 +18,8 @@ use Rattle.capture_model.specs.Recorded.{Recorded}
 use Rattle.capture_model.specs.Listening.{report_at}
 use Rattle.capture_measure.specs.declared.reports.Completed.{Completed}
 use Rattle.capture_measure.specs.declared.reports.Datagram.{Datagram}
-use Rattle.capture_measure.specs.Measured.{half_of}
+use Rattle.capture_measure.specs.declared.measuring.Form.{Form}
+use Rattle.capture_measure.specs.Measured.{half_of, texts_as}
 
 -- what octets say, by the message or the refusal that was read of them
 abbrev pub reading_of : Result Message DecodeRefusal → Reading
@@ -45,13 +46,26 @@ IsOfOutput Write = ⊤
 IsOfOutput Field = ⊥
 IsOfOutput Memory = ⊤
 
--- a part of a text went out before this fault
-abbrev pub GoesUntil : LineFault → List ℕ → (before after : Option (List ℕ)) → Type 0
-GoesUntil fault text before after =
-    IsOfOutput fault × (out : List ℕ) × (rest : List ℕ) × (text ≡ out ++ rest)
-    × WentOut (is_write fault) (Appends before after out)
+-- a text went out, or nothing of it before a fault
+abbrev pub GoesAtOnce : {T : Type 0} → Result T LineFault → List ℕ → (before after : Option (List ℕ)) → Type 0
+GoesAtOnce result text before after = MatchResult result
+    (λ _. Appends before after text)
+    (λ fault. IsOfOutput fault × WentOut (is_write fault) (Appends before after []))
 
--- a text went out, or a part of it before a fault
-abbrev pub Goes : {T : Type 0} → Result T LineFault → List ℕ → (before after : Option (List ℕ)) → Type 0
-Goes result text before after =
-    MatchResult result (λ _. Appends before after text) (λ fault. GoesUntil fault text before after)
+-- what of measurements may be left at a fault: one or more where the writer failed
+abbrev pub MayLeave : LineFault → List Measured → Type 0
+MayLeave Write left = left ≢ []
+MayLeave Field left = ⊥
+MayLeave Memory left = ⊤
+
+-- the texts of some of these measurements, which have the newest in front, went out before this fault
+abbrev pub GoesUntil : Form → LineFault → List Measured → (before after : Option (List ℕ)) → Type 0
+GoesUntil form fault ms before after =
+    (went : List Measured) × (left : List Measured) × MayLeave fault left × (ms ≡ left ++ went)
+    × WentOut (is_write fault) (Appends before after (texts_as form went))
+
+-- the texts of all of them went out, or of some before a fault
+abbrev pub Goes : {T : Type 0} → Form → Result T LineFault → List Measured → (before after : Option (List ℕ)) → Type 0
+Goes form result ms before after = MatchResult result
+    (λ _. Appends before after (texts_as form ms))
+    (λ fault. GoesUntil form fault ms before after)

@@ -4,7 +4,7 @@ use Rattle.std.specs.Prelude.{Option}
 use Rattle.std.specs.List.{All}
 use Rattle.std.specs.Io.KnownBytes.{Appends}
 use Rattle.hex.specs.Hex.{decode_of}
-use Rattle.event_codec.specs.Reading.{Reading, IsReading}
+use Rattle.event_codec.specs.Reading.{Reading}
 use Rattle.text_lines.specs.Lines.{line_limit}
 use Rattle.capture_lines.specs.Timed.{parts_of, timed_in}
 use Rattle.capture_lines.specs.declared.timed.Timed.{Timed}
@@ -20,7 +20,7 @@ use Rattle.capture_measure.specs.declared.watch.Wanted.{Wanted}
 use Rattle.capture_measure.specs.Watch.{watched_in}
 use Rattle.capture_measure.specs.Row.{Row, datagrams, kept_most, heard, IsRow}
 use Rattle.capture_measure.specs.Measure.{Recording}
-use Rattle.capture_measure.specs.Inner.Hearing.{reading_of, recorded_of}
+use Rattle.capture_measure.specs.Inner.Hearing.{recorded_of}
 use Rattle.capture_measure.specs.Inner.Listener.{IsListener}
 use Rattle.capture_measure.specs.Inner.Watching.{IsWatch}
 

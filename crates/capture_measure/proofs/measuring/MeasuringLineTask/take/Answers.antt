@@ -1,18 +1,19 @@
 use Rattle.std.proofs.Common.{◌∙◌, ◌+◌, ℕ, [], ◌∷◌, refl, sym, ap, subst, arith}
+use Rattle.std.specs.Prelude.{option_to_list}
 use Rattle.std.proofs.lemmas.Result.{err_from_is_err_and}
 use Rattle.text_lines.specs.Counted.{device_of}
 use Rattle.capture_measure.specs.declared.measuring.Form.{Form}
 use Rattle.capture_measure.specs.declared.measuring.Stage.TheVariants.{Hearing}
 use Rattle.capture_measure.specs.Row.{Row, IsRow, datagrams, heard}
-use Rattle.capture_measure.specs.Measure.{with_row}
-use Rattle.capture_measure.specs.Measured.{report_text, reports_text}
+use Rattle.capture_measure.specs.Measure.{with_row, measured_so_far}
+use Rattle.capture_measure.specs.Measured.{texts_as, measured_at, measurements}
 use Rattle.capture_measure.specs.Inner.Hearing.{Goes}
 use Rattle.capture_measure.specs.Inner.Measuring.{StopsAt, IsUnread, IsStage}
 use Rattle.capture_measure.specs.Inner.Watching.{IsWatch}
-use Rattle.capture_measure.proofs.Goes.{answered, stopped, unread}
-use Rattle.capture_measure.proofs.Rows.{heard-known, written-more}
+use Rattle.capture_measure.proofs.Goes.{answered, stopped, unread, texts-append}
+use Rattle.capture_measure.proofs.Rows.{heard-known, measured-more}
 use Rattle.capture_measure.proofs.Taken.{on_ok_then, nothing_goes, nothing_fails, are_within, not_unknown, not_known}
-use Rattle.capture_measure.proofs.Taken.{heard_before, written-first, stage_heard, written-still}
+use Rattle.capture_measure.proofs.Taken.{heard_before, measured-first, stage_heard, measured-still}
 use Rattle.capture_measure.proofs.Told.{watched-stays}
 use Rattle.capture_measure.proofs.measuring.MeasuringLineTask.take.Goals as goal
 
@@ -23,10 +24,10 @@ returns-in_err-self-clause-taken g c = λ r at.
     let before = g.W.Write.contents (device_of c.args.output.now) in
     let after = g.W.Write.contents (device_of c.hear.new.output) in
     rw (e.1, e.2) (stopped r c.args.line.now c.in_err-self.field-0.0 before after
-    (report_text r.form watched (heard r.wanted r.rows))
+    (λ row. option_to_list (measured_at watched (heard r.wanted r.rows) row))
     (subst (λ (n : ℕ). StopsAt c.in_err-self.field-0.0 (n + 1) c.args.line.now before after) at.counted
     c.in_err-self.ensures.answered)
-    (λ row. written-more r.form r.wanted r.rows row watched known)
+    (λ row. measured-more r.wanted r.rows row watched known)
     (λ row next. ((rw at.form at c.in_err-self.ensures.heard) watched (heard r.wanted r.rows) row
     (subst (λ (n : ℕ). IsRow (n + 1) c.args.line.now row) (sym at.counted) next) listens).1))
 
@@ -38,7 +39,7 @@ returns-in-Hearing-clause-taken g c = λ r at.
     let later = watched-stays r.wanted row.datagram (datagrams r.rows) watched known in
     let heard_it = (rw at.form at c.in_ok-self.ensures.heard) watched (heard r.wanted r.rows) row has.1 listens in (
       with_row row r,
-      report_text r.form watched (heard r.wanted r.rows) row,
+      texts_as r.form (option_to_list (measured_at watched (heard r.wanted r.rows) row)),
       record {
         form = c.in_ok-self.ensures.form ∙ at.form;
         counted = omega (arith, same, at.counted);
@@ -50,7 +51,8 @@ returns-in-Hearing-clause-taken g c = λ r at.
         row,
         subst (λ (n : ℕ). IsRow (n + 1) c.args.line.now row) at.counted has.1,
         refl,
-        written-more r.form r.wanted r.rows row watched known,
+        ap (texts_as r.form) (measured-more r.wanted r.rows row watched known)
+            ∙ texts-append r.form (option_to_list (measured_at watched (heard r.wanted r.rows) row)) (measured_so_far r),
       ),
       heard_it.1,
     )
@@ -79,8 +81,8 @@ returns-in-Some g c = record {
       known in
       let begun = c.begin.ensures.begun earlier row of kept in
       answered r c.args.line.now row c.begin.result c.begin.new.self
-      (reports_text r.form c.in-Some.watched (row ∷ earlier)) _ _ next
-      (written-first r.form r.wanted r.rows row c.in-Some.watched earlier known first unknown)
+      (measurements c.in-Some.watched (row ∷ earlier)) _ _ next
+      (measured-first r.wanted r.rows row c.in-Some.watched earlier known first unknown)
       (on_ok_then c.begin.result (λ is. record {
         form = c.begin.ensures.form ∙ at.form;
         counted = omega (arith, c.begin.ensures.lines, c.in-Ok.ensures.numbered, at.counted);
@@ -88,7 +90,7 @@ returns-in-Some g c = record {
         stage = stage_heard r.wanted (row ∷ r.rows) c.in-Some.watched (row ∷ earlier) c.begin.new.self.stage known first
             is;
       }) begun.0)
-      (subst (λ (f : Form). Goes c.begin.result (reports_text f c.in-Some.watched (row ∷ earlier))
+      (subst (λ (f : Form). Goes f c.begin.result (measurements c.in-Some.watched (row ∷ earlier))
       (g.W.Write.contents (device_of c.args.output.now)) (g.W.Write.contents (device_of c.begin.new.output))) at.form
       begun.1);
   failures = c.begin.ensures.failures;
@@ -105,13 +107,13 @@ returns-in-None g c = record {
       let unknown = sym (c.watched.ensures r.wanted (datagrams (row ∷ r.rows)) watch) ∙ c.in-None.is in
       let numbered = c.in-Ok.ensures.numbered ∙ ap (λ (n : ℕ). n + 1) at.counted in
       answered r c.args.line.now row c.keep.result c.keep.new.self [] _ _ next
-      (written-still r.form r.wanted r.rows row unknown)
+      (measured-still r.wanted r.rows row unknown)
       (on_ok_then c.keep.result (λ is. record {
         form = c.keep.ensures.form ∙ at.form;
         counted = omega (arith, c.keep.ensures.lines, numbered);
         watch = λ none. subst (IsWatch r.wanted (datagrams (row ∷ r.rows))) (sym c.keep.ensures.watch) watch;
         stage = is;
       }) (c.keep.ensures.kept r.wanted r.rows row next unknown numbered at.stage))
-      (nothing_goes c.keep.result _ c.keep.ensures.memory);
+      (nothing_goes r.form c.keep.result _ c.keep.ensures.memory);
   failures = nothing_fails c.keep.result _ c.keep.ensures.memory;
 }

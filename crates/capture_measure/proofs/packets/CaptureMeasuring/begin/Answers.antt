@@ -1,14 +1,15 @@
 use Rattle.std.proofs.Common.{◌≡◌, List, [], ◌∷◌, refl, sym, subst}
+use Rattle.std.specs.Prelude.{option_to_list}
 use Rattle.std.proofs.lemmas.Result.{err_from_is_err_and}
 use Rattle.std.specs.Io.KnownBytes.{Appends}
 use Rattle.text_lines.specs.Counted.{device_of}
 use Rattle.capture_model.specs.Listening.{after_all}
 use Rattle.capture_measure.specs.declared.recording.Kept.{Kept}
 use Rattle.capture_measure.specs.Row.{Row, datagrams}
-use Rattle.capture_measure.specs.Measured.{reports_text}
+use Rattle.capture_measure.specs.Measured.{texts_as, measured_at, measurements}
 use Rattle.capture_measure.specs.Inner.Listener.{IsListener}
 use Rattle.capture_measure.specs.Inner.Recordings.{row_at, AreKeptRows}
-use Rattle.capture_measure.proofs.KeptRows.{those_kept, alone, one_there}
+use Rattle.capture_measure.proofs.KeptRows.{those_kept, alone, one_there, until_alone, went_alone}
 use Rattle.capture_measure.proofs.packets.CaptureMeasuring.begin.Goals as goal
 use Rattle.capture_measure.proofs.packets.CaptureMeasuring.begin.Goals.{then-is_kept+in_ok-hear_kept, else-is_kept+in_ok-hear}
 
@@ -28,7 +29,11 @@ returns-in_err-hear-clause-begun g c = λ rows begins.
     let row : Row = row_at c.args.time c.args.datagram.now in
     let same : rows ≡ row ∷ [] = alone c.args.is_kept c.args.self.now.recordings.recordings.items c.args.place row rows c.if-is_kept.false begins in
     let heard = c.in_err-hear.ensures.heard c.args.watched [] c.new-listener.ensures in
-    rw (e.1, e.2, same) (tt, heard.1)
+    rw (e.1, e.2, same) (
+      tt,
+      until_alone c.args.self.now.reports.reports.form c.in_err-hear.field-0.0
+          (option_to_list (measured_at c.args.watched [] row)) _ _ heard.1,
+    )
 
 pub returns-clause-begun : goal.returns-clause-begun
 returns-clause-begun g c = λ rows begins.
@@ -36,7 +41,7 @@ returns-clause-begun g c = λ rows begins.
     let row : Row = row_at c.args.time c.args.datagram.now in
     let before = g.W.Write.contents (device_of c.args.output.now) in
     let heard : IsListener c.args.watched c.if-is_kept.listener (after_all c.args.watched (datagrams rows))
-    × Appends before (g.W.Write.contents (device_of c.if-is_kept.output)) (reports_text c.args.self.now.reports.reports.form c.args.watched rows) =
+    × Appends before (g.W.Write.contents (device_of c.if-is_kept.output)) (texts_as c.args.self.now.reports.reports.form (measurements c.args.watched rows)) =
     elim c.if-is_kept.branch [
       | then-is_kept+in_ok-hear_kept w ↦
           let kept = those_kept c.args.is_kept recordings c.args.place row rows w.if-is_kept.true begins in
@@ -45,6 +50,11 @@ returns-clause-begun g c = λ rows begins.
           (λ d. subst (λ (k : List Kept). AreKeptRows [] k rows) (sym (w.kept.ensures d)) (kept d))) c.new-listener.ensures)
       | else-is_kept+in_ok-hear w ↦
           let same : rows ≡ row ∷ [] = alone c.args.is_kept recordings c.args.place row rows w.if-is_kept.false begins in
-          rw (w.listener-is, w.output-is, same) (w.in_ok-hear.ensures.heard c.args.watched [] c.new-listener.ensures)
+          let alone_heard = w.in_ok-hear.ensures.heard c.args.watched [] c.new-listener.ensures in
+          rw (w.listener-is, w.output-is, same) (
+            alone_heard.0,
+            went_alone c.args.self.now.reports.reports.form
+                (option_to_list (measured_at c.args.watched [] row)) _ _ alone_heard.1,
+          )
     ] in
     ((refl, heard.0), heard.1)

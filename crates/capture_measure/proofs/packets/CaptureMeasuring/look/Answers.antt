@@ -7,13 +7,14 @@ use Rattle.capture_measure.specs.declared.measuring.Form.{Form}
 use Rattle.capture_measure.specs.declared.recording.Recordings.{Recordings}
 use Rattle.capture_measure.specs.declared.watch.Wanted.{Wanted}
 use Rattle.capture_measure.specs.Row.{Row, datagrams}
-use Rattle.capture_measure.specs.Measured.{reports_text}
+use Rattle.capture_measure.specs.Measured.{measurements}
 use Rattle.capture_measure.specs.Interfaces.{InterfaceRow, interfaces_in, rows_at}
 use Rattle.capture_measure.specs.Chosen.{chosen, watched_at}
 use Rattle.capture_measure.specs.Inner.Capturing.{IsCaptureStage, row_of_packet}
 use Rattle.capture_measure.specs.Inner.Hearing.{Goes}
 use Rattle.capture_measure.specs.Inner.Recordings.{AreRecordings, IsFoundAt}
-use Rattle.capture_measure.proofs.Chosen.{capture-first, written-first, written-still}
+use Rattle.capture_measure.proofs.Chosen.{capture-first, measured-first, measured-still}
+use Rattle.capture_measure.proofs.Goes.{GoesUntil-none}
 use Rattle.capture_measure.proofs.KeptRows.{one_there}
 use Rattle.capture_measure.proofs.Looking.{still_looking, adds_all, unlooked_still, unknown_still, noticed_there, begins_with, chosen_now, not_found}
 use Rattle.capture_measure.proofs.Looking.{heard_now, began}
@@ -24,7 +25,7 @@ pub returns-in_err-found-clause-taken : goal.returns-in_err-found-clause-taken
 returns-in_err-found-clause-taken g c = λ k at.
     let e = err_from_is_err_and c.from_residual.result c.from_residual.ensures.1 in
     let r : InterfaceRow = row_of_packet c.args.captured.now c.args.datagram.now in
-    rw (e.1, e.2) (tt, _, adds_all k r at.unchosen, (tt, [], _, refl, Appends-nil _))
+    rw (e.1, e.2) (tt, _, adds_all k r at.unchosen, GoesUntil-none k.form _ _)
 
 pub returns-in_default-clause-taken : goal.returns-in_default-clause-taken
 returns-in_default-clause-taken g c = λ k at.
@@ -37,7 +38,7 @@ returns-in_default-clause-taken g c = λ k at.
       still_looking _ k r at.counted.0 at.form at.wanted at.counted.1 at.counted.2 none
           (subst (λ (w : Wanted). AreRecordings w (r ∷ k.rows) c.take.new.self.recordings.items) at.wanted are),
       [],
-      written-still k.form k.wanted k.rows r at.unchosen none,
+      measured-still k.wanted k.rows r at.unchosen none,
       Appends-nil _,
     )
 
@@ -68,10 +69,10 @@ returns-in-Some-watched-clause-taken g c = λ k at.
             (began k.wanted k.rows r recordings c.in-Some.place c.in-Some-watched.watched heard c.begin.new.self.stage within there is known
             same hearing);
       }) begun.0,
-      reports_text k.form c.in-Some-watched.watched heard,
-      written-first k.form k.wanted k.rows r c.in-Some-watched.watched heard at.unchosen
+      measurements c.in-Some-watched.watched heard,
+      measured-first k.wanted k.rows r c.in-Some-watched.watched heard at.unchosen
           (capture-first k.wanted k.rows r c.in-Some-watched.watched is known) same,
-      subst (λ (f : Form). Goes c.begin.result (reports_text f c.in-Some-watched.watched heard)
+      subst (λ (f : Form). Goes f c.begin.result (measurements c.in-Some-watched.watched heard)
           (g.W.Write.contents (device_of c.args.output.now)) (g.W.Write.contents (device_of c.begin.new.output))) at.form begun.1,
     )
 
@@ -92,6 +93,6 @@ returns-in-None-clause-taken g c = λ k at.
     let none : chosen k.wanted (r ∷ k.rows) ≡ None = unknown_still k.wanted k.rows r at.unchosen not_known in (
       still_looking _ k r at.counted.0 at.form at.wanted at.counted.1 at.counted.2 none are,
       [],
-      written-still k.form k.wanted k.rows r at.unchosen none,
+      measured-still k.wanted k.rows r at.unchosen none,
       Appends-nil _,
     )

@@ -1,16 +1,17 @@
 use Rattle.std.proofs.Common.{◌≡◌, ◌∙◌, ◌+◌, true, false, [], length, get_or, refl, sym, subst, arith}
+use Rattle.std.specs.Prelude.{option_to_list}
 use Rattle.std.proofs.KnownBytes.{Appends-nil}
 use Rattle.text_lines.specs.Counted.{device_of}
 use Rattle.capture_measure.specs.declared.measuring.Form.{Form}
 use Rattle.capture_measure.specs.declared.recording.Recording.{Recording}
 use Rattle.capture_measure.specs.Interfaces.{InterfaceRow, is_same_interface}
 use Rattle.capture_measure.specs.Row.{kept_most}
-use Rattle.capture_measure.specs.Measured.{report_text}
+use Rattle.capture_measure.specs.Measured.{measured_at}
 use Rattle.capture_measure.specs.Chosen.{heard_at}
 use Rattle.capture_measure.specs.Inner.Capturing.{IsCaptureStage, row_of_packet}
 use Rattle.capture_measure.specs.Inner.Hearing.{Goes}
 use Rattle.capture_measure.specs.Inner.Recordings.{interface_in}
-use Rattle.capture_measure.proofs.Looking.{few_by, hears_more, hears_other, writes_more, writes_nothing}
+use Rattle.capture_measure.proofs.Looking.{few_by, hears_more, hears_other, measures_more, measures_nothing}
 use Rattle.capture_measure.proofs.Taken.{on_ok_then}
 use Rattle.capture_measure.proofs.packets.CaptureMeasuring.take_datagram.Goals as goal
 use Rattle.capture_measure.proofs.packets.CaptureMeasuring.take_datagram.Goals.{then-is_kept, else-is_kept}
@@ -58,9 +59,9 @@ returns-then-is_at-clause-taken g c = λ k at.
         wanted = at.wanted;
         stage = hears_more k.wanted k.rows r recordings c.in-Hearing.place watched within is known c.hear.new.listener same listens;
       }) heard.0,
-      report_text k.form watched (heard_at k.wanted k.rows) r.row,
-      writes_more k.wanted k.rows r recordings c.in-Hearing.place watched within is known k.form same,
-      subst (λ (f : Form). Goes c.hear.result (report_text f watched (heard_at k.wanted k.rows) r.row)
+      option_to_list (measured_at watched (heard_at k.wanted k.rows) r.row),
+      measures_more k.wanted k.rows r recordings c.in-Hearing.place watched within is known same,
+      subst (λ (f : Form). Goes f c.hear.result (option_to_list (measured_at watched (heard_at k.wanted k.rows) r.row))
           (g.W.Write.contents (device_of c.args.output.now)) (g.W.Write.contents (device_of c.hear.new.output))) at.form heard.1,
     )
 
@@ -77,6 +78,6 @@ returns-else-is_at-clause-taken g c = λ k at.
         stage = hears_other k.wanted k.rows r recordings c.in-Hearing.place watched within is known c.in-Hearing.listener other listens;
       },
       [],
-      writes_nothing k.wanted k.rows r recordings c.in-Hearing.place watched within is known k.form other,
+      measures_nothing k.wanted k.rows r recordings c.in-Hearing.place watched within is known other,
       Appends-nil _,
     )

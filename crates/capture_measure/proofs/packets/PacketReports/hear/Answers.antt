@@ -1,12 +1,15 @@
-use Rattle.std.proofs.Common.{ℕ, List, [], refl, sym, subst}
+use Rattle.std.proofs.Common.{List, refl, sym, subst}
 use Rattle.std.proofs.KnownBytes.{Appends-nil}
 use Rattle.std.proofs.lemmas.Result.{err_from_is_err_and}
 use Rattle.std.specs.Io.KnownBytes.{Appends}
 use Rattle.text_lines.specs.Counted.{device_of}
+use Rattle.capture_lines.specs.Measurement.{Measured}
 use Rattle.capture_model.specs.Recorded.{Recorded}
 use Rattle.capture_measure.specs.Row.{Row, datagrams}
 use Rattle.capture_measure.specs.Inner.Recordings.{row_at}
-use Rattle.capture_measure.specs.Inner.Hearing.{recorded_of, Goes}
+use Rattle.capture_measure.specs.Measured.{texts_as}
+use Rattle.capture_measure.specs.Inner.Hearing.{recorded_of, measured_by, Goes}
+use Rattle.capture_measure.proofs.Goes.{goes_one, GoesUntil-none}
 use Rattle.capture_measure.proofs.Heard.{on_ok, nothing_said, said_at}
 use Rattle.capture_measure.proofs.packets.PacketReports.hear.Goals as goal
 
@@ -16,16 +19,16 @@ returns-in_default-clause-heard g c = λ watched earlier listens.
     let row : Row = row_at c.args.time c.args.datagram.now in
     let heard = c.listen.ensures.heard watched (datagrams earlier) listens in (
       heard.0,
-      subst (λ (t : List ℕ). Appends (g.W.Write.contents (device_of c.args.output.now))
-          (g.W.Write.contents (device_of c.args.output.now)) t)
-          (sym (nothing_said watched earlier row d refl c.args.self.now.reports.form c.listen.result heard.1 c.in_default.is))
+      subst (λ (ms : List Measured). Appends (g.W.Write.contents (device_of c.args.output.now))
+          (g.W.Write.contents (device_of c.args.output.now)) (texts_as c.args.self.now.reports.form ms))
+          (sym (nothing_said watched earlier row d refl c.listen.result heard.1 c.in_default.is))
           (Appends-nil _),
     )
 
 pub returns-in_err-write_time-clause-heard : goal.returns-in_err-write_time-clause-heard
 returns-in_err-write_time-clause-heard g c = λ watched earlier listens.
     let e = err_from_is_err_and c.from_residual.result c.from_residual.ensures.1 in
-    rw (e.1, e.2) (tt, (tt, [], _, refl, Appends-nil _))
+    rw (e.1, e.2) (tt, GoesUntil-none c.args.self.now.reports.form _ _)
 
 pub returns-clause-heard : goal.returns-clause-heard
 returns-clause-heard g c = λ watched earlier listens.
@@ -33,9 +36,9 @@ returns-clause-heard g c = λ watched earlier listens.
     let row : Row = row_at c.args.time c.args.datagram.now in
     let heard = c.listen.ensures.heard watched (datagrams earlier) listens in (
       on_ok c.write.result heard.0,
-      subst (λ (t : List ℕ). Goes c.write.result t (g.W.Write.contents (device_of c.args.output.now))
-          (g.W.Write.contents (device_of c.write.new.output)))
-          (sym (said_at watched earlier row d refl c.args.self.now.reports.form c.listen.result c.in-Some.completed
-          row.time heard.1 c.in-Some.is refl))
-          (rw (c.at.ensures, c.listen.ensures.form, c.as_str.ensures.value, c.in_ok-write_time.ensures) at c.write.ensures.written),
+      subst (λ (ms : List Measured). Goes c.args.self.now.reports.form c.write.result ms
+          (g.W.Write.contents (device_of c.args.output.now)) (g.W.Write.contents (device_of c.write.new.output)))
+          (sym (said_at watched earlier row d refl c.listen.result c.in-Some.completed row.time heard.1 c.in-Some.is refl))
+          (goes_one c.args.self.now.reports.form c.write.result (measured_by c.in-Some.completed row.time d.line) _ _
+          (rw (c.at.ensures, c.listen.ensures.form, c.as_str.ensures.value, c.in_ok-write_time.ensures) at c.write.ensures.written)),
     )

@@ -1,13 +1,14 @@
 use Rattle.std.proofs.Common.{◌≡◌, ◌∙◌, ◌≤◌, ◌<◌, ◌∷◌, length, sym, subst, arith, rules}
-use Rattle.std.proofs.KnownBytes.{Appends-trans}
+use Rattle.std.specs.Prelude.{option_to_list}
 use Rattle.std.proofs.Math.ListN.{drop_of_length-le}
 use Rattle.std.proofs.lemmas.Result.{err_from_is_err_and}
 use Rattle.std.specs.Io.KnownBytes.{Appends}
 use Rattle.text_lines.specs.Counted.{device_of}
 use Rattle.capture_model.specs.Listening.{after_all}
 use Rattle.capture_measure.specs.Row.{Row, datagrams}
-use Rattle.capture_measure.specs.Measured.{report_text}
+use Rattle.capture_measure.specs.Measured.{texts_as, measured_at, measurements}
 use Rattle.capture_measure.specs.Inner.Listener.{IsListener}
+use Rattle.capture_measure.proofs.Goes.{texts-after}
 use Rattle.capture_measure.proofs.KeptRows.{are_next, kept_until}
 use Rattle.capture_measure.proofs.packets.PacketReports.hear_kept.Goals as goal
 
@@ -21,7 +22,7 @@ returns-in_err-hear-clause-heard g c = λ watched rows are begun.
     let heard = c.in_err-hear.ensures.heard watched earlier listens in
     rw (e.1, e.2) (
       tt,
-      kept_until c.in_err-hear.field-0.0 c.args.self.now.reports.form watched earlier rows next.0 _ _ _ _ _ same next.2 appended
+      kept_until c.args.self.now.reports.form c.in_err-hear.field-0.0 watched earlier rows next.0 _ _ _ _ _ same next.2 appended
           (rw c.loop-it.invariant.form at heard.1),
     )
 
@@ -36,8 +37,10 @@ loop-it-preserved g c = record {
         next.0 ∷ earlier,
         next.2,
         subst (λ (row : Row). IsListener watched c.hear.new.listener (after_all watched (datagrams (row ∷ earlier)))) (sym same) heard.0,
-        Appends-trans _ _ _ _ _ appended (subst (λ (row : Row). Appends (g.W.Write.contents (device_of c.loop-it.output))
-            (g.W.Write.contents (device_of c.hear.new.output)) (report_text c.args.self.now.reports.form watched earlier row)) (sym same)
+        texts-after c.args.self.now.reports.form (option_to_list (measured_at watched earlier next.0)) (measurements watched earlier)
+            _ _ _ appended (subst (λ (row : Row). Appends (g.W.Write.contents (device_of c.loop-it.output))
+            (g.W.Write.contents (device_of c.hear.new.output))
+            (texts_as c.args.self.now.reports.form (option_to_list (measured_at watched earlier row)))) (sym same)
             (rw c.loop-it.invariant.form at heard.1)),
       );
   form = c.in_ok-hear.ensures.form ∙ c.loop-it.invariant.form;

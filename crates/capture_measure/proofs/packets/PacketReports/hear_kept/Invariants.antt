@@ -5,7 +5,7 @@ use Rattle.text_lines.specs.Counted.{device_of, HasNotFailed}
 use Rattle.capture_model.specs.declared.watched.Watched.{Watched}
 use Rattle.capture_model.specs.Listening.{after_all}
 use Rattle.capture_measure.specs.Row.{Row, datagrams}
-use Rattle.capture_measure.specs.Measured.{reports_text}
+use Rattle.capture_measure.specs.Measured.{texts_as, measurements}
 use Rattle.capture_measure.specs.Inner.Listener.{IsListener}
 use Rattle.capture_measure.specs.Inner.Recordings.{AreKeptRows}
 use Rattle.capture_measure.proofs.packets.PacketReports.hear_kept.Given as goal
@@ -17,7 +17,7 @@ invariant-loop-it g l = record {
       → (earlier : List Row) × AreKeptRows earlier (drop l.it-index l.kept) rows
       × IsListener watched l.listener (after_all watched (datagrams earlier))
       × Appends (g.W.Write.contents (device_of l.fn.output)) (g.W.Write.contents (device_of l.output))
-      (reports_text l.fn.self.reports.form watched earlier);
+      (texts_as l.fn.self.reports.form (measurements watched earlier));
   form : l.self.reports.form ≡ l.fn.self.reports.form;
   writer : HasNotFailed l.fn.output l.output;
 }

@@ -5,7 +5,7 @@ use Rattle.capture_measure.proofs.reports.Reports.hear.Goals as goal
 
 pub returns-in-Err-clause-heard : goal.returns-in-Err-clause-heard
 returns-in-Err-clause-heard g c = λ watched before row is listens.
-    (tt, unread_until c.in-Err.fault (c.args.earlier + 1) c.args.line.now row _ _ is c.in-Err.ensures)
+    (tt, unread_until c.args.self.now.form c.in-Err.fault (c.args.earlier + 1) c.args.line.now row _ _ is c.in-Err.ensures)
 
 pub returns-in-Err-clause-answered : goal.returns-in-Err-clause-answered
 returns-in-Err-clause-answered g c = stops_unread c.in-Err.fault (c.args.earlier + 1) c.args.line.now _ c.in-Err.ensures

@@ -1,9 +1,10 @@
 use Rattle.std.proofs.Common.{◌≡◌, ◌∙◌, ◌≤◌, ◌<◌, ◌+◌, ℕ, ◌∷◌, length, sym, ap, subst, arith, rules}
-use Rattle.std.proofs.KnownBytes.{Appends-trans}
+use Rattle.std.specs.Prelude.{option_to_list}
 use Rattle.std.proofs.Math.ListN.{drop_of_length-le}
 use Rattle.std.proofs.lemmas.Result.{err_from_is_err_and}
 use Rattle.capture_measure.specs.Row.{IsRow}
-use Rattle.capture_measure.proofs.Goes.{are_next, kept_until}
+use Rattle.capture_measure.specs.Measured.{measured_at, measurements}
+use Rattle.capture_measure.proofs.Goes.{are_next, kept_until, texts-after}
 use Rattle.capture_measure.proofs.reports.Reports.hear_kept.Goals as goal
 
 pub returns-in_err-number-clause-heard : goal.returns-in_err-number-clause-heard
@@ -20,7 +21,7 @@ returns-in_err-number-clause-heard g c = λ watched rows are begun.
     let heard = (rw c.as_slice.ensures.value at c.in_err-number.ensures.heard) watched earlier next.0 row listens in
     rw (e.1, e.2) (
       tt,
-      kept_until c.in_err-number.field-0.0 c.args.self.now.form watched earlier rows next.0 _ _ _ _ next.2 appended
+      kept_until c.args.self.now.form c.in_err-number.field-0.0 watched earlier rows next.0 _ _ _ _ next.2 appended
           (rw c.loop-line.invariant.form at heard.1),
     )
 
@@ -40,7 +41,8 @@ loop-line-preserved g c = record {
         next.2,
         omega (arith, count),
         heard.0,
-        Appends-trans _ _ _ _ _ appended (rw c.loop-line.invariant.form at heard.1),
+        texts-after c.args.self.now.form (option_to_list (measured_at watched earlier next.0)) (measurements watched earlier)
+            _ _ _ appended (rw c.loop-line.invariant.form at heard.1),
       );
   number = omega (arith, c.loop-line.invariant.number, c.in_ok-number.ensures.answered.0);
   form = c.in_ok-number.ensures.form ∙ c.loop-line.invariant.form;

@@ -5,7 +5,7 @@ use Rattle.text_lines.specs.Counted.{device_of, HasNotFailed}
 use Rattle.capture_model.specs.declared.watched.Watched.{Watched}
 use Rattle.capture_model.specs.Listening.{after_all}
 use Rattle.capture_measure.specs.Row.{Row, datagrams}
-use Rattle.capture_measure.specs.Measured.{reports_text}
+use Rattle.capture_measure.specs.Measured.{texts_as, measurements}
 use Rattle.capture_measure.specs.Inner.Listener.{IsListener}
 use Rattle.capture_measure.specs.Inner.Measuring.{AreRows}
 use Rattle.capture_measure.proofs.reports.Reports.hear_kept.Given as goal
@@ -18,7 +18,7 @@ invariant-loop-line g l = record {
       × (length earlier ≡ l.line-index)
       × IsListener watched l.listener (after_all watched (datagrams earlier))
       × Appends (g.W.Write.contents (device_of l.fn.output)) (g.W.Write.contents (device_of l.output))
-      (reports_text l.fn.self.form watched earlier);
+      (texts_as l.fn.self.form (measurements watched earlier));
   number : l.number ≡ l.line-index;
   form : l.self.form ≡ l.fn.self.form;
   writer : HasNotFailed l.fn.output l.output;

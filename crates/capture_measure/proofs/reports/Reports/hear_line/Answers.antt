@@ -1,12 +1,15 @@
-use Rattle.std.proofs.Common.{ℕ, List, ◌∷◌, sym, subst}
+use Rattle.std.proofs.Common.{List, ◌∷◌, sym, subst}
 use Rattle.std.proofs.KnownBytes.{Appends-nil}
 use Rattle.std.specs.Io.KnownBytes.{Appends}
 use Rattle.text_lines.specs.Counted.{device_of}
+use Rattle.capture_lines.specs.Measurement.{Measured}
 use Rattle.capture_model.specs.Listening.{after_all}
 use Rattle.capture_model.specs.Recorded.{Recorded}
 use Rattle.capture_measure.specs.Row.{datagrams}
+use Rattle.capture_measure.specs.Measured.{texts_as}
 use Rattle.capture_measure.specs.Inner.Listener.{IsListener}
-use Rattle.capture_measure.specs.Inner.Hearing.{recorded_of, Goes}
+use Rattle.capture_measure.specs.Inner.Hearing.{recorded_of, measured_by, Goes}
+use Rattle.capture_measure.proofs.Goes.{goes_one}
 use Rattle.capture_measure.proofs.Heard.{on_ok, nothing_said, said_at}
 use Rattle.capture_measure.proofs.reports.Reports.hear_line.Goals as goal
 
@@ -16,11 +19,13 @@ returns-in-Some-clause-heard g c = λ watched earlier row of listens.
     let heard = c.listen.ensures.heard watched (datagrams earlier) listens in (
       on_ok c.write.result (subst (λ (x : Recorded). IsListener watched c.listen.new.listener (after_all watched (x ∷ datagrams earlier)))
           (sym of.datagram) heard.0),
-      subst (λ (t : List ℕ). Goes c.write.result t (g.W.Write.contents (device_of c.args.output.now))
-          (g.W.Write.contents (device_of c.write.new.output)))
-          (sym (said_at watched earlier row d of.datagram c.args.self.now.form c.listen.result c.in-Some.completed
+      subst (λ (ms : List Measured). Goes c.args.self.now.form c.write.result ms
+          (g.W.Write.contents (device_of c.args.output.now)) (g.W.Write.contents (device_of c.write.new.output)))
+          (sym (said_at watched earlier row d of.datagram c.listen.result c.in-Some.completed
           c.args.read.now.text.now heard.1 c.in-Some.is of.time))
-          (rw (c.measured.ensures, c.listen.ensures.form) at c.write.ensures.written),
+          (goes_one c.args.self.now.form c.write.result
+          (measured_by c.in-Some.completed c.args.read.now.text.now c.args.read.now.datagram.number) _ _
+          (rw (c.measured.ensures, c.listen.ensures.form) at c.write.ensures.written)),
     )
 
 pub returns-in-None-clause-heard : goal.returns-in-None-clause-heard
@@ -29,8 +34,8 @@ returns-in-None-clause-heard g c = λ watched earlier row of listens.
     let heard = c.listen.ensures.heard watched (datagrams earlier) listens in (
       subst (λ (x : Recorded). IsListener watched c.listen.new.listener (after_all watched (x ∷ datagrams earlier)))
           (sym of.datagram) heard.0,
-      subst (λ (t : List ℕ). Appends (g.W.Write.contents (device_of c.args.output.now))
-          (g.W.Write.contents (device_of c.args.output.now)) t)
-          (sym (nothing_said watched earlier row d of.datagram c.args.self.now.form c.listen.result heard.1 c.in-None.is))
+      subst (λ (ms : List Measured). Appends (g.W.Write.contents (device_of c.args.output.now))
+          (g.W.Write.contents (device_of c.args.output.now)) (texts_as c.args.self.now.form ms))
+          (sym (nothing_said watched earlier row d of.datagram c.listen.result heard.1 c.in-None.is))
           (Appends-nil _),
     )
