@@ -43,7 +43,7 @@ met_stays w d ds is =
     (and_from (is_port_met w.master (d ∷ ds)) (is_port_met w.slave (d ∷ ds)) (port_stays w.master d ds master)
     (port_stays w.slave d ds slave))
 
-where_met : (w : Wanted) (ds : List Recorded) (watched : Watched) (met : Bool) → is_met w ds ≡ met
+pub where_met : (w : Wanted) (ds : List Recorded) (watched : Watched) (met : Bool) → is_met w ds ≡ met
     → (if met then watched_in w ds else None) ≡ Some watched → (is_met w ds ≡ true) × (watched_in w ds ≡ Some watched)
 where_met w ds watched true is known = (is, known)
 where_met w ds watched false is known = absurd cc

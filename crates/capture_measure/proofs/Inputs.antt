@@ -1,5 +1,5 @@
 -- What the first octets of an input tell of all of them.
-use Rattle.std.proofs.Common.{◌≡◌, ◌⊎◌, ℕ, ◌<◌, List, ◌++◌, ◌∷◌, [], length, take, drop, inl, inr, refl, sym, ap, subst, ◌∙◌, arith, append-nil, Option, Some, Err}
+use Rattle.std.proofs.Common.{◌≡◌, ◌⊎◌, ℕ, ◌<◌, List, ◌++◌, ◌∷◌, [], length, take, drop, inl, inr, refl, sym, ap, subst, ◌∙◌, arith, append-nil, Option, Some, Ok, Err}
 use Rattle.std.specs.Option.{ForSome}
 use Rattle.std.specs.Io.KnownBytes.{Appends, Consumes, IsAtEnd}
 use Rattle.std.proofs.Math.Seq.{take-append_seam, drop-append_seam}
@@ -18,7 +18,14 @@ use Rattle.capture_measure.specs.declared.watch.Wanted.{Wanted}
 use Rattle.capture_measure.specs.Measure.{begun, head_text}
 use Rattle.capture_measure.specs.Capture.{capture_begun}
 use Rattle.capture_measure.specs.Input.{IsOutcome}
-use Rattle.capture_measure.specs.Inner.Outcomes.{LinesAnswer, PacketsAnswer}
+use Rattle.capture_measure.specs.Inner.Outcomes.{LinesAnswer, PacketsAnswer, LinesTell, PacketsTell}
+use Rattle.capture_measure.specs.declared.watch.Whom.{Whom}
+use Rattle.capture_measure.specs.Row.{datagrams}
+use Rattle.capture_measure.specs.Summary.{whom_in, capture_whom, TellsWhom}
+use Rattle.capture_measure.proofs.Exact as exact
+use Rattle.capture_measure.proofs.ExactCapture as exact_capture
+use Rattle.text_lines.specs.Lines.{lines_of}
+use Rattle.capture_file.specs.Parts.{packets_of}
 
 cut_at : (n : ℕ) (first rest : List ℕ) → (length first ≡ n) ⊎ ((length first < n) × (rest ≡ []))
     → (take n (first ++ rest) ≡ first) × (drop n (first ++ rest) ≡ rest)
@@ -118,3 +125,47 @@ pub failed_ahead : (form : Form) (w : Wanted) (all rest before after : Option (L
 failed_ahead form w all rest before after seen read few head = λ octets known.
     let (unread, is, split) = Consumes-known all rest seen octets read known in
     inl (seen, unread, split, few, record { stopped = refl; head = head; input = is })
+
+-- ---- whom they are of
+lines_whom : (form : Form) (w : Wanted) (octets : List ℕ) (outcome : Outcome) (whom : Option Whom)
+    → LinesTell (begun form w) octets outcome whom → TellsWhom form w octets outcome whom
+lines_whom form w octets (Lines (Ok count)) whom (read, text, taken, is) = (
+  read,
+  text,
+  taken,
+  is ∙ ap (λ (v : Wanted). Some (whom_in v (datagrams read.rows)))
+      (exact.read_on 1 (lines_of octets) (begun form w) read text taken).wanted,
+)
+lines_whom form w octets (Lines (Err stop)) whom told = tt
+lines_whom form w octets (Capture answer) whom told = absurd told
+
+packets_whom : (form : Form) (w : Wanted) (octets : List ℕ) (outcome : Outcome) (whom : Option Whom)
+    → PacketsTell (capture_begun form w) octets outcome whom → TellsWhom form w octets outcome whom
+packets_whom form w octets (Lines answer) whom told = absurd told
+packets_whom form w octets (Capture (Ok count)) whom (parts, read, text, has, is) = (
+  parts,
+  read,
+  text,
+  has,
+  is ∙ ap (λ (v : Wanted). capture_whom v read.rows)
+      (exact_capture.read_on form w (packets_of parts) read text has.taken).wanted,
+)
+packets_whom form w octets (Capture (Err stop)) whom told = tt
+
+pub lined_whom : (form : Form) (w : Wanted) (all rest : Option (List ℕ)) (first : List ℕ) (outcome : Outcome) (whom : Option Whom)
+    → Consumes all rest first → AreEnough first rest
+    → ForSome rest (λ octets. LinesTell (begun form w) (first ++ octets) outcome whom)
+    → ForSome all (λ octets. TellsWhom form w octets outcome whom)
+lined_whom form w all rest first outcome whom read are told = λ octets known.
+    let (behind, is) = is_begun all rest first octets read are known in
+    lines_whom form w octets outcome whom
+    (subst (λ (o : List ℕ). LinesTell (begun form w) o outcome whom) (sym is.split) (told behind is.is_left))
+
+pub captured_whom : (form : Form) (w : Wanted) (all rest : Option (List ℕ)) (first : List ℕ) (outcome : Outcome)
+    (whom : Option Whom) → Consumes all rest first → AreEnough first rest
+    → ForSome rest (λ octets. PacketsTell (capture_begun form w) (first ++ octets) outcome whom)
+    → ForSome all (λ octets. TellsWhom form w octets outcome whom)
+captured_whom form w all rest first outcome whom read are told = λ octets known.
+    let (behind, is) = is_begun all rest first octets read are known in
+    packets_whom form w octets outcome whom
+    (subst (λ (o : List ℕ). PacketsTell (capture_begun form w) o outcome whom) (sym is.split) (told behind is.is_left))

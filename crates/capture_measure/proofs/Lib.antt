@@ -1,5 +1,6 @@
 pub mod AsLines
 pub mod Bodies
+pub mod Ended
 pub mod Exact
 pub mod ExactCapture
 pub mod Goes

@@ -1,7 +1,7 @@
 -- A datagram by which it isn't known yet whom to watch, or by which that is known.
 use Rattle.std.proofs.Common.{◌≡◌, ◌∙◌, ◌⊎◌, inl, inr, ℕ, ◌+◌, ◌≤◌, ◌<◌, nat_le, nat_lt, min, Bool, true, false, List, [], ◌∷◌, ◌++◌, length, get_or}
 use Rattle.std.proofs.Common.{Option, Some, None, Result, Ok, Err, refl, sym, ap, subst, arith}
-use Rattle.std.specs.Prelude.{if◌then◌else◌, MatchResult, option_to_list}
+use Rattle.std.specs.Prelude.{if◌then◌else◌, MatchResult, option_to_list, option_map, option_and_then, slice_get}
 use Rattle.std.specs.Io.KnownBytes.{Appends}
 use Rattle.std.proofs.lemmas.List.{append-nil}
 use Rattle.std.proofs.lemmas.Bool.{cases_lt, lt-ltb, le-ltb, ltb-true, ltb-false, le-leb, lt-leb}
@@ -22,14 +22,19 @@ use Rattle.capture_measure.specs.declared.watch.Wanted.{Wanted}
 use Rattle.capture_measure.specs.Row.{Row, datagrams, kept_most}
 use Rattle.capture_measure.specs.Measured.{texts_as, measured_at}
 use Rattle.capture_measure.specs.Interfaces.{InterfaceRow, is_same_interface, rows_at, is_among, interfaces_in}
-use Rattle.capture_measure.specs.Chosen.{watched_at, chosen, heard_at, capture_watched, capture_measured}
+use Rattle.capture_measure.specs.Chosen.{is_met, watched_at, chosen, heard_at, capture_watched, capture_measured}
 use Rattle.capture_measure.specs.Capture.{Capture, IsPacketRow, TakesPacket, StopsAtPacket, with_packet, measured_so_far}
+use Rattle.std.proofs.lemmas.Option.{slice_get-get_or}
+use Rattle.capture_measure.specs.Summary.{whom_in, capture_whom}
+use Rattle.capture_measure.specs.Inner.Ended.{whom_at}
+use Rattle.capture_measure.specs.Inner.Watching.{whom_of}
+use Rattle.capture_measure.proofs.Watches.{whom_known, whom_stays}
 use Rattle.capture_measure.specs.Inner.Capturing.{IsCapturing, IsCaptureStage, IsHearingAt, AddsRow}
 use Rattle.capture_measure.specs.Inner.Listener.{IsListener}
 use Rattle.capture_measure.specs.Inner.Recordings.{interface_in, AreKeptRows, AreRecordings, BeginsWith, IsFoundAt, IsNoticed}
 use Rattle.capture_measure.proofs.KeptRows.{one_there}
 use Rattle.capture_measure.proofs.Chosen.{chosen-stays, capture-stays, heard-known, measured-more, measured-other}
-use Rattle.capture_measure.proofs.Chosen.{chosen-after, unlooked, unknown, known_there, capture-first, heard-first, measured-unknown}
+use Rattle.capture_measure.proofs.Chosen.{chosen-after, unlooked, unknown, known_there, capture-first, heard-first, measured-unknown, where_met}
 use Rattle.capture_measure.proofs.Goes.{texts-append, until_whole}
 
 -- it isn't known yet
@@ -41,6 +46,8 @@ still_looking task k r count form wanted stage counted none are = record {
   form = form;
   wanted = wanted;
   stage = subst (IsCaptureStage k.wanted (r ∷ k.rows) task.recordings.recordings.items) (sym stage) (none, are, omega (arith, counted));
+  whom = ap (λ (s : Stage). whom_at s task.recordings.recordings.items) stage
+      ∙ sym (ap (option_map (λ i. whom_in k.wanted (datagrams (rows_at i (r ∷ k.rows))))) none);
 }
 
 -- what one more row adds, whatever it is
@@ -151,6 +158,38 @@ module _ (w : Wanted) (rows : List InterfaceRow) (r : InterfaceRow) (recordings 
       → capture_measured w (r ∷ rows) ≡ capture_measured w rows
   measures_nothing other = one_there recordings place within
       (λ d. measured-other w rows r (interface_in (get_or recordings place d)) watched (is d) known (other d))
+
+-- ---- whom the packets are of that are measured
+-- once that is known, one more row changes nothing of it
+row_whom : (w : Wanted) (interface : InterfaceOf) (r : InterfaceRow) (rows : List InterfaceRow) (watched : Watched) (same : Bool)
+    → watched_at w (datagrams (rows_at interface rows)) ≡ Some watched
+    → whom_in w (datagrams (if same then r.row ∷ rows_at interface rows else rows_at interface rows))
+    ≡ whom_in w (datagrams (rows_at interface rows))
+row_whom w interface r rows watched true known = whom_stays w r.row.datagram (datagrams (rows_at interface rows)) watched
+    (where_met w (datagrams (rows_at interface rows)) watched (is_met w (datagrams (rows_at interface rows))) refl known).1
+row_whom w interface r rows watched false known = refl
+
+pub capture_whom_stays : (w : Wanted) (rows : List InterfaceRow) (r : InterfaceRow) (interface : InterfaceOf) (watched : Watched)
+    → chosen w rows ≡ Some interface → capture_watched w rows ≡ Some watched → capture_whom w (r ∷ rows) ≡ capture_whom w rows
+capture_whom_stays w rows r interface watched is known =
+    ap (option_map (λ i. whom_in w (datagrams (rows_at i (r ∷ rows))))) (chosen-stays w rows r interface is)
+    ∙ ap Some (row_whom w interface r rows watched (is_same_interface interface r.interface)
+    (sym (ap (option_and_then (λ i. watched_at w (datagrams (rows_at i rows)))) is) ∙ known))
+    ∙ sym (ap (option_map (λ i. whom_in w (datagrams (rows_at i rows)))) is)
+
+-- it is known at the interface of the newest row
+pub whom_began : (w : Wanted) (rows : List InterfaceRow) (r : InterfaceRow) (recordings : List Recording) (place : ℕ)
+    (watched : Watched) (heard : List Row) (stage : Stage) → AreRecordings w (r ∷ rows) recordings → place < length recordings
+    → ((d : Recording) → interface_in (get_or recordings place d) ≡ r.interface) → chosen w (r ∷ rows) ≡ Some r.interface
+    → IsHearingAt watched place heard stage → whom_at stage recordings ≡ capture_whom w (r ∷ rows)
+whom_began w rows r recordings place watched heard (Looking count) are within there is hearing = absurd hearing
+whom_began w rows r recordings place watched heard (Hearing at listener) are within there is (here, listens) =
+    one_there recordings place within (λ d.
+    ap (λ (n : ℕ). option_map (λ (x : Recording). whom_of x.watch) (slice_get recordings n)) here
+    ∙ ap (option_map (λ (x : Recording). whom_of x.watch)) (slice_get-get_or recordings place d within)
+    ∙ ap Some (whom_known w (datagrams (rows_at r.interface (r ∷ rows))) (get_or recordings place d).watch
+    (noticed_there w rows r recordings place are within there d).watch)
+    ∙ sym (ap (option_map (λ i. whom_in w (datagrams (rows_at i (r ∷ rows))))) is))
 
 -- whether few came is whether the count of them is small
 pub few_by : (count rows most : ℕ) → count ≡ min rows most → nat_lt count most ≡ nat_lt rows most

@@ -63,7 +63,7 @@ tells_domain known None none = refl
 tells_domain known (Some header) none = absurd (cc)
 
 -- where no Sync told its domain there was none
-no_syncs : (known : ℕ) (ds : List Recorded) → first_told (domain_told None) ds ≡ None
+pub no_syncs : (known : ℕ) (ds : List Recorded) → first_told (domain_told None) ds ≡ None
     → first_told (source_told is_sync known) ds ≡ None
 no_syncs known [] none = refl
 no_syncs known (d ∷ earlier) none =

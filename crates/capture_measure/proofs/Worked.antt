@@ -15,6 +15,7 @@ use Rattle.capture_measure.specs.declared.watch.Wanted.{Wanted}
 use Rattle.capture_measure.specs.Watch.{watched_in}
 use Rattle.capture_measure.specs.Row.{Row, datagrams, heard}
 use Rattle.capture_measure.specs.Measured.{written}
+use Rattle.capture_measure.specs.Summary.{whom_in}
 
 -- a port of this number and domain
 abbrev pub port : (number domain : ℕ) → PortConfig
@@ -70,6 +71,14 @@ asked_for = refl
 -- the master is asked for, which sent no Sync, so nothing tells its domain
 no_sync : watched_in (record { slave = None; master = Some (port 9 0).identity; domain = None; interface = None }) (datagrams rows) ≡ None
 no_sync = refl
+
+-- by the Sync of line 3, and the Delay_Req of line 4
+told_by : whom_in anybody (datagrams rows) ≡ record {
+  domain = Some (record { value = 0; line = Some 3 });
+  master = Some (record { value = (port 1 0).identity; line = Some 3 });
+  slave = Some (record { value = (port 2 0).identity; line = Some 4 });
+}
+told_by = refl
 
 -- all lines are heard
 heard_all : heard anybody rows ≡ rows

@@ -7,3 +7,4 @@ pub mod Measuring
 pub mod Recordings
 pub mod Capturing
 pub mod Outcomes
+pub mod Ended

@@ -9,4 +9,5 @@ pub mod Capture
 pub mod ExactCapture
 pub mod AsLines
 pub mod Input
+pub mod Summary
 pub mod Inner

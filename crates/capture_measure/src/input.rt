@@ -8,13 +8,14 @@ ghost use Rattle.text_lines.specs.Lines.{line_limit, lfs_in};
 ghost use Rattle.capture_measure.specs.Measure.{Recording};
 ghost use Rattle.capture_measure.specs.Capture.{Capture};
 ghost use Rattle.capture_measure.specs.Input.{MeasuresInput, OutcomeFailed};
+ghost use Rattle.capture_measure.specs.Summary.{TellsWhom};
 ghost use Rattle.capture_measure.specs.Inner.Capturing.{IsCapturing};
 ghost use Rattle.capture_measure.specs.Inner.Measuring.{IsMeasuring};
-ghost use Rattle.capture_measure.specs.Inner.Outcomes.{LinesAnswer, PacketsAnswer};
+ghost use Rattle.capture_measure.specs.Inner.Outcomes.{LinesAnswer, PacketsAnswer, LinesTell, PacketsTell};
 
 use crate::measuring::{Form, Measuring, write_head};
 use crate::packets::CaptureMeasuring;
-use crate::watch::Wanted;
+use crate::watch::{Wanted, Whom};
 use capture_file::{Beginning, CaptureStop, answer_packets_behind};
 use std::alloc::Global;
 use std::io::{Read, Write};
@@ -32,6 +33,8 @@ pub enum Outcome {
 /// What is told of an input beside its reports.
 #[derive(Drop)]
 pub struct Summary {
+    /// Whom the lines are of, as far as that is known; of a capture, whom the packets are of that are measured, once that is known.
+    pub whom: Option<Whom>,
     of: Measured,
 }
 
@@ -46,8 +49,8 @@ impl Summary {
     /// Tells it, in lines. What can't be written is lost.
     pub fn tell<E: Write>(&self, errors: &mut E) {
         match &self.of {
-            Measured::Lines(lines) => lines.tell(errors),
-            Measured::Capture(capture) => capture.tell(errors),
+            Measured::Lines(lines) => lines.tell(self.whom, errors),
+            Measured::Capture(capture) => capture.tell(self.whom, errors),
         }
     }
 }
@@ -67,6 +70,8 @@ pub fn measure<R: Read, W: Write>(
 ) -> (Outcome, Summary)
     ensures measured { MeasuresInput form wanted.now R.remaining W.contents result.0
         input.old input.new output.old output.new }
+    ensures whom { ForSome (R.remaining (device_of input.old)) (λ octets.
+        TellsWhom form wanted.now octets result.0 result.1.whom) }
     ensures failures { OutcomeFailed result.0 input.old input.new output.old output.new }
 {
     let lines = Measuring::new(alloc, wanted, form);
@@ -99,8 +104,12 @@ fn has_lf(octets: &[u8]) -> bool
 fn stopped(lines: Measuring, line: u64, what: Cause<LineFault>) -> (Outcome, Summary)
     ensures { result.0 ≡ Outcome.Lines (Err (record { line = line; what = what })) }
 {
+    let whom = Some(lines.whom());
     let of = Measured::Lines(lines);
-    (Outcome::Lines(Err(Stopped { line, what })), Summary { of })
+    (
+        Outcome::Lines(Err(Stopped { line, what })),
+        Summary { whom, of },
+    )
 }
 
 /// Measures lines, of which these octets were read.
@@ -116,11 +125,22 @@ fn measure_lines<R: Read, W: Write>(
     ensures answered { (r : Recording) → IsMeasuring lines r → ForSome (R.remaining (device_of input.old)) (λ octets.
         LinesAnswer r (start.now ++ octets) (R.remaining (device_of input.new))
         (W.contents (device_of output.old)) (W.contents (device_of output.new)) result.0) }
+    ensures whom { (r : Recording) → IsMeasuring lines r → ForSome (R.remaining (device_of input.old)) (λ octets.
+        LinesTell r (start.now ++ octets) result.0 result.1.whom) }
     ensures failures { OutcomeFailed result.0 input.old input.new output.old output.new }
 {
-    let answer = answer_lines_behind(start, &mut lines, input, output);
-    let of = Measured::Lines(lines);
-    (Outcome::Lines(answer), Summary { of })
+    match answer_lines_behind(start, &mut lines, input, output) {
+        Ok(ended) => {
+            let whom = Some(ended.whom);
+            let of = Measured::Lines(lines);
+            (Outcome::Lines(Ok(ended.lines)), Summary { whom, of })
+        }
+        Err(stop) => {
+            let whom = Some(lines.whom());
+            let of = Measured::Lines(lines);
+            (Outcome::Lines(Err(stop)), Summary { whom, of })
+        }
+    }
 }
 
 /// Measures a capture, of which these octets were read.
@@ -136,9 +156,20 @@ fn measure_packets<R: Read, W: Write>(
     ensures answered { (c : Capture) → IsCapturing capture c → ForSome (R.remaining (device_of input.old)) (λ octets.
         PacketsAnswer c (start.now ++ octets) (R.remaining (device_of input.new))
         (W.contents (device_of output.old)) (W.contents (device_of output.new)) result.0) }
+    ensures whom { (c : Capture) → IsCapturing capture c → ForSome (R.remaining (device_of input.old)) (λ octets.
+        PacketsTell c (start.now ++ octets) result.0 result.1.whom) }
     ensures failures { OutcomeFailed result.0 input.old input.new output.old output.new }
 {
-    let answer = answer_packets_behind(alloc, start, &mut capture, input, output);
-    let of = Measured::Capture(capture);
-    (Outcome::Capture(answer), Summary { of })
+    match answer_packets_behind(alloc, start, &mut capture, input, output) {
+        Ok(ended) => {
+            let whom = ended.whom;
+            let of = Measured::Capture(capture);
+            (Outcome::Capture(Ok(ended.packets)), Summary { whom, of })
+        }
+        Err(stop) => {
+            let whom = capture.whom();
+            let of = Measured::Capture(capture);
+            (Outcome::Capture(Err(stop)), Summary { whom, of })
+        }
+    }
 }

@@ -15,4 +15,4 @@ mod watch;
 
 pub use input::{Outcome, Summary, measure};
 pub use measuring::Form;
-pub use watch::Wanted;
+pub use watch::{Known, Wanted, Whom};

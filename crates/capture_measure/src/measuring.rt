@@ -13,18 +13,20 @@ ghost use Rattle.capture_lines.specs.Measurement.{measured_of};
 ghost use Rattle.capture_measure.specs.Watch.{watched_in};
 ghost use Rattle.capture_measure.specs.Row.{Row, datagrams, IsRow};
 ghost use Rattle.capture_measure.specs.Measured.{measured_at, measurements};
-ghost use Rattle.capture_measure.specs.Measure.{Recording, begun, head_text, measure_rules};
+ghost use Rattle.capture_measure.specs.Measure.{Recording, begun, head_text};
 ghost use Rattle.capture_measure.specs.Inner.Listener.{IsListener};
 ghost use Rattle.capture_measure.specs.Inner.Watching.{IsWatch};
 ghost use Rattle.capture_measure.specs.Inner.Hearing.{measured_by, IsOfOutput, Goes};
 ghost use Rattle.capture_measure.specs.Inner.Measuring.{IsLine, NoRow, HasRow, IsUnread, IsRead, IsRowOf};
 ghost use Rattle.capture_measure.specs.Inner.Measuring.{StopsAt, AreRows, AreWithin, AreKept};
 ghost use Rattle.capture_measure.specs.Inner.Measuring.{IsHearing, IsStage, IsMeasuring};
+ghost use Rattle.capture_measure.specs.Inner.Watching.{whom_of};
+ghost use Rattle.capture_measure.specs.Inner.Ended.{ended_rules};
 
 use crate::listener::Listener;
 use crate::reports::{Completed, Datagram, Reports, message_in};
 use crate::tally::Tally;
-use crate::watch::{Wanted, Watch};
+use crate::watch::{Wanted, Watch, Whom};
 use capture_lines::{Measurement, Timed, read_timed, table_head};
 use capture_model::Watched;
 use std::alloc::Global;
@@ -79,6 +81,15 @@ pub(crate) struct Measuring {
     stage: Stage,
     reports: Reports,
     lines: u64,
+}
+
+/// What the end of a recording answers.
+#[derive(Clone, Copy)]
+pub(crate) struct Ended {
+    /// How many lines there were.
+    pub(crate) lines: u64,
+    /// Whom they are of.
+    pub(crate) whom: Whom,
 }
 
 /// A line that was read.
@@ -268,13 +279,13 @@ impl Reports {
 }
 
 impl LineTask for Measuring {
-    type Answer = u64;
+    type Answer = Ended;
 
     type Fault = LineFault;
 
     ghost State = { Recording };
 
-    ghost rules = { measure_rules };
+    ghost rules = { ended_rules };
 
     ghost is_at = { IsMeasuring };
 
@@ -300,16 +311,30 @@ impl LineTask for Measuring {
         }
     }
 
-    /// How many lines there were.
-    fn finish<W: Write>(&mut self, lines: u64, _output: &mut Counted<W>) -> Result<u64, LineFault> {
-        Ok(lines)
+    /// How many lines there were, and whom they are of.
+    fn finish<W: Write>(
+        &mut self,
+        lines: u64,
+        _output: &mut Counted<W>,
+    ) -> Result<Ended, LineFault> {
+        let whom = self.whom();
+        Ok(Ended { lines, whom })
     }
 }
 
 impl Measuring {
+    /// Whom the recording is of, as far as that is known.
+    pub(crate) fn whom(&self) -> Whom
+        ensures { result ≡ whom_of self.now.watch }
+    {
+        self.watch.whom()
+    }
+
     /// Tells what is told of a recording beside its reports, in lines. What can't be written is lost.
-    pub(crate) fn tell<E: Write>(&self, errors: &mut E) {
-        self.watch.tell("line", errors);
+    pub(crate) fn tell<E: Write>(&self, whom: Option<Whom>, errors: &mut E) {
+        if let Some(whom) = whom {
+            whom.tell("line", errors);
+        }
         self.reports.tally.tell(errors);
     }
 
@@ -368,6 +393,7 @@ impl Measuring {
             (W.contents (device_of output.old)) (W.contents (device_of output.new)) }
         ensures form { self.new.reports.form ≡ self.old.reports.form }
         ensures lines { self.new.lines ≡ self.old.lines }
+        ensures watch { self.new.watch ≡ self.old.watch }
         ensures failures { MatchResult result
             (λ _. HasNotFailed output.old output.new)
             (λ fault. HasFailedIf (is_write fault) output.old output.new) }

@@ -12,10 +12,11 @@ ghost use Rattle.capture_model.specs.Listening.{after_all};
 ghost use Rattle.capture_measure.specs.Row.{Row, datagrams};
 ghost use Rattle.capture_measure.specs.Measured.{measured_at, measurements};
 ghost use Rattle.capture_measure.specs.Interfaces.{InterfaceRow};
-ghost use Rattle.capture_measure.specs.Capture.{Capture, capture_begun, capture_rules, IsDatagramRow, TakesPacket, StopsAtPacket};
+ghost use Rattle.capture_measure.specs.Capture.{Capture, capture_begun, IsDatagramRow, TakesPacket, StopsAtPacket};
 ghost use Rattle.capture_measure.specs.Inner.Hearing.{recorded_of, IsOfOutput, Goes};
 ghost use Rattle.capture_measure.specs.Inner.Listener.{IsListener};
 ghost use Rattle.capture_measure.specs.Inner.Recordings.{row_at, AreKeptRows, BeginsWith};
+ghost use Rattle.capture_measure.specs.Inner.Ended.{capture_ended_rules, whom_at};
 ghost use Rattle.capture_measure.specs.Inner.Capturing.{IsCapturing, IsLooking, IsHearingAt, AddsRow, row_of_packet};
 
 use crate::interface_counts::InterfaceCounts;
@@ -23,7 +24,7 @@ use crate::listener::Listener;
 use crate::measuring::Form;
 use crate::recording::{Kept, Recordings, datagram_of};
 use crate::reports::{Datagram, Reports};
-use crate::watch::Wanted;
+use crate::watch::{Wanted, Whom};
 use capture_extract::Summary as PacketCounts;
 use capture_file::{Captured, Packet, PacketTask, is_asked};
 use capture_frame::{Found, find_datagram};
@@ -117,6 +118,15 @@ impl PacketReports {
     }
 }
 
+/// What the end of a capture answers.
+#[derive(Clone, Copy)]
+pub(crate) struct CaptureEnded {
+    /// How many packets there were.
+    pub(crate) packets: u64,
+    /// Whom those at the interface that is measured are of; None where that isn't known.
+    pub(crate) whom: Option<Whom>,
+}
+
 /// Measures each packet of a capture.
 #[derive(Drop)]
 pub(crate) struct CaptureMeasuring {
@@ -130,13 +140,13 @@ pub(crate) struct CaptureMeasuring {
 }
 
 impl PacketTask for CaptureMeasuring {
-    type Answer = u64;
+    type Answer = CaptureEnded;
 
     type Fault = LineFault;
 
     ghost State = { Capture };
 
-    ghost rules = { capture_rules };
+    ghost rules = { capture_ended_rules };
 
     ghost is_at = { IsCapturing };
 
@@ -159,13 +169,14 @@ impl PacketTask for CaptureMeasuring {
         }
     }
 
-    /// How many packets there were.
+    /// How many packets there were, and whom those are of that are measured.
     fn finish<W: Write>(
         &mut self,
         packets: u64,
         _output: &mut Counted<W>,
-    ) -> Result<u64, LineFault> {
-        Ok(packets)
+    ) -> Result<CaptureEnded, LineFault> {
+        let whom = self.whom();
+        Ok(CaptureEnded { packets, whom })
     }
 }
 
@@ -327,17 +338,27 @@ impl CaptureMeasuring {
 }
 
 impl CaptureMeasuring {
+    /// Whom the packets are of that are measured, where that is known.
+    pub(crate) fn whom(&self) -> Option<Whom>
+        ensures { result ≡ whom_at self.now.stage self.now.recordings.recordings.items }
+    {
+        match &self.stage {
+            Stage::Looking(_) => None,
+            Stage::Hearing(place, _) => self.recordings.whom(*place),
+        }
+    }
+
     /// Tells what is told of a capture beside its reports, in lines. What can't be written is lost.
-    pub(crate) fn tell<E: Write>(&self, errors: &mut E) {
+    pub(crate) fn tell<E: Write>(&self, whom: Option<Whom>, errors: &mut E) {
         self.packets.tell_packets(errors);
         match self.stage {
-            Stage::Hearing(measured, _) => self.tell_measured(measured, errors),
+            Stage::Hearing(measured, _) => self.tell_measured(measured, whom, errors),
             Stage::Looking(_) => self.tell_unknown(errors),
         }
     }
 
     /// Tells what was measured at the interface of this place, and what was passed over at others.
-    fn tell_measured<E: Write>(&self, measured: usize, errors: &mut E) {
+    fn tell_measured<E: Write>(&self, measured: usize, whom: Option<Whom>, errors: &mut E) {
         let recordings = self.recordings.all();
         let Some(recording) = recordings.get(measured) else {
             return;
@@ -345,7 +366,9 @@ impl CaptureMeasuring {
         if self.has_others() {
             let _ = writeln!(errors, "ptpx: measured at {}", recording.place);
         }
-        recording.watch.tell("packet", errors);
+        if let Some(whom) = whom {
+            whom.tell("packet", errors);
+        }
         self.reports.reports.tally.tell(errors);
         for (place, other) in recordings.iter().enumerate() {
             if place != measured {
@@ -367,7 +390,7 @@ impl CaptureMeasuring {
             if self.has_others() {
                 let _ = writeln!(errors, "ptpx: at {}:", recording.place);
             }
-            recording.watch.tell("packet", errors);
+            recording.watch.whom().tell("packet", errors);
             recording.early.tell(errors);
         }
         self.tell_others(errors);

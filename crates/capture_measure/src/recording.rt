@@ -1,6 +1,6 @@
 //! What is known of the interfaces of a capture while it isn't known whom to watch.
 
-ghost use Rattle.std.specs.Prelude.{◌≡◌, ◌<◌, ◌&&◌, ◌||◌, ◌==◌, ℕ, nat_lt, false, List, [], ◌∷◌, length, map, get_or, IfOk, IfSome, OnOk};
+ghost use Rattle.std.specs.Prelude.{◌≡◌, ◌<◌, ◌&&◌, ◌||◌, ◌==◌, ℕ, nat_lt, false, List, [], ◌∷◌, length, map, get_or, IfOk, IfSome, OnOk, option_map, slice_get};
 ghost use Rattle.std.specs.Option.{option_map_or};
 ghost use Rattle.event_codec.specs.Port.{is_same_port};
 ghost use Rattle.capture_file.specs.Packet.{interface_of};
@@ -12,11 +12,12 @@ ghost use Rattle.capture_measure.specs.Capture.{IsDatagramRow};
 ghost use Rattle.capture_measure.specs.Inner.Hearing.{recorded_of};
 ghost use Rattle.capture_measure.specs.Inner.Recordings.{interface_in, row_at, IsMet, IsNoticed, IsFresh, AreRecordings};
 ghost use Rattle.capture_measure.specs.Inner.Recordings.{IsFoundAt, HasAdded, KeepsMore};
+ghost use Rattle.capture_measure.specs.Inner.Watching.{whom_of};
 
 use crate::interface::Place;
 use crate::reports::{Datagram, message_in};
 use crate::tally::Tally;
-use crate::watch::{Wanted, Watch};
+use crate::watch::{Wanted, Watch, Whom};
 use capture_file::{Captured, Interface};
 use capture_model::Watched;
 use event_codec::{Header, PortIdentity};
@@ -264,6 +265,16 @@ impl Recordings {
             → result ≡ watched_at w ds }
     {
         self.recordings[place].watched()
+    }
+
+    /// Whom the datagrams at the interface of this place are of, as far as that is known; None where there is none.
+    pub(crate) fn whom(&self, place: usize) -> Option<Whom>
+        ensures { result ≡ option_map (λ r. whom_of r.watch) (slice_get self.now.recordings.items place) }
+    {
+        match self.recordings.get(place) {
+            Some(recording) => Some(recording.watch.whom()),
+            None => None,
+        }
     }
 
     /// Whether this place is that of an interface.

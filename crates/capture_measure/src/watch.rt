@@ -5,7 +5,8 @@ ghost use Rattle.std.specs.Option.{option_or};
 ghost use Rattle.event_codec.specs.Packet.{contents};
 ghost use Rattle.capture_model.specs.Recorded.{Recorded};
 ghost use Rattle.capture_measure.specs.Watch.{source_in, domain_from, watched_in};
-ghost use Rattle.capture_measure.specs.Inner.Watching.{value_of, request_in, IsWatch};
+ghost use Rattle.capture_measure.specs.Summary.{known_at, asked_for};
+ghost use Rattle.capture_measure.specs.Inner.Watching.{value_of, request_known, whom_of, IsWatch};
 
 use capture_file::InterfaceName;
 use capture_model::Watched;
@@ -28,13 +29,24 @@ pub struct Wanted {
     pub interface: Option<InterfaceName>,
 }
 
-/// What is known, and by which line; by none where it was asked for.
+/// What is known, and by which line or packet; by none where it was asked for.
 #[derive(Clone, Copy, Debug, PartialEq, Eq)]
 pub struct Known<T> {
     /// What is known.
     pub value: T,
-    /// The line that told it.
+    /// The line or packet that told it.
     pub line: Option<u64>,
+}
+
+/// Whom an input is of, as far as that is known.
+#[derive(Clone, Copy, Debug, PartialEq, Eq)]
+pub struct Whom {
+    /// The domain of both.
+    pub domain: Option<Known<u8>>,
+    /// The master that the slave follows.
+    pub master: Option<Known<PortIdentity>>,
+    /// The slave, whose port sent and received what was recorded.
+    pub slave: Option<Known<PortIdentity>>,
 }
 
 /// What is known of whom a recording is of.
@@ -52,7 +64,7 @@ pub struct Watch {
 
 /// What is asked for, which no line told.
 fn asked<T: Copy>(value: Option<T>) -> Option<Known<T>>
-    ensures { value_of result ≡ value }
+    ensures { result ≡ asked_for value }
 {
     value.map(|value| Known { value, line: None })
 }
@@ -98,7 +110,7 @@ impl Watch {
 
     /// Takes what the message of this line tells.
     pub(crate) fn notice(&mut self, line: u64, message: &Message<'_>)
-        ensures { (w : Wanted) (d : Recorded) (ds : List Recorded) → d.said ≡ Ok (contents message.now)
+        ensures { (w : Wanted) (d : Recorded) (ds : List Recorded) → d.said ≡ Ok (contents message.now) → d.line ≡ line
             → IsWatch w ds self.old → IsWatch w (d ∷ ds) self.new }
     {
         match message.body {
@@ -111,10 +123,10 @@ impl Watch {
 
     /// Takes what a Sync tells: the domain where it isn't known, and then the master.
     fn notice_sync(&mut self, line: u64, header: &Header)
-        ensures domain { value_of self.new.domain
-            ≡ option_or (value_of self.old.domain) (domain_from (value_of self.old.master) header.now) }
-        ensures master { value_of self.new.master ≡ option_or (value_of self.old.master)
-            (option_and_then (λ domain. source_in domain header.now) (value_of self.new.domain)) }
+        ensures domain { self.new.domain
+            ≡ option_or self.old.domain (known_at line (domain_from (value_of self.old.master) header.now)) }
+        ensures master { self.new.master ≡ option_or self.old.master
+            (option_and_then (λ domain. known_at line (source_in domain header.now)) (value_of self.new.domain)) }
         ensures others { self.new ≡ record self.old { domain = self.new.domain; master = self.new.master } }
     {
         let of_master = self
@@ -133,8 +145,8 @@ impl Watch {
 
     /// Takes what a Delay_Req tells: its source, where it is the first of its domain.
     fn notice_request(&mut self, line: u64, header: &Header)
-        ensures requests { (domain : ℕ) → domain < 256 → request_in self.new domain
-            ≡ option_or (request_in self.old domain) (source_in domain header.now) }
+        ensures requests { (domain : ℕ) → domain < 256 → request_known self.new domain
+            ≡ option_or (request_known self.old domain) (known_at line (source_in domain header.now)) }
         ensures others { self.new ≡ record self.old { requests = self.new.requests } }
     {
         let place = usize::from(header.domain);
@@ -145,7 +157,7 @@ impl Watch {
 
     /// The source of the first Delay_Req of the domain, where both are known.
     fn requester(&self) -> Option<Known<PortIdentity>>
-        ensures source { value_of result ≡ option_and_then (request_in self.now) (value_of self.now.domain) }
+        ensures source { result ≡ option_and_then (request_known self.now) (value_of self.now.domain) }
         ensures domain { IfSome (value_of self.now.domain) (λ domain. domain < 256) }
     {
         self.requests[usize::from(self.domain?.value)]
@@ -162,7 +174,20 @@ impl Watch {
         })
     }
 
-    /// Tells in lines whom the recording is of, and which of its lines or packets told that. What can't be written is lost.
+    /// What is known of the three.
+    pub(crate) fn whom(&self) -> Whom
+        ensures { result ≡ whom_of self.now }
+    {
+        Whom {
+            domain: self.domain,
+            master: self.master,
+            slave: self.slave,
+        }
+    }
+}
+
+impl Whom {
+    /// Tells in lines whom an input is of, and which of its lines or packets told that. What can't be written is lost.
     pub(crate) fn tell<E: Write>(&self, unit: &'static str, errors: &mut E) {
         let _ = match self.domain {
             Some(Known { value, line }) => {

@@ -16,6 +16,8 @@ use Rattle.capture_measure.specs.Row.{Row, datagrams, kept_most}
 use Rattle.capture_measure.specs.Interfaces.{InterfaceRow}
 use Rattle.capture_measure.specs.Chosen.{chosen, heard_at, capture_watched}
 use Rattle.capture_measure.specs.Capture.{Capture, measured_so_far, with_packet}
+use Rattle.capture_measure.specs.Summary.{capture_whom}
+use Rattle.capture_measure.specs.Inner.Ended.{whom_at}
 use Rattle.capture_measure.specs.Inner.Hearing.{Goes}
 use Rattle.capture_measure.specs.Inner.Listener.{IsListener}
 use Rattle.capture_measure.specs.Inner.Recordings.{interface_in, row_at, AreRecordings}
@@ -41,6 +43,7 @@ pub record IsCapturing (task : CaptureMeasuring) (c : Capture) : Type 0 where
   pub form : task.reports.reports.form ≡ c.form
   pub wanted : task.wanted ≡ c.wanted
   pub stage : IsCaptureStage c.wanted c.rows task.recordings.recordings.items task.stage
+  pub whom : whom_at task.stage task.recordings.recordings.items ≡ capture_whom c.wanted c.rows
 
 -- A datagram comes by which it isn't known yet whom to watch. It was counted, and is kept where few came before.
 pub record IsLooking (task : CaptureMeasuring) (c : Capture) (is_kept : Bool) : Type 0 where

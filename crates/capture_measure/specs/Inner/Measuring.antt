@@ -22,7 +22,8 @@ use Rattle.capture_measure.specs.Row.{Row, datagrams, kept_most, heard, IsRow}
 use Rattle.capture_measure.specs.Measure.{Recording}
 use Rattle.capture_measure.specs.Inner.Hearing.{recorded_of}
 use Rattle.capture_measure.specs.Inner.Listener.{IsListener}
-use Rattle.capture_measure.specs.Inner.Watching.{IsWatch}
+use Rattle.capture_measure.specs.Summary.{whom_in}
+use Rattle.capture_measure.specs.Inner.Watching.{whom_of, IsWatch}
 
 -- a line has these parts, and the octets of its datagram stand at the front of this room
 pub record IsLine (line room : List ℕ) (timed : Timed) : Type 0 where
@@ -107,4 +108,5 @@ pub record IsMeasuring (task : Measuring) (r : Recording) : Type 0 where
   pub form : task.reports.form ≡ r.form
   pub counted : task.lines ≡ length r.rows
   pub watch : watched_in r.wanted (datagrams r.rows) ≡ None → IsWatch r.wanted (datagrams r.rows) task.watch
+  pub whom : whom_of task.watch ≡ whom_in r.wanted (datagrams r.rows)
   pub stage : IsStage r.wanted r.rows task.stage

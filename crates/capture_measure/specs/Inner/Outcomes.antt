@@ -1,12 +1,17 @@
--- What an outcome says after the head went out.
-use Rattle.std.specs.Prelude.{ℕ, List, Option}
+-- What an outcome says after the head went out, and what is told then of whom the input is of.
+use Rattle.std.specs.Prelude.{◌≡◌, ℕ, ⊤, List, [], Option, Some, Ok, Err}
+use Rattle.text_lines.specs.Lines.{lines_of}
 use Rattle.text_lines.specs.Task as lines
+use Rattle.capture_file.specs.Parts.{Part}
 use Rattle.capture_file.specs.Task as packets
 use Rattle.capture_measure.specs.declared.input.Outcome.{Outcome}
 use Rattle.capture_measure.specs.declared.input.Outcome.TheVariants.{Lines, Capture}
 use Rattle.capture_measure.specs.Measure.{Recording, measure_rules}
 use Rattle.capture_measure.specs.Capture as capture
 use Rattle.capture_measure.specs.Capture.{capture_rules}
+use Rattle.capture_measure.specs.declared.watch.Whom.{Whom}
+use Rattle.capture_measure.specs.Row.{datagrams}
+use Rattle.capture_measure.specs.Summary.{whom_in, capture_whom}
 
 -- what an outcome says of octets that are lines, or a capture, in this state
 abbrev pub LinesAnswer : Recording → List ℕ → (left before after : Option (List ℕ)) → Outcome → Type 0
@@ -16,3 +21,18 @@ LinesAnswer r octets left before after (Capture answer) = ⊥
 abbrev pub PacketsAnswer : capture.Capture → List ℕ → (left before after : Option (List ℕ)) → Outcome → Type 0
 PacketsAnswer c octets left before after (Lines answer) = ⊥
 PacketsAnswer c octets left before after (Capture answer) = packets.Answers capture_rules c octets left before after answer
+
+-- what is told where these octets are whole lines, or a whole capture, from this state on
+abbrev pub LinesTell : Recording → List ℕ → Outcome → Option Whom → Type 0
+LinesTell r octets (Lines (Ok count)) whom =
+    (read : Recording) × (text : List ℕ) × lines.TakesLines measure_rules 1 (lines_of octets) r read text
+    × (whom ≡ Some (whom_in read.wanted (datagrams read.rows)))
+LinesTell r octets (Lines (Err stop)) whom = ⊤
+LinesTell r octets (Capture answer) whom = ⊥
+
+abbrev pub PacketsTell : capture.Capture → List ℕ → Outcome → Option Whom → Type 0
+PacketsTell c octets (Lines answer) whom = ⊥
+PacketsTell c octets (Capture (Ok count)) whom =
+    (parts : List Part) × (read : capture.Capture) × (text : List ℕ) × packets.HasTaken capture_rules c octets parts [] read text
+    × (whom ≡ capture_whom read.wanted read.rows)
+PacketsTell c octets (Capture (Err stop)) whom = ⊤

@@ -7,7 +7,9 @@ use Rattle.capture_model.specs.Told.{is_sync}
 use Rattle.capture_measure.specs.declared.watch.Known.{Known}
 use Rattle.capture_measure.specs.declared.watch.Wanted.{Wanted}
 use Rattle.capture_measure.specs.declared.watch.Watch.{Watch}
+use Rattle.capture_measure.specs.declared.watch.Whom.{Whom}
 use Rattle.capture_measure.specs.Watch.{is_request, first_told, source_told, domain_told, domain_in, port_in}
+use Rattle.capture_measure.specs.Summary.{told_at, known_domain, known_port}
 
 -- what is known, whichever line told it
 abbrev pub value_of : {T : Type 0} → Option (Known T) → Option T
@@ -17,6 +19,22 @@ value_of known = option_map (λ k. k.value) known
 abbrev pub request_in : Watch → (domain : ℕ) → Option PortIdentity
 request_in watch domain = option_and_then value_of (slice_get watch.requests domain)
 
+-- the same, with the line that told it
+abbrev pub request_known : Watch → (domain : ℕ) → Option (Known PortIdentity)
+request_known watch domain = option_and_then (λ known. known) (slice_get watch.requests domain)
+
+-- what is known of the three
+abbrev pub whom_of : Watch → Whom
+whom_of watch = record { domain = watch.domain; master = watch.master; slave = watch.slave }
+
+-- the watch knows what these datagrams tell, and by which lines
+pub record KnowsWhom (w : Wanted) (ds : List Recorded) (watch : Watch) : Type 0 where
+  pub domain : watch.domain ≡ known_domain w ds
+  pub master : watch.master ≡ known_port is_sync w.master (domain_in w ds) ds
+  pub slave : watch.slave ≡ known_port is_request w.slave (domain_in w ds) ds
+  pub requests : (domain : ℕ) → domain < 256
+      → request_known watch domain ≡ first_told (told_at (source_told is_request domain)) ds
+
 -- The watch knows what these datagrams tell. It keeps no Syncs: while the domain isn't known there was none, or none of
 -- the master that is asked for.
 pub record IsWatch (w : Wanted) (ds : List Recorded) (watch : Watch) : Type 0 where
@@ -25,14 +43,13 @@ pub record IsWatch (w : Wanted) (ds : List Recorded) (watch : Watch) : Type 0 wh
   pub slave : value_of watch.slave ≡ port_in is_request w.slave (domain_in w ds) ds
   pub requests : (domain : ℕ) → domain < 256
       → request_in watch domain ≡ first_told (source_told is_request domain) ds
+  pub whom : KnowsWhom w ds watch
 
 -- what a datagram tells is known from then on where nothing was
 pub record Notices (d : Recorded) (old new : Watch) : Type 0 where
-  pub domain : value_of new.domain ≡ option_or (value_of old.domain) (domain_told (value_of old.master) d)
-  pub master : value_of new.master
-      ≡ option_or (value_of old.master)
-      (option_and_then (λ domain. source_told is_sync domain d) (value_of new.domain))
+  pub domain : new.domain ≡ option_or old.domain (told_at (domain_told (value_of old.master)) d)
+  pub master : new.master
+      ≡ option_or old.master (option_and_then (λ domain. told_at (source_told is_sync domain) d) (value_of new.domain))
   pub requests : (domain : ℕ) → domain < 256
-      → request_in new domain ≡ option_or (request_in old domain) (source_told is_request domain d)
-  pub slave : value_of new.slave
-      ≡ option_or (value_of old.slave) (option_and_then (request_in new) (value_of new.domain))
+      → request_known new domain ≡ option_or (request_known old domain) (told_at (source_told is_request domain) d)
+  pub slave : new.slave ≡ option_or old.slave (option_and_then (request_known new) (value_of new.domain))

@@ -2,7 +2,7 @@ use Rattle.std.proofs.Common.{inr, refl}
 use Rattle.capture_file.specs.Beginning.{first_octets}
 use Rattle.capture_measure.specs.Capture.{capture_begun}
 use Rattle.capture_measure.specs.Measure.{begun}
-use Rattle.capture_measure.proofs.Inputs.{captured, lined, short, failed_ahead}
+use Rattle.capture_measure.proofs.Inputs.{captured, lined, short, failed_ahead, lined_whom, captured_whom}
 use Rattle.capture_measure.proofs.input.measure.Goals as goal
 
 pub returns-in_default-read-clause-measured : goal.returns-in_default-read-clause-measured
@@ -31,3 +31,17 @@ returns-clause-measured g c =
     let told = c.measure_lines.ensures.answered (begun c.args.form c.args.wanted.now) c.new-lines.ensures in
     inr (lined c.args.form c.args.wanted.now _ _ _ _ _ _ (first_octets c.in-Ok.beginning) c.measure_lines.result.0 read first
     (c.if-is_capture.ensures.none.0 refl) c.in_default.ensures.written (rw c.octets-start.ensures.octets at told))
+
+pub returns-then-is_capture-clause-whom : goal.returns-then-is_capture-clause-whom
+returns-then-is_capture-clause-whom g c =
+    let (read, first) = c.in-Ok.ensures.read in
+    let told = c.measure_packets.ensures.whom (capture_begun c.args.form c.args.wanted.now) c.new-capture.ensures in
+    captured_whom c.args.form c.args.wanted.now _ _ (first_octets c.in-Ok.beginning) c.measure_packets.result.0 c.measure_packets.result.1.whom
+    read first (rw c.octets-start.ensures.octets at told)
+
+pub returns-clause-whom : goal.returns-clause-whom
+returns-clause-whom g c =
+    let (read, first) = c.in-Ok.ensures.read in
+    let told = c.measure_lines.ensures.whom (begun c.args.form c.args.wanted.now) c.new-lines.ensures in
+    lined_whom c.args.form c.args.wanted.now _ _ (first_octets c.in-Ok.beginning) c.measure_lines.result.0 c.measure_lines.result.1.whom
+    read first (rw c.octets-start.ensures.octets at told)

@@ -6,7 +6,8 @@ use Rattle.capture_measure.proofs.measuring.notice.Goals as goal
 
 pub returns-in-Ok : goal.returns-in-Ok
 returns-in-Ok c = λ w rows row of known.
-    c.notice.ensures w row.datagram (datagrams rows) (ap (λ d. d.said) of.datagram ∙ ap reading_of c.in-Ok.is) known
+    c.notice.ensures w row.datagram (datagrams rows) (ap (λ d. d.said) of.datagram ∙ ap reading_of c.in-Ok.is)
+    (ap (λ d. d.line) of.datagram) known
 
 pub returns-in-Err : goal.returns-in-Err
 returns-in-Err c = λ w rows row of known.

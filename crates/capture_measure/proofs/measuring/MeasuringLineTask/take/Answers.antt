@@ -15,6 +15,8 @@ use Rattle.capture_measure.proofs.Rows.{heard-known, measured-more}
 use Rattle.capture_measure.proofs.Taken.{on_ok_then, nothing_goes, nothing_fails, are_within, not_unknown, not_known}
 use Rattle.capture_measure.proofs.Taken.{heard_before, measured-first, stage_heard, measured-still}
 use Rattle.capture_measure.proofs.Told.{watched-stays}
+use Rattle.capture_measure.proofs.Watches.{whom_known, whom_stays}
+use Rattle.capture_measure.specs.Inner.Watching.{whom_of}
 use Rattle.capture_measure.proofs.measuring.MeasuringLineTask.take.Goals as goal
 
 pub returns-in_err-self-clause-taken : goal.returns-in_err-self-clause-taken
@@ -44,6 +46,7 @@ returns-in-Hearing-clause-taken g c = λ r at.
         form = c.in_ok-self.ensures.form ∙ at.form;
         counted = omega (arith, same, at.counted);
         watch = not_unknown r.wanted (row ∷ r.rows) watched later;
+        whom = at.whom ∙ sym (whom_stays r.wanted row.datagram (datagrams r.rows) watched known);
         stage = stage_heard r.wanted (row ∷ r.rows) watched (row ∷ heard r.wanted r.rows) (Hearing c.hear.new.listener)
             later (heard-known r.wanted r.rows row watched known) heard_it.0;
       },
@@ -87,6 +90,7 @@ returns-in-Some g c = record {
         form = c.begin.ensures.form ∙ at.form;
         counted = omega (arith, c.begin.ensures.lines, c.in-Ok.ensures.numbered, at.counted);
         watch = not_unknown r.wanted (row ∷ r.rows) c.in-Some.watched known;
+        whom = ap whom_of c.begin.ensures.watch ∙ whom_known r.wanted (datagrams (row ∷ r.rows)) _ watch;
         stage = stage_heard r.wanted (row ∷ r.rows) c.in-Some.watched (row ∷ earlier) c.begin.new.self.stage known first
             is;
       }) begun.0)
@@ -112,6 +116,7 @@ returns-in-None g c = record {
         form = c.keep.ensures.form ∙ at.form;
         counted = omega (arith, c.keep.ensures.lines, numbered);
         watch = λ none. subst (IsWatch r.wanted (datagrams (row ∷ r.rows))) (sym c.keep.ensures.watch) watch;
+        whom = ap whom_of c.keep.ensures.watch ∙ whom_known r.wanted (datagrams (row ∷ r.rows)) _ watch;
         stage = is;
       }) (c.keep.ensures.kept r.wanted r.rows row next unknown numbered at.stage))
       (nothing_goes r.form c.keep.result _ c.keep.ensures.memory);

@@ -17,7 +17,9 @@ use Rattle.capture_measure.proofs.Chosen.{capture-first, measured-first, measure
 use Rattle.capture_measure.proofs.Goes.{GoesUntil-none}
 use Rattle.capture_measure.proofs.KeptRows.{one_there}
 use Rattle.capture_measure.proofs.Looking.{still_looking, adds_all, unlooked_still, unknown_still, noticed_there, begins_with, chosen_now, not_found}
-use Rattle.capture_measure.proofs.Looking.{heard_now, began}
+use Rattle.capture_measure.proofs.Looking.{heard_now, began, whom_began}
+use Rattle.capture_measure.specs.Summary.{capture_whom}
+use Rattle.capture_measure.specs.Inner.Ended.{whom_at}
 use Rattle.capture_measure.proofs.Taken.{on_ok_then}
 use Rattle.capture_measure.proofs.packets.CaptureMeasuring.look.Goals as goal
 
@@ -68,6 +70,10 @@ returns-in-Some-watched-clause-taken g c = λ k at.
             (sym c.begin.ensures.recordings)
             (began k.wanted k.rows r recordings c.in-Some.place c.in-Some-watched.watched heard c.begin.new.self.stage within there is known
             same hearing);
+        whom = subst (λ (it : Recordings). whom_at c.begin.new.self.stage it.recordings.items ≡ capture_whom k.wanted (r ∷ k.rows))
+            (sym c.begin.ensures.recordings)
+            (whom_began k.wanted k.rows r recordings c.in-Some.place c.in-Some-watched.watched heard c.begin.new.self.stage are within there
+            is hearing);
       }) begun.0,
       measurements c.in-Some-watched.watched heard,
       measured-first k.wanted k.rows r c.in-Some-watched.watched heard at.unchosen

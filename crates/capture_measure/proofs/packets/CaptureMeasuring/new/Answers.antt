@@ -6,4 +6,5 @@ returns c = record {
   form = c.new-2.ensures;
   wanted = refl;
   stage = (refl, c.new.ensures c.args.wanted.now, refl);
+  whom = refl;
 }

@@ -11,7 +11,11 @@ use Rattle.capture_measure.specs.Chosen.{heard_at}
 use Rattle.capture_measure.specs.Inner.Capturing.{IsCaptureStage, row_of_packet}
 use Rattle.capture_measure.specs.Inner.Hearing.{Goes}
 use Rattle.capture_measure.specs.Inner.Recordings.{interface_in}
-use Rattle.capture_measure.proofs.Looking.{few_by, hears_more, hears_other, measures_more, measures_nothing}
+use Rattle.capture_measure.proofs.Looking.{few_by, hears_more, hears_other, measures_more, measures_nothing, capture_whom_stays}
+use Rattle.capture_measure.proofs.KeptRows.{one_there}
+use Rattle.capture_measure.specs.declared.packets.Stage.{Stage}
+use Rattle.capture_measure.specs.Summary.{capture_whom}
+use Rattle.capture_measure.specs.Inner.Ended.{whom_at}
 use Rattle.capture_measure.proofs.Taken.{on_ok_then}
 use Rattle.capture_measure.proofs.packets.CaptureMeasuring.take_datagram.Goals as goal
 use Rattle.capture_measure.proofs.packets.CaptureMeasuring.take_datagram.Goals.{then-is_kept, else-is_kept}
@@ -58,6 +62,9 @@ returns-then-is_at-clause-taken g c = λ k at.
         form = c.hear.ensures.form ∙ at.form;
         wanted = at.wanted;
         stage = hears_more k.wanted k.rows r recordings c.in-Hearing.place watched within is known c.hear.new.listener same listens;
+        whom = subst (λ (s : Stage). whom_at s recordings ≡ capture_whom k.wanted k.rows) c.in-Hearing.is at.whom
+            ∙ sym (one_there recordings c.in-Hearing.place within (λ d. capture_whom_stays k.wanted k.rows r
+            (interface_in (get_or recordings c.in-Hearing.place d)) watched (is d) known));
       }) heard.0,
       option_to_list (measured_at watched (heard_at k.wanted k.rows) r.row),
       measures_more k.wanted k.rows r recordings c.in-Hearing.place watched within is known same,
@@ -76,6 +83,9 @@ returns-else-is_at-clause-taken g c = λ k at.
         form = at.form;
         wanted = at.wanted;
         stage = hears_other k.wanted k.rows r recordings c.in-Hearing.place watched within is known c.in-Hearing.listener other listens;
+        whom = subst (λ (s : Stage). whom_at s recordings ≡ capture_whom k.wanted k.rows) c.in-Hearing.is at.whom
+            ∙ sym (one_there recordings c.in-Hearing.place within (λ d. capture_whom_stays k.wanted k.rows r
+            (interface_in (get_or recordings c.in-Hearing.place d)) watched (is d) known));
       },
       [],
       measures_nothing k.wanted k.rows r recordings c.in-Hearing.place watched within is known other,

@@ -10,14 +10,14 @@ use Rattle.capture_measure.proofs.watch.Watch.notice.Goals as goal
 use Rattle.capture_measure.proofs.watch.Watch.notice.Goals.{in-Sync, in-DelayReq, in-FollowUp}
 
 pub returns : goal.returns
-returns c = λ w d ds said is.
+returns c = λ w d ds said numbered is.
     let m : Contents = contents c.args.message.now in
     let takes : Takes d c.args.self.now c.match-message.self = elim c.match-message.branch [
       | in-Sync b ↦ subst (Takes d c.args.self.now) (sym b.self-is)
-          (Takes-sync d m c.args.self.now b.notice_sync.new.self b.in-Sync.origin said b.in-Sync.is
+          (Takes-sync d m c.args.self.now b.notice_sync.new.self b.in-Sync.origin c.args.line said numbered b.in-Sync.is
           b.notice_sync.ensures.domain b.notice_sync.ensures.master b.notice_sync.ensures.others)
       | in-DelayReq b ↦ subst (Takes d c.args.self.now) (sym b.self-is)
-          (Takes-request d m c.args.self.now b.notice_request.new.self b.in-DelayReq.origin said b.in-DelayReq.is
+          (Takes-request d m c.args.self.now b.notice_request.new.self b.in-DelayReq.origin c.args.line said numbered b.in-DelayReq.is
           b.notice_request.ensures.requests b.notice_request.ensures.others)
       | in-FollowUp b ↦ Takes-general d m c.args.self.now c.match-message.self said b.in-FollowUp.is b.self-is
     ] in

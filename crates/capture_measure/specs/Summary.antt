@@ -1,0 +1,78 @@
+-- What is told at the end of whom an input is of, and which of its lines or packets told that. Lists of datagrams have the newest
+-- in front.
+use Rattle.std.specs.Prelude.{◌≡◌, ℕ, ⊤, Bool, List, [], Option, Some, None, option_map, option_and_then, Ok, Err}
+use Rattle.std.specs.Option.{option_or}
+use Rattle.event_codec.specs.declared.message.Body.{Body}
+use Rattle.event_codec.specs.declared.port.PortIdentity.{PortIdentity}
+use Rattle.text_lines.specs.Lines.{lines_of}
+use Rattle.text_lines.specs.Task.{TakesLines}
+use Rattle.capture_file.specs.Parts.{Part}
+use Rattle.capture_file.specs.Task as packets
+use Rattle.capture_model.specs.Recorded.{Recorded}
+use Rattle.capture_model.specs.Told.{is_sync}
+use Rattle.capture_measure.specs.declared.input.Outcome.{Outcome}
+use Rattle.capture_measure.specs.declared.input.Outcome.TheVariants.{Lines, Capture}
+use Rattle.capture_measure.specs.declared.measuring.Form.{Form}
+use Rattle.capture_measure.specs.declared.watch.Known.{Known}
+use Rattle.capture_measure.specs.declared.watch.Wanted.{Wanted}
+use Rattle.capture_measure.specs.declared.watch.Whom.{Whom}
+use Rattle.capture_measure.specs.Watch.{is_request, first_told, source_told, domain_told, domain_in}
+use Rattle.capture_measure.specs.Row.{datagrams}
+use Rattle.capture_measure.specs.Interfaces.{InterfaceRow, rows_at}
+use Rattle.capture_measure.specs.Chosen.{chosen}
+use Rattle.capture_measure.specs.Measure as lines
+use Rattle.capture_measure.specs.Capture as captures
+
+-- what a line told, if it did
+abbrev pub known_at : {T : Type 0} → (line : ℕ) → Option T → Option (Known T)
+known_at line told = option_map (λ value. record { value = value; line = Some line }) told
+
+-- what a datagram tells, and by which line
+abbrev pub told_at : {T : Type 0} → (Recorded → Option T) → Recorded → Option (Known T)
+told_at tells d = known_at d.line (tells d)
+
+-- what is asked for, which no line told
+abbrev pub asked_for : {T : Type 0} → Option T → Option (Known T)
+asked_for asked = option_map (λ value. record { value = value; line = None }) asked
+
+-- the domain: the one that is asked for, or that of the first Sync that tells it
+abbrev pub known_domain : Wanted → List Recorded → Option (Known ℕ)
+known_domain w ds = option_or (asked_for w.domain) (first_told (told_at (domain_told w.master)) ds)
+
+-- a port: the one that is asked for, or the source of the first message of a kind in the domain
+abbrev pub known_port : (Body → Bool) → (asked : Option PortIdentity) → (domain : Option ℕ) → List Recorded
+    → Option (Known PortIdentity)
+known_port kind asked domain ds =
+    option_or (asked_for asked) (option_and_then (λ known. first_told (told_at (source_told kind known)) ds) domain)
+
+-- whom datagrams are of, as far as that is known, and by which line each of the three
+abbrev pub whom_in : Wanted → List Recorded → Whom
+whom_in w ds = record {
+  domain = known_domain w ds;
+  master = known_port is_sync w.master (domain_in w ds) ds;
+  slave = known_port is_request w.slave (domain_in w ds) ds;
+}
+
+-- the same of a capture, at the interface that is measured
+abbrev pub capture_whom : Wanted → List InterfaceRow → Option Whom
+capture_whom w rows = option_map (λ interface. whom_in w (datagrams (rows_at interface rows))) (chosen w rows)
+
+-- where these octets are a whole recording of lines, this is told of whom it is of
+abbrev pub TellsOfLines : Form → Wanted → List ℕ → Option Whom → Type 0
+TellsOfLines form w octets whom =
+    (read : lines.Recording) × (text : List ℕ) × TakesLines lines.measure_rules 1 (lines_of octets) (lines.begun form w) read text
+    × (whom ≡ Some (whom_in w (datagrams read.rows)))
+
+-- and where they are a whole capture
+abbrev pub TellsOfCapture : Form → Wanted → List ℕ → Option Whom → Type 0
+TellsOfCapture form w octets whom =
+    (parts : List Part) × (read : captures.Capture) × (text : List ℕ)
+    × packets.HasTaken captures.capture_rules (captures.capture_begun form w) octets parts [] read text
+    × (whom ≡ capture_whom w read.rows)
+
+-- what is told of whom an input is of that was measured to its end
+abbrev pub TellsWhom : Form → Wanted → List ℕ → Outcome → Option Whom → Type 0
+TellsWhom form w octets (Lines (Ok count)) whom = TellsOfLines form w octets whom
+TellsWhom form w octets (Lines (Err stop)) whom = ⊤
+TellsWhom form w octets (Capture (Ok count)) whom = TellsOfCapture form w octets whom
+TellsWhom form w octets (Capture (Err stop)) whom = ⊤
