@@ -3,11 +3,12 @@
 
 use crate::exchanges::{EXCHANGES, LINE, LONG_RUNS, LongRun, PAIR, Part, REFUSED};
 use crate::script::word;
-use schedule_replay::{Counted, Fault, FaultKind, check_text, replay};
 use std::alloc::Global;
 use std::process::Abort;
 use std::str;
 use std::test::Fail;
+use text_lines::Counted;
+use transcript_text::{Fault, FaultKind, check_text, replay};
 
 /// A member of a line, its value a text or not.
 fn member(alloc: Global, key: &str, value: &str) -> Result<String, Fail> {
