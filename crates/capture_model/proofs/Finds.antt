@@ -34,7 +34,8 @@ use Rattle.slave_port.specs.Answer.{report_of}
 use Rattle.capture_model.specs.declared.watched.Watched.{Watched}
 use Rattle.capture_model.specs.Recorded.{Recorded}
 use Rattle.capture_model.specs.Listening.{Listening, setup_in, table_capacity, ticks_every, is_of, told, with_count}
-use Rattle.capture_model.specs.Listening.{ready, hears, hears_request, asks, draws, anew, hear, after_all, hearing}
+use Rattle.capture_model.specs.Listening.{ready, ready_sync, hears, hears_request, asks, draws, anew, hear, after_all}
+use Rattle.capture_model.specs.Listening.{hearing}
 use Rattle.capture_model.specs.Listening.{report_at, is_unicast}
 use Rattle.capture_model.specs.Told.{is_sync, AreNumbered}
 use Rattle.capture_model.specs.Listening.{is_used}
@@ -44,7 +45,8 @@ use Rattle.capture_model.specs.Finds.{is_response_to}
 use Rattle.capture_model.specs.Finds.{is_own_response, is_delay_req, is_own_request, with_number, says, NoneSays}
 use Rattle.capture_model.specs.Finds.{last_number, AreOfOneSync, completion_of, is_of_number, NoOtherIsHeard}
 use Rattle.capture_model.specs.Finds.{IsNotBehind, AreTaken, NoneIsKnown, recent_syncs, with_flag, heard_of}
-use Rattle.capture_model.specs.Finds.{last_heard, within_syncs, ComesSync}
+use Rattle.capture_model.specs.Finds.{last_heard, within_syncs, IsOneStep, completion_of_one_step}
+use Rattle.capture_model.specs.Finds.{IsTaken, ComesTwoStep, ComesOneStep, ComesSync}
 use Rattle.capture_model.specs.Finds.{AreOfOneRequest, ComesDelay, CompleteNoSync, CompleteNoDelay, StandsSync}
 use Rattle.capture_model.specs.Finds.{StandsDelay}
 use Rattle.capture_model.specs.Finds.{EachExchangeIsFound}
@@ -66,7 +68,7 @@ use Rattle.capture_model.proofs.Latest.{IsNearBy}
 use Rattle.capture_model.proofs.Recent.{within-fewer}
 use Rattle.capture_model.proofs.Takes.{all-right, says-weaker, first-below, hears-sync}
 use Rattle.capture_model.proofs.Takes.{hears-follow_up, hears-response, counted-so, TakesSync, TakesFollow}
-use Rattle.capture_model.proofs.Takes.{TakesResponse}
+use Rattle.capture_model.proofs.Takes.{TakesResponse, TakesOneStep, takes-one_step, takes-used_one_step}
 use Rattle.capture_model.proofs.Takes.{takes-sync, takes-follow, takes-response, takes-used_sync, takes-used_follow}
 use Rattle.capture_model.proofs.Takes.{takes-used_response}
 
@@ -397,39 +399,76 @@ module _ (w : Watched) (earlier : List Recorded) (x : Recorded) (m : Contents) (
       G (after_all w (x ∷ earlier)).first (after_all w (x ∷ earlier)).calls (after_all w (x ∷ earlier)).syncs
       (after_all w (x ∷ earlier)).asked
 
-  -- a two-step Sync that the port takes
-  module _ (origin : Stamp) (body : m.body ≡ bodies.Sync origin) (takes : TakesSync w earlier x m) where
+  -- a Sync that the port hears
+  module _ (origin : Stamp) (body : m.body ≡ bodies.Sync origin) (port : Listening)
+      (is_ready : ready_sync w x.line x.time m (after_all w earlier) ≡ Some port) where
     abbrev sync_heard : HeardAt w earlier x
     sync_heard = record {
       m = m;
       said = said;
-      port = takes.port;
-      ready_is = ap (λ (b : Body). ready w x.line x.time m b (after_all w earlier)) body ∙ takes.ready_is;
+      port = port;
+      ready_is = ap (λ (b : Body). ready w x.line x.time m b (after_all w earlier)) body ∙ is_ready;
       call = at_event;
       call_is = ap (λ (b : Body). hearing x.line x.time m b) body;
     }
 
-    after-sync_is : after_all w (x ∷ earlier) ≡ with_count (told at_event takes.port)
-    after-sync_is = hears-sync w x m said (after_all w earlier) of_master origin body takes.port takes.ready_is
+    after-sync_is : after_all w (x ∷ earlier) ≡ with_count (told at_event port)
+    after-sync_is = hears-sync w x m said (after_all w earlier) of_master origin body port is_ready
 
-    pub sync-begun : (after_all w (x ∷ earlier)).begun ≡ takes.port.begun
+    pub sync-begun : (after_all w (x ∷ earlier)).begun ≡ port.begun
     sync-begun =
         ap (λ (l : Listening). l.begun) after-sync_is
-        ∙ counted-so (λ (l : Listening). l.begun ≡ takes.port.begun) (told at_event takes.port) refl (λ full. refl)
+        ∙ counted-so (λ (l : Listening). l.begun ≡ port.begun) (told at_event port) refl (λ full. refl)
 
     after-sync : (G : (first : ℕ) → List Call → (syncs : ℕ) → (asked : Bool) → Type 0)
-        → G takes.port.first (at_event ∷ takes.port.calls) (takes.port.syncs + 1) takes.port.asked
-        → (takes.port.syncs + 1 ≡ ticks_every
-        → G takes.port.first (calls.Tick ∷ at_event ∷ takes.port.calls) 0 takes.port.asked)
+        → G port.first (at_event ∷ port.calls) (port.syncs + 1) port.asked
+        → (port.syncs + 1 ≡ ticks_every → G port.first (calls.Tick ∷ at_event ∷ port.calls) 0 port.asked)
         → After G
     after-sync G counted ticked =
         subst (λ (l : Listening). G l.first l.calls l.syncs l.asked) (sym after-sync_is)
-        (counted-so (λ (l : Listening). G l.first l.calls l.syncs l.asked) (told at_event takes.port) counted ticked)
+        (counted-so (λ (l : Listening). G l.first l.calls l.syncs l.asked) (told at_event port) counted ticked)
 
+    -- what it completes is the last
+    pub sync-brings : (c : SyncCompletion) → sync_completion (setup_in w port) port.calls at_event ≡ Some c
+        → CompletesSync w earlier x c
+    sync-brings c completes = record {
+      heard = sync_heard;
+      begun_is = sync-begun;
+      sync_is = ap
+          (λ (o : Option SyncCompletion). last (with_brought o (kept (setup_in w port) port.calls).completions))
+          completes;
+      delay_is = ap
+          (λ (o : Option DelayCompletion). last (with_brought o (delay_completions (setup_in w port) port.calls))) none;
+      completes = ap (λ (o : Option SyncCompletion). is_none o) completes;
+      after = after-sync (EndsWithSync w c 0) (ended (port.syncs + 1))
+          (λ full. last-ticked c (kept (setup_in w port) (at_event ∷ port.calls)).completions port.syncs 0 0
+          (omega arith) (ended port.syncs));
+    }
+      where
+        follows_master : present_master port.calls ≡ Some w.master
+        follows_master = port-follows w earlier x m said port
+            (ap (λ (b : Body). ready w x.line x.time m b (after_all w earlier)) body ∙ is_ready)
+
+        none : delay_completion (setup_in w port) port.calls at_event ≡ None
+        none =
+            none_of (delay_completion (setup_in w port) port.calls at_event)
+            (λ other same. event_answers_none w port.first port.calls follows_master m x.time x.line other same)
+
+        ended : (syncs : ℕ)
+            → IsLastIn c (kept (setup_in w port) (at_event ∷ port.calls)).completions syncs 0
+        ended syncs =
+            subst
+            (λ (o : Option SyncCompletion). IsLastIn c
+            (with_brought o (kept (setup_in w port) port.calls).completions) syncs 0) (sym completes)
+            (last-now c (kept (setup_in w port) port.calls).completions syncs 0)
+
+  -- a two-step Sync that it takes
+  module _ (origin : Stamp) (body : m.body ≡ bodies.Sync origin) (takes : TakesSync w earlier x m) where
     -- it is held
     pub sync-held : After (HoldsSync w m.header.sequence.0 sync_value 0 0)
     sync-held =
-        after-sync (HoldsSync w m.header.sequence.0 sync_value 0 0) (held (takes.port.syncs + 1))
+        after-sync origin body takes.port takes.ready_is (HoldsSync w m.header.sequence.0 sync_value 0 0)
+        (held (takes.port.syncs + 1))
         (λ full. held-ticked 0 m.header.sequence.0 sync_value
         (kept (setup_in w takes.port) (at_event ∷ takes.port.calls)).syncs takes.port.syncs 0 0 (omega arith)
         (held takes.port.syncs))
@@ -447,48 +486,11 @@ module _ (w : Watched) (earlier : List Recorded) (x : Recorded) (m : Contents) (
     pub sync-completes : (value : FollowValue)
         → first_value m.header.sequence.0 (held_follows (setup_in w takes.port) takes.port.calls) ≡ Some value
         → CompletesSync w earlier x (pair m.header.sequence.0 sync_value value)
-    sync-completes value found = record {
-      heard = sync_heard;
-      begun_is = sync-begun;
-      sync_is = ap
-          (λ (o : Option SyncCompletion). last (with_brought o (kept (setup_in w takes.port) takes.port.calls).completions))
-          completes;
-      delay_is = ap
-          (λ (o : Option DelayCompletion). last (with_brought o (delay_completions (setup_in w takes.port)
-          takes.port.calls))) none;
-      completes = ap (λ (o : Option SyncCompletion). is_none o) completes;
-      after = after-sync (EndsWithSync w (pair m.header.sequence.0 sync_value value) 0) (ended (takes.port.syncs + 1))
-          (λ full. last-ticked (pair m.header.sequence.0 sync_value value)
-          (kept (setup_in w takes.port) (at_event ∷ takes.port.calls)).completions takes.port.syncs 0 0 (omega arith)
-          (ended takes.port.syncs));
-    }
-      where
-        completes : sync_completion (setup_in w takes.port) takes.port.calls at_event
-            ≡ Some (pair m.header.sequence.0 sync_value value)
-        completes =
-            sync_completes (setup_in w takes.port) takes.port.calls at_event (entry m.header.sequence.0 sync_value)
-            takes.use_is
-            ∙ ap (option_map (pair m.header.sequence.0 sync_value)) found
-
-        follows_master : present_master takes.port.calls ≡ Some w.master
-        follows_master = port-follows w earlier x m said takes.port
-            (ap (λ (b : Body). ready w x.line x.time m b (after_all w earlier)) body ∙ takes.ready_is)
-
-        none : delay_completion (setup_in w takes.port) takes.port.calls at_event ≡ None
-        none =
-            none_of (delay_completion (setup_in w takes.port) takes.port.calls at_event)
-            (λ other same.
-            event_answers_none w takes.port.first takes.port.calls follows_master m x.time x.line other same)
-
-        ended : (syncs : ℕ)
-            → IsLastIn (pair m.header.sequence.0 sync_value value)
-            (kept (setup_in w takes.port) (at_event ∷ takes.port.calls)).completions syncs 0
-        ended syncs =
-            subst
-            (λ (o : Option SyncCompletion). IsLastIn (pair m.header.sequence.0 sync_value value)
-            (with_brought o (kept (setup_in w takes.port) takes.port.calls).completions) syncs 0) (sym completes)
-            (last-now (pair m.header.sequence.0 sync_value value)
-            (kept (setup_in w takes.port) takes.port.calls).completions syncs 0)
+    sync-completes value found =
+        sync-brings origin body takes.port takes.ready_is (pair m.header.sequence.0 sync_value value)
+        (sync_completes (setup_in w takes.port) takes.port.calls at_event (entry m.header.sequence.0 sync_value)
+        takes.use_is
+        ∙ ap (option_map (pair m.header.sequence.0 sync_value)) found)
 
   -- a Follow_Up that it takes
   module _ (precise : Stamp) (body : m.body ≡ bodies.FollowUp precise) (takes : TakesFollow w earlier x m precise) where
@@ -967,7 +969,7 @@ module _ (w : Watched) (first d : Recorded) (s f : Contents) (precise : Stamp) (
         port_low =
             subst (λ (begun : ℕ). begun ≤ first.line)
             (sync-begun w (between ++ first ∷ before) d s of_one.sync_said last_parts.0 last_origin.0 last_origin.1
-            takes-last_sync) low
+            takes-last_sync.port takes-last_sync.ready_is) low
 
         base : HoldsFollow w n value 0 0 (after_all w (first ∷ before)).first (after_all w (first ∷ before)).calls
             (after_all w (first ∷ before)).syncs (after_all w (first ∷ before)).asked
@@ -996,12 +998,61 @@ module _ (w : Watched) (first d : Recorded) (s f : Contents) (precise : Stamp) (
             (kept (setup_in w port) port.calls).follows port.syncs (count_by (says (is_master_sync w)) between)
             table_capacity few_follow_ups held
 
+-- the line of the first message of a Sync's half
+abbrev first_line : {w : Watched} {begun : ℕ} {earlier : List Recorded} {d : Recorded} {c : SyncCompletion}
+    → ComesSync w begun earlier d c → ℕ
+first_line (inl comes) = comes.first.line
+first_line {d = d} (inr comes) = d.line
+
+-- it isn't from before the line at which the port began
+one-life : {w : Watched} {begun : ℕ} {earlier : List Recorded} {d : Recorded} {c : SyncCompletion}
+    → (comes : ComesSync w begun earlier d c) → begun ≤ first_line comes
+one-life (inl comes) = comes.one_life
+one-life (inr comes) = comes.one_life
+
+-- what is behind all of these is behind it
+behind-first : {w : Watched} {begun : ℕ} {earlier : List Recorded} {d : Recorded} {c : SyncCompletion}
+    → (comes : ComesSync w begun earlier d c) → (x : Recorded)
+    → All (λ (e : Recorded). e.line < x.line) (d ∷ earlier) → first_line comes < x.line
+behind-first {earlier = earlier} {d = d} (inl comes) x are =
+    let P : Recorded → Type 0 = λ e. e.line < x.line in
+    All-head P comes.first comes.before
+    (all-right P comes.between (comes.first ∷ comes.before) (subst (All P) comes.there (All-tail P d earlier are)))
+behind-first {earlier = earlier} {d = d} (inr comes) x are = All-head (λ (e : Recorded). e.line < x.line) d earlier are
+
 -- what comes completes
 module _ (w : Watched) (earlier : List Recorded) (d : Recorded) (begun : ℕ) (numbered : AreNumbered (d ∷ earlier))
   where
-    comes-sync : (c : SyncCompletion) → (comes : ComesSync w begun earlier d c)
+    comes-one_step : (c : SyncCompletion) → ComesOneStep w begun earlier d c → CompletesSync w earlier d c
+    comes-one_step c comes =
+        subst (CompletesSync w earlier d) (sym comes.is)
+        (sync-brings w earlier d comes.s one.said one.of_master comes.origin one.sync_is takes.port takes.ready_is
+        (completion_of_one_step d comes.s comes.origin) takes.completes)
+      where
+        one : IsOneStep w d comes.s comes.origin
+        one = comes.one_step
+
+        by : IsTaken w comes.s.header earlier d → TakesOneStep w earlier d comes.s comes.origin
+        by (inl new) =
+            takes-one_step w earlier d comes.s one.said one.of_master one.small comes.origin one.sync_is one.one_step
+            (within-fewer w
+            (λ (e : Recorded). says (λ (m : Contents). tells_departure w m
+            && is_not_newer (Some m.header.sequence.0) comes.s.header.sequence.0) e ≡ false) earlier 12288 recent_syncs
+            (omega arith) new.1) new.0.0
+            (All-weaker
+            (λ (e : Recorded). says (with_number (is_master_follow_up w) comes.s.header.sequence.0) e ≡ false)
+            (IsNearBy (is_master_follow_up w) comes.s.header.sequence.0 d.time)
+            (near-one w (is_master_follow_up w) comes.s.header.sequence.0 d.time)
+            (last_heard w (with_flag (is_master_follow_up w) (is_unicast comes.s.header)) earlier) new.0.1)
+        by (inr used) =
+            takes-used_one_step w earlier d comes.s one.said comes.origin one.sync_is one.one_step used
+
+        takes : TakesOneStep w earlier d comes.s comes.origin
+        takes = by comes.taken
+
+    comes-two_step : (c : SyncCompletion) → (comes : ComesTwoStep w begun earlier d c)
         → (after_all w (d ∷ earlier)).begun ≤ comes.first.line → CompletesSync w earlier d c
-    comes-sync c comes low =
+    comes-two_step c comes low =
         subst (λ (ds : List Recorded). CompletesSync w ds d c) (sym comes.there)
         (subst (CompletesSync w (comes.between ++ comes.first ∷ comes.before) d) (sym comes.is) (by comes.order))
       where
@@ -1032,6 +1083,11 @@ module _ (w : Watched) (earlier : List Recorded) (d : Recorded) (begun : ℕ) (n
             (λ i. completion_of (order.1 i) (order.0 i) comes.s comes.f comes.precise)
             (by-sync w comes.first d comes.s comes.f comes.precise comes.between comes.before comes.alone
             comes.few_syncs comes.few_follow_ups comes.taken numbered_so low_so of_one)
+
+    comes-sync : (c : SyncCompletion) → (comes : ComesSync w begun earlier d c)
+        → (after_all w (d ∷ earlier)).begun ≤ first_line comes → CompletesSync w earlier d c
+    comes-sync c (inl comes) low = comes-two_step c comes low
+    comes-sync c (inr comes) low = comes-one_step c comes
 
     comes-delay : (c : DelayCompletion) → (comes : ComesDelay w begun earlier d c)
         → (after_all w (d ∷ earlier)).begun ≤ comes.request.line → CompletesDelay w earlier d c
@@ -1114,15 +1170,15 @@ module _ (w : Watched) (earlier : List Recorded) (d : Recorded) (begun : ℕ) (n
 -- what stands is the last
 module _ (w : Watched) (begun : ℕ) (earlier : List Recorded) (numbered : AreNumbered earlier) where
   stands-sync : (c : SyncCompletion) → (stands : StandsSync w begun earlier c)
-      → (after_all w earlier).begun ≤ stands.comes.first.line
+      → (after_all w earlier).begun ≤ first_line stands.comes
       → EndsWithSync w c (count_by (says (is_master_sync w)) stands.later) (after_all w earlier).first
       (after_all w earlier).calls (after_all w earlier).syncs (after_all w earlier).asked
   stands-sync c stands low =
       subst (λ (ds : List Recorded). EndsWithSync w c (count_by (says (is_master_sync w)) stands.later)
       (after_all w ds).first (after_all w ds).calls (after_all w ds).syncs (after_all w ds).asked) (sym stands.there)
-      (sync-is_last w stands.comes.first.line from c base stands.later
-      (are-later stands.comes.first.line stands.later from numbered_so below_of) stands.quiet stands.few
-      (subst (λ (ds : List Recorded). (after_all w ds).begun ≤ stands.comes.first.line) stands.there low))
+      (sync-is_last w (first_line stands.comes) from c base stands.later
+      (are-later (first_line stands.comes) stands.later from numbered_so (behind-first stands.comes)) stands.quiet stands.few
+      (subst (λ (ds : List Recorded). (after_all w ds).begun ≤ first_line stands.comes) stands.there low))
     where
       from : List Recorded
       from = stands.last ∷ stands.before
@@ -1130,22 +1186,13 @@ module _ (w : Watched) (begun : ℕ) (earlier : List Recorded) (numbered : AreNu
       numbered_so : AreNumbered (stands.later ++ stands.last ∷ stands.before)
       numbered_so = subst AreNumbered stands.there numbered
 
-      base : (after_all w (stands.last ∷ stands.before)).begun ≤ stands.comes.first.line
+      base : (after_all w (stands.last ∷ stands.before)).begun ≤ first_line stands.comes
           → EndsWithSync w c 0 (after_all w (stands.last ∷ stands.before)).first
           (after_all w (stands.last ∷ stands.before)).calls (after_all w (stands.last ∷ stands.before)).syncs
           (after_all w (stands.last ∷ stands.before)).asked
       base low_there =
           (comes-sync w stands.before stands.last begun
           (numbered-part stands.later (stands.last ∷ stands.before) numbered_so) c stands.comes low_there).after
-
-      below_of : (x : Recorded) → All (λ (e : Recorded). e.line < x.line) (stands.last ∷ stands.before)
-          → stands.comes.first.line < x.line
-      below_of x are =
-          All-head (λ (e : Recorded). e.line < x.line) stands.comes.first stands.comes.before
-          (all-right (λ (e : Recorded). e.line < x.line) stands.comes.between
-          (stands.comes.first ∷ stands.comes.before)
-          (subst (All (λ (e : Recorded). e.line < x.line)) stands.comes.there
-          (All-tail (λ (e : Recorded). e.line < x.line) stands.last stands.before are)))
 
   stands-delay : (c : DelayCompletion) → (stands : StandsDelay w begun earlier c)
       → (after_all w earlier).begun ≤ stands.comes.request.line
@@ -1200,16 +1247,11 @@ each_exchange w earlier d sync delay numbered exchange = by exchange
         (last_delay_completion (setup_at w heard) (heard.call ∷ heard.port.calls))) completes
         ∙ (λ i. report_of_both (sync_is i) (delay_is i))
 
-    -- a line from before
-    line-below : (first last : Recorded) (later before between earliest : List Recorded)
-        → earlier ≡ later ++ last ∷ before → before ≡ between ++ first ∷ earliest → first.line < d.line
-    line-below first last later before between earliest there within =
+    -- it is behind all of a part
+    all-below : (later part : List Recorded) → earlier ≡ later ++ part → All (λ (e : Recorded). e.line < d.line) part
+    all-below later part there =
         let P : Recorded → Type 0 = λ e. e.line < d.line in
-        All-head P first earliest
-        (all-right P between (first ∷ earliest)
-        (subst (All P) within
-        (All-tail P last before
-        (all-right P later (last ∷ before) (subst (All P) there (numbered-below d earlier numbered))))))
+        all-right P later part (subst (All P) there (numbered-below d earlier numbered))
 
     by-delay_stands : ComesSync w (after_all w (d ∷ earlier)).begun earlier d sync
         → StandsDelay w (after_all w (d ∷ earlier)).begun earlier delay
@@ -1229,12 +1271,16 @@ each_exchange w earlier d sync delay numbered exchange = by exchange
         (subst (λ (begun : ℕ). begun ≤ stands.comes.request.line) done.begun_is stands.comes.one_life)))
       where
         done : CompletesSync w earlier d sync
-        done = comes-sync w earlier d (after_all w (d ∷ earlier)).begun numbered sync comes comes.one_life
+        done = comes-sync w earlier d (after_all w (d ∷ earlier)).begun numbered sync comes (one-life comes)
 
         behind : stands.comes.request.line < d.line
         behind =
-            line-below stands.comes.request stands.last stands.later stands.before stands.comes.between
-            stands.comes.before stands.there stands.comes.there
+            let P : Recorded → Type 0 = λ e. e.line < d.line in
+            All-head P stands.comes.request stands.comes.before
+            (all-right P stands.comes.between (stands.comes.request ∷ stands.comes.before)
+            (subst (All P) stands.comes.there
+            (All-tail P stands.last stands.before
+            (all-below stands.later (stands.last ∷ stands.before) stands.there))))
 
     by-sync_stands : StandsSync w (after_all w (d ∷ earlier)).begun earlier sync
         → ComesDelay w (after_all w (d ∷ earlier)).begun earlier d delay
@@ -1246,20 +1292,19 @@ each_exchange w earlier d sync delay numbered exchange = by exchange
         (done.sync_is
         ∙ last-found sync (kept (setup_at w done.heard) done.heard.port.calls).completions done.heard.port.syncs
         (count_by (says (is_master_sync w)) stands.later)
-        (carried w d stands.comes.first.line behind
+        (carried w d (first_line stands.comes) behind
         (EndsWithSync w sync (count_by (says (is_master_sync w)) stands.later)) done.heard.m done.heard.said
         (after_all w earlier) done.heard.port done.heard.ready_is
         (stands-sync w (after_all w (d ∷ earlier)).begun earlier (numbered-rest d earlier numbered) sync stands)
-        (subst (λ (begun : ℕ). begun ≤ stands.comes.first.line) done.begun_is stands.comes.one_life)))
+        (subst (λ (begun : ℕ). begun ≤ first_line stands.comes) done.begun_is (one-life stands.comes))))
         done.delay_is
       where
         done : CompletesDelay w earlier d delay
         done = comes-delay w earlier d (after_all w (d ∷ earlier)).begun numbered delay comes comes.one_life
 
-        behind : stands.comes.first.line < d.line
+        behind : first_line stands.comes < d.line
         behind =
-            line-below stands.comes.first stands.last stands.later stands.before stands.comes.between
-            stands.comes.before stands.there stands.comes.there
+            behind-first stands.comes d (all-below stands.later (stands.last ∷ stands.before) stands.there)
 
     by : (ComesSync w (after_all w (d ∷ earlier)).begun earlier d sync
         × StandsDelay w (after_all w (d ∷ earlier)).begun earlier delay)

@@ -32,3 +32,4 @@ mod Worked
 mod WorkedSlave
 mod WorkedClock
 mod WorkedFinds
+mod WorkedOneStep

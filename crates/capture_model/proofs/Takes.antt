@@ -19,7 +19,7 @@ use Rattle.event_codec.specs.declared.port.PortIdentity.{PortIdentity}
 use Rattle.event_codec.specs.Packet.{Contents}
 use Rattle.event_codec.specs.Port.{is_same_port}
 use Rattle.event_codec.specs.Reading.{Reading}
-use Rattle.pairing.specs.Marked.{Entry, entry}
+use Rattle.pairing.specs.Marked.{entry}
 use Rattle.sync_watch.specs.declared.judgement.Judgement.{Judgement}
 use Rattle.sync_watch.specs.declared.judgement.Judgement.TheVariants.{Newer, Repeated, BeganAnew}
 use Rattle.sync_watch.specs.Told.{Sync, FollowUp, known, syncs, follow_ups}
@@ -33,14 +33,13 @@ use Rattle.slave_port.specs.History.{Call, Setup}
 use Rattle.slave_port.specs.Usable.{Criteria, Test, first_reason, is_two_step, is_other, is_too_big, is_not_newer}
 use Rattle.slave_port.specs.Usable.{common_tests, sync_reason, response_reason}
 use Rattle.slave_port.specs.Window.{all, last}
-use Rattle.slave_port.specs.Completion.{SyncCompletion, DelayCompletion}
-use Rattle.slave_port.specs.Values.{SyncValue}
+use Rattle.slave_port.specs.Completion.{SyncCompletion, DelayCompletion, alone as completed_alone}
 use Rattle.slave_port.specs.Kept.{kept, criteria, unusable}
 use Rattle.slave_port.specs.Kept.{usable_two_step_sync, usable_follow_up, usable_delay_resp, sync_completion}
 use Rattle.slave_port.specs.Kept.{delay_completion, last_sync_completion, last_delay_completion}
 use Rattle.slave_port.specs.Answer.{answer, used, unanswerable, unless_ignored, completed}
 use Rattle.network_model.specs.Premises.{is_of_use}
-use Rattle.slave_port.proofs.Uses.{two_step_entry}
+use Rattle.slave_port.proofs.Uses.{two_step_entry, sync_completion_of}
 use Rattle.network_model.proofs.Reports.{first_of}
 use Rattle.capture_model.specs.declared.watched.Watched.{Watched}
 use Rattle.capture_model.specs.Recorded.{Recorded}
@@ -179,13 +178,21 @@ module _ (w : Watched) where
         (record { applies = not (is_same_port requesting w.slave); reason = reasons.OtherRequester }) refl
         said.follows_master of_master small (not_from_true (is_same_port requesting w.slave) to_slave)
 
-  -- what a two-step Sync, a Follow_Up and a Delay_Resp are used as that no reason is against
+  -- what a Sync, a Follow_Up and a Delay_Resp are used as that no reason is against
   module _ (first : ℕ) (history : List Call) (m : Contents) where
     usable_sync : (origin : Stamp) (time line : ℕ) → m.body ≡ bodies.Sync origin → is_two_step m.header ≡ true
         → sync_reason (criteria (setup_with w first) history) m.header ≡ None
         → usable_two_step_sync (setup_with w first) history (calls.Event (Ok m) time line)
         ≡ Some (entry m.header.sequence.0 (record { t2 = time; correction = m.header.correction.0; tag = line }))
     usable_sync origin time line body two_step reason = rw (body, reason, two_step)
+
+    -- a one-step Sync completes
+    one_step_completes : (origin : Stamp) (time line : ℕ) → m.body ≡ bodies.Sync origin → is_two_step m.header ≡ false
+        → sync_reason (criteria (setup_with w first) history) m.header ≡ None
+        → sync_completion (setup_with w first) history (calls.Event (Ok m) time line)
+        ≡ Some (completed_alone m.header.sequence.0
+        (record { t2 = time; origin = origin; correction = m.header.correction.0; tag = line }))
+    one_step_completes origin time line body one_step reason = rw (body, reason, one_step)
 
     usable_follow : (precise : Stamp) (line : ℕ) → m.body ≡ bodies.FollowUp precise
         → sync_reason (criteria (setup_with w first) history) m.header ≡ None
@@ -262,16 +269,16 @@ module _ (w : Watched) where
   module _ (x : Recorded) (m : Contents) (said : x.said ≡ Ok m) (l : Listening)
       (of_master : is_of w w.master m.header ≡ true) where
     -- a Sync that is newer, and that the port uses
-    sync-is_ready : (e : Entry SyncValue)
-        → usable_two_step_sync (setup_in w l) l.calls (calls.Event (Ok m) x.time x.line) ≡ Some e
+    sync-is_ready : answer (setup_in w l) l.calls (calls.Event (Ok m) x.time x.line)
+        ≡ used (setup_in w l) l.calls (calls.Event (Ok m) x.time x.line)
         → judged_sync (arrival_of m.header x.time) table_capacity l.heard ≡ Newer
         → ready_sync w x.line x.time m l
         ≡ Some (record l { heard = Sync (arrival_of m.header x.time) ∷ l.heard })
-    sync-is_ready e usable judged =
+    sync-is_ready is_used judged =
         let call : Call = calls.Event (Ok m) x.time x.line in
         let r : Listening = record l { heard = Sync (arrival_of m.header x.time) ∷ l.heard } in
         let fresh : is_stale (answer_in w r call) ≡ false =
-        ap is_stale ((two_step_entry (setup_in w l) l.calls call e usable).used)
+        ap is_stale is_used
         ∙ used-not_stale (setup_in w l) l.calls call in
         ap (λ (b : Bool). if b
         then ready_judged (judged_sync (arrival_of m.header x.time) table_capacity l.heard) w x.line call
@@ -341,12 +348,19 @@ counted-so Q r counted ticked = by (r.syncs + 1 == ticks_every) refl
     by true full = ticked (eqb-true (r.syncs + 1) ticks_every full)
     by false full = counted
 
--- the port takes a two-step Sync, a Follow_Up, or a Delay_Resp: it hears it, and uses it
+-- the port takes a Sync, a Follow_Up, or a Delay_Resp: it hears it, and uses it
 pub record TakesSync (w : Watched) (ds : List Recorded) (x : Recorded) (m : Contents) : Type 0 where
   pub port : Listening
   pub ready_is : ready_sync w x.line x.time m (after_all w ds) ≡ Some port
   pub use_is : usable_two_step_sync (setup_in w port) port.calls (calls.Event (Ok m) x.time x.line)
       ≡ Some (entry m.header.sequence.0 (record { t2 = x.time; correction = m.header.correction.0; tag = x.line }))
+
+pub record TakesOneStep (w : Watched) (ds : List Recorded) (x : Recorded) (m : Contents) (origin : Stamp) : Type 0 where
+  pub port : Listening
+  pub ready_is : ready_sync w x.line x.time m (after_all w ds) ≡ Some port
+  pub completes : sync_completion (setup_in w port) port.calls (calls.Event (Ok m) x.time x.line)
+      ≡ Some (completed_alone m.header.sequence.0
+      (record { t2 = x.time; origin = origin; correction = m.header.correction.0; tag = x.line }))
 
 pub record TakesFollow (w : Watched) (ds : List Recorded) (x : Recorded) (m : Contents) (precise : Stamp) : Type 0 where
   pub port : Listening
@@ -375,6 +389,24 @@ module _ (w : Watched) (ds : List Recorded) (x : Recorded) (m : Contents) (said 
     is_latest : AreLatest w ds (after_all w ds).heard (after_all w ds).responses
     is_latest = after-known w ds
 
+    -- no Sync of its number is known, and no Follow_Up that is apart
+    sync-is_newer : NoneSays (with_number (is_master_sync w) m.header.sequence.0)
+        (last_heard w (with_flag (is_master_sync w) (is_unicast m.header)) ds)
+        → All (IsNearBy (is_master_follow_up w) m.header.sequence.0 x.time)
+        (last_heard w (with_flag (is_master_follow_up w) (is_unicast m.header)) ds)
+        → judged_sync (arrival_of m.header x.time) table_capacity (after_all w ds).heard ≡ Newer
+    sync-is_newer alone near =
+        newer-sync x.time (known table_capacity m.header.sequence.0 (syncs (is_unicast m.header) (after_all w ds).heard))
+        (known table_capacity m.header.sequence.0 (follow_ups (is_unicast m.header) (after_all w ds).heard))
+        (entry-none (is_master_sync w) m.header.sequence.0 table_capacity
+        (syncs (is_unicast m.header) (after_all w ds).heard)
+        (heard_of w (with_flag (is_master_sync w) (is_unicast m.header)) ds)
+        (is_latest.syncs_of (is_unicast m.header)) alone)
+        (λ other. entry-near (is_master_follow_up w) m.header.sequence.0 x.time table_capacity other
+        (follow_ups (is_unicast m.header) (after_all w ds).heard)
+        (heard_of w (with_flag (is_master_follow_up w) (is_unicast m.header)) ds)
+        (is_latest.follow_ups_of (is_unicast m.header)) near)
+
     pub takes-sync : (origin : Stamp) → m.body ≡ bodies.Sync origin → is_two_step m.header ≡ true
         → IsNotBehind w m.header.sequence.0 (within_syncs w ds 12288)
         → NoneSays (with_number (is_master_sync w) m.header.sequence.0)
@@ -385,17 +417,10 @@ module _ (w : Watched) (ds : List Recorded) (x : Recorded) (m : Contents) (said 
     takes-sync origin body two_step newest alone near = record {
       port = record (after_all w ds) { heard = Sync (arrival_of m.header x.time) ∷ (after_all w ds).heard };
       ready_is = sync-is_ready w x m said (after_all w ds) of_master
-          (entry m.header.sequence.0 (record { t2 = x.time; correction = m.header.correction.0; tag = x.line })) use_is
-          (newer-sync x.time (known table_capacity m.header.sequence.0 (syncs (is_unicast m.header) (after_all w ds).heard))
-          (known table_capacity m.header.sequence.0 (follow_ups (is_unicast m.header) (after_all w ds).heard))
-          (entry-none (is_master_sync w) m.header.sequence.0 table_capacity
-          (syncs (is_unicast m.header) (after_all w ds).heard)
-          (heard_of w (with_flag (is_master_sync w) (is_unicast m.header)) ds)
-          (is_latest.syncs_of (is_unicast m.header)) alone)
-          (λ other. entry-near (is_master_follow_up w) m.header.sequence.0 x.time table_capacity other
-          (follow_ups (is_unicast m.header) (after_all w ds).heard)
-          (heard_of w (with_flag (is_master_follow_up w) (is_unicast m.header)) ds)
-          (is_latest.follow_ups_of (is_unicast m.header)) near));
+          ((two_step_entry (setup_in w (after_all w ds)) (after_all w ds).calls (calls.Event (Ok m) x.time x.line)
+          (entry m.header.sequence.0 (record { t2 = x.time; correction = m.header.correction.0; tag = x.line }))
+          use_is).used)
+          (sync-is_newer alone near);
       use_is = use_is;
     }
       where
@@ -405,6 +430,32 @@ module _ (w : Watched) (ds : List Recorded) (x : Recorded) (m : Contents) (said 
             (record { t2 = x.time; correction = m.header.correction.0; tag = x.line }))
         use_is =
             usable_sync w (after_all w ds).first (after_all w ds).calls m origin x.time x.line body two_step
+            (no-reason w ds (after_all w ds).first (after_all w ds).calls is_said (after_all w ds).syncs is_recent m
+            of_master small newest)
+
+    pub takes-one_step : (origin : Stamp) → m.body ≡ bodies.Sync origin → is_two_step m.header ≡ false
+        → IsNotBehind w m.header.sequence.0 (within_syncs w ds 12288)
+        → NoneSays (with_number (is_master_sync w) m.header.sequence.0)
+        (last_heard w (with_flag (is_master_sync w) (is_unicast m.header)) ds)
+        → All (IsNearBy (is_master_follow_up w) m.header.sequence.0 x.time)
+        (last_heard w (with_flag (is_master_follow_up w) (is_unicast m.header)) ds)
+        → TakesOneStep w ds x m origin
+    takes-one_step origin body one_step newest alone near = record {
+      port = record (after_all w ds) { heard = Sync (arrival_of m.header x.time) ∷ (after_all w ds).heard };
+      ready_is = sync-is_ready w x m said (after_all w ds) of_master
+          ((sync_completion_of (setup_in w (after_all w ds)) (after_all w ds).calls (calls.Event (Ok m) x.time x.line)
+          (completed_alone m.header.sequence.0
+          (record { t2 = x.time; origin = origin; correction = m.header.correction.0; tag = x.line })) completes).1)
+          (sync-is_newer alone near);
+      completes = completes;
+    }
+      where
+        completes : sync_completion (setup_in w (after_all w ds)) (after_all w ds).calls
+            (calls.Event (Ok m) x.time x.line)
+            ≡ Some (completed_alone m.header.sequence.0
+            (record { t2 = x.time; origin = origin; correction = m.header.correction.0; tag = x.line }))
+        completes =
+            one_step_completes w (after_all w ds).first (after_all w ds).calls m origin x.time x.line body one_step
             (no-reason w ds (after_all w ds).first (after_all w ds).calls is_said (after_all w ds).syncs is_recent m
             of_master small newest)
 
@@ -472,6 +523,25 @@ module _ (w : Watched) (ds : List Recorded) (x : Recorded) (m : Contents) (said 
         port = r;
         ready_is = ready;
         use_is = usable_sync w r.first r.calls m origin x.time x.line body two_step
+            (sync-no_reason w r.first r.calls m origin x.time x.line body (of_use w (setup_in w r) r.calls call of));
+      }
+
+  pub takes-used_one_step : (origin : Stamp) → m.body ≡ bodies.Sync origin → is_two_step m.header ≡ false
+      → is_used w ds x ≡ true → TakesOneStep w ds x m origin
+  takes-used_one_step origin body one_step is =
+      by (ready_sync w x.line x.time m (after_all w ds)) refl (sym (used-answer (bodies.Sync origin) body) ∙ is)
+    where
+      call : Call
+      call = calls.Event (Ok m) x.time x.line
+
+      by : (o : Option Listening) → ready_sync w x.line x.time m (after_all w ds) ≡ o
+          → option_map_or is_of_use (option_map (λ l. answer_in w l (calls.Event (Ok m) x.time x.line)) o) false ≡ true
+          → TakesOneStep w ds x m origin
+      by None ready of = cc
+      by (Some r) ready of = record {
+        port = r;
+        ready_is = ready;
+        completes = one_step_completes w r.first r.calls m origin x.time x.line body one_step
             (sync-no_reason w r.first r.calls m origin x.time x.line body (of_use w (setup_in w r) r.calls call of));
       }
 

@@ -21,7 +21,7 @@ use Rattle.capture_model.specs.Listening.{table_capacity, reports, report_at}
 use Rattle.capture_model.specs.Told.{AreNumbered}
 use Rattle.capture_model.specs.Finds.{is_master_sync, is_master_follow_up, tells_departure, is_own_response}
 use Rattle.capture_model.specs.Finds.{is_own_request, with_number, with_flag, last_heard, within_syncs, recent_syncs}
-use Rattle.capture_model.specs.Finds.{says, NoneSays, AreOfOneSync, completion_of, ComesSync, AreOfOneRequest}
+use Rattle.capture_model.specs.Finds.{says, NoneSays, AreOfOneSync, completion_of, ComesTwoStep, AreOfOneRequest}
 use Rattle.capture_model.specs.Finds.{answer_of}
 use Rattle.capture_model.specs.Finds.{ComesDelay, StandsSync, StandsDelay}
 use Rattle.capture_model.proofs.Finds.{each_exchange}
@@ -33,11 +33,11 @@ abbrev line : (number time : ℕ) → Contents → Recorded
 line number time m = record { line = number; time = time; said = Ok m }
 
 -- none of these is found to say it
-abbrev some_says : (Contents → Bool) → List Recorded → Bool
+abbrev pub some_says : (Contents → Bool) → List Recorded → Bool
 some_says test [] = false
 some_says test (d ∷ ds) = says test d || some_says test ds
 
-none_says : (test : Contents → Bool) (ds : List Recorded) → some_says test ds ≡ false → NoneSays test ds
+pub none_says : (test : Contents → Bool) (ds : List Recorded) → some_says test ds ≡ false → NoneSays test ds
 none_says test [] none = All-nil (λ (d : Recorded). says test d ≡ false)
 none_says test (d ∷ ds) none =
     let parts = or_parts (says test d) (some_says test ds) none in
@@ -101,7 +101,7 @@ not_newer m = tells_departure watched m && is_not_newer (Some m.header.sequence.
 abbrev far : Contents → Bool
 far m = is_own_request watched m && not (nat_lt (ahead m.header.sequence.0 9) table_capacity)
 
-comes_sync : ComesSync watched 0 three_lines follow_line pair
+comes_sync : ComesTwoStep watched 0 three_lines follow_line pair
 comes_sync = record {
   sync = sync_line;
   follow = follow_line;
@@ -190,7 +190,7 @@ it_is_found =
         last = follow_line;
         before = three_lines;
         there = refl;
-        comes = comes_sync;
+        comes = inl comes_sync;
         quiet = tt;
         few =
             let none : count_by (says (is_master_sync watched)) [] ≡ 0 = refl in
@@ -224,7 +224,7 @@ other_pair = completion_of sync_behind follow_before (sync m_config 5) (follow_u
 abbrev other_answered : DelayCompletion
 other_answered = answer_of request_before response_before (delay_req s_config 9) (response 9) (stamp 2 4500)
 
-sync_comes_last : ComesSync watched 0 three_before sync_behind other_pair
+sync_comes_last : ComesTwoStep watched 0 three_before sync_behind other_pair
 sync_comes_last = record {
   sync = sync_behind;
   follow = follow_before;
@@ -311,7 +311,7 @@ it_is_found_by_the_sync : report_at watched three_before sync_behind
     ≡ Some (record report { sync_tag = 4; follow_tag = Some 3; request_tag = 1; response_tag = 2 })
 it_is_found_by_the_sync =
     each_exchange watched three_before sync_behind other_pair other_answered
-    (omega arith, (omega arith, (omega arith, tt))) (inl (sync_comes_last, delay_stands))
+    (omega arith, (omega arith, (omega arith, tt))) (inl (inl sync_comes_last, delay_stands))
 
 -- each twice, as where packets are captured twice: the copies aren't heard, and the report is of the first ones
 abbrev sync_first : Recorded
@@ -343,7 +343,7 @@ copied_sync = record {
   last = follow_first;
   before = copied_two;
   there = refl;
-  comes = record {
+  comes = inl (record {
     sync = sync_first;
     follow = follow_first;
     s = sync m_config 5;
@@ -377,7 +377,7 @@ copied_sync = record {
         in
         omega (arith, none);
     one_life = omega arith;
-  };
+  });
   quiet = (inr refl, (inr refl, (inr refl, tt)));
   few =
       let none : count_by (says (is_master_sync watched))

@@ -12,6 +12,7 @@ use Rattle.ptp_units.specs.Moment.{Stamp}
 use Rattle.ptp_units.specs.Sequence.{of_count, ahead}
 use Rattle.event_codec.specs.declared.message.Body.{Body}
 use Rattle.event_codec.specs.declared.message.Body.TheVariants as bodies
+use Rattle.event_codec.specs.declared.message.Header.{Header}
 use Rattle.event_codec.specs.declared.port.PortIdentity.{PortIdentity}
 use Rattle.event_codec.specs.Packet.{Contents}
 use Rattle.event_codec.specs.Port.{is_same_port}
@@ -19,7 +20,7 @@ use Rattle.sync_watch.specs.Judged.{is_apart}
 use Rattle.slave_port.specs.declared.heard.Heard.{Heard}
 use Rattle.slave_port.specs.declared.heard.Heard.TheVariants as answers
 use Rattle.slave_port.specs.Usable.{is_two_step, is_not_newer}
-use Rattle.slave_port.specs.Completion.{SyncCompletion, DelayCompletion, pair, responded}
+use Rattle.slave_port.specs.Completion.{SyncCompletion, DelayCompletion, pair, responded, alone as completed_alone}
 use Rattle.slave_port.specs.Answer.{report_of}
 use Rattle.capture_model.specs.declared.watched.Watched.{Watched}
 use Rattle.capture_model.specs.Recorded.{Recorded}
@@ -120,6 +121,19 @@ completion_of sync follow s f precise = pair s.header.sequence.0
     (record { t2 = sync.time; correction = s.header.correction.0; tag = sync.line })
     (record { precise = precise; correction = f.header.correction.0; tag = follow.line })
 
+-- A one-step Sync of the master: its correction isn't too big.
+pub record IsOneStep (w : Watched) (sync : Recorded) (s : Contents) (origin : Stamp) : Type 0 where
+  pub said : sync.said ≡ Ok s
+  pub of_master : is_of w w.master s.header ≡ true
+  pub sync_is : s.body ≡ bodies.Sync origin
+  pub one_step : is_two_step s.header ≡ false
+  pub small : int_lt s.header.correction.0 too_big ≡ true
+
+-- what it completes, by its own originTimestamp
+abbrev pub completion_of_one_step : (sync : Recorded) (s : Contents) (origin : Stamp) → SyncCompletion
+completion_of_one_step sync s origin = completed_alone s.header.sequence.0
+    (record { t2 = sync.time; origin = origin; correction = s.header.correction.0; tag = sync.line })
+
 -- the number isn't behind any that says when it left
 abbrev pub IsNotBehind : Watched → (number : ℕ) → List Recorded → Type 0
 IsNotBehind w number ds =
@@ -136,12 +150,15 @@ NoOtherIsHeard w number (d ∷ later) before =
     ((says (is_of_number w number) d ≡ false) ⊎ (is_heard w (later ++ before) d ≡ false))
     × NoOtherIsHeard w number later before
 
--- of these the port knows no Sync and no Follow_Up of the number: none is among the last 256 of their kind and flag
-abbrev pub NoneIsKnown : Watched → (number : ℕ) → List Recorded → Type 0
-NoneIsKnown w number ds =
-    (flag : Bool)
-    → NoneSays (with_number (is_master_sync w) number) (last_heard w (with_flag (is_master_sync w) flag) ds)
+-- of these the port knows no Sync and no Follow_Up of the number with this flag: none is among the last 256 of its kind
+abbrev pub NoneIsKnownWith : Watched → (number : ℕ) → (flag : Bool) → List Recorded → Type 0
+NoneIsKnownWith w number flag ds =
+    NoneSays (with_number (is_master_sync w) number) (last_heard w (with_flag (is_master_sync w) flag) ds)
     × NoneSays (with_number (is_master_follow_up w) number) (last_heard w (with_flag (is_master_follow_up w) flag) ds)
+
+-- none with either flag
+abbrev pub NoneIsKnown : Watched → (number : ℕ) → List Recorded → Type 0
+NoneIsKnown w number ds = (flag : Bool) → NoneIsKnownWith w number flag ds
 
 -- within so many Syncs a number isn't to be behind
 abbrev pub recent_syncs : ℕ
@@ -157,7 +174,7 @@ AreTaken w number between before first d =
 -- The later of such two comes, in whichever order, and the port uses both. Between them stand at most 255 Syncs of the
 -- master and 255 Follow_Ups, and it hears none of these that has their number. The earlier one isn't from before the line
 -- at which the port began.
-pub record ComesSync (w : Watched) (begun : ℕ) (earlier : List Recorded) (d : Recorded) (c : SyncCompletion) : Type 0
+pub record ComesTwoStep (w : Watched) (begun : ℕ) (earlier : List Recorded) (d : Recorded) (c : SyncCompletion) : Type 0
   where
     pub sync : Recorded
     pub follow : Recorded
@@ -176,6 +193,28 @@ pub record ComesSync (w : Watched) (begun : ℕ) (earlier : List Recorded) (d : 
     pub few_syncs : count_by (says (is_master_sync w)) between < table_capacity
     pub few_follow_ups : count_by (says (is_master_follow_up w)) between < table_capacity
     pub one_life : begun ≤ first.line
+
+-- The port uses a one-step Sync: since it knows no Sync and no Follow_Up of its number and flag, and the number isn't
+-- behind any that is recent. Or it does so for whatever reason.
+abbrev pub IsTaken : Watched → (header : Header) → List Recorded → Recorded → Type 0
+IsTaken w header earlier d =
+    (NoneIsKnownWith w header.sequence.0 (is_unicast header) earlier
+    × IsNotBehind w header.sequence.0 (within_syncs w earlier recent_syncs))
+    ⊎ IsTrue (is_used w earlier d)
+
+-- A one-step Sync comes, and the port uses it. It isn't from before the line at which the port began.
+pub record ComesOneStep (w : Watched) (begun : ℕ) (earlier : List Recorded) (d : Recorded) (c : SyncCompletion) : Type 0
+  where
+    pub s : Contents
+    pub origin : Stamp
+    pub one_step : IsOneStep w d s origin
+    pub is : c ≡ completion_of_one_step d s origin
+    pub taken : IsTaken w s.header earlier d
+    pub one_life : begun ≤ d.line
+
+-- the Sync's half of an exchange comes: the later of a two-step Sync and its Follow_Up, or a one-step Sync
+abbrev pub ComesSync : Watched → (begun : ℕ) → (earlier : List Recorded) → (d : Recorded) → SyncCompletion → Type 0
+ComesSync w begun earlier d c = ComesTwoStep w begun earlier d c ⊎ ComesOneStep w begun earlier d c
 
 -- A Delay_Req of the slave and its Delay_Resp of the master: of one number, and the correction isn't too big.
 pub record AreOfOneRequest (w : Watched) (request response : Recorded) (q r : Contents) (receive : Stamp) : Type 0 where
@@ -251,7 +290,7 @@ abbrev pub CompleteNoDelay : Watched → (later before : List Recorded) → Type
 CompleteNoDelay w [] before = ⊤
 CompleteNoDelay w (d ∷ later) before = CompletesNoDelay w (later ++ before) d × CompleteNoDelay w later before
 
--- a pair came, and after it nothing that completes another, nor 4,096 Syncs of the master
+-- the Sync's half came, and after it nothing that completes another, nor 4,096 Syncs of the master
 pub record StandsSync (w : Watched) (begun : ℕ) (earlier : List Recorded) (c : SyncCompletion) : Type 0 where
   pub later : List Recorded
   pub last : Recorded
@@ -278,8 +317,9 @@ ComesAnExchange w begun earlier d sync delay =
     (ComesSync w begun earlier d sync × StandsDelay w begun earlier delay)
     ⊎ (StandsSync w begun earlier sync × ComesDelay w begun earlier d delay)
 
--- Whatever else is recorded, in lines with growing numbers: where a Sync, its Follow_Up, a Delay_Req and its Delay_Resp
--- stand in one life of the slave and of the master, the last of them brings the report of these four.
+-- Whatever else is recorded, in lines with growing numbers: where a two-step Sync with its Follow_Up, or a one-step Sync,
+-- and a Delay_Req with its Delay_Resp stand in one life of the slave and of the master, the last of them brings the
+-- report of these.
 abbrev pub EachExchangeIsFound : Type 0
 EachExchangeIsFound =
     (w : Watched) (earlier : List Recorded) (d : Recorded) (sync : SyncCompletion) (delay : DelayCompletion)

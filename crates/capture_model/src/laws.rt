@@ -61,29 +61,29 @@ pub fn what_is_held_completes()
     ensures { WhatIsHeldCompletes }
 {}
 
-/// An exchange that stands in a recording is found: the last of a two-step Sync, its Follow_Up, a Delay_Req of the
-/// slave and its Delay_Resp brings the report of these four, in whatever order they come that has the Delay_Req before
-/// its Delay_Resp. This holds of whatever else is recorded, in lines with growing numbers, under these premises:
+/// An exchange that stands in a recording is found: the last of a two-step Sync and its Follow_Up, or of a one-step Sync,
+/// and of a Delay_Req of the slave and its Delay_Resp brings the report of these, in whatever order they come that has
+/// the Delay_Req before its Delay_Resp. This holds of whatever else is recorded, in lines with growing numbers, under
+/// these premises:
 ///
-/// - The Sync and the Follow_Up are of the master, have one number, and are less than a second apart, and neither
-///   correction is too big. At most 255 Syncs and 255 Follow_Ups of the master stand between them, and the port hears
-///   none of these that has their number: copies may stand there.
-/// - The port uses both. It does so where none of their number is among the last 256 Syncs of a flag that it heard until
-///   the first of the two, nor among the last 256 Follow_Ups, and each number of which it was said when its Sync left, by
-///   a Follow_Up or as a one-step Sync, behind which fewer than 16,384 Syncs were heard, is the same or at most 32,767
-///   behind.
+/// - The Sync is of the master, and its correction isn't too big. A two-step one has a Follow_Up of the master with its
+///   number, less than a second apart, whose correction isn't too big either. At most 255 Syncs and 255 Follow_Ups of the
+///   master stand between these two, and the port hears none of these that has their number: copies may stand there.
+/// - The port uses the Sync, and both where there are two. It does so where none of their number is among the last 256
+///   Syncs of a flag that it heard until the first of the two, nor among the last 256 Follow_Ups, and each number of which
+///   it was said when its Sync left, by a Follow_Up or as a one-step Sync, behind which fewer than 16,384 Syncs were heard,
+///   is the same or at most 32,767 behind. Of a one-step Sync that is asked only of those with its flag that came before it.
 /// - The Delay_Resp is to the slave, and its correction isn't too big. The Delay_Req, whose number it has, isn't the
 ///   slave's last one again, and those between them are at most 255 numbers ahead of it. The port uses the Delay_Resp,
 ///   as it does where no other of this number is among the last 256 to the slave that it heard.
-/// - After the half that completes first fewer than 4,096 Syncs of the master come, and nothing that completes another:
-///   no Delay_Resp to the slave, or else no Follow_Up, no one-step Sync, and no Sync whose Follow_Up came before it, but
-///   for what the port doesn't hear, ignores or merely holds.
-/// - The line at which the port began last isn't behind the first of the four.
+/// - After the half that completes first, which may be a one-step Sync alone, fewer than 4,096 Syncs of the master come,
+///   and nothing that completes another: no Delay_Resp to the slave, or else no Follow_Up, no one-step Sync, and no Sync
+///   whose Follow_Up came before it, but for what the port doesn't hear, ignores or merely holds.
+/// - The line at which the port began last isn't behind the first of these.
 ///
 /// The premises are on what is recorded, with numbers below 65,536, as octets have them, but that the port is asked what it
 /// hears, so that copies don't count, and at which line it began last; and in place of two of them what it answers may
-/// stand. Of one-step Syncs the law says nothing, nor of what more is reported: that each report is right is said by
-/// [`each_report_is_exact`].
+/// stand. The law says nothing of what more is reported: that each report is right is said by [`each_report_is_exact`].
 pub fn each_exchange_is_found()
     ensures { EachExchangeIsFound }
 {}
