@@ -49,7 +49,7 @@ use Rattle.capture_model.specs.Finds.{last_heard, within_syncs, IsOneStep, compl
 use Rattle.capture_model.specs.Finds.{IsTaken, ComesTwoStep, ComesOneStep, ComesSync}
 use Rattle.capture_model.specs.Finds.{AreOfOneRequest, ComesDelay, CompleteNoSync, CompleteNoDelay, StandsSync}
 use Rattle.capture_model.specs.Finds.{StandsDelay}
-use Rattle.capture_model.specs.Finds.{EachExchangeIsFound}
+use Rattle.capture_model.specs.Finds.{ComesAnExchange, EachExchangeIsFound}
 use Rattle.capture_model.proofs.Lines.{numbered-below, numbered-rest}
 use Rattle.capture_model.proofs.Requests.{drawn-draws, next-draws}
 use Rattle.capture_model.proofs.Completes.{answered_report, report_is, sync_completes, follow_completes}
@@ -68,6 +68,7 @@ use Rattle.capture_model.proofs.Latest.{IsNearBy}
 use Rattle.capture_model.proofs.Recent.{within-fewer}
 use Rattle.capture_model.proofs.Takes.{all-right, says-weaker, first-below, hears-sync}
 use Rattle.capture_model.proofs.Takes.{hears-follow_up, hears-response, counted-so, TakesSync, TakesFollow}
+use Rattle.capture_model.proofs.Begins.{each_beginning}
 use Rattle.capture_model.proofs.Takes.{TakesResponse, TakesOneStep, takes-one_step, takes-used_one_step}
 use Rattle.capture_model.proofs.Takes.{takes-sync, takes-follow, takes-response, takes-used_sync, takes-used_follow}
 use Rattle.capture_model.proofs.Takes.{takes-used_response}
@@ -1230,7 +1231,8 @@ module _ (w : Watched) (begun : ℕ) (earlier : List Recorded) (numbered : AreNu
 
 -- the law
 pub each_exchange : EachExchangeIsFound
-each_exchange w earlier d sync delay numbered exchange = by exchange
+each_exchange w earlier d sync delay numbered exchange =
+    by (subst (λ (begun : ℕ). ComesAnExchange w begun earlier d sync delay) (sym (each_beginning w (d ∷ earlier))) exchange)
   where
     -- the report of what is answered
     reported : (heard : HeardAt w earlier d)

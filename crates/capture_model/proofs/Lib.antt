@@ -27,9 +27,11 @@ mod Latest
 mod Recent
 mod Onward
 mod Takes
+mod Begins
 mod Finds
 mod Worked
 mod WorkedSlave
 mod WorkedClock
 mod WorkedFinds
 mod WorkedOneStep
+mod WorkedBegins

@@ -25,6 +25,7 @@ use Rattle.slave_port.specs.Answer.{report_of}
 use Rattle.capture_model.specs.declared.watched.Watched.{Watched}
 use Rattle.capture_model.specs.Recorded.{Recorded}
 use Rattle.capture_model.specs.Listening.{table_capacity, ticks_every, is_of, is_unicast, after_all, answered_to}
+use Rattle.capture_model.specs.Begins.{begun_at}
 use Rattle.capture_model.specs.Listening.{report_at}
 use Rattle.capture_model.specs.Told.{is_sync, AreNumbered}
 use Rattle.capture_model.specs.Listening.{is_used}
@@ -173,7 +174,7 @@ AreTaken w number between before first d =
 
 -- The later of such two comes, in whichever order, and the port uses both. Between them stand at most 255 Syncs of the
 -- master and 255 Follow_Ups, and it hears none of these that has their number. The earlier one isn't from before the line
--- at which the port began.
+-- of the last beginning.
 pub record ComesTwoStep (w : Watched) (begun : ℕ) (earlier : List Recorded) (d : Recorded) (c : SyncCompletion) : Type 0
   where
     pub sync : Recorded
@@ -202,7 +203,7 @@ IsTaken w header earlier d =
     × IsNotBehind w header.sequence.0 (within_syncs w earlier recent_syncs))
     ⊎ IsTrue (is_used w earlier d)
 
--- A one-step Sync comes, and the port uses it. It isn't from before the line at which the port began.
+-- A one-step Sync comes, and the port uses it. It isn't from before the line of the last beginning.
 pub record ComesOneStep (w : Watched) (begun : ℕ) (earlier : List Recorded) (d : Recorded) (c : SyncCompletion) : Type 0
   where
     pub s : Contents
@@ -238,7 +239,7 @@ answer_of request response q r receive = responded q.header.sequence.0
 
 -- The Delay_Resp of such two comes, and the port uses it, as it does where no other with this number is among the last 256
 -- to the slave that it heard. The Delay_Req isn't the last one again, the Delay_Reqs of the slave between them are at
--- most 255 numbers ahead of it, and it isn't from before the line at which the port began.
+-- most 255 numbers ahead of it, and it isn't from before the line of the last beginning.
 pub record ComesDelay (w : Watched) (begun : ℕ) (earlier : List Recorded) (d : Recorded) (c : DelayCompletion) : Type 0
   where
     pub request : Recorded
@@ -318,11 +319,11 @@ ComesAnExchange w begun earlier d sync delay =
     ⊎ (StandsSync w begun earlier sync × ComesDelay w begun earlier d delay)
 
 -- Whatever else is recorded, in lines with growing numbers: where a two-step Sync with its Follow_Up, or a one-step Sync,
--- and a Delay_Req with its Delay_Resp stand in one life of the slave and of the master, the last of them brings the
--- report of these.
+-- and a Delay_Req with its Delay_Resp stand, and no line behind the first of them tells that the slave or the master began
+-- anew, the last of them brings the report of these.
 abbrev pub EachExchangeIsFound : Type 0
 EachExchangeIsFound =
     (w : Watched) (earlier : List Recorded) (d : Recorded) (sync : SyncCompletion) (delay : DelayCompletion)
     → AreNumbered (d ∷ earlier)
-    → ComesAnExchange w (after_all w (d ∷ earlier)).begun earlier d sync delay
+    → ComesAnExchange w (begun_at w (d ∷ earlier)) earlier d sync delay
     → report_at w earlier d ≡ Some (report_of sync delay)

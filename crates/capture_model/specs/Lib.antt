@@ -8,4 +8,5 @@ pub mod Exact
 pub mod Lives
 pub mod Pairs
 pub mod Completes
+pub mod Begins
 pub mod Finds

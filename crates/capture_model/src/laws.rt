@@ -1,6 +1,7 @@
 //! Laws of recordings, each the contract of a function that does nothing: a caller that needs the law in its
 //! proof calls it.
 
+ghost use Rattle.capture_model.specs.Begins.{EachBeginningIsTold};
 ghost use Rattle.capture_model.specs.Completes.{WhatIsHeldCompletes};
 ghost use Rattle.capture_model.specs.Exact.{EachReportIsExact};
 ghost use Rattle.capture_model.specs.Finds.{EachExchangeIsFound};
@@ -33,7 +34,8 @@ pub fn each_report_is_exact()
 
 /// No report of a port that listens to a recording rests on a line from before its last beginning: each line that
 /// a report names is that at which the slave or the master was told to have begun anew, or one behind it. This
-/// holds of whatever is recorded, in lines with growing numbers.
+/// holds of whatever is recorded, in lines with growing numbers. Which lines tell that is said by
+/// [`each_beginning_is_told`].
 pub fn no_report_mixes_lives()
     ensures { NoReportMixesLives }
 {}
@@ -50,6 +52,21 @@ pub fn no_report_mixes_lives()
 ///   and pair it.
 pub fn no_reported_pair_is_apart()
     ensures { NoReportedPairIsApart }
+{}
+
+/// A port that listens to a recording begins anew exactly where a recording tells that the slave or the master did,
+/// whatever is recorded: the line at which it began last is that of the last of these, or 0.
+///
+/// - A Delay_Req of the slave, not its first, whose number is neither its last one's again nor 1 to 256 ahead of that.
+/// - A Sync of the master by whose number and time the rules of `sync_watch` say that the master began anew: among the last
+///   256 Syncs with its flag since the master began, without copies, one has its number and came a second or more from
+///   it, or else such a Follow_Up did among the last 256.
+/// - A Sync of the master of which these say nothing, and which is the third in a row, with numbers that follow each
+///   other, that the port refuses: since its number isn't newer than that of the last Sync that completed (512).
+///
+/// Of the port the rule asks only whether it refuses a Sync.
+pub fn each_beginning_is_told()
+    ensures { EachBeginningIsTold }
 {}
 
 /// What a port holds that listens to a recording completes, whatever is recorded. A two-step Sync that it uses completes
@@ -79,11 +96,11 @@ pub fn what_is_held_completes()
 /// - After the half that completes first, which may be a one-step Sync alone, fewer than 4,096 Syncs of the master come,
 ///   and nothing that completes another: no Delay_Resp to the slave, or else no Follow_Up, no one-step Sync, and no Sync
 ///   whose Follow_Up came before it, but for what the port doesn't hear, ignores or merely holds.
-/// - The line at which the port began last isn't behind the first of these.
+/// - No line behind the first of these tells that the slave or the master began anew, by [`each_beginning_is_told`].
 ///
 /// The premises are on what is recorded, with numbers below 65,536, as octets have them, but that the port is asked what it
-/// hears, so that copies don't count, and at which line it began last; and in place of two of them what it answers may
-/// stand. The law says nothing of what more is reported: that each report is right is said by [`each_report_is_exact`].
+/// hears, so that copies don't count, and which Syncs it refuses, where three in a row say that the master began anew; and
+/// in place of two of them what it answers may stand. The law says nothing of what more is reported: that each report is right is said by [`each_report_is_exact`].
 pub fn each_exchange_is_found()
     ensures { EachExchangeIsFound }
 {}
