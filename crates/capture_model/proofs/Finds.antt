@@ -46,8 +46,8 @@ use Rattle.capture_model.specs.Finds.{is_own_response, is_delay_req, is_own_requ
 use Rattle.capture_model.specs.Finds.{last_number, AreOfOneSync, completion_of, is_of_number, NoOtherIsHeard}
 use Rattle.capture_model.specs.Finds.{IsNotBehind, AreTaken, NoneIsKnown, recent_syncs, with_flag, heard_of}
 use Rattle.capture_model.specs.Finds.{last_heard, within_syncs, IsOneStep, completion_of_one_step}
-use Rattle.capture_model.specs.Finds.{IsTaken, ComesTwoStep, ComesOneStep, ComesSync}
-use Rattle.capture_model.specs.Finds.{AreOfOneRequest, ComesDelay, CompleteNoSync, CompleteNoDelay, StandsSync}
+use Rattle.capture_model.specs.Finds.{IsTaken, AreInOrder, SyncFirst, FollowUpFirst, ComesTwoStep, ComesOneStep, ComesSync}
+use Rattle.capture_model.specs.Finds.{AreOfOneRequest, ComesDelay, EachAfter, CompletesNoSync, CompletesNoDelay, StandsSync}
 use Rattle.capture_model.specs.Finds.{StandsDelay}
 use Rattle.capture_model.specs.Finds.{ComesAnExchange, EachExchangeIsFound}
 use Rattle.capture_model.proofs.Lines.{numbered-below, numbered-rest}
@@ -250,7 +250,7 @@ module _ (w : Watched) (first later : Recorded) (between before : List Recorded)
       (after_all w (first ∷ before)).syncs (after_all w (first ∷ before)).asked) where
     follow-stays : (shorter : List Recorded) → AreNumbered (shorter ++ first ∷ before)
         → NoOtherIsHeard w number shorter (first ∷ before)
-        → count_by (says (is_master_sync w)) shorter < table_capacity
+        → count_by (says (is_master_sync w)) shorter < ticks_every
         → count_by (says (is_master_follow_up w)) shorter < table_capacity
         → (after_all w (shorter ++ first ∷ before)).begun ≤ first.line
         → HoldsFollow w number value (count_by (says (is_master_follow_up w)) shorter)
@@ -285,7 +285,7 @@ module _ (w : Watched) (since : ℕ) (from : List Recorded) where
       (base : (after_all w from).begun ≤ since
       → EndsWithSync w c 0 (after_all w from).first (after_all w from).calls (after_all w from).syncs
       (after_all w from).asked) where
-    sync-is_last : (later : List Recorded) → AreLater later → CompleteNoSync w later from
+    sync-is_last : (later : List Recorded) → AreLater later → EachAfter (CompletesNoSync w) later from
         → count_by (says (is_master_sync w)) later < ticks_every
         → (after_all w (later ++ from)).begun ≤ since
         → EndsWithSync w c (count_by (says (is_master_sync w)) later) (after_all w (later ++ from)).first
@@ -307,7 +307,7 @@ module _ (w : Watched) (since : ℕ) (from : List Recorded) where
       (base : (after_all w from).begun ≤ since
       → EndsWithDelay w c 0 (after_all w from).first (after_all w from).calls (after_all w from).syncs
       (after_all w from).asked) where
-    delay-is_last : (later : List Recorded) → AreLater later → CompleteNoDelay w later from
+    delay-is_last : (later : List Recorded) → AreLater later → EachAfter (CompletesNoDelay w) later from
         → count_by (says (is_master_sync w)) later < ticks_every
         → (after_all w (later ++ from)).begun ≤ since
         → EndsWithDelay w c (count_by (says (is_master_sync w)) later) (after_all w (later ++ from)).first
@@ -754,8 +754,7 @@ other-kind w kind number d m said none =
 -- the two messages of a Sync, one behind the other
 module _ (w : Watched) (first d : Recorded) (s f : Contents) (precise : Stamp) (between before : List Recorded)
     (alone : NoOtherIsHeard w s.header.sequence.0 between (first ∷ before))
-    (few_syncs : count_by (says (is_master_sync w)) between < table_capacity)
-    (few_follow_ups : count_by (says (is_master_follow_up w)) between < table_capacity)
+    (few : count_by (says (is_master_sync w)) between < ticks_every)
     (taken : AreTaken w s.header.sequence.0 between before first d)
     (numbered : AreNumbered (d ∷ (between ++ first ∷ before)))
     (low : (after_all w (d ∷ (between ++ first ∷ before))).begun ≤ first.line) where
@@ -856,8 +855,9 @@ module _ (w : Watched) (first d : Recorded) (s f : Contents) (precise : Stamp) (
         by (inr used) =
             takes-used_follow w (between ++ first ∷ before) d f of_one.follow_said precise of_one.follow_is used.1
 
-    by-follow_up : CompletesSync w all_until d (completion_of first d s f precise)
-    by-follow_up =
+    by-follow_up : count_by (says (is_master_sync w)) between < table_capacity
+        → CompletesSync w all_until d (completion_of first d s f precise)
+    by-follow_up few_syncs =
         subst (CompletesSync w all_until d) (ap (λ (number : ℕ). pair number value last_value) of_one.number)
         (follow-completes w all_until d f of_one.follow_said of_one.of_master precise of_one.follow_is takes-last_follow
         value
@@ -950,8 +950,9 @@ module _ (w : Watched) (first d : Recorded) (s f : Contents) (precise : Stamp) (
             takes-used_sync w (between ++ first ∷ before) d s of_one.sync_said last_origin.0 last_origin.1 of_one.two_step
             used.1
 
-    by-sync : CompletesSync w all_until d (completion_of d first s f precise)
-    by-sync =
+    by-sync : count_by (says (is_master_follow_up w)) between < table_capacity
+        → CompletesSync w all_until d (completion_of d first s f precise)
+    by-sync few_follow_ups =
         sync-completes w all_until d s of_one.sync_said last_parts.0 last_origin.0 last_origin.1 takes-last_sync value
         found
       where
@@ -989,8 +990,7 @@ module _ (w : Watched) (first d : Recorded) (s f : Contents) (precise : Stamp) (
             (count_by (says (is_master_sync w)) between)) s of_one.sync_said (after_all w (between ++ first ∷ before))
             port is_ready
             (follow-stays w first d between before numbered n value base between
-            (numbered-rest d (between ++ first ∷ before) numbered) alone few_syncs
-            few_follow_ups)
+            (numbered-rest d (between ++ first ∷ before) numbered) alone few few_follow_ups)
             port_low
 
         found : first_value n (held_follows (setup_in w port) port.calls) ≡ Some value
@@ -1063,27 +1063,27 @@ module _ (w : Watched) (earlier : List Recorded) (d : Recorded) (begun : ℕ) (n
         low_so : (after_all w (d ∷ (comes.between ++ comes.first ∷ comes.before))).begun ≤ comes.first.line
         low_so = subst (λ (ds : List Recorded). (after_all w (d ∷ ds)).begun ≤ comes.first.line) comes.there low
 
-        by : ((comes.first ≡ comes.sync) × (d ≡ comes.follow)) ⊎ ((comes.first ≡ comes.follow) × (d ≡ comes.sync))
+        by : AreInOrder w comes.sync comes.follow comes.first d comes.between
             → CompletesSync w (comes.between ++ comes.first ∷ comes.before) d
             (completion_of comes.sync comes.follow comes.s comes.f comes.precise)
-        by (inl order) =
+        by (SyncFirst first_is last_is few_syncs) =
             let of_one : AreOfOneSync w comes.first d comes.s comes.f comes.precise =
-            subst (λ (x : Recorded). AreOfOneSync w x d comes.s comes.f comes.precise) (sym order.0)
-            (subst (λ (x : Recorded). AreOfOneSync w comes.sync x comes.s comes.f comes.precise) (sym order.1)
+            subst (λ (x : Recorded). AreOfOneSync w x d comes.s comes.f comes.precise) (sym first_is)
+            (subst (λ (x : Recorded). AreOfOneSync w comes.sync x comes.s comes.f comes.precise) (sym last_is)
             comes.of_one) in
             subst (CompletesSync w (comes.between ++ comes.first ∷ comes.before) d)
-            (λ i. completion_of (order.0 i) (order.1 i) comes.s comes.f comes.precise)
+            (λ i. completion_of (first_is i) (last_is i) comes.s comes.f comes.precise)
             (by-follow_up w comes.first d comes.s comes.f comes.precise comes.between comes.before comes.alone
-            comes.few_syncs comes.few_follow_ups comes.taken numbered_so low_so of_one)
-        by (inr order) =
+            (omega arith) comes.taken numbered_so low_so of_one few_syncs)
+        by (FollowUpFirst first_is last_is few_follow_ups few) =
             let of_one : AreOfOneSync w d comes.first comes.s comes.f comes.precise =
-            subst (λ (x : Recorded). AreOfOneSync w x comes.first comes.s comes.f comes.precise) (sym order.1)
-            (subst (λ (x : Recorded). AreOfOneSync w comes.sync x comes.s comes.f comes.precise) (sym order.0)
+            subst (λ (x : Recorded). AreOfOneSync w x comes.first comes.s comes.f comes.precise) (sym last_is)
+            (subst (λ (x : Recorded). AreOfOneSync w comes.sync x comes.s comes.f comes.precise) (sym first_is)
             comes.of_one) in
             subst (CompletesSync w (comes.between ++ comes.first ∷ comes.before) d)
-            (λ i. completion_of (order.1 i) (order.0 i) comes.s comes.f comes.precise)
-            (by-sync w comes.first d comes.s comes.f comes.precise comes.between comes.before comes.alone
-            comes.few_syncs comes.few_follow_ups comes.taken numbered_so low_so of_one)
+            (λ i. completion_of (last_is i) (first_is i) comes.s comes.f comes.precise)
+            (by-sync w comes.first d comes.s comes.f comes.precise comes.between comes.before comes.alone few
+            comes.taken numbered_so low_so of_one few_follow_ups)
 
     comes-sync : (c : SyncCompletion) → (comes : ComesSync w begun earlier d c)
         → (after_all w (d ∷ earlier)).begun ≤ first_line comes → CompletesSync w earlier d c

@@ -22,7 +22,7 @@ use Rattle.capture_model.specs.Told.{AreNumbered}
 use Rattle.capture_model.specs.Finds.{is_master_sync, is_master_follow_up, tells_departure, is_own_response}
 use Rattle.capture_model.specs.Finds.{is_own_request, with_number, with_flag, last_heard, within_syncs, recent_syncs}
 use Rattle.capture_model.specs.Finds.{says, NoneSays, AreOfOneSync, completion_of, ComesTwoStep, AreOfOneRequest}
-use Rattle.capture_model.specs.Finds.{answer_of}
+use Rattle.capture_model.specs.Finds.{answer_of, SyncFirst, FollowUpFirst}
 use Rattle.capture_model.specs.Finds.{ComesDelay, StandsSync, StandsDelay}
 use Rattle.capture_model.proofs.Finds.{each_exchange}
 
@@ -113,7 +113,9 @@ comes_sync = record {
   before = [];
   of_one = of_one_sync;
   is = refl;
-  order = inl (refl, refl);
+  order =
+      let one : count_by (says (is_master_sync watched)) until ≡ 1 = refl in
+      SyncFirst refl refl (omega (arith, one));
   there = refl;
   taken = inl (
     λ flag. (
@@ -123,12 +125,6 @@ comes_sync = record {
     none_says not_newer (within_syncs watched three_lines recent_syncs) refl,
   );
   alone = (inl refl, (inl refl, tt));
-  few_syncs =
-      let one : count_by (says (is_master_sync watched)) until ≡ 1 = refl in
-      omega (arith, one);
-  few_follow_ups =
-      let none : count_by (says (is_master_follow_up watched)) until ≡ 0 = refl in
-      omega (arith, none);
   one_life = omega arith;
 }
 
@@ -247,7 +243,10 @@ sync_comes_last = record {
     small_follow = refl;
   };
   is = refl;
-  order = inr (refl, refl);
+  order =
+      let none : count_by (says (is_master_follow_up watched)) [] ≡ 0 = refl in
+      let no_sync : count_by (says (is_master_sync watched)) [] ≡ 0 = refl in
+      FollowUpFirst refl refl (omega (arith, none)) (omega (arith, no_sync));
   there = refl;
   taken = inl (
     λ flag. (
@@ -259,12 +258,6 @@ sync_comes_last = record {
     none_says not_newer (within_syncs watched three_before recent_syncs) refl,
   );
   alone = tt;
-  few_syncs =
-      let none : count_by (says (is_master_sync watched)) [] ≡ 0 = refl in
-      omega (arith, none);
-  few_follow_ups =
-      let none : count_by (says (is_master_follow_up watched)) [] ≡ 0 = refl in
-      omega (arith, none);
   one_life = omega arith;
 }
 
@@ -365,17 +358,12 @@ copied_sync = record {
       small_follow = refl;
     };
     is = refl;
-    order = inl (refl, refl);
+    order =
+        let one : count_by (says (is_master_sync watched)) (line 2 (at 1 4001 0) (sync m_config 5) ∷ []) ≡ 1 = refl in
+        SyncFirst refl refl (omega (arith, one));
     there = refl;
     taken = inr (refl, refl);
     alone = (inr refl, tt);
-    few_syncs =
-        let one : count_by (says (is_master_sync watched)) (line 2 (at 1 4001 0) (sync m_config 5) ∷ []) ≡ 1 = refl in
-        omega (arith, one);
-    few_follow_ups =
-        let none : count_by (says (is_master_follow_up watched)) (line 2 (at 1 4001 0) (sync m_config 5) ∷ []) ≡ 0 = refl
-        in
-        omega (arith, none);
     one_life = omega arith;
   });
   quiet = (inr refl, (inr refl, (inr refl, tt)));

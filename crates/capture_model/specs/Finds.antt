@@ -144,12 +144,18 @@ IsNotBehind w number ds =
 abbrev pub is_of_number : Watched → (number : ℕ) → Contents → Bool
 is_of_number w number = with_number (λ m. is_master_sync w m || is_master_follow_up w m) number
 
+-- this holds of each of these, after those before it
+abbrev pub EachAfter : (List Recorded → Recorded → Type 0) → (later before : List Recorded) → Type 0
+EachAfter P [] before = ⊤
+EachAfter P (d ∷ later) before = P (later ++ before) d × EachAfter P later before
+
+-- another datagram than a Sync or Follow_Up of the number, or one that the port doesn't hear
+abbrev pub IsNoOther : Watched → (number : ℕ) → List Recorded → Recorded → Type 0
+IsNoOther w number earlier d = (says (is_of_number w number) d ≡ false) ⊎ (is_heard w earlier d ≡ false)
+
 -- of what came after these, none that the port hears is another Sync or Follow_Up of the number
 abbrev pub NoOtherIsHeard : Watched → (number : ℕ) → (later before : List Recorded) → Type 0
-NoOtherIsHeard w number [] before = ⊤
-NoOtherIsHeard w number (d ∷ later) before =
-    ((says (is_of_number w number) d ≡ false) ⊎ (is_heard w (later ++ before) d ≡ false))
-    × NoOtherIsHeard w number later before
+NoOtherIsHeard w number = EachAfter (IsNoOther w number)
 
 -- of these the port knows no Sync and no Follow_Up of the number with this flag: none is among the last 256 of its kind
 abbrev pub NoneIsKnownWith : Watched → (number : ℕ) → (flag : Bool) → List Recorded → Type 0
@@ -172,9 +178,16 @@ AreTaken w number between before first d =
     (NoneIsKnown w number before × IsNotBehind w number (within_syncs w (between ++ first ∷ before) recent_syncs))
     ⊎ (IsTrue (is_used w before first) × IsTrue (is_used w (between ++ first ∷ before) d))
 
--- The later of such two comes, in whichever order, and the port uses both. Between them stand at most 255 Syncs of the
--- master and 255 Follow_Ups, and it hears none of these that has their number. The earlier one isn't from before the line
--- of the last beginning.
+-- Which of the two came first, and how few stand between them: at most 255 Syncs of the master where the Sync did, else at
+-- most 255 Follow_Ups, and 4,095 Syncs.
+pub data AreInOrder (w : Watched) (sync follow first d : Recorded) (between : List Recorded) : Type 0 where
+  SyncFirst : first ≡ sync → d ≡ follow → count_by (says (is_master_sync w)) between < table_capacity
+      → AreInOrder w sync follow first d between
+  FollowUpFirst : first ≡ follow → d ≡ sync → count_by (says (is_master_follow_up w)) between < table_capacity
+      → count_by (says (is_master_sync w)) between < ticks_every → AreInOrder w sync follow first d between
+
+-- The later of such two comes, in whichever order, and the port uses both. Few stand between them, and it hears none of
+-- these that has their number. The earlier one isn't from before the line of the last beginning.
 pub record ComesTwoStep (w : Watched) (begun : ℕ) (earlier : List Recorded) (d : Recorded) (c : SyncCompletion) : Type 0
   where
     pub sync : Recorded
@@ -187,12 +200,10 @@ pub record ComesTwoStep (w : Watched) (begun : ℕ) (earlier : List Recorded) (d
     pub before : List Recorded
     pub of_one : AreOfOneSync w sync follow s f precise
     pub is : c ≡ completion_of sync follow s f precise
-    pub order : ((first ≡ sync) × (d ≡ follow)) ⊎ ((first ≡ follow) × (d ≡ sync))
+    pub order : AreInOrder w sync follow first d between
     pub there : earlier ≡ between ++ first ∷ before
     pub taken : AreTaken w s.header.sequence.0 between before first d
     pub alone : NoOtherIsHeard w s.header.sequence.0 between (first ∷ before)
-    pub few_syncs : count_by (says (is_master_sync w)) between < table_capacity
-    pub few_follow_ups : count_by (says (is_master_follow_up w)) between < table_capacity
     pub one_life : begun ≤ first.line
 
 -- The port uses a one-step Sync: since it knows no Sync and no Follow_Up of its number and flag, and the number isn't
@@ -282,34 +293,24 @@ CompletesNoSync w earlier d =
 abbrev pub CompletesNoDelay : Watched → List Recorded → Recorded → Type 0
 CompletesNoDelay w earlier d = (says (is_own_response w) d ≡ false) ⊎ (completes w earlier d ≡ false)
 
--- the same of each of these, after those before them
-abbrev pub CompleteNoSync : Watched → (later before : List Recorded) → Type 0
-CompleteNoSync w [] before = ⊤
-CompleteNoSync w (d ∷ later) before = CompletesNoSync w (later ++ before) d × CompleteNoSync w later before
-
-abbrev pub CompleteNoDelay : Watched → (later before : List Recorded) → Type 0
-CompleteNoDelay w [] before = ⊤
-CompleteNoDelay w (d ∷ later) before = CompletesNoDelay w (later ++ before) d × CompleteNoDelay w later before
-
--- the Sync's half came, and after it nothing that completes another, nor 4,096 Syncs of the master
-pub record StandsSync (w : Watched) (begun : ℕ) (earlier : List Recorded) (c : SyncCompletion) : Type 0 where
+-- a half of an exchange came, and after it nothing that completes another, nor 4,096 Syncs of the master
+pub record Stands (w : Watched) (Half : Type 0) (Comes : List Recorded → Recorded → Half → Type 0)
+    (CompletesNone : List Recorded → Recorded → Type 0) (earlier : List Recorded) (c : Half) : Type 0 where
   pub later : List Recorded
   pub last : Recorded
   pub before : List Recorded
   pub there : earlier ≡ later ++ last ∷ before
-  pub comes : ComesSync w begun before last c
-  pub quiet : CompleteNoSync w later (last ∷ before)
+  pub comes : Comes before last c
+  pub quiet : EachAfter CompletesNone later (last ∷ before)
   pub few : count_by (says (is_master_sync w)) later < ticks_every
 
--- a request was answered, and after it nothing came that completes another, nor 4,096 Syncs of the master
-pub record StandsDelay (w : Watched) (begun : ℕ) (earlier : List Recorded) (c : DelayCompletion) : Type 0 where
-  pub later : List Recorded
-  pub last : Recorded
-  pub before : List Recorded
-  pub there : earlier ≡ later ++ last ∷ before
-  pub comes : ComesDelay w begun before last c
-  pub quiet : CompleteNoDelay w later (last ∷ before)
-  pub few : count_by (says (is_master_sync w)) later < ticks_every
+-- a Sync completed
+abbrev pub StandsSync : Watched → (begun : ℕ) → (earlier : List Recorded) → SyncCompletion → Type 0
+StandsSync w begun = Stands w SyncCompletion (ComesSync w begun) (CompletesNoSync w)
+
+-- a request was answered
+abbrev pub StandsDelay : Watched → (begun : ℕ) → (earlier : List Recorded) → DelayCompletion → Type 0
+StandsDelay w begun = Stands w DelayCompletion (ComesDelay w begun) (CompletesNoDelay w)
 
 -- one of the two comes, and the other one stands
 abbrev pub ComesAnExchange : Watched → (begun : ℕ) → (earlier : List Recorded) → (d : Recorded) → SyncCompletion

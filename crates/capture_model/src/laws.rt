@@ -84,8 +84,9 @@ pub fn what_is_held_completes()
 /// these premises:
 ///
 /// - The Sync is of the master, and its correction isn't too big. A two-step one has a Follow_Up of the master with its
-///   number, less than a second apart, whose correction isn't too big either. At most 255 Syncs and 255 Follow_Ups of the
-///   master stand between these two, and the port hears none of these that has their number: copies may stand there.
+///   number, less than a second apart, whose correction isn't too big either. Between these two stand at most 255
+///   Syncs of the master where the Sync came first, else at most 255 Follow_Ups and 4,095 Syncs, and the port hears none
+///   of these that has their number: copies may stand there.
 /// - The port uses the Sync, and both where there are two. It does so where none of their number is among the last 256
 ///   Syncs of a flag that it heard until the first of the two, nor among the last 256 Follow_Ups, and each number of which
 ///   it was said when its Sync left, by a Follow_Up or as a one-step Sync, behind which fewer than 16,384 Syncs were heard,
