@@ -24,10 +24,10 @@ use Rattle.capture_model.specs.Listening.{Listening, setup_in, table_capacity, i
 use Rattle.capture_model.specs.Listening.{with_count, told, arrival_of, ready_refused, ready_judged, ready_followed}
 use Rattle.capture_model.specs.Listening.{hears_ready, asks, anew, hears_request, hears, hear, after_all}
 use Rattle.capture_model.specs.Told.{own_request, last_request}
-use Rattle.capture_model.specs.Finds.{is_delay_req, is_own_request, last_number}
+use Rattle.capture_model.specs.Finds.{is_delay_req, is_own_request}
 use Rattle.capture_model.specs.Begins.{is_leap, judged_both, after_both, is_refused, told_with, told_of_master}
 use Rattle.capture_model.specs.Begins.{is_beginning, begins_with, begun_at, EachBeginningIsTold}
-use Rattle.capture_model.proofs.Said.{after-last}
+use Rattle.capture_model.proofs.Said.{last_number, after-last}
 use Rattle.capture_model.proofs.Takes.{counted-so}
 
 -- what a port was told of the master, at which line it began, and whether it was asked for a request
@@ -61,7 +61,7 @@ module _ (w : Watched) where
       sym (ap (λ (b : Bool). if b then Some m.header.sequence.0 else None)
       (and_right (is_of w w.slave m.header) false refl))
 
-  last-same : (ds : List Recorded) → last_request w ds ≡ last_number w ds
+  pub last-same : (ds : List Recorded) → last_request w ds ≡ last_number w ds
   last-same [] = refl
   last-same (d ∷ ds) = λ i. option_or (by d.said i) (last-same ds i)
     where

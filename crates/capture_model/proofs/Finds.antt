@@ -43,7 +43,7 @@ use Rattle.capture_model.specs.Completes.{HeardAt, setup_at, report_of_both}
 use Rattle.capture_model.specs.Finds.{is_master_sync, is_follow_up, is_master_follow_up, tells_departure}
 use Rattle.capture_model.specs.Finds.{is_response_to}
 use Rattle.capture_model.specs.Finds.{is_own_response, is_delay_req, is_own_request, with_number, says, NoneSays}
-use Rattle.capture_model.specs.Finds.{last_number, AreOfOneSync, completion_of, is_of_number, NoOtherIsHeard}
+use Rattle.capture_model.specs.Finds.{AreOfOneSync, completion_of, is_of_number, NoOtherIsHeard}
 use Rattle.capture_model.specs.Finds.{IsNotBehind, AreTaken, NoneIsKnown, recent_syncs, with_flag, heard_of}
 use Rattle.capture_model.specs.Finds.{last_heard, within_syncs, IsOneStep, completion_of_one_step}
 use Rattle.capture_model.specs.Finds.{IsTaken, AreInOrder, SyncFirst, FollowUpFirst, ComesTwoStep, ComesOneStep, ComesSync}
@@ -58,7 +58,8 @@ use Rattle.capture_model.proofs.Hearing.{ready_holds, is_near}
 use Rattle.capture_model.proofs.Newest.{IsNewest, newest-now, IsHeldIn, held-now, held-ticked, held-found, IsLastIn}
 use Rattle.capture_model.proofs.Newest.{last-now}
 use Rattle.capture_model.proofs.Newest.{last-ticked, last-found}
-use Rattle.capture_model.proofs.Said.{IsOf, is_of-later, keeps-is_of, after-is_of, says-of, after-last}
+use Rattle.capture_model.proofs.Said.{IsOf, is_of-later, keeps-is_of, after-is_of, says-of, last_number}
+use Rattle.capture_model.proofs.Said.{after-last}
 use Rattle.capture_model.proofs.Said.{event_answers_none, general_completes, general_answers}
 use Rattle.capture_model.proofs.Onward.{HoldsSync, HoldsFollow, EndsWithSync, EndsWithDelay, HasRequest, count-one}
 use Rattle.capture_model.proofs.Onward.{count-more, carried, goes-after, goes-sync, goes-follow, goes-last_sync}
@@ -68,7 +69,7 @@ use Rattle.capture_model.proofs.Latest.{IsNearBy}
 use Rattle.capture_model.proofs.Recent.{within-fewer}
 use Rattle.capture_model.proofs.Takes.{all-right, says-weaker, first-below, hears-sync}
 use Rattle.capture_model.proofs.Takes.{hears-follow_up, hears-response, counted-so, TakesSync, TakesFollow}
-use Rattle.capture_model.proofs.Begins.{each_beginning}
+use Rattle.capture_model.proofs.Begins.{last-same, each_beginning}
 use Rattle.capture_model.proofs.Takes.{TakesResponse, TakesOneStep, takes-one_step, takes-used_one_step}
 use Rattle.capture_model.proofs.Takes.{takes-sync, takes-follow, takes-response, takes-used_sync, takes-used_follow}
 use Rattle.capture_model.proofs.Takes.{takes-used_response}
@@ -1156,7 +1157,8 @@ module _ (w : Watched) (earlier : List Recorded) (d : Recorded) (begun : ℕ) (n
             (request-stays w comes.request.line (comes.request ∷ comes.before) comes.q.header.sequence.0
             (record { t3 = Some comes.request.time; tag = comes.request.line }) of_one.in_range
             (request-held w comes.before comes.request comes.q of_one.request_said of_one.request_is of_one.in_range
-            comes.another)
+            (subst (λ (o : Option ℕ). IfSome o (λ last. (of_count last == comes.q.header.sequence.0) ≡ false))
+            (last-same w comes.before) comes.another))
             comes.between
             (are-later comes.request.line comes.between (comes.request ∷ comes.before)
             (numbered-rest d (comes.between ++ comes.request ∷ comes.before) numbered_so)

@@ -37,12 +37,18 @@ use Rattle.capture_model.specs.Told.{is_sync, is_general}
 use Rattle.capture_model.specs.Finds.{is_master_sync, is_follow_up, is_master_follow_up}
 use Rattle.capture_model.specs.Finds.{is_response_to, is_own_response, is_delay_req, is_own_request, with_number, says}
 use Rattle.capture_model.specs.Finds.{NoneSays}
-use Rattle.capture_model.specs.Finds.{last_number}
 use Rattle.capture_model.proofs.Near.{All-brought}
 use Rattle.capture_model.proofs.Requests.{drawn-draws}
 use Rattle.capture_model.proofs.Steps.{same_identity}
 use Rattle.capture_model.proofs.Tags.{AllIn}
 use Rattle.capture_model.proofs.Hearing.{Keeps, hear_holds, asked_number, asked_by}
+
+-- the number of the last Delay_Req of the slave that these say
+abbrev pub last_number : Watched → List Recorded → Option ℕ
+last_number w [] = None
+last_number w (d ∷ earlier) =
+    option_or (option_and_then (λ m. if is_own_request w m then Some m.header.sequence.0 else None) (result_ok d.said))
+    (last_number w earlier)
 
 -- what a datagram says
 pub says-of : (test : Contents → Bool) (d : Recorded) (m : Contents) → d.said ≡ Ok m → says test d ≡ test m

@@ -501,8 +501,8 @@ it_is_found_by_the_sync =
     (inl (inr comes_next_sync, stands_delay))
 
 -- with another Sync in place of that of line 6
-abbrev sync_numbered : (number : ℕ) → Contents
-sync_numbered number = record sync_1 { header = record sync_1.header { sequence = record { 0 = number } } }
+abbrev numbered_so : (number : ℕ) → Contents → Contents
+numbered_so number m = record m { header = record m.header { sequence = record { 0 = number } } }
 
 abbrev with_sync : Contents → List Recorded
 with_sync s =
@@ -516,9 +516,22 @@ sync_tags (report ∷ others) = report.sync_tag ∷ sync_tags others
 it_is_that_of_line_6 : sync_tags (reports watched (with_sync sync_1)) ≡ 6 ∷ []
 it_is_that_of_line_6 = refl
 
-behind_is_missed : sync_tags (reports watched (with_sync (sync_numbered 65535))) ≡ 3 ∷ []
+behind_is_missed : sync_tags (reports watched (with_sync (numbered_so 65535 sync_1))) ≡ 3 ∷ []
 behind_is_missed = refl
 
 too_big_is_missed : sync_tags (reports watched
     (with_sync (record sync_1 { header = record sync_1.header { correction = record { 0 = too_big } } }))) ≡ 3 ∷ []
 too_big_is_missed = refl
+
+-- with another Delay_Req behind that of line 8, and its Delay_Resp: 256 numbers ahead of it the report is of that and of
+-- the Sync of line 6, and 257 ahead there is none, since the slave began anew behind the Sync
+abbrev with_request : (number : ℕ) → List Recorded
+with_request number =
+    line 10 (at 1795328936 557960663 0) (Ok (numbered_so number response_0))
+    ∷ line 9 (at 1795328936 557915263 0) (Ok (numbered_so number request_0)) ∷ before_response
+
+in_one_life : sync_tags (reports watched (with_request 256)) ≡ 6 ∷ []
+in_one_life = refl
+
+in_another_life_is_missed : sync_tags (reports watched (with_request 257)) ≡ []
+in_another_life_is_missed = refl

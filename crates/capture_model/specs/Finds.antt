@@ -1,10 +1,9 @@
 -- The law: an exchange that stands in a recording is found. `laws::each_exchange_is_found` promises it.
 use Rattle.std.specs.Prelude.{◌≡◌, ◌⊎◌, ℕ, ◌<◌, ◌≤◌, ◌==◌, nat_lt, zero, suc, take, Bool, true, false, not, ◌&&◌}
 use Rattle.std.specs.Prelude.{◌||◌, ⊤, int_lt}
-use Rattle.std.specs.Prelude.{List, [], ◌∷◌, ◌++◌, count_by, if◌then◌else◌, Option, Some, None, Ok, IfSome, IsTrue}
-use Rattle.std.specs.Prelude.{option_and_then}
+use Rattle.std.specs.Prelude.{List, [], ◌∷◌, ◌++◌, count_by, if◌then◌else◌, Some, Ok, IfSome, IsTrue}
 use Rattle.std.specs.Bool.{beq}
-use Rattle.std.specs.Option.{option_map_or, option_or}
+use Rattle.std.specs.Option.{option_map_or}
 use Rattle.std.specs.Result.{result_ok}
 use Rattle.std.specs.List.{All}
 use Rattle.ptp_units.specs.Interval.{too_big}
@@ -27,7 +26,7 @@ use Rattle.capture_model.specs.Recorded.{Recorded}
 use Rattle.capture_model.specs.Listening.{table_capacity, ticks_every, is_of, is_unicast, after_all, answered_to}
 use Rattle.capture_model.specs.Begins.{begun_at}
 use Rattle.capture_model.specs.Listening.{report_at}
-use Rattle.capture_model.specs.Told.{is_sync, AreNumbered}
+use Rattle.capture_model.specs.Told.{is_sync, last_request, AreNumbered}
 use Rattle.capture_model.specs.Listening.{is_used}
 use Rattle.capture_model.specs.Pairs.{is_heard}
 
@@ -74,13 +73,6 @@ says test d = option_map_or test (result_ok d.said) false
 -- none of these says what passes it
 abbrev pub NoneSays : (Contents → Bool) → List Recorded → Type 0
 NoneSays test ds = All (λ d. says test d ≡ false) ds
-
--- the number of the last Delay_Req of the slave that these say
-abbrev pub last_number : Watched → List Recorded → Option ℕ
-last_number w [] = None
-last_number w (d ∷ earlier) =
-    option_or (option_and_then (λ m. if is_own_request w m then Some m.header.sequence.0 else None) (result_ok d.said))
-    (last_number w earlier)
 
 -- with this unicastFlag (13.3.2.8)
 abbrev pub with_flag : (Contents → Bool) → (flag : Bool) → Contents → Bool
@@ -262,7 +254,7 @@ pub record ComesDelay (w : Watched) (begun : ℕ) (earlier : List Recorded) (d :
     pub of_one : AreOfOneRequest w request d q r receive
     pub is : c ≡ answer_of request d q r receive
     pub there : earlier ≡ between ++ request ∷ before
-    pub another : IfSome (last_number w before) (λ last. (of_count last == q.header.sequence.0) ≡ false)
+    pub another : IfSome (last_request w before) (λ last. (of_count last == q.header.sequence.0) ≡ false)
     pub taken : NoneSays (with_number (is_own_response w) q.header.sequence.0)
         (last_heard w (is_own_response w) (between ++ request ∷ before))
         ⊎ IsTrue (is_used w (between ++ request ∷ before) d)
