@@ -96,7 +96,7 @@ newer-follow_up time (Some other) None none near = near other refl
 newer-follow_up time sync (Some other) none near = cc
 
 -- the first test that applies is none of those that don't
-passed : (t : Test) (tests : List Test) → t.applies ≡ false → first_reason (t ∷ tests) ≡ first_reason tests
+pub passed : (t : Test) (tests : List Test) → t.applies ≡ false → first_reason (t ∷ tests) ≡ first_reason tests
 passed t tests none = ap (λ (b : Bool). if b then Some t.reason else first_reason tests) none
 
 module _ (w : Watched) where
@@ -253,7 +253,7 @@ module _ (w : Watched) where
       by (Some reason) is = cc
 
   -- what is used isn't refused
-  used-not_stale : (setup : Setup) (history : List Call) (call : Call) → is_stale (used setup history call) ≡ false
+  pub used-not_stale : (setup : Setup) (history : List Call) (call : Call) → is_stale (used setup history call) ≡ false
   used-not_stale setup history call =
       by (is_none (sync_completion setup history call) && is_none (delay_completion setup history call))
       (last_sync_completion setup (call ∷ history)) (last_delay_completion setup (call ∷ history))

@@ -1,5 +1,6 @@
 -- Worked recordings in which the slave or the master begins anew, and such that miss that by one.
 use Rattle.std.proofs.Common.{◌≡◌, ◌∙◌, ℕ, refl, List, [], ◌∷◌, Ok}
+use Rattle.ptp_units.specs.Interval.{too_big}
 use Rattle.ptp_units.specs.Moment.{stamp}
 use Rattle.event_codec.specs.declared.message.Body.TheVariants as bodies
 use Rattle.event_codec.specs.Packet.{Contents}
@@ -64,3 +65,10 @@ two_in_a_row = each_beginning watched two_behind ∙ refl
 
 out_of_step : (after_all watched (line 4 (at 5 0 0) (Ok (sync 43)) ∷ two_behind)).begun ≡ 0
 out_of_step = each_beginning watched (line 4 (at 5 0 0) (Ok (sync 43)) ∷ two_behind) ∙ refl
+
+-- the third has a correction that is too big, so the port doesn't refuse it as not newer
+abbrev too_big_third : Contents
+too_big_third = record (sync 42) { header = record (sync 42).header { correction = record { 0 = too_big } } }
+
+too_big_isnt_refused : (after_all watched (line 4 (at 5 0 0) (Ok too_big_third) ∷ two_behind)).begun ≡ 0
+too_big_isnt_refused = each_beginning watched (line 4 (at 5 0 0) (Ok too_big_third) ∷ two_behind) ∙ refl

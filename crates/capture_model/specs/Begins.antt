@@ -1,6 +1,7 @@
 -- The law: a listening port begins anew exactly where a recording tells that the slave or the master did.
 -- `laws::each_beginning_is_told` promises it.
-use Rattle.std.specs.Prelude.{◌≡◌, ℕ, ◌==◌, nat_lt, Bool, true, false, not, ◌&&◌, List, [], ◌∷◌, if◌then◌else◌, Ok}
+use Rattle.std.specs.Prelude.{◌≡◌, ℕ, ◌==◌, nat_lt, Bool, true, false, not, ◌&&◌, List, [], ◌∷◌, if◌then◌else◌}
+use Rattle.std.specs.Prelude.{Option, option_map}
 use Rattle.std.specs.Option.{option_map_or}
 use Rattle.std.specs.Result.{result_ok}
 use Rattle.ptp_units.specs.Sequence.{next, ahead}
@@ -11,10 +12,11 @@ use Rattle.sync_watch.specs.declared.judgement.Judgement.{Judgement}
 use Rattle.sync_watch.specs.declared.judgement.Judgement.TheVariants.{Newer, Repeated, BeganAnew}
 use Rattle.sync_watch.specs.Told.{Arrival, Told, Sync}
 use Rattle.sync_watch.specs.Judged.{judged_sync, judged_refused, after_refused, after_follow_up}
-use Rattle.slave_port.specs.History as calls
+use Rattle.slave_port.specs.Usable.{is_too_big, is_not_newer}
+use Rattle.slave_port.specs.Kept.{last_sync_completion}
 use Rattle.capture_model.specs.declared.watched.Watched.{Watched}
 use Rattle.capture_model.specs.Recorded.{Recorded}
-use Rattle.capture_model.specs.Listening.{table_capacity, is_of, is_stale, answer_in, arrival_of, after_all}
+use Rattle.capture_model.specs.Listening.{Listening, table_capacity, setup_in, is_of, arrival_of, after_all}
 use Rattle.capture_model.specs.Told.{last_request}
 
 -- a Delay_Req of the slave with this number says that it began anew: the number is neither that of its last one again nor
@@ -38,15 +40,20 @@ after_both Newer false a told = Sync a ∷ told
 after_both Repeated refused a told = told
 after_both BeganAnew refused a told = Sync a ∷ []
 
--- the port refuses a Sync, since its number isn't newer than that of the last one that completed (512)
-abbrev pub is_refused : Watched → List Recorded → Recorded → Contents → Bool
-is_refused w earlier d m = is_stale (answer_in w (after_all w earlier) (calls.Event (Ok m) d.time d.line))
+-- the number of the Sync that completed last at the port
+abbrev pub last_completed : Watched → Listening → Option ℕ
+last_completed w l = option_map (λ c. c.number) (last_sync_completion (setup_in w l) l.calls)
+
+-- a Sync's number is another than that, and not newer, and its correction isn't too big: so the port refuses it (512)
+abbrev pub is_refused : Watched → List Recorded → Contents → Bool
+is_refused w earlier m =
+    not (is_too_big m.header) && is_not_newer (last_completed w (after_all w earlier)) m.header.sequence.0
 
 -- what is told of the master, once a datagram says this
 abbrev pub told_with : Watched → List Recorded → Recorded → Contents → Body → List Told → List Told
 told_with w earlier d m (bodies.Sync origin) told =
     if is_of w w.master m.header
-    then after_both (judged_sync (arrival_of m.header d.time) table_capacity told) (is_refused w earlier d m)
+    then after_both (judged_sync (arrival_of m.header d.time) table_capacity told) (is_refused w earlier m)
     (arrival_of m.header d.time) told
     else told
 told_with w earlier d m (bodies.DelayReq origin) told = told
@@ -73,7 +80,7 @@ abbrev pub begins_with : Watched → List Recorded → Recorded → Contents →
 begins_with w earlier d m (bodies.Sync origin) =
     is_of w w.master m.header
     && is_beginning (judged_both
-    (judged_sync (arrival_of m.header d.time) table_capacity (told_of_master w earlier)) (is_refused w earlier d m)
+    (judged_sync (arrival_of m.header d.time) table_capacity (told_of_master w earlier)) (is_refused w earlier m)
     (arrival_of m.header d.time) (told_of_master w earlier))
 begins_with w earlier d m (bodies.DelayReq origin) =
     is_of w w.slave m.header

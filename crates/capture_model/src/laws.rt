@@ -62,9 +62,10 @@ pub fn no_reported_pair_is_apart()
 ///   256 Syncs with its flag since the master began, without copies, one has its number and came a second or more from
 ///   it, or else such a Follow_Up did among the last 256.
 /// - A Sync of the master of which these say nothing, and which is the third in a row, with numbers that follow each
-///   other, that the port refuses: since its number isn't newer than that of the last Sync that completed (512).
+///   other, that the port refuses (512): since the number isn't newer than that of the Sync that completed last, and the
+///   correction isn't too big.
 ///
-/// Of the port the rule asks only whether it refuses a Sync.
+/// Of the port the rule asks only which Sync completed last.
 pub fn each_beginning_is_told()
     ensures { EachBeginningIsTold }
 {}
@@ -100,8 +101,8 @@ pub fn what_is_held_completes()
 /// - No line behind the first of these tells that the slave or the master began anew, by [`each_beginning_is_told`].
 ///
 /// The premises are on what is recorded, with numbers below 65,536, as octets have them, but that the port is asked what it
-/// hears, so that copies don't count, and which Syncs it refuses, where three in a row say that the master began anew; and
-/// in place of two of them what it answers may stand. The law says nothing of what more is reported: that each report is right is said by [`each_report_is_exact`].
+/// hears, so that copies don't count, and which Sync completed last, where three that aren't newer say that the master began
+/// anew; and in place of two of them what it answers may stand. The law says nothing of what more is reported: that each report is right is said by [`each_report_is_exact`].
 pub fn each_exchange_is_found()
     ensures { EachExchangeIsFound }
 {}
