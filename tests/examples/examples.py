@@ -19,7 +19,7 @@ from captured import EXAMPLES, TOP, fail, try_captures
 PROGRAM = pathlib.Path(os.environ.get('PTPX', TOP / 'crates/ptpx/out/ptpx')).resolve()
 
 # The pages, and how many blocks are run of each at the least.
-PAGES = {'README.md': 8, 'docs/TUTORIAL.md': 9, 'docs/MANY.md': 4}
+PAGES = {'README.md': 10, 'docs/TUTORIAL.md': 9, 'docs/MANY.md': 4}
 
 BLOCK = re.compile(r'^```(\w*)\n(.*?)^```$', re.M | re.S)
 
@@ -31,6 +31,7 @@ TOOLS = {
     'jq': re.compile(r'\bjq\b'),
     'gnuplot': re.compile(r'\bgnuplot -'),
     'parallel': re.compile(r'\bparallel -'),
+    'datamash': re.compile(r'\bdatamash -'),
 }
 
 
