@@ -298,6 +298,31 @@ def try_below():
     is_refused(replaced(LINES, {FOLLOW_UP: early}), RESULTS[:1], 'line 7: by its timestamp and corrections a time is below 0')
 
 
+def try_copies():
+    """Where each message comes twice, as at a mirror port, a Sync and a Delay_Req came when they came first, as `ptpx measure` has it."""
+    twice = []
+    for line in LINES:
+        later = time_of(line) // NANOSECOND + 2000
+        twice += [line, with_octets(line, octets_of(line), f'{later // 10**9}.{later % 10**9:09}')]
+    measured = [json.loads(it) for it in ptpx('measure', ''.join(f'{it}\n' for it in twice).encode()).splitlines()]
+    if [(it['offset2'], it['path2']) for it in measured] != [(it['offset2'], it['path2']) for it in RESULTS]:
+        fail('measure takes other times of copies')
+    for results in measured, [{key: it[key] for key in ('line', 'offset2', 'path2')} for it in measured]:
+        output, errors = written(twice, results)
+        if [it['reasons'] for it in judged(output)] != [[708]] * len(measured) or not errors.startswith('transcribe: 21 datagrams of master and slave, 7 left out\n'):
+            fail(f'of copies other times are taken: {errors}')
+    is_refused(twice, [result(2 * SYNC)], f'no report can come at line {2 * SYNC} of slave: there stands a Sync that is a copy of the one at {2 * SYNC - 1}')
+    # It is another one a second later, or with unicastFlag.
+    sync, follow_up = LINES[NEXT_SYNC - 1:NEXT_FOLLOW_UP]
+    for later, flags in (10**9, 2), (5_000_000, 6):
+        moment = time_of(sync) // NANOSECOND + later
+        lines = [*LINES, bent(f"{moment // 10**9}.{moment % 10**9:09} {sync.split(' ')[1]}", (6, bytes([flags, 0]))), bent(follow_up, (6, bytes([flags & 4, 0])))]
+        offset2, path2 = results_of(lines, len(LINES) + 1, len(LINES) + 2, 20, 21)
+        output, _ = written(lines, [*RESULTS, result(len(LINES) + 2)])
+        if judged(output)[-1]['by_readings'] != {'offset2': offset2, 'path2': path2}:
+            fail(f'a Sync with the number of one that came {later} ns before is taken for a copy')
+
+
 def try_long():
     """What is longer than a transcript takes is cut off, which `check` reads, and counted."""
     octets = octets_of(LINES[SYNC - 1]) + bytes(40)
@@ -334,7 +359,7 @@ def try_others():
 
 
 def main():
-    for each in try_whole, try_twice, try_no_completion, try_tags, try_halves, try_below, try_long, try_others:
+    for each in try_whole, try_twice, try_no_completion, try_tags, try_halves, try_below, try_copies, try_long, try_others:
         each()
     print(f'transcribe: {tried["refused"]} inputs refused with nothing written, {tried["corrections"]} with corrections below 0 or beside them')
 
