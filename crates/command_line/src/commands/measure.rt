@@ -108,11 +108,12 @@ was met there. Interfaces of one place and name are one, also in several section
 first 16 at which PTP was met are looked at. With --interface the packets of one interface alone are looked
 at, which is called as 'ptpx extract' calls it; lines have none.
 
-The results are exact for the times in the input. A capture on the slave's own host stamps what the slave
-sends before it leaves, so that the offset comes out too low and the path too high by half of that: use
-hardware stamps or a tap. Taken at the master's host, both come near 0. A capture in UTC of a master
-in TAI gives an offset of -37 s. A Sync takes the last delay, however old, up to two ticks, of which there
-is one after each 4096 Syncs.
+The results are exact for the times in the input, and the offset is that of the clock that stamped it: of the
+slave's where its own port did, at a tap or a mirror port of the box that captured. A capture on the slave's
+own host stamps what the slave sends before it leaves, so that the offset comes out too low and the path too
+high by half of that: use stamps by the hardware of the slave's port. Taken at the master's host, both come
+near 0. A capture in UTC of a master in TAI gives an offset of -37 s. A Sync takes the last delay, however old,
+up to two ticks, of which there is one after each 4096 Syncs.
 
 At the end standard error tells of a capture how many packets there are, how many of them have PTP, and at
 which interface it was measured, if there are several. Then it tells the domain, the master and the slave,
