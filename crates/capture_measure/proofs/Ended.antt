@@ -19,7 +19,7 @@ use Rattle.capture_measure.specs.declared.input.Outcome.TheVariants as outcomes
 use Rattle.capture_measure.specs.Measure.{Recording, measure_rules}
 use Rattle.capture_measure.specs.Capture.{Capture, capture_rules}
 use Rattle.capture_measure.specs.Inner.Ended.{ended_rules, capture_ended_rules}
-use Rattle.capture_measure.specs.Inner.Outcomes.{LinesTell, PacketsTell}
+use Rattle.capture_measure.specs.Inner.Outcomes.{LinesTell, LinesCount, PacketsTell}
 
 -- ---- lines
 took : (number : ℕ) (those : List (List ℕ)) (r read : Recording) (text : List ℕ)
@@ -47,7 +47,7 @@ lines_ended r octets left before after ended all = record {
   text = all.text;
   taken = took 1 (lines_of octets) r all.state all.text all.taken;
   last = all.last;
-  ends = (all.ends.0, all.ends.2);
+  ends = (all.ends.0, all.ends.3);
   output = all.output;
   input = all.input;
 }
@@ -71,6 +71,12 @@ pub lines_tell : (r : Recording) (octets : List ℕ) (left before after : Option
     → LinesTell r octets (outcomes.Lines (Ok ended.lines)) (Some ended.whom)
 lines_tell r octets left before after ended all =
     (all.state, all.text, took 1 (lines_of octets) r all.state all.text all.taken, ap Some all.ends.1)
+
+pub lines_count : (r : Recording) (octets : List ℕ) (left before after : Option (List ℕ)) (ended : Ended)
+    → lines.AnswersAll ended_rules r octets left before after ended
+    → LinesCount r octets (outcomes.Lines (Ok ended.lines)) (Some ended.counts)
+lines_count r octets left before after ended all =
+    (all.state, all.text, took 1 (lines_of octets) r all.state all.text all.taken, all.ends.2)
 
 pub lines_failed : {R W : Type 0} (what : Cause LineFault) (input input' : Counted R) (output output' : Counted W)
     → lines.FailedAt ended_rules what input input' output output' → lines.FailedAt measure_rules what input input' output output'

@@ -18,8 +18,10 @@ use Rattle.capture_measure.specs.declared.watch.Wanted.{Wanted}
 use Rattle.capture_measure.specs.Measure.{begun, head_text}
 use Rattle.capture_measure.specs.Capture.{capture_begun}
 use Rattle.capture_measure.specs.Input.{IsOutcome}
-use Rattle.capture_measure.specs.Inner.Outcomes.{LinesAnswer, PacketsAnswer, LinesTell, PacketsTell}
+use Rattle.capture_measure.specs.Inner.Outcomes.{LinesAnswer, PacketsAnswer, LinesTell, LinesCount, PacketsTell, IsOfCapture}
+use Rattle.capture_measure.specs.declared.tally.Counts.{Counts}
 use Rattle.capture_measure.specs.declared.watch.Whom.{Whom}
+use Rattle.capture_measure.specs.Counts.{fates_in, AreCounted, CountsInput}
 use Rattle.capture_measure.specs.Row.{datagrams}
 use Rattle.capture_measure.specs.Summary.{whom_in, capture_whom, TellsWhom}
 use Rattle.capture_measure.proofs.Exact as exact
@@ -139,6 +141,18 @@ lines_whom form w octets (Lines (Ok count)) whom (read, text, taken, is) = (
 lines_whom form w octets (Lines (Err stop)) whom told = tt
 lines_whom form w octets (Capture answer) whom told = absurd told
 
+lines_count : (form : Form) (w : Wanted) (octets : List ℕ) (outcome : Outcome) (counts : Option Counts)
+    → LinesCount (begun form w) octets outcome counts → CountsInput form w octets outcome counts
+lines_count form w octets (Lines (Ok count)) counts (read, text, taken, is) = (
+  read,
+  text,
+  taken,
+  subst (λ (v : Wanted). AreCounted (fates_in v read.rows) counts)
+      (exact.read_on 1 (lines_of octets) (begun form w) read text taken).wanted is,
+)
+lines_count form w octets (Lines (Err stop)) counts told = tt
+lines_count form w octets (Capture answer) counts told = absurd told
+
 packets_whom : (form : Form) (w : Wanted) (octets : List ℕ) (outcome : Outcome) (whom : Option Whom)
     → PacketsTell (capture_begun form w) octets outcome whom → TellsWhom form w octets outcome whom
 packets_whom form w octets (Lines answer) whom told = absurd told
@@ -160,6 +174,21 @@ lined_whom form w all rest first outcome whom read are told = λ octets known.
     let (behind, is) = is_begun all rest first octets read are known in
     lines_whom form w octets outcome whom
     (subst (λ (o : List ℕ). LinesTell (begun form w) o outcome whom) (sym is.split) (told behind is.is_left))
+
+pub lined_counts : (form : Form) (w : Wanted) (all rest : Option (List ℕ)) (first : List ℕ) (outcome : Outcome)
+    (counts : Option Counts) → Consumes all rest first → AreEnough first rest
+    → ForSome rest (λ octets. LinesCount (begun form w) (first ++ octets) outcome counts)
+    → ForSome all (λ octets. CountsInput form w octets outcome counts)
+lined_counts form w all rest first outcome counts read are told = λ octets known.
+    let (behind, is) = is_begun all rest first octets read are known in
+    lines_count form w octets outcome counts
+    (subst (λ (o : List ℕ). LinesCount (begun form w) o outcome counts) (sym is.split) (told behind is.is_left))
+
+-- nothing is said of a capture
+pub captured_counts : (form : Form) (w : Wanted) (octets : List ℕ) (outcome : Outcome) (counts : Option Counts)
+    → IsOfCapture outcome → CountsInput form w octets outcome counts
+captured_counts form w octets (Lines answer) counts is = absurd is
+captured_counts form w octets (Capture answer) counts is = tt
 
 pub captured_whom : (form : Form) (w : Wanted) (all rest : Option (List ℕ)) (first : List ℕ) (outcome : Outcome)
     (whom : Option Whom) → Consumes all rest first → AreEnough first rest

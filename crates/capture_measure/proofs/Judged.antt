@@ -15,6 +15,7 @@ use Rattle.capture_model.specs.declared.watched.Watched.{Watched}
 use Rattle.capture_model.specs.Listening.{Listening, table_capacity, is_of, is_stale, arrival_of, told, answer_in}
 use Rattle.capture_model.specs.Listening.{with_master_anew, ready_refused, ready_newer, ready_judged, ready_sync}
 use Rattle.capture_model.specs.Listening.{ready_followed, ready_follow_up, ready_response, hears_ready}
+use Rattle.capture_measure.specs.Counts.{is_beginning, begins_newer, begins_judged, sync_begins}
 use Rattle.capture_measure.specs.Inner.Listener.{with_sync, with_follow_up, with_refused, with_response, told_again}
 
 -- what a number says that came before, or that didn't
@@ -31,6 +32,12 @@ says-repeated false j is (inr repeated) = cc
 -- it says that the master didn't begin anew
 abbrev pub IsNoBeginning : Judgement → Type 0
 IsNoBeginning j = (j ≡ Newer) ⊎ (j ≡ Repeated)
+
+no-beginning : (j : Judgement) → IsNoBeginning j → is_beginning j ≡ false
+no-beginning Newer started = refl
+no-beginning Repeated started = refl
+no-beginning BeganAnew (inl is) = cc
+no-beginning BeganAnew (inr is) = cc
 
 module _ (w : Watched) (line : ℕ) (call : Call) (a : Arrival) (l : Listening) where
   -- a Sync that isn't refused
@@ -79,6 +86,20 @@ module _ (w : Watched) (line : ℕ) (call : Call) (a : Arrival) (l : Listening) 
       told_again w line (record (told call l) { heard = after j a (Refused a.number) l.heard })) anew
       ∙ sym (newer-refused BeganAnew stale anew)
 
+  -- whether the master began anew by it
+  pub newer-begins-not : is_stale (answer_in w l call) ≡ false → begins_newer w call a l ≡ false
+  newer-begins-not other = ap (λ (b : Bool). b && is_beginning (judged_refused a table_capacity l.heard)) other
+
+  pub refused-begins-not : is_stale (answer_in w l call) ≡ true → IsNoBeginning (judged_refused a table_capacity l.heard)
+      → begins_newer w call a l ≡ false
+  refused-begins-not stale started =
+      ap (λ (b : Bool). b && is_beginning (judged_refused a table_capacity l.heard)) stale
+      ∙ no-beginning (judged_refused a table_capacity l.heard) started
+
+  pub refused-begins : is_stale (answer_in w l call) ≡ true → judged_refused a table_capacity l.heard ≡ BeganAnew
+      → begins_newer w call a l ≡ true
+  refused-begins stale anew = λ i. stale i && is_beginning (anew i)
+
 -- what a Sync becomes that isn't the master's
 module _ (w : Watched) (line time : ℕ) (m : Contents) (l : Listening) where
   abbrev call_of : Call
@@ -109,6 +130,13 @@ module _ (w : Watched) (line time : ℕ) (m : Contents) (l : Listening) where
       ≡ option_map (λ l. answer_in w l call_of) (ready_judged j w line call_of a_of l)
   sync-judged-answer j of is = λ i. option_map (λ l. answer_in w l call_of)
       (if of i then ready_judged (is i) w line call_of a_of l else Some l)
+
+  pub sync-begins-not : is_of w w.master m.header ≡ false → sync_begins w line time m l ≡ false
+  sync-begins-not other = ap (λ (b : Bool). b && begins_judged (judged_sync a_of table_capacity l.heard) w call_of a_of l) other
+
+  pub sync-begins : (j : Judgement) → is_of w w.master m.header ≡ true → judged_sync a_of table_capacity l.heard ≡ j
+      → sync_begins w line time m l ≡ begins_judged j w call_of a_of l
+  sync-begins j of is = λ i. of i && begins_judged (is i) w call_of a_of l
 
   pub with_sync-judged : (j : Judgement) → judged_sync a_of table_capacity l.heard ≡ j
       → with_sync a_of l ≡ record l { heard = after j a_of (Sync a_of) l.heard }

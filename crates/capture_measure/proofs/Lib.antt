@@ -1,8 +1,11 @@
 pub mod AsLines
+pub mod Became
 pub mod Bodies
+pub mod Counting
 pub mod Ended
 pub mod Exact
 pub mod ExactCapture
+pub mod Fates
 pub mod Goes
 pub mod Heard
 pub mod Judged

@@ -1,6 +1,6 @@
 -- Rows of a recording, and what is measured of them.
 use Rattle.std.proofs.Common.{◌≡◌, ◌∙◌, ◌≤◌, ◌<◌, ◌/◌, ◌+◌, ℕ, Bool, List, [], ◌∷◌, ◌++◌, length, take}
-use Rattle.std.proofs.Common.{Option, Some, None, refl, sym, ap, subst, arith}
+use Rattle.std.proofs.Common.{Option, Some, None, true≢false, refl, sym, ap, subst, arith}
 use Rattle.std.specs.Prelude.{nat_le, not, is_some, if◌then◌else◌, option_to_list}
 use Rattle.std.specs.Option.{option_map_or}
 use Rattle.std.specs.Result.{result_ok}
@@ -90,6 +90,33 @@ module _ (w : Wanted) (rows : List Row) (row : Row) (watched : Watched) where
   pub measured-known : watched_in w (datagrams rows) ≡ Some watched
       → measured_in w rows ≡ measurements watched (heard w rows)
   measured-known known = ap (λ o. option_map_or (λ watched. measurements watched (heard w rows)) o []) known
+
+unknown_by : (w : Wanted) (rows : List Row) (row : Row) (known : Option Watched) → watched_in w (datagrams rows) ≡ known
+    → watched_in w (datagrams (row ∷ rows)) ≡ None → watched_in w (datagrams rows) ≡ None
+unknown_by w rows row None is unknown = is
+unknown_by w rows row (Some watched) is unknown =
+    absurd (true≢false (ap is_some (sym (watched-stays w row.datagram (datagrams rows) watched is) ∙ unknown)))
+
+-- what isn't known by one line more wasn't before
+pub unknown_before : (w : Wanted) (rows : List Row) (row : Row) → watched_in w (datagrams (row ∷ rows)) ≡ None
+    → watched_in w (datagrams rows) ≡ None
+unknown_before w rows row unknown = unknown_by w rows row (watched_in w (datagrams rows)) refl unknown
+
+-- no line is heard before that
+heard-none : (w : Wanted) (rows : List Row) (row : Row) → watched_in w (datagrams rows) ≡ None
+    → watched_in w (datagrams (row ∷ rows)) ≡ None → heard w (row ∷ rows) ≡ []
+heard-none w rows row before unknown =
+    ap (λ (b : Bool). if b then row ∷ heard w rows
+    else if not (is_known w (row ∷ rows)) then []
+    else if nat_le (length (row ∷ rows)) kept_most then row ∷ rows
+    else row ∷ []) (ap is_some before)
+    ∙ ap (λ (b : Bool). if not b then []
+    else if nat_le (length (row ∷ rows)) kept_most then row ∷ rows
+    else row ∷ []) (ap is_some unknown)
+
+pub heard-unknown : (w : Wanted) (rows : List Row) → watched_in w (datagrams rows) ≡ None → heard w rows ≡ []
+heard-unknown w [] unknown = refl
+heard-unknown w (row ∷ rows) unknown = heard-none w rows row (unknown_before w rows row unknown) unknown
 
 pub measured-unknown : (w : Wanted) (rows : List Row) → watched_in w (datagrams rows) ≡ None → measured_in w rows ≡ []
 measured-unknown w rows unknown = ap (λ o. option_map_or (λ watched. measurements watched (heard w rows)) o []) unknown

@@ -1,5 +1,5 @@
 -- Lines that are taken.
-use Rattle.std.proofs.Common.{◌≡◌, ◌≢◌, ◌∙◌, ℕ, List, [], ◌∷◌, ◌++◌, true≢false, Option, Some, None, Result, Ok, Err}
+use Rattle.std.proofs.Common.{◌≡◌, ◌≢◌, ◌∙◌, ℕ, List, [], ◌∷◌, ◌++◌, length, drop, true≢false, Option, Some, None, Result, Ok, Err}
 use Rattle.std.proofs.Common.{refl, sym, ap, subst}
 use Rattle.std.specs.Prelude.{⊤, MatchResult, OnOk, is_some}
 use Rattle.std.proofs.KnownBytes.{Appends-nil}
@@ -19,16 +19,22 @@ use Rattle.capture_measure.specs.Watch.{watched_in}
 use Rattle.capture_measure.specs.Row.{Row, datagrams, heard}
 use Rattle.capture_measure.specs.Measured.{measurements, measured_in}
 use Rattle.text_lines.specs.Fault.{is_write}
+use Rattle.capture_measure.specs.Counts.{early_fates, fates_in}
+use Rattle.capture_measure.specs.Inner.Counting.{stays}
 use Rattle.capture_measure.specs.Inner.Hearing.{Goes, GoesUntil}
 use Rattle.capture_measure.specs.Inner.Measuring.{AreWithin, AreKept, IsHearing, IsStage}
 use Rattle.capture_measure.proofs.Goes.{GoesUntil-none}
-use Rattle.capture_measure.proofs.Rows.{heard-few, heard-many, measured-known, measured-unknown}
-use Rattle.capture_measure.proofs.Told.{watched-stays}
+use Rattle.capture_measure.proofs.Rows.{heard-few, heard-many, unknown_before, measured-known, measured-unknown}
+use Rattle.capture_measure.proofs.Fates.{fates-unknown, no-early}
 
 -- what follows of an answer that is there
 pub on_ok_then : {T E P Q : Type 0} (r : Result T E) → (P → Q) → OnOk r P → OnOk r Q
 on_ok_then (Ok x) f p = f p
 on_ok_then (Err e) f p = tt
+
+pub on_ok_both : {T E P Q S : Type 0} (r : Result T E) → (P → Q → S) → OnOk r P → OnOk r Q → OnOk r S
+on_ok_both (Ok x) f p q = f p q
+on_ok_both (Err e) f p q = tt
 
 -- where nothing is written
 pub nothing_goes : {T : Type 0} (form : Form) (r : Result T LineFault) (a : Option (List ℕ))
@@ -66,10 +72,11 @@ pub heard_before : (w : Wanted) (rows : List Row) (row : Row) (watched : Watched
     → ((listener : Listener) → stage ≢ Hearing listener) → watched_in w (datagrams (row ∷ rows)) ≡ Some watched
     → (earlier : List Row) × AreKept stage earlier × (heard w (row ∷ rows) ≡ row ∷ earlier)
     × (watched_in w (datagrams rows) ≡ None)
+    × (early_fates (drop (length earlier) rows) ≡ stays stage (fates_in w rows))
 heard_before w rows row watched (Kept kept) is other known =
-    (rows, is.3, heard-few w rows row watched is.0 known is.1, is.0)
+    (rows, is.3, heard-few w rows row watched is.0 known is.1, is.0, no-early rows)
 heard_before w rows row watched Passed is other known =
-    ([], refl, heard-many w rows row watched is.0 known is.1, is.0)
+    ([], refl, heard-many w rows row watched is.0 known is.1, is.0, sym (fates-unknown w rows is.0))
 heard_before w rows row watched (Hearing listener) is other known = absurd (other listener refl)
 
 -- what is measured by the line by which it is known whom to watch
@@ -91,15 +98,9 @@ stage_heard w rows watched those Passed known same is = absurd is
 stage_heard w rows watched those (Hearing listener) known same is =
     (watched, known, subst (λ (r : List Row). IsHearing watched r (Hearing listener)) (sym same) is)
 
-unknown_by : (w : Wanted) (rows : List Row) (row : Row) (known : Option Watched) → watched_in w (datagrams rows) ≡ known
-    → watched_in w (datagrams (row ∷ rows)) ≡ None → watched_in w (datagrams rows) ≡ None
-unknown_by w rows row None is unknown = is
-unknown_by w rows row (Some watched) is unknown =
-    absurd (true≢false (ap is_some (sym (watched-stays w row.datagram (datagrams rows) watched is) ∙ unknown)))
-
 -- while it isn't known whom to watch nothing is measured
 pub measured-still : (w : Wanted) (rows : List Row) (row : Row)
     → watched_in w (datagrams (row ∷ rows)) ≡ None → measured_in w (row ∷ rows) ≡ measured_in w rows
 measured-still w rows row unknown =
     measured-unknown w (row ∷ rows) unknown
-    ∙ sym (measured-unknown w rows (unknown_by w rows row (watched_in w (datagrams rows)) refl unknown))
+    ∙ sym (measured-unknown w rows (unknown_before w rows row unknown))

@@ -1,6 +1,6 @@
 -- A worked recording, of two masters and two slaves in two domains: whom it is of, which of its lines are heard, and
 -- what is written of them.
-use Rattle.std.proofs.Common.{◌≡◌, ℕ, ◌*◌, pos, refl, List, [], ◌∷◌, codes, Some, None, Ok, Err}
+use Rattle.std.proofs.Common.{◌≡◌, ℕ, ◌*◌, pos, refl, List, [], ◌∷◌, map, codes, Some, None, Ok, Err}
 use Rattle.ptp_units.specs.Moment.{stamp}
 use Rattle.event_codec.specs.declared.message.Body.{Body}
 use Rattle.event_codec.specs.declared.message.Body.TheVariants.{Sync, DelayReq, DelayResp}
@@ -16,6 +16,9 @@ use Rattle.capture_measure.specs.Watch.{watched_in}
 use Rattle.capture_measure.specs.Row.{Row, datagrams, heard}
 use Rattle.capture_measure.specs.Measured.{written}
 use Rattle.capture_measure.specs.Summary.{whom_in}
+use Rattle.capture_measure.specs.Counts.{fates_in}
+use Rattle.capture_measure.specs.declared.tally.Kind.TheVariants as kinds
+use Rattle.capture_measure.specs.declared.tally.Why.TheVariants.{OfSlave, Alone, OtherDomain, NoPart, TooEarly}
 
 -- a port of this number and domain
 abbrev pub port : (number domain : ℕ) → PortConfig
@@ -33,8 +36,8 @@ said config number body = Ok (record {
 })
 
 -- a line with a time of so many seconds and microseconds
-abbrev pub row : (number : ℕ) → List ℕ → (nanoseconds : ℕ) → Reading → Row
-row number time nanoseconds reading = record {
+abbrev pub a_line : (number : ℕ) → List ℕ → (nanoseconds : ℕ) → Reading → Row
+a_line number time nanoseconds reading = record {
   time = time;
   datagram = record { line = number; time = nanoseconds * 65536; said = reading };
 }
@@ -46,14 +49,14 @@ anybody = record { slave = None; master = None; domain = None; interface = None 
 -- an Announce, the Delay_Req of a slave in another domain, a Sync of the master, and a Delay_Req of the slave
 abbrev first_rows : List Row
 first_rows =
-    row 3 (codes "7.000005") 7000005000 (said (port 1 0) 9 (Sync (stamp 7 0)))
-    ∷ row 2 (codes "6") 6000000000 (said (port 3 4) 1 (DelayReq (stamp 0 0)))
-    ∷ row 1 (codes "5") 5000000000 (Err (OtherType 11)) ∷ []
+    a_line 3 (codes "7.000005") 7000005000 (said (port 1 0) 9 (Sync (stamp 7 0)))
+    ∷ a_line 2 (codes "6") 6000000000 (said (port 3 4) 1 (DelayReq (stamp 0 0)))
+    ∷ a_line 1 (codes "5") 5000000000 (Err (OtherType 11)) ∷ []
 
 abbrev rows : List Row
 rows =
-    row 5 (codes "8.1") 8100000000 (said (port 1 0) 5 (DelayResp (stamp 8 3000) (port 2 0).identity))
-    ∷ row 4 (codes "8") 8000000000 (said (port 2 0) 5 (DelayReq (stamp 0 0)))
+    a_line 5 (codes "8.1") 8100000000 (said (port 1 0) 5 (DelayResp (stamp 8 3000) (port 2 0).identity))
+    ∷ a_line 4 (codes "8") 8000000000 (said (port 2 0) 5 (DelayReq (stamp 0 0)))
     ∷ first_rows
 
 -- the Sync tells domain and master, and a Delay_Req of this domain the slave
@@ -88,3 +91,16 @@ heard_all = refl
 row_written : written Table anybody rows ≡ codes "8.1,1000,4000,response,5\n"
 unfolding digits decimals
 row_written = refl
+
+-- the Delay_Resp brings the report, and the Sync came while no Delay_Resp was there
+why_not : map (λ fate. fate.why) (fates_in anybody rows)
+    ≡ None ∷ Some OfSlave ∷ Some Alone ∷ Some OtherDomain ∷ Some NoPart ∷ []
+why_not = refl
+
+what_they_are : map (λ fate. fate.kind) (fates_in anybody rows)
+    ≡ kinds.DelayResp ∷ kinds.DelayReq ∷ kinds.Sync ∷ kinds.DelayReq ∷ kinds.Announce ∷ []
+what_they_are = refl
+
+-- as long as it isn't known whom to watch
+why_not_yet : map (λ fate. fate.why) (fates_in anybody first_rows) ≡ Some TooEarly ∷ Some TooEarly ∷ Some NoPart ∷ []
+why_not_yet = refl

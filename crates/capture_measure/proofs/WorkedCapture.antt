@@ -10,7 +10,7 @@ use Rattle.capture_measure.specs.declared.measuring.Form.TheVariants.{Table}
 use Rattle.capture_measure.specs.Row.{Row}
 use Rattle.capture_measure.specs.Interfaces.{InterfaceRow, interfaces_in}
 use Rattle.capture_measure.specs.Chosen.{chosen, heard_at, capture_written}
-use Rattle.capture_measure.proofs.Worked.{port, said, row, anybody}
+use Rattle.capture_measure.proofs.Worked.{port, said, a_line, anybody}
 
 -- an interface without a name, and one that has one
 abbrev first : InterfaceOf
@@ -23,22 +23,22 @@ abbrev at : InterfaceOf → Row → InterfaceRow
 at interface it = record { interface = interface; row = it }
 
 abbrev sync : Row
-sync = row 2 (codes "7.000005") 7000005000 (said (port 1 0) 9 (Sync (stamp 7 0)))
+sync = a_line 2 (codes "7.000005") 7000005000 (said (port 1 0) 9 (Sync (stamp 7 0)))
 
 abbrev request : Row
-request = row 6 (codes "8") 8000000000 (said (port 2 0) 5 (DelayReq (stamp 0 0)))
+request = a_line 6 (codes "8") 8000000000 (said (port 2 0) 5 (DelayReq (stamp 0 0)))
 
 abbrev response : Row
-response = row 8 (codes "8.1") 8100000000 (said (port 1 0) 5 (DelayResp (stamp 8 3000) (port 2 0).identity))
+response = a_line 8 (codes "8.1") 8100000000 (said (port 1 0) 5 (DelayResp (stamp 8 3000) (port 2 0).identity))
 
 -- a Sync of another master at the first interface before that at the tap, and one more behind the slave's Delay_Req
 abbrev rows : List InterfaceRow
 rows =
     at tap response
-    ∷ at first (row 7 (codes "8.05") 8050000000 (said (port 5 0) 8 (Sync (stamp 8 0))))
+    ∷ at first (a_line 7 (codes "8.05") 8050000000 (said (port 5 0) 8 (Sync (stamp 8 0))))
     ∷ at tap request
     ∷ at tap sync
-    ∷ at first (row 1 (codes "7") 7000000000 (said (port 5 0) 7 (Sync (stamp 7 0)))) ∷ []
+    ∷ at first (a_line 1 (codes "7") 7000000000 (said (port 5 0) 7 (Sync (stamp 7 0)))) ∷ []
 
 both : interfaces_in rows ≡ first ∷ tap ∷ []
 both = refl

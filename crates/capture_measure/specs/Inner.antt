@@ -8,3 +8,4 @@ pub mod Recordings
 pub mod Capturing
 pub mod Outcomes
 pub mod Ended
+pub mod Counting

@@ -10,4 +10,5 @@ pub mod ExactCapture
 pub mod AsLines
 pub mod Input
 pub mod Summary
+pub mod Counts
 pub mod Inner

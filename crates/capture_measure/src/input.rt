@@ -9,12 +9,14 @@ ghost use Rattle.capture_measure.specs.Measure.{Recording};
 ghost use Rattle.capture_measure.specs.Capture.{Capture};
 ghost use Rattle.capture_measure.specs.Input.{MeasuresInput, OutcomeFailed};
 ghost use Rattle.capture_measure.specs.Summary.{TellsWhom};
+ghost use Rattle.capture_measure.specs.Counts.{CountsInput};
 ghost use Rattle.capture_measure.specs.Inner.Capturing.{IsCapturing};
 ghost use Rattle.capture_measure.specs.Inner.Measuring.{IsMeasuring};
-ghost use Rattle.capture_measure.specs.Inner.Outcomes.{LinesAnswer, PacketsAnswer, LinesTell, PacketsTell};
+ghost use Rattle.capture_measure.specs.Inner.Outcomes.{LinesAnswer, PacketsAnswer, LinesTell, LinesCount, PacketsTell, IsOfCapture};
 
 use crate::measuring::{Form, Measuring, write_head};
 use crate::packets::CaptureMeasuring;
+use crate::tally::Counts;
 use crate::watch::{Wanted, Whom};
 use capture_file::{Beginning, CaptureStop, answer_packets_behind};
 use std::alloc::Global;
@@ -35,6 +37,8 @@ pub enum Outcome {
 pub struct Summary {
     /// Whom the lines are of, as far as that is known; of a capture, whom the packets are of that are measured, once that is known.
     pub whom: Option<Whom>,
+    /// What was counted of the lines; of a capture, of the packets that are measured, once it is known which these are.
+    pub counts: Option<Counts>,
     of: Measured,
 }
 
@@ -49,8 +53,8 @@ impl Summary {
     /// Tells it, in lines. What can't be written is lost.
     pub fn tell<E: Write>(&self, errors: &mut E) {
         match &self.of {
-            Measured::Lines(lines) => lines.tell(self.whom, errors),
-            Measured::Capture(capture) => capture.tell(self.whom, errors),
+            Measured::Lines(lines) => lines.tell(self.whom, self.counts, errors),
+            Measured::Capture(capture) => capture.tell(self.whom, self.counts, errors),
         }
     }
 }
@@ -72,6 +76,8 @@ pub fn measure<R: Read, W: Write>(
         input.old input.new output.old output.new }
     ensures whom { ForSome (R.remaining (device_of input.old)) (λ octets.
         TellsWhom form wanted.now octets result.0 result.1.whom) }
+    ensures counts { ForSome (R.remaining (device_of input.old)) (λ octets.
+        CountsInput form wanted.now octets result.0 result.1.counts) }
     ensures failures { OutcomeFailed result.0 input.old input.new output.old output.new }
 {
     let lines = Measuring::new(alloc, wanted, form);
@@ -105,10 +111,11 @@ fn stopped(lines: Measuring, line: u64, what: Cause<LineFault>) -> (Outcome, Sum
     ensures { result.0 ≡ Outcome.Lines (Err (record { line = line; what = what })) }
 {
     let whom = Some(lines.whom());
+    let counts = Some(lines.counts());
     let of = Measured::Lines(lines);
     (
         Outcome::Lines(Err(Stopped { line, what })),
-        Summary { whom, of },
+        Summary { whom, counts, of },
     )
 }
 
@@ -127,18 +134,25 @@ fn measure_lines<R: Read, W: Write>(
         (W.contents (device_of output.old)) (W.contents (device_of output.new)) result.0) }
     ensures whom { (r : Recording) → IsMeasuring lines r → ForSome (R.remaining (device_of input.old)) (λ octets.
         LinesTell r (start.now ++ octets) result.0 result.1.whom) }
+    ensures counts { (r : Recording) → IsMeasuring lines r → ForSome (R.remaining (device_of input.old)) (λ octets.
+        LinesCount r (start.now ++ octets) result.0 result.1.counts) }
     ensures failures { OutcomeFailed result.0 input.old input.new output.old output.new }
 {
     match answer_lines_behind(start, &mut lines, input, output) {
         Ok(ended) => {
             let whom = Some(ended.whom);
+            let counts = Some(ended.counts);
             let of = Measured::Lines(lines);
-            (Outcome::Lines(Ok(ended.lines)), Summary { whom, of })
+            (
+                Outcome::Lines(Ok(ended.lines)),
+                Summary { whom, counts, of },
+            )
         }
         Err(stop) => {
             let whom = Some(lines.whom());
+            let counts = Some(lines.counts());
             let of = Measured::Lines(lines);
-            (Outcome::Lines(Err(stop)), Summary { whom, of })
+            (Outcome::Lines(Err(stop)), Summary { whom, counts, of })
         }
     }
 }
@@ -158,18 +172,24 @@ fn measure_packets<R: Read, W: Write>(
         (W.contents (device_of output.old)) (W.contents (device_of output.new)) result.0) }
     ensures whom { (c : Capture) → IsCapturing capture c → ForSome (R.remaining (device_of input.old)) (λ octets.
         PacketsTell c (start.now ++ octets) result.0 result.1.whom) }
+    ensures captured { IsOfCapture result.0 }
     ensures failures { OutcomeFailed result.0 input.old input.new output.old output.new }
 {
     match answer_packets_behind(alloc, start, &mut capture, input, output) {
         Ok(ended) => {
             let whom = ended.whom;
+            let counts = capture.counts();
             let of = Measured::Capture(capture);
-            (Outcome::Capture(Ok(ended.packets)), Summary { whom, of })
+            (
+                Outcome::Capture(Ok(ended.packets)),
+                Summary { whom, counts, of },
+            )
         }
         Err(stop) => {
             let whom = capture.whom();
+            let counts = capture.counts();
             let of = Measured::Capture(capture);
-            (Outcome::Capture(Err(stop)), Summary { whom, of })
+            (Outcome::Capture(Err(stop)), Summary { whom, counts, of })
         }
     }
 }

@@ -15,4 +15,5 @@ mod watch;
 
 pub use input::{Outcome, Summary, measure};
 pub use measuring::Form;
+pub use tally::{Counts, Kind, Why};
 pub use watch::{Known, Wanted, Whom};

@@ -12,7 +12,9 @@ ghost use Rattle.capture_model.specs.Listening.{Listening, setup_with, table_cap
 ghost use Rattle.capture_model.specs.Listening.{is_stale, is_unicast, arrival_of, with_count, ready_newer, ready_sync};
 ghost use Rattle.capture_model.specs.Listening.{ready_follow_up, ready_response, hears_ready, asks, anew, answer_in};
 ghost use Rattle.capture_model.specs.Listening.{hears_request, hears};
-ghost use Rattle.capture_measure.specs.Inner.Listener.{IsListener, Listens, Becomes, Says, Answers, IsAnswered};
+ghost use Rattle.capture_measure.specs.Inner.Listener.{IsListener, Listens, Becomes, Says, IsAnswered};
+ghost use Rattle.capture_measure.specs.Inner.Listener.{became_called, became_of};
+ghost use Rattle.capture_measure.specs.Counts.{sync_begins, begins_newer};
 ghost use Rattle.capture_measure.specs.Inner.Listener.{heard_by};
 ghost use Rattle.capture_measure.specs.Inner.Listener.{with_sync, with_follow_up, with_refused, with_response};
 ghost use Rattle.capture_measure.specs.Inner.Listener.{told_again, became_own_request, became_request};
@@ -132,7 +134,9 @@ impl Listener {
     }
 
     /// The domain of the port.
-    pub(crate) fn domain(&self) -> u8 {
+    pub(crate) fn domain(&self) -> u8
+        ensures { result ≡ self.now.watched.domain }
+    {
         self.watched.domain
     }
 
@@ -155,6 +159,7 @@ impl Listener {
     pub(crate) fn hear(&mut self, line: u64, time: ScaledTime, message: &Message<'_>) -> Became
         ensures listens { Listens (λ w. hears w line time (contents message.now) message.now.body) self.old self.new }
         ensures answered { IsAnswered line time (contents message.now) self.old result }
+        ensures became { Becomes (λ w l. became_of w line time (contents message.now) message.now.body l) self.old result }
     {
         match message.body {
             Body::Sync { .. } => self.hear_sync(line, time, message),
@@ -172,9 +177,9 @@ impl Listener {
             let call = Event (Ok m) time line in
             Listens (λ w l. hears_ready (is_of w w.master m.header) call (ready_sync w line time m l) l)
             self.old self.new }
-        ensures answered { let m = contents message.now in
+        ensures became { let m = contents message.now in
             let call = Event (Ok m) time line in
-            Answers call (λ w l. ready_sync w line time m l) self.old result }
+            Becomes (λ w l. became_called (sync_begins w line time m l) call w (ready_sync w line time m l)) self.old result }
     {
         if !self.is_of(self.watched.master, &message.header) {
             return Became::Heard(self.port.sync_message(message, time, line));
@@ -196,9 +201,10 @@ impl Listener {
             let call = Event (Ok m) time line in
             Listens (λ w l. with_count (told call (ready_newer w line call (arrival_of m.header time) l)))
             self.old self.new }
-        ensures answered { let m = contents message.now in
+        ensures became { let m = contents message.now in
             let call = Event (Ok m) time line in
-            Answers call (λ w l. Some (ready_newer w line call (arrival_of m.header time) l)) self.old result }
+            let a = arrival_of m.header time in
+            Becomes (λ w l. became_called (begins_newer w call a l) call w (Some (ready_newer w line call a l))) self.old result }
     {
         let heard = self.port.sync_message(message, time, line);
         if !is_stale(&heard) {
@@ -234,9 +240,9 @@ impl Listener {
         ensures listens { let m = contents message.now in
             let call = General (Ok m) line in
             Listens (λ w l. hears_ready false call (ready_follow_up w time m l) l) self.old self.new }
-        ensures answered { let m = contents message.now in
+        ensures became { let m = contents message.now in
             let call = General (Ok m) line in
-            Answers call (λ w l. ready_follow_up w time m l) self.old result }
+            Becomes (λ w l. became_called false call w (ready_follow_up w time m l)) self.old result }
     {
         if !self.is_of(self.watched.master, &message.header) {
             return Became::Heard(self.port.general_message(message, line));
@@ -258,9 +264,9 @@ impl Listener {
         ensures listens { let m = contents message.now in
             let call = General (Ok m) line in
             Listens (λ w l. hears_ready false call (ready_response w time m requesting l) l) self.old self.new }
-        ensures answered { let m = contents message.now in
+        ensures became { let m = contents message.now in
             let call = General (Ok m) line in
-            Answers call (λ w l. ready_response w time m requesting l) self.old result }
+            Becomes (λ w l. became_called false call w (ready_response w time m requesting l)) self.old result }
     {
         if !self.is_answer(&message.header, requesting) {
             return Became::Heard(self.port.general_message(message, line));

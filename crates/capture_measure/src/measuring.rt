@@ -1,6 +1,6 @@
 //! A recording that is measured line by line.
 
-ghost use Rattle.std.specs.Prelude.{◌≡◌, ◌≤◌, ◌+◌, List, [], ◌∷◌, length, map, MatchResult, MatchOption, OnOk};
+ghost use Rattle.std.specs.Prelude.{◌≡◌, ◌≤◌, ◌+◌, List, [], ◌∷◌, ◌++◌, length, map, MatchResult, MatchOption, OnOk};
 ghost use Rattle.std.specs.Prelude.{Some, None, ⊤, option_to_list};
 ghost use Rattle.std.specs.List.{All};
 ghost use Rattle.text_lines.specs.Counted.{device_of, HasFailed, HasNotFailed, HasFailedIf};
@@ -16,16 +16,18 @@ ghost use Rattle.capture_measure.specs.Measured.{measured_at, measurements};
 ghost use Rattle.capture_measure.specs.Measure.{Recording, begun, head_text};
 ghost use Rattle.capture_measure.specs.Inner.Listener.{IsListener};
 ghost use Rattle.capture_measure.specs.Inner.Watching.{IsWatch};
-ghost use Rattle.capture_measure.specs.Inner.Hearing.{measured_by, IsOfOutput, Goes};
+ghost use Rattle.capture_measure.specs.Inner.Hearing.{recorded_of, measured_by, IsOfOutput, Goes};
 ghost use Rattle.capture_measure.specs.Inner.Measuring.{IsLine, NoRow, HasRow, IsUnread, IsRead, IsRowOf};
 ghost use Rattle.capture_measure.specs.Inner.Measuring.{StopsAt, AreRows, AreWithin, AreKept};
 ghost use Rattle.capture_measure.specs.Inner.Measuring.{IsHearing, IsStage, IsMeasuring};
 ghost use Rattle.capture_measure.specs.Inner.Watching.{whom_of};
 ghost use Rattle.capture_measure.specs.Inner.Ended.{ended_rules};
+ghost use Rattle.capture_measure.specs.Counts.{Fate, fate_at, fates, early_fate, IsCounts};
+ghost use Rattle.capture_measure.specs.Inner.Counting.{stays};
 
 use crate::listener::Listener;
 use crate::reports::{Completed, Datagram, Reports, message_in};
-use crate::tally::Tally;
+use crate::tally::{Counts, Tally};
 use crate::watch::{Wanted, Watch, Whom};
 use capture_lines::{Measurement, Timed, read_timed, table_head};
 use capture_model::Watched;
@@ -90,6 +92,8 @@ pub(crate) struct Ended {
     pub(crate) lines: u64,
     /// Whom they are of.
     pub(crate) whom: Whom,
+    /// What was counted of them.
+    pub(crate) counts: Counts,
 }
 
 /// A line that was read.
@@ -178,6 +182,9 @@ impl Reports {
             → OnOk result (IsListener watched listener.new (after_all watched (datagrams (row ∷ earlier))))
             × Goes self.old.form result (option_to_list (measured_at watched earlier row))
             (W.contents (device_of output.old)) (W.contents (device_of output.new)) }
+        ensures counted { (watched : Watched) (earlier : List Row) (row : Row) (all : List Fate) → IsRowOf read.now row
+            → IsListener watched listener.old (after_all watched (datagrams earlier)) → IsCounts all self.old.tally.counts
+            → OnOk result (IsCounts (fate_at watched earlier row ∷ all) self.new.tally.counts) }
         ensures of_output { MatchResult result (λ _. ⊤) IsOfOutput }
         ensures form { self.new.form ≡ self.old.form }
         ensures failures { MatchResult result
@@ -204,6 +211,9 @@ impl Reports {
             → OnOk result (IsListener watched listener.new (after_all watched (datagrams (row ∷ before))))
             × Goes self.old.form result (option_to_list (measured_at watched before row))
             (W.contents (device_of output.old)) (W.contents (device_of output.new)) }
+        ensures counted { (watched : Watched) (before : List Row) (row : Row) (all : List Fate) → IsRow (earlier + 1) line.now row
+            → IsListener watched listener.old (after_all watched (datagrams before)) → IsCounts all self.old.tally.counts
+            → OnOk result (IsCounts (fate_at watched before row ∷ all) self.new.tally.counts) }
         ensures answered { MatchResult result
             (λ number. (number ≡ earlier + 1) × HasRow (earlier + 1) line.now)
             (λ fault. StopsAt fault (earlier + 1) line.now
@@ -235,6 +245,9 @@ impl Reports {
             → OnOk result (IsListener watched listener.new (after_all watched (datagrams rows)))
             × Goes self.old.form result (measurements watched rows)
             (W.contents (device_of output.old)) (W.contents (device_of output.new)) }
+        ensures counted { (watched : Watched) (rows : List Row) → AreRows [] (map (λ line. line.items) kept.now) rows
+            → IsListener watched listener.old (after_all watched []) → IsCounts [] self.old.tally.counts
+            → OnOk result (IsCounts (fates watched rows) self.new.tally.counts) }
         ensures form { self.new.form ≡ self.old.form }
         ensures failures { MatchResult result
             (λ _. HasNotFailed output.old output.new)
@@ -262,6 +275,9 @@ impl Reports {
             → OnOk result (IsListener watched listener.new (after_all watched (datagrams rows)))
             × Goes self.old.form result (measurements watched rows)
             (W.contents (device_of output.old)) (W.contents (device_of output.new)) }
+        ensures counted { (watched : Watched) (rows : List Row) (all : List Fate) → AreKept stage.now rows
+            → IsListener watched listener.old (after_all watched []) → IsCounts all self.old.tally.counts
+            → OnOk result (IsCounts (fates watched rows ++ stays stage.now all) self.new.tally.counts) }
         ensures form { self.new.form ≡ self.old.form }
         ensures failures { MatchResult result
             (λ _. HasNotFailed output.old output.new)
@@ -311,14 +327,19 @@ impl LineTask for Measuring {
         }
     }
 
-    /// How many lines there were, and whom they are of.
+    /// How many lines there were, whom they are of, and what was counted of them.
     fn finish<W: Write>(
         &mut self,
         lines: u64,
         _output: &mut Counted<W>,
     ) -> Result<Ended, LineFault> {
         let whom = self.whom();
-        Ok(Ended { lines, whom })
+        let counts = self.counts();
+        Ok(Ended {
+            lines,
+            whom,
+            counts,
+        })
     }
 }
 
@@ -330,12 +351,27 @@ impl Measuring {
         self.watch.whom()
     }
 
+    /// What was counted of its lines.
+    pub(crate) fn counts(&self) -> Counts
+        ensures { result ≡ self.now.reports.tally.counts }
+    {
+        self.reports.tally.counts
+    }
+
     /// Tells what is told of a recording beside its reports, in lines. What can't be written is lost.
-    pub(crate) fn tell<E: Write>(&self, whom: Option<Whom>, errors: &mut E) {
+    pub(crate) fn tell<E: Write>(
+        &self,
+        whom: Option<Whom>,
+        counts: Option<Counts>,
+        errors: &mut E,
+    ) {
         if let Some(whom) = whom {
             whom.tell("line", errors);
         }
-        self.reports.tally.tell(errors);
+        if let Some(counts) = counts {
+            counts.tell(errors);
+        }
+        self.reports.tally.tell_times(errors);
     }
 
     /// No line came yet.
@@ -359,6 +395,8 @@ impl Measuring {
         ensures kept { (w : Wanted) (rows : List Row) (row : Row) → IsRow (length rows + 1) line.now row
             → watched_in w (datagrams (row ∷ rows)) ≡ None → read.now.datagram.number ≡ length rows + 1
             → IsStage w rows self.old.stage → OnOk result (IsStage w (row ∷ rows) self.new.stage) }
+        ensures counted { (all : List Fate) → IsCounts all self.old.reports.tally.counts
+            → IsCounts (early_fate (recorded_of read.now.datagram) ∷ all) self.new.reports.tally.counts }
         ensures memory { MatchResult result (λ _. ⊤) (λ fault. fault ≡ LineFault.Memory) }
         ensures watch { self.new.watch ≡ self.old.watch }
         ensures lines { self.new.lines ≡ self.old.lines }
@@ -391,6 +429,9 @@ impl Measuring {
             → OnOk result (IsHearing watched (row ∷ earlier) self.new.stage)
             × Goes self.old.reports.form result (measurements watched (row ∷ earlier))
             (W.contents (device_of output.old)) (W.contents (device_of output.new)) }
+        ensures counted { (earlier : List Row) (row : Row) (all : List Fate) → IsRowOf read.now row
+            → AreKept self.old.stage earlier → IsCounts all self.old.reports.tally.counts
+            → OnOk result (IsCounts (fates watched (row ∷ earlier) ++ stays self.old.stage all) self.new.reports.tally.counts) }
         ensures form { self.new.reports.form ≡ self.old.reports.form }
         ensures lines { self.new.lines ≡ self.old.lines }
         ensures watch { self.new.watch ≡ self.old.watch }

@@ -24,6 +24,7 @@ use crate::listener::Listener;
 use crate::measuring::Form;
 use crate::recording::{Kept, Recordings, datagram_of};
 use crate::reports::{Datagram, Reports};
+use crate::tally::Counts;
 use crate::watch::{Wanted, Whom};
 use capture_extract::Summary as PacketCounts;
 use capture_file::{Captured, Packet, PacketTask, is_asked};
@@ -348,17 +349,36 @@ impl CaptureMeasuring {
         }
     }
 
+    /// What was counted of the packets that are measured, where these are known.
+    pub(crate) fn counts(&self) -> Option<Counts> {
+        match &self.stage {
+            Stage::Looking(_) => None,
+            Stage::Hearing(..) => Some(self.reports.reports.tally.counts),
+        }
+    }
+
     /// Tells what is told of a capture beside its reports, in lines. What can't be written is lost.
-    pub(crate) fn tell<E: Write>(&self, whom: Option<Whom>, errors: &mut E) {
+    pub(crate) fn tell<E: Write>(
+        &self,
+        whom: Option<Whom>,
+        counts: Option<Counts>,
+        errors: &mut E,
+    ) {
         self.packets.tell_packets(errors);
         match self.stage {
-            Stage::Hearing(measured, _) => self.tell_measured(measured, whom, errors),
+            Stage::Hearing(measured, _) => self.tell_measured(measured, whom, counts, errors),
             Stage::Looking(_) => self.tell_unknown(errors),
         }
     }
 
     /// Tells what was measured at the interface of this place, and what was passed over at others.
-    fn tell_measured<E: Write>(&self, measured: usize, whom: Option<Whom>, errors: &mut E) {
+    fn tell_measured<E: Write>(
+        &self,
+        measured: usize,
+        whom: Option<Whom>,
+        counts: Option<Counts>,
+        errors: &mut E,
+    ) {
         let recordings = self.recordings.all();
         let Some(recording) = recordings.get(measured) else {
             return;
@@ -369,7 +389,10 @@ impl CaptureMeasuring {
         if let Some(whom) = whom {
             whom.tell("packet", errors);
         }
-        self.reports.reports.tally.tell(errors);
+        if let Some(counts) = counts {
+            counts.tell(errors);
+        }
+        self.reports.reports.tally.tell_times(errors);
         for (place, other) in recordings.iter().enumerate() {
             if place != measured {
                 let count = self.interfaces.at(place);

@@ -1,6 +1,6 @@
 //! Datagrams that a port hears, and what goes out of its reports.
 
-ghost use Rattle.std.specs.Prelude.{◌≡◌, ◌∷◌, List, MatchResult};
+ghost use Rattle.std.specs.Prelude.{◌≡◌, [], ◌∷◌, List, MatchResult, OnOk, Some, None};
 ghost use Rattle.text_lines.specs.Counted.{device_of, HasNotFailed, HasFailedIf};
 ghost use Rattle.text_lines.specs.Fault.{is_write};
 ghost use Rattle.event_codec.specs.Reading.{Reading, IsReading};
@@ -8,6 +8,7 @@ ghost use Rattle.capture_model.specs.Listening.{after_all};
 ghost use Rattle.capture_model.specs.Recorded.{Recorded};
 ghost use Rattle.capture_lines.specs.Measurement.{measured_of};
 ghost use Rattle.capture_measure.specs.Measured.{half_of, text_as};
+ghost use Rattle.capture_measure.specs.Counts.{Fate, fate_in, IsCounts};
 ghost use Rattle.capture_measure.specs.Inner.Listener.{IsListener, report_by};
 ghost use Rattle.capture_measure.specs.Inner.Hearing.{reading_of, recorded_of, completion, measured_by, GoesAtOnce};
 
@@ -101,7 +102,8 @@ pub(crate) struct Reports {
 impl Reports {
     /// No report came yet.
     pub(crate) fn new(alloc: Global, form: Form) -> Reports
-        ensures { result.form ≡ form }
+        ensures form { result.form ≡ form }
+        ensures counted { IsCounts [] result.tally.counts }
     {
         Reports {
             form,
@@ -120,6 +122,9 @@ impl Reports {
             → IsListener watched listener.old (after_all watched earlier)
             → IsListener watched listener.new (after_all watched (recorded_of datagram.now ∷ earlier))
             × (result ≡ completion watched earlier (recorded_of datagram.now)) }
+        ensures counted { (watched : Watched) (earlier : List Recorded) (all : List Fate)
+            → IsListener watched listener.old (after_all watched earlier) → IsCounts all self.old.tally.counts
+            → IsCounts (fate_in watched (recorded_of datagram.now) (after_all watched earlier) ∷ all) self.new.tally.counts }
         ensures form { self.new.form ≡ self.old.form }
     {
         self.tally.count_time(datagram.time);
@@ -146,6 +151,8 @@ impl Reports {
     ) -> Result<(), LineFault>
         ensures written { GoesAtOnce result (text_as self.old.form (measured_of measured.now))
             (W.contents (device_of output.old)) (W.contents (device_of output.new)) }
+        ensures counted { (fate : Fate) (all : List Fate) → fate.measured ≡ None → IsCounts (fate ∷ all) self.old.tally.counts
+            → OnOk result (IsCounts (record fate { measured = Some (measured_of measured.now) } ∷ all) self.new.tally.counts) }
         ensures form { self.new.form ≡ self.old.form }
         ensures failures { MatchResult result
             (λ _. HasNotFailed output.old output.new)

@@ -1,8 +1,14 @@
 //! How many datagrams gave no report, by what they are and by why they gave none.
 
+ghost use Rattle.std.specs.Prelude.{◌≡◌, ◌<◌, List, [], ◌∷◌};
+ghost use Rattle.capture_measure.specs.Counts.{kind_number, why_number, kind_of, kind_of_refused, why_answered, why_refused, place_of};
+ghost use Rattle.capture_measure.specs.Counts.{count_at, Fate, early_fate, IsCounts};
+ghost use Rattle.capture_measure.specs.Inner.Counting.{why_by, with_one, with_unreported, with_why, with_anew};
+ghost use Rattle.capture_measure.specs.Inner.Hearing.{recorded_of};
+
 use crate::listener::Became;
 use crate::reports::Datagram;
-use event_codec::{Body, DecodeRefusal, Message};
+use event_codec::{Body, DecodeRefusal, Header, Message};
 use ptp_units::ScaledTime;
 use slave_port::{Heard, Reason};
 use std::fmt;
@@ -12,43 +18,70 @@ use std::io::Write;
 /// How many kinds of datagrams there are.
 const KINDS: usize = 10;
 
+/// How many kinds and reasons there are together.
+const PLACES: usize = KINDS * REASONS;
+
 /// A microsecond, in units of 2^-16 ns.
 const MICROSECOND: u128 = 65_536_000;
 
 /// How many reasons there are.
 const REASONS: usize = 14;
 
-/// What a datagram is.
+/// What a datagram is (IEEE 1588-2019, table 36).
 #[derive(Clone, Copy, Debug, PartialEq, Eq)]
-enum Kind {
+pub enum Kind {
+    /// A Sync.
     Sync,
+    /// A Follow_Up.
     FollowUp,
+    /// A Delay_Req.
     DelayReq,
+    /// A Delay_Resp.
     DelayResp,
+    /// A message of the peer delay mechanism.
     Pdelay,
+    /// An Announce message.
     Announce,
+    /// A Signaling message.
     Signaling,
+    /// A Management message.
     Management,
+    /// A message of a reserved type.
     Reserved,
+    /// No message.
     Malformed,
 }
 
 /// Why a datagram gave no report.
 #[derive(Clone, Copy, Debug, PartialEq, Eq)]
-enum Why {
+pub enum Why {
+    /// It waits for the message that it pairs with.
     Held,
+    /// It completed one half of a report, and the other half wasn't there.
     Alone,
+    /// It is a Delay_Req of the slave.
     OfSlave,
+    /// It is a Delay_Req of the slave, with the number of the last one.
     Again,
+    /// Its number says that it came before.
     Before,
+    /// It is of another domain.
     OtherDomain,
+    /// It is of another master.
     OtherMaster,
+    /// It is of another slave, or to another.
     OtherSlave,
+    /// Its correction says 'too big to be represented'.
     TooBig,
+    /// It is no newer than the last Sync that was completed.
     NotNewer,
+    /// It answers a request that wasn't recorded.
     Unrecorded,
+    /// It is of the peer delay mechanism.
     PeerDelay,
+    /// It came before it was known whom to watch.
     TooEarly,
+    /// It has no part in the mechanism.
     NoPart,
 }
 
@@ -85,7 +118,17 @@ const ALL_REASONS: [Why; REASONS] = [
 ];
 
 impl Kind {
-    fn of(body: &Body) -> Kind {
+    /// Its place in the order of the summary.
+    fn number(self) -> usize
+        ensures value { result ≡ kind_number self }
+        ensures within { result < 10 }
+    {
+        usize::from(self as u8)
+    }
+
+    fn of(body: &Body) -> Kind
+        ensures { result ≡ kind_of body.now }
+    {
         match body {
             Body::Sync { .. } => Kind::Sync,
             Body::FollowUp { .. } => Kind::FollowUp,
@@ -95,7 +138,9 @@ impl Kind {
     }
 
     /// What octets are that aren't one of the four messages (IEEE 1588-2019, table 36).
-    fn of_refused(refusal: DecodeRefusal) -> Kind {
+    fn of_refused(refusal: DecodeRefusal) -> Kind
+        ensures { result ≡ kind_of_refused refusal }
+    {
         match refusal {
             DecodeRefusal::OtherType(2 | 3 | 10) => Kind::Pdelay,
             DecodeRefusal::OtherType(11) => Kind::Announce,
@@ -138,8 +183,18 @@ impl Kind {
 }
 
 impl Why {
+    /// Its place in the order of the summary.
+    fn number(self) -> usize
+        ensures value { result ≡ why_number self }
+        ensures within { result < 14 }
+    {
+        usize::from(self as u8)
+    }
+
     /// Why a message that was heard gave no report; None where it gave one.
-    fn of_heard(heard: Heard) -> Option<Why> {
+    fn of_heard(heard: Heard) -> Option<Why>
+        ensures { result ≡ why_answered heard }
+    {
         match heard {
             Heard::Report(_) => None,
             Heard::Held => Some(Why::Held),
@@ -153,6 +208,30 @@ impl Why {
                 Reason::UnknownRequest | Reason::EgressUnknown => Why::Unrecorded,
                 Reason::Decode(_) | Reason::WrongType => Why::NoPart,
             }),
+        }
+    }
+
+    /// Why a message of this header gave no report, of which this became in this domain.
+    fn of_became(became: Became, header: &Header, domain: u8) -> Option<Why>
+        ensures { result ≡ why_by domain header.now became }
+    {
+        match became {
+            Became::Heard(heard) | Became::HeardAnew(heard) => Why::of_heard(heard),
+            Became::HeardBefore => Some(Why::Before),
+            Became::Asked | Became::Anew => Some(Why::OfSlave),
+            Became::Repeated => Some(Why::Again),
+            Became::Foreign if header.domain != domain => Some(Why::OtherDomain),
+            Became::Foreign => Some(Why::OtherSlave),
+        }
+    }
+
+    /// Why a datagram of this kind gave no report that isn't one of the four messages.
+    fn of_refused(kind: Kind) -> Why
+        ensures { result ≡ why_refused kind }
+    {
+        match kind {
+            Kind::Pdelay => Why::PeerDelay,
+            _ => Why::NoPart,
         }
     }
 
@@ -196,87 +275,75 @@ impl Display for Counted {
     }
 }
 
-/// How many reports there were, and how many datagrams gave none, by what they are and by why. Counts stay at 2^64 - 1.
+/// How many reports were written, and how many datagrams gave none, by what they are and by why. Each count stays at 2^64 - 1.
 #[derive(Clone, Copy, Debug)]
-pub(crate) struct Tally {
-    counts: [[u64; REASONS]; KINDS],
-    reports: u64,
+pub struct Counts {
+    /// How many reports were written.
+    pub reports: u64,
     /// How often the slave began anew.
-    anew: u64,
-    /// How often the master did.
-    master_anew: u64,
-    /// Whether all times are of whole microseconds; None where none came.
-    whole: Option<bool>,
+    pub slave_anew: u64,
+    /// How often the master began its numbers anew.
+    pub master_anew: u64,
+    /// How many datagrams of each kind gave no report, for each reason: for a kind those of all reasons in order, and so kind by
+    /// kind.
+    pub unreported: [u64; PLACES],
 }
 
-impl Tally {
+/// Where the count of a kind and a reason stands.
+fn place_of(kind: Kind, why: Why) -> usize
+    ensures value { result ≡ place_of kind why }
+    ensures within { result < 140 }
+{
+    kind.number() * REASONS + why.number()
+}
+
+/// One more, up to 2^64 - 1.
+fn count_one(count: &mut u64)
+    ensures { count.new ≡ with_one count.old }
+{
+    *count = count.saturating_add(1);
+}
+
+impl Counts {
     /// No datagram came.
-    pub(crate) fn new() -> Tally {
-        Tally {
-            counts: [[0; REASONS]; KINDS],
+    fn new() -> Counts
+        ensures { IsCounts [] result }
+    {
+        Counts {
             reports: 0,
-            anew: 0,
+            slave_anew: 0,
             master_anew: 0,
-            whole: None,
+            unreported: [0; PLACES],
         }
     }
 
-    fn count(&mut self, kind: Kind, why: Why) {
-        let count = &mut self.counts[usize::from(kind as u8)][usize::from(why as u8)];
-        *count = count.saturating_add(1);
+    /// How many datagrams of this kind gave no report for this reason.
+    pub fn at(&self, kind: Kind, why: Why) -> u64
+        ensures { result ≡ count_at self.now kind why }
+    {
+        self.unreported[place_of(kind, why)]
     }
 
-    /// Takes the time of a line.
-    pub(crate) fn count_time(&mut self, time: ScaledTime) {
-        self.whole = Some(self.whole.unwrap_or(true) && time.value() % MICROSECOND == 0);
+    /// Counts a datagram of this kind that gave no report for this reason.
+    fn count(&mut self, kind: Kind, why: Why)
+        ensures { self.new ≡ with_unreported kind why self.old }
+    {
+        let place = place_of(kind, why);
+        self.unreported[place] = self.unreported[place].saturating_add(1);
     }
 
-    /// Counts a report that was written.
-    pub(crate) fn count_report(&mut self) {
-        self.reports = self.reports.saturating_add(1);
-    }
-
-    /// Counts a message that is heard by a port of this domain.
-    pub(crate) fn count_heard(&mut self, message: &Message<'_>, domain: u8, became: Became) {
+    /// Counts who began anew by what became of a message.
+    fn count_anew(&mut self, became: Became)
+        ensures { self.new ≡ with_anew became self.old }
+    {
         match became {
-            Became::Anew => self.anew = self.anew.saturating_add(1),
-            Became::HeardAnew(_) => self.master_anew = self.master_anew.saturating_add(1),
+            Became::Anew => count_one(&mut self.slave_anew),
+            Became::HeardAnew(_) => count_one(&mut self.master_anew),
             _ => {}
         }
-        let why = match became {
-            Became::Heard(heard) | Became::HeardAnew(heard) => Why::of_heard(heard),
-            Became::HeardBefore => Some(Why::Before),
-            Became::Asked | Became::Anew => Some(Why::OfSlave),
-            Became::Repeated => Some(Why::Again),
-            Became::Foreign if message.header.domain != domain => Some(Why::OtherDomain),
-            Became::Foreign => Some(Why::OtherSlave),
-        };
-        if let Some(why) = why {
-            self.count(Kind::of(&message.body), why);
-        }
     }
 
-    /// Counts a datagram that isn't heard, or not yet, since it isn't known whom to watch.
-    pub(crate) fn count_early(&mut self, datagram: &Datagram<'_>) {
-        self.count_time(datagram.time);
-        match &datagram.said {
-            Ok(message) => self.count(Kind::of(&message.body), Why::TooEarly),
-            Err(refusal) => self.count_refused(*refusal),
-        }
-    }
-
-    /// Counts what isn't one of the four messages.
-    pub(crate) fn count_refused(&mut self, refusal: DecodeRefusal) {
-        let kind = Kind::of_refused(refusal);
-        let why = if kind == Kind::Pdelay {
-            Why::PeerDelay
-        } else {
-            Why::NoPart
-        };
-        self.count(kind, why);
-    }
-
-    /// Tells it, in lines. What can't be written is lost.
+    /// Tells them, in lines. What can't be written is lost.
     pub(crate) fn tell<E: Write>(&self, errors: &mut E) {
         let _ = match self.reports {
             0 => writeln!(errors, "ptpx: no report"),
@@ -288,7 +355,7 @@ impl Tally {
                 self.tell_count(kind, why, errors);
             }
         }
-        let _ = match self.anew {
+        let _ = match self.slave_anew {
             0 => Ok(()),
             1 => writeln!(errors, "ptpx: the slave began anew once"),
             count => writeln!(errors, "ptpx: the slave began anew {count} times"),
@@ -301,16 +368,92 @@ impl Tally {
                 "ptpx: the master began its numbers anew {count} times"
             ),
         };
-        if self.whole == Some(true) {
-            let _ = writeln!(errors, "ptpx: all times are of whole microseconds");
-        }
     }
 
     /// Tells how many of this kind gave no report for this reason, if any.
     fn tell_count<E: Write>(&self, kind: Kind, why: Why, errors: &mut E) {
-        let count = self.counts[usize::from(kind as u8)][usize::from(why as u8)];
+        let count = self.at(kind, why);
         if count > 0 {
             let _ = writeln!(errors, "ptpx: {}", Counted { count, kind, why });
+        }
+    }
+}
+
+/// What is counted of datagrams, and of their times.
+#[derive(Clone, Copy, Debug)]
+pub(crate) struct Tally {
+    pub(crate) counts: Counts,
+    /// Whether all times are of whole microseconds; None where none came.
+    whole: Option<bool>,
+}
+
+impl Tally {
+    /// No datagram came.
+    pub(crate) fn new() -> Tally
+        ensures { IsCounts [] result.counts }
+    {
+        Tally {
+            counts: Counts::new(),
+            whole: None,
+        }
+    }
+
+    /// Takes the time of a line.
+    pub(crate) fn count_time(&mut self, time: ScaledTime)
+        ensures { self.new.counts ≡ self.old.counts }
+    {
+        self.whole = Some(self.whole.unwrap_or(true) && time.value() % MICROSECOND == 0);
+    }
+
+    /// Counts a report that was written.
+    pub(crate) fn count_report(&mut self)
+        ensures { self.new.counts ≡ record self.old.counts { reports = with_one self.old.counts.reports } }
+    {
+        count_one(&mut self.counts.reports);
+    }
+
+    /// Counts a message that is heard by a port of this domain.
+    pub(crate) fn count_heard(&mut self, message: &Message<'_>, domain: u8, became: Became)
+        ensures { self.new.counts ≡ with_why (kind_of message.now.body) (why_by domain message.now.header became)
+            (with_anew became self.old.counts) }
+    {
+        self.counts.count_anew(became);
+        if let Some(why) = Why::of_became(became, &message.header, domain) {
+            self.counts.count(Kind::of(&message.body), why);
+        }
+    }
+
+    /// Counts a datagram that isn't heard, or not yet, since it isn't known whom to watch.
+    pub(crate) fn count_early(&mut self, datagram: &Datagram<'_>)
+        ensures { (fates : List Fate) → IsCounts fates self.old.counts
+            → IsCounts (early_fate (recorded_of datagram.now) ∷ fates) self.new.counts }
+    {
+        self.count_time(datagram.time);
+        match &datagram.said {
+            Ok(message) => self.counts.count(Kind::of(&message.body), Why::TooEarly),
+            Err(refusal) => self.count_refused(*refusal),
+        }
+    }
+
+    /// Counts what isn't one of the four messages.
+    pub(crate) fn count_refused(&mut self, refusal: DecodeRefusal)
+        ensures { self.new.counts ≡ with_unreported (kind_of_refused refusal) (why_refused (kind_of_refused refusal))
+            self.old.counts }
+    {
+        let kind = Kind::of_refused(refusal);
+        self.counts.count(kind, Why::of_refused(kind));
+    }
+
+    /// Tells it, in lines. What can't be written is lost.
+    pub(crate) fn tell<E: Write>(&self, errors: &mut E) {
+        self.counts.tell(errors);
+        self.tell_times(errors);
+    }
+
+    /// Tells what all times are, where that is worth telling. What can't be written is lost.
+    pub(crate) fn tell_times<E: Write>(&self, errors: &mut E) {
+        if self.whole == Some(true) {
+            let _ = writeln!(errors, "ptpx: all times are of whole microseconds");
         }
     }
 }

@@ -1,4 +1,4 @@
--- What the end of lines and of a capture answers: how many there were, and what is told of whom they are of.
+-- What the end of lines and of a capture answers: how many there were, what is told of whom they are of, and what was counted.
 use Rattle.std.specs.Prelude.{◌≡◌, ◌-◌, ◌^◌, List, [], Option, None, option_map, slice_get}
 use Rattle.text_lines.specs.declared.line_fault.LineFault.{LineFault}
 use Rattle.text_lines.specs.Fault.{is_write}
@@ -14,15 +14,17 @@ use Rattle.capture_measure.specs.Row.{datagrams}
 use Rattle.capture_measure.specs.Measure.{Recording, measure_rules}
 use Rattle.capture_measure.specs.Capture.{Capture, capture_rules}
 use Rattle.capture_measure.specs.Summary.{whom_in, capture_whom}
+use Rattle.capture_measure.specs.Counts.{fates_in, IsCounts}
 use Rattle.capture_measure.specs.Inner.Watching.{whom_of}
 
--- the rules of lines, by which the end tells whom they are of
+-- the rules of lines, by which the end tells whom they are of, and what was counted of them
 abbrev pub ended_rules : Rules Recording Ended LineFault
 ended_rules = record {
   lines_limit = 2 ^ 64 - 2;
   Takes = measure_rules.Takes;
   Stops = measure_rules.Stops;
-  Ends = λ lines r answer out. (answer.lines ≡ lines) × (answer.whom ≡ whom_in r.wanted (datagrams r.rows)) × (out ≡ []);
+  Ends = λ lines r answer out. (answer.lines ≡ lines) × (answer.whom ≡ whom_in r.wanted (datagrams r.rows))
+      × IsCounts (fates_in r.wanted r.rows) answer.counts × (out ≡ []);
   StopsAtEnd = λ r fault out. ⊥;
   is_of_writer = is_write;
 }

@@ -1,8 +1,11 @@
 -- What a listener keeps, and what it makes of a message.
-use Rattle.std.specs.Prelude.{◌≡◌, ◌<◌, ℕ, ◌||◌, not, nat_lt, ◌==◌, [], ◌∷◌, if◌then◌else◌, Option, Some, None}
+use Rattle.std.specs.Prelude.{◌≡◌, ◌<◌, ℕ, Bool, true, false, ◌||◌, not, nat_lt, ◌==◌, [], ◌∷◌, if◌then◌else◌}
+use Rattle.std.specs.Prelude.{Option, Some, None, Ok}
 use Rattle.std.specs.Prelude.{option_map, option_and_then}
 use Rattle.ptp_units.specs.Sequence.{ahead}
 use Rattle.event_codec.specs.declared.message.Header.{Header}
+use Rattle.event_codec.specs.declared.message.Body.{Body}
+use Rattle.event_codec.specs.declared.message.Body.TheVariants as bodies
 use Rattle.event_codec.specs.Packet.{Contents}
 use Rattle.sync_watch.specs.declared.judgement.Judgement.{Judgement}
 use Rattle.sync_watch.specs.Told.{Arrival}
@@ -10,15 +13,16 @@ use Rattle.sync_watch.specs.Judged.{after_sync, after_follow_up, after_refused, 
 use Rattle.sync_watch.specs.StandsFor as watches
 use Rattle.slave_port.specs.declared.heard.Heard.{Heard}
 use Rattle.slave_port.specs.declared.heard.Report.{Report}
-use Rattle.slave_port.specs.History.{Call, SetMaster, next_number}
+use Rattle.slave_port.specs.History.{Call, SetMaster, Event, General, next_number}
 use Rattle.slave_port.specs.StandsFor.{StandsFor}
 use Rattle.capture_model.specs.declared.watched.Watched.{Watched}
 use Rattle.capture_model.specs.Listening.{Listening, setup_in, table_capacity, ticks_every, is_of, answer_in, answered}
-use Rattle.capture_model.specs.Listening.{report_in}
+use Rattle.capture_model.specs.Listening.{report_in, ready_sync, ready_follow_up, ready_response}
 use Rattle.capture_measure.specs.declared.listener.Became.{Became}
 use Rattle.capture_measure.specs.declared.listener.Became.TheVariants as fates
-use Rattle.capture_measure.specs.declared.listener.Became.TheVariants.{Asked, Repeated, Anew, Foreign}
+use Rattle.capture_measure.specs.declared.listener.Became.TheVariants.{HeardBefore, Asked, Repeated, Anew, Foreign}
 use Rattle.capture_measure.specs.declared.listener.Listener.{Listener}
+use Rattle.capture_measure.specs.Counts.{sync_begins}
 
 -- the listener's port stands for these calls, and its counts are those of the definition
 pub record IsListener (w : Watched) (listener : Listener) (l : Listening) : Type 0 where
@@ -83,11 +87,25 @@ heard_by _ = None
 abbrev pub report_by : Became → Option Report
 report_by became = option_and_then report_in (heard_by became)
 
--- whatever a listener stands for, this is the answer to a call, of the port that is to hear it
-abbrev pub Answers : Call → (Watched → Listening → Option Listening) → Listener → Became → Type 0
-Answers call ready listener result =
-    (w : Watched) (l : Listening) → IsListener w listener l
-    → heard_by result ≡ option_map (λ l. answer_in w l call) (ready w l)
+-- what becomes of a message that was heard so, unless it came before, and by which the master began anew or didn't
+abbrev pub became_by : (begins : Bool) → Option Heard → Became
+became_by begins None = HeardBefore
+became_by true (Some heard) = fates.HeardAnew heard
+became_by false (Some heard) = fates.Heard heard
+
+-- what becomes of a call, of the port that is to hear it
+abbrev pub became_called : (begins : Bool) → Call → Watched → Option Listening → Became
+became_called begins call w ready = became_by begins (option_map (λ l. answer_in w l call) ready)
+
+-- what becomes of a message
+abbrev pub became_of : Watched → (line time : ℕ) → Contents → Body → Listening → Became
+became_of w line time m (bodies.Sync origin) l =
+    became_called (sync_begins w line time m l) (Event (Ok m) time line) w (ready_sync w line time m l)
+became_of w line time m (bodies.DelayReq origin) l = became_request m.header w l
+became_of w line time m (bodies.FollowUp precise) l =
+    became_called false (General (Ok m) line) w (ready_follow_up w time m l)
+became_of w line time m (bodies.DelayResp receive requesting) l =
+    became_called false (General (Ok m) line) w (ready_response w time m requesting l)
 
 -- whatever a listener stands for, this is answered to a message
 abbrev pub IsAnswered : (line time : ℕ) → Contents → Listener → Became → Type 0

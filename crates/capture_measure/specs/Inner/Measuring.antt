@@ -23,6 +23,7 @@ use Rattle.capture_measure.specs.Measure.{Recording}
 use Rattle.capture_measure.specs.Inner.Hearing.{recorded_of}
 use Rattle.capture_measure.specs.Inner.Listener.{IsListener}
 use Rattle.capture_measure.specs.Summary.{whom_in}
+use Rattle.capture_measure.specs.Counts.{fates_in, IsCounts}
 use Rattle.capture_measure.specs.Inner.Watching.{whom_of, IsWatch}
 
 -- a line has these parts, and the octets of its datagram stand at the front of this room
@@ -110,3 +111,4 @@ pub record IsMeasuring (task : Measuring) (r : Recording) : Type 0 where
   pub watch : watched_in r.wanted (datagrams r.rows) ≡ None → IsWatch r.wanted (datagrams r.rows) task.watch
   pub whom : whom_of task.watch ≡ whom_in r.wanted (datagrams r.rows)
   pub stage : IsStage r.wanted r.rows task.stage
+  pub counts : IsCounts (fates_in r.wanted r.rows) task.reports.tally.counts

@@ -9,7 +9,9 @@ use Rattle.capture_measure.specs.declared.input.Outcome.TheVariants.{Lines, Capt
 use Rattle.capture_measure.specs.Measure.{Recording, measure_rules}
 use Rattle.capture_measure.specs.Capture as capture
 use Rattle.capture_measure.specs.Capture.{capture_rules}
+use Rattle.capture_measure.specs.declared.tally.Counts.{Counts}
 use Rattle.capture_measure.specs.declared.watch.Whom.{Whom}
+use Rattle.capture_measure.specs.Counts.{fates_in, AreCounted}
 use Rattle.capture_measure.specs.Row.{datagrams}
 use Rattle.capture_measure.specs.Summary.{whom_in, capture_whom}
 
@@ -29,6 +31,19 @@ LinesTell r octets (Lines (Ok count)) whom =
     × (whom ≡ Some (whom_in read.wanted (datagrams read.rows)))
 LinesTell r octets (Lines (Err stop)) whom = ⊤
 LinesTell r octets (Capture answer) whom = ⊥
+
+-- and this is counted of lines
+abbrev pub LinesCount : Recording → List ℕ → Outcome → Option Counts → Type 0
+LinesCount r octets (Lines (Ok count)) counts =
+    (read : Recording) × (text : List ℕ) × lines.TakesLines measure_rules 1 (lines_of octets) r read text
+    × AreCounted (fates_in read.wanted read.rows) counts
+LinesCount r octets (Lines (Err stop)) counts = ⊤
+LinesCount r octets (Capture answer) counts = ⊥
+
+-- it was a capture
+abbrev pub IsOfCapture : Outcome → Type 0
+IsOfCapture (Lines answer) = ⊥
+IsOfCapture (Capture answer) = ⊤
 
 abbrev pub PacketsTell : capture.Capture → List ℕ → Outcome → Option Whom → Type 0
 PacketsTell c octets (Lines answer) whom = ⊥

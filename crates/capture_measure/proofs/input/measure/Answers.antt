@@ -2,7 +2,7 @@ use Rattle.std.proofs.Common.{inr, refl}
 use Rattle.capture_file.specs.Beginning.{first_octets}
 use Rattle.capture_measure.specs.Capture.{capture_begun}
 use Rattle.capture_measure.specs.Measure.{begun}
-use Rattle.capture_measure.proofs.Inputs.{captured, lined, short, failed_ahead, lined_whom, captured_whom}
+use Rattle.capture_measure.proofs.Inputs.{captured, lined, short, failed_ahead, lined_whom, captured_whom, lined_counts, captured_counts}
 use Rattle.capture_measure.proofs.input.measure.Goals as goal
 
 pub returns-in_default-read-clause-measured : goal.returns-in_default-read-clause-measured
@@ -45,3 +45,14 @@ returns-clause-whom g c =
     let told = c.measure_lines.ensures.whom (begun c.args.form c.args.wanted.now) c.new-lines.ensures in
     lined_whom c.args.form c.args.wanted.now _ _ (first_octets c.in-Ok.beginning) c.measure_lines.result.0 c.measure_lines.result.1.whom
     read first (rw c.octets-start.ensures.octets at told)
+
+pub returns-then-is_capture-clause-counts : goal.returns-then-is_capture-clause-counts
+returns-then-is_capture-clause-counts g c = λ octets known.
+    captured_counts c.args.form c.args.wanted.now octets c.measure_packets.result.0 _ c.measure_packets.ensures.captured
+
+pub returns-clause-counts : goal.returns-clause-counts
+returns-clause-counts g c =
+    let (read, first) = c.in-Ok.ensures.read in
+    let told = c.measure_lines.ensures.counts (begun c.args.form c.args.wanted.now) c.new-lines.ensures in
+    lined_counts c.args.form c.args.wanted.now _ _ (first_octets c.in-Ok.beginning) c.measure_lines.result.0
+    c.measure_lines.result.1.counts read first (rw c.octets-start.ensures.octets at told)

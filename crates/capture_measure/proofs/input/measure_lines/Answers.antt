@@ -1,4 +1,4 @@
-use Rattle.capture_measure.proofs.Ended.{lines_ended, lines_stopped, lines_tell}
+use Rattle.capture_measure.proofs.Ended.{lines_ended, lines_stopped, lines_tell, lines_count}
 use Rattle.capture_measure.proofs.input.measure_lines.Goals as goal
 
 pub returns-in-Ok-clause-answered : goal.returns-in-Ok-clause-answered
@@ -8,6 +8,10 @@ returns-in-Ok-clause-answered g c = λ r at octets known.
 pub returns-in-Ok-clause-whom : goal.returns-in-Ok-clause-whom
 returns-in-Ok-clause-whom g c = λ r at octets known.
     lines_tell r _ _ _ _ c.in-Ok.ended (c.in-Ok.ensures.answered r at octets known)
+
+pub returns-in-Ok-clause-counts : goal.returns-in-Ok-clause-counts
+returns-in-Ok-clause-counts g c = λ r at octets known.
+    lines_count r _ _ _ _ c.in-Ok.ended (c.in-Ok.ensures.answered r at octets known)
 
 pub returns-in-Err-clause-answered : goal.returns-in-Err-clause-answered
 returns-in-Err-clause-answered g c = λ r at octets known.

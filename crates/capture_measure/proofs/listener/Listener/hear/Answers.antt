@@ -1,8 +1,10 @@
-use Rattle.std.proofs.Common.{sym, ap, subst}
+use Rattle.std.proofs.Common.{◌∙◌, sym, ap, subst}
 use Rattle.event_codec.specs.declared.message.Body.{Body}
+use Rattle.event_codec.specs.declared.message.Body.TheVariants.{Sync, DelayResp}
 use Rattle.event_codec.specs.Packet.{Contents, contents}
-use Rattle.capture_model.specs.Listening.{hears}
-use Rattle.capture_measure.specs.Inner.Listener.{IsListener}
+use Rattle.capture_model.specs.Listening.{answered, hears}
+use Rattle.capture_measure.specs.Inner.Listener.{IsListener, heard_by}
+use Rattle.capture_measure.proofs.Became.{heard-became}
 use Rattle.capture_measure.proofs.listener.Listener.hear.Goals as goal
 
 pub returns-in-DelayReq-clause-listens : goal.returns-in-DelayReq-clause-listens
@@ -25,3 +27,17 @@ returns-in-DelayResp-clause-listens c = λ w l is.
     subst (IsListener w c.hear_response.new.self)
     (sym (ap (λ (b : Body). hears w c.args.line c.args.time m b l) c.in-DelayResp.is))
     (c.hear_response.ensures.listens w l is)
+
+pub returns-in-Sync-clause-answered : goal.returns-in-Sync-clause-answered
+returns-in-Sync-clause-answered c = λ w l is.
+    let m : Contents = contents c.args.message.now in
+    ap heard_by (c.hear_sync.ensures.became w l is)
+    ∙ heard-became w c.args.line c.args.time m (Sync c.in-Sync.origin) l
+    ∙ sym (ap (λ (b : Body). answered w c.args.line c.args.time m b l) c.in-Sync.is)
+
+pub returns-in-DelayResp-clause-answered : goal.returns-in-DelayResp-clause-answered
+returns-in-DelayResp-clause-answered c = λ w l is.
+    let m : Contents = contents c.args.message.now in
+    ap heard_by (c.hear_response.ensures.became w l is)
+    ∙ heard-became w c.args.line c.args.time m (DelayResp c.in-DelayResp.receive c.in-DelayResp.requesting) l
+    ∙ sym (ap (λ (b : Body). answered w c.args.line c.args.time m b l) c.in-DelayResp.is)

@@ -1,12 +1,12 @@
-use Rattle.std.proofs.Common.{◌≡◌, ◌∙◌, ◌∷◌, true, false, Option, Some, Ok, refl, sym, ap, subst, option_map}
+use Rattle.std.proofs.Common.{◌≡◌, ◌∙◌, ◌∷◌, true, false, Option, Some, Ok, refl, sym, ap, subst}
 use Rattle.event_codec.specs.Packet.{Contents, contents}
 use Rattle.sync_watch.specs.Told.{Arrival, FollowUp}
 use Rattle.sync_watch.specs.Judged.{is_repeated}
 use Rattle.slave_port.specs.History.{Call, General}
 use Rattle.capture_model.specs.declared.watched.Watched.{Watched}
 use Rattle.capture_model.specs.Listening.{Listening, setup_in, table_capacity, is_of, arrival_of}
-use Rattle.capture_model.specs.Listening.{answer_in, hears_ready}
-use Rattle.capture_measure.specs.Inner.Listener.{IsListener}
+use Rattle.capture_model.specs.Listening.{hears_ready}
+use Rattle.capture_measure.specs.Inner.Listener.{IsListener, became_by, became_called}
 use Rattle.capture_measure.proofs.Listeners.{IsListener-told}
 use Rattle.capture_measure.proofs.Judged.{follow_up-other, follow_up-judged, says-newer, says-repeated}
 use Rattle.capture_measure.proofs.listener.Listener.hear_follow_up.Goals as goal
@@ -23,14 +23,14 @@ returns-then-not-is_of-clause-listens c = λ w l is.
     IsListener w (record c.args.self.now { port = c.general_message.new.self }) (hears_ready false call r l))
     (sym (follow_up-other w c.args.line c.args.time m l other)) heard
 
-pub returns-then-not-is_of-clause-answered : goal.returns-then-not-is_of-clause-answered
-returns-then-not-is_of-clause-answered c = λ w l is.
+pub returns-then-not-is_of-clause-became : goal.returns-then-not-is_of-clause-became
+returns-then-not-is_of-clause-became c = λ w l is.
     let m : Contents = contents c.args.message.now in
     let call : Call = General (Ok m) c.args.line in
     let other : is_of w w.master m.header ≡ false =
     subst (λ (v : Watched). is_of v v.master m.header ≡ false) is.watched (sym c.is_of.ensures ∙ c.if-not-is_of.true) in
-    ap Some (c.general_message.ensures.answer (setup_in w l) l.calls is.port)
-    ∙ ap (option_map (λ l. answer_in w l call)) (sym (follow_up-other w c.args.line c.args.time m l other))
+    ap (λ h. became_by false (Some h)) (c.general_message.ensures.answer (setup_in w l) l.calls is.port)
+    ∙ ap (became_called false call w) (sym (follow_up-other w c.args.line c.args.time m l other))
 
 pub returns-in-Newer-clause-listens : goal.returns-in-Newer-clause-listens
 returns-in-Newer-clause-listens c = λ w l is.
@@ -50,8 +50,8 @@ returns-in-Newer-clause-listens c = λ w l is.
     IsListener w (record c.judge_follow_up.new.self { port = c.general_message-in-Newer.new.self }) (hears_ready false call r l))
     (sym one.ready_is) heard
 
-pub returns-in-Newer-clause-answered : goal.returns-in-Newer-clause-answered
-returns-in-Newer-clause-answered c = λ w l is.
+pub returns-in-Newer-clause-became : goal.returns-in-Newer-clause-became
+returns-in-Newer-clause-became c = λ w l is.
     let m : Contents = contents c.args.message.now in
     let call : Call = General (Ok m) c.args.line in
     let of : is_of w w.master m.header ≡ true =
@@ -62,8 +62,8 @@ returns-in-Newer-clause-answered c = λ w l is.
     let one = follow_up-judged w c.args.line c.args.time m l false of again in
     let k : Listening = record l { heard = FollowUp a ∷ l.heard } in
     let now = subst (IsListener w c.judge_follow_up.new.self) one.known_is (c.judge_follow_up.ensures.listens w l is) in
-    ap Some (c.general_message-in-Newer.ensures.answer (setup_in w k) k.calls now.port)
-    ∙ ap (option_map (λ l. answer_in w l call)) (sym one.ready_is)
+    ap (λ h. became_by false (Some h)) (c.general_message-in-Newer.ensures.answer (setup_in w k) k.calls now.port)
+    ∙ ap (became_called false call w) (sym one.ready_is)
 
 pub returns-in-Repeated : goal.returns-in-Repeated
 returns-in-Repeated c = record {
@@ -79,7 +79,7 @@ returns-in-Repeated c = record {
       subst (λ (r : Option Listening). IsListener w c.judge_follow_up.new.self (hears_ready false call r l))
       (sym one.ready_is)
       (subst (IsListener w c.judge_follow_up.new.self) one.known_is (c.judge_follow_up.ensures.listens w l is));
-  answered = λ w l is.
+  became = λ w l is.
       let m : Contents = contents c.args.message.now in
       let call : Call = General (Ok m) c.args.line in
       let of : is_of w w.master m.header ≡ true =
@@ -88,5 +88,5 @@ returns-in-Repeated c = record {
       let a : Arrival = arrival_of m.header c.args.time in
       let again = says-repeated (is_repeated a table_capacity l.heard) c.judge_follow_up.result says c.in-Repeated.is in
       let one = follow_up-judged w c.args.line c.args.time m l true of again in
-      ap (option_map (λ l. answer_in w l call)) (sym one.ready_is);
+      ap (became_called false call w) (sym one.ready_is);
 }

@@ -5,9 +5,10 @@ use Rattle.sync_watch.specs.Judged.{judged_refused}
 use Rattle.slave_port.specs.History.{Call, Event}
 use Rattle.capture_model.specs.Listening.{Listening, setup_in, table_capacity, is_stale, arrival_of, told}
 use Rattle.capture_model.specs.Listening.{with_count, answer_in}
-use Rattle.capture_measure.specs.Inner.Listener.{IsListener}
+use Rattle.capture_measure.specs.Inner.Listener.{IsListener, became_by}
 use Rattle.capture_measure.proofs.Listeners.{IsListener-told}
 use Rattle.capture_measure.proofs.Judged.{newer-other, refused-told, refused-answer, refused-anew, IsNoBeginning}
+use Rattle.capture_measure.proofs.Judged.{newer-begins-not, refused-begins, refused-begins-not}
 use Rattle.capture_measure.proofs.listener.Listener.hear_newer.Goals as goal
 
 pub returns-then-not-is_stale-clause-listens : goal.returns-then-not-is_stale-clause-listens
@@ -23,8 +24,8 @@ returns-then-not-is_stale-clause-listens c = λ w l is.
     subst (λ (k : Listening). IsListener w c.count_sync.new.self (with_count (told call k)))
     (sym (newer-other w c.args.line call a l other)) (c.count_sync.ensures w (told call l) heard)
 
-pub returns-then-not-is_stale-clause-answered : goal.returns-then-not-is_stale-clause-answered
-returns-then-not-is_stale-clause-answered c = λ w l is.
+pub returns-then-not-is_stale-clause-became : goal.returns-then-not-is_stale-clause-became
+returns-then-not-is_stale-clause-became c = λ w l is.
     let m : Contents = contents c.args.message.now in
     let call : Call = Event (Ok m) c.args.time c.args.line in
     let a : Arrival = arrival_of m.header c.args.time in
@@ -33,7 +34,9 @@ returns-then-not-is_stale-clause-answered c = λ w l is.
     let answer = c.sync_message-heard.ensures.answer (setup_in w l) l.calls is.port in
     let other : is_stale (answer_in w l call) ≡ false =
     sym (ap is_stale answer) ∙ sym c.is_stale.ensures ∙ c.if-not-is_stale.true in
-    ap Some (answer ∙ ap (λ (k : Listening). answer_in w k call) (sym (newer-other w c.args.line call a l other)))
+    let same = answer ∙ ap (λ (k : Listening). answer_in w k call) (sym (newer-other w c.args.line call a l other)) in
+    let begins = newer-begins-not w c.args.line call a l other in
+    λ i. became_by (sym begins i) (Some (same i))
 
 pub returns-in-BeganAnew-clause-listens : goal.returns-in-BeganAnew-clause-listens
 returns-in-BeganAnew-clause-listens c = λ w l is.
@@ -50,8 +53,8 @@ returns-in-BeganAnew-clause-listens c = λ w l is.
     subst (λ (k : Listening). IsListener w c.hear_counted.new.self (with_count (told call k)))
     (refused-anew w c.args.line call a l stale anew) (c.hear_counted.ensures.listens w _ again)
 
-pub returns-in-BeganAnew-clause-answered : goal.returns-in-BeganAnew-clause-answered
-returns-in-BeganAnew-clause-answered c = λ w l is.
+pub returns-in-BeganAnew-clause-became : goal.returns-in-BeganAnew-clause-became
+returns-in-BeganAnew-clause-became c = λ w l is.
     let m : Contents = contents c.args.message.now in
     let call : Call = Event (Ok m) c.args.time c.args.line in
     let a : Arrival = arrival_of m.header c.args.time in
@@ -62,8 +65,10 @@ returns-in-BeganAnew-clause-answered c = λ w l is.
     sym (ap is_stale answer) ∙ sym c.is_stale.ensures ∙ c.if-not-is_stale.false in
     let anew = sym (c.judge_refused.ensures.judgement w (told call l) heard) ∙ c.in-BeganAnew.is in
     let again = c.tell_master.ensures c.args.line w _ (c.judge_refused.ensures.listens w (told call l) heard) in
-    ap Some (c.hear_counted.ensures.answer w _ again
-    ∙ ap (λ (k : Listening). answer_in w k call) (refused-anew w c.args.line call a l stale anew))
+    let same = c.hear_counted.ensures.answer w _ again
+    ∙ ap (λ (k : Listening). answer_in w k call) (refused-anew w c.args.line call a l stale anew) in
+    let begins = refused-begins w c.args.line call a l stale anew in
+    λ i. became_by (sym begins i) (Some (same i))
 
 pub returns-in-Newer : goal.returns-in-Newer
 returns-in-Newer c = record {
@@ -81,7 +86,7 @@ returns-in-Newer c = record {
       subst (λ (k : Listening). IsListener w c.count_sync-in-Newer.new.self (with_count k))
       (refused-told w c.args.line call a l stale started)
       (c.count_sync-in-Newer.ensures w _ (c.judge_refused.ensures.listens w (told call l) heard));
-  answered = λ w l is.
+  became = λ w l is.
       let m : Contents = contents c.args.message.now in
       let call : Call = Event (Ok m) c.args.time c.args.line in
       let a : Arrival = arrival_of m.header c.args.time in
@@ -92,5 +97,7 @@ returns-in-Newer c = record {
       sym (ap is_stale answer) ∙ sym c.is_stale.ensures ∙ c.if-not-is_stale.false in
       let judged = c.judge_refused.ensures.judgement w (told call l) heard in
       let started : IsNoBeginning (judged_refused a table_capacity l.heard) = subst IsNoBeginning judged c.in-Newer.is in
-      ap Some (answer ∙ refused-answer w c.args.line call a l stale started);
+      let same = answer ∙ refused-answer w c.args.line call a l stale started in
+      let begins = refused-begins-not w c.args.line call a l stale started in
+      λ i. became_by (sym begins i) (Some (same i));
 }

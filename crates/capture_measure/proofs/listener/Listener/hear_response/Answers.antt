@@ -1,4 +1,4 @@
-use Rattle.std.proofs.Common.{◌≡◌, ◌∙◌, ◌∷◌, true, false, Option, Some, Ok, refl, sym, ap, subst, option_map}
+use Rattle.std.proofs.Common.{◌≡◌, ◌∙◌, ◌∷◌, true, false, Option, Some, Ok, refl, sym, ap, subst}
 use Rattle.event_codec.specs.Packet.{Contents, contents}
 use Rattle.pairing.specs.Marked.{entry}
 use Rattle.sync_watch.specs.Told.{known}
@@ -7,8 +7,8 @@ use Rattle.std.specs.Prelude.{◌&&◌, is_some}
 use Rattle.slave_port.specs.History.{Call, General}
 use Rattle.capture_model.specs.declared.watched.Watched.{Watched}
 use Rattle.capture_model.specs.Listening.{Listening, setup_in, table_capacity, is_of}
-use Rattle.capture_model.specs.Listening.{answer_in, hears_ready}
-use Rattle.capture_measure.specs.Inner.Listener.{IsListener}
+use Rattle.capture_model.specs.Listening.{hears_ready}
+use Rattle.capture_measure.specs.Inner.Listener.{IsListener, became_by, became_called}
 use Rattle.capture_measure.proofs.Listeners.{IsListener-told}
 use Rattle.capture_measure.proofs.Judged.{response-other, response-judged, says-newer, says-repeated}
 use Rattle.capture_measure.proofs.listener.Listener.hear_response.Goals as goal
@@ -26,15 +26,15 @@ returns-then-not-is_answer-clause-listens c = λ w l is.
     IsListener w (record c.args.self.now { port = c.general_message.new.self }) (hears_ready false call r l))
     (sym (response-other w c.args.line c.args.time m l c.args.requesting other)) heard
 
-pub returns-then-not-is_answer-clause-answered : goal.returns-then-not-is_answer-clause-answered
-returns-then-not-is_answer-clause-answered c = λ w l is.
+pub returns-then-not-is_answer-clause-became : goal.returns-then-not-is_answer-clause-became
+returns-then-not-is_answer-clause-became c = λ w l is.
     let m : Contents = contents c.args.message.now in
     let call : Call = General (Ok m) c.args.line in
     let other : (is_of w w.master m.header && is_same_port c.args.requesting w.slave) ≡ false =
     subst (λ (v : Watched). (is_of v v.master m.header && is_same_port c.args.requesting v.slave) ≡ false) is.watched
     (sym c.is_answer.ensures ∙ c.if-not-is_answer.true) in
-    ap Some (c.general_message.ensures.answer (setup_in w l) l.calls is.port)
-    ∙ ap (option_map (λ l. answer_in w l call)) (sym (response-other w c.args.line c.args.time m l c.args.requesting other))
+    ap (λ h. became_by false (Some h)) (c.general_message.ensures.answer (setup_in w l) l.calls is.port)
+    ∙ ap (became_called false call w) (sym (response-other w c.args.line c.args.time m l c.args.requesting other))
 
 pub returns-in-Newer-clause-listens : goal.returns-in-Newer-clause-listens
 returns-in-Newer-clause-listens c = λ w l is.
@@ -54,8 +54,8 @@ returns-in-Newer-clause-listens c = λ w l is.
     IsListener w (record c.judge_response.new.self { port = c.general_message-in-Newer.new.self }) (hears_ready false call r l))
     (sym one.0) heard
 
-pub returns-in-Newer-clause-answered : goal.returns-in-Newer-clause-answered
-returns-in-Newer-clause-answered c = λ w l is.
+pub returns-in-Newer-clause-became : goal.returns-in-Newer-clause-became
+returns-in-Newer-clause-became c = λ w l is.
     let m : Contents = contents c.args.message.now in
     let call : Call = General (Ok m) c.args.line in
     let of : (is_of w w.master m.header && is_same_port c.args.requesting w.slave) ≡ true =
@@ -66,8 +66,8 @@ returns-in-Newer-clause-answered c = λ w l is.
     let one = response-judged w c.args.line c.args.time m l c.args.requesting false of again in
     let k : Listening = record l { responses = entry m.header.sequence.0 c.args.time ∷ l.responses } in
     let now = subst (IsListener w c.judge_response.new.self) one.1 (c.judge_response.ensures.listens w l is) in
-    ap Some (c.general_message-in-Newer.ensures.answer (setup_in w k) k.calls now.port)
-    ∙ ap (option_map (λ l. answer_in w l call)) (sym one.0)
+    ap (λ h. became_by false (Some h)) (c.general_message-in-Newer.ensures.answer (setup_in w k) k.calls now.port)
+    ∙ ap (became_called false call w) (sym one.0)
 
 pub returns-in-Repeated : goal.returns-in-Repeated
 returns-in-Repeated c = record {
@@ -83,7 +83,7 @@ returns-in-Repeated c = record {
       subst (λ (r : Option Listening). IsListener w c.judge_response.new.self (hears_ready false call r l))
       (sym one.0)
       (subst (IsListener w c.judge_response.new.self) one.1 (c.judge_response.ensures.listens w l is));
-  answered = λ w l is.
+  became = λ w l is.
       let m : Contents = contents c.args.message.now in
       let call : Call = General (Ok m) c.args.line in
       let of : (is_of w w.master m.header && is_same_port c.args.requesting w.slave) ≡ true =
@@ -92,5 +92,5 @@ returns-in-Repeated c = record {
       let says = c.judge_response.ensures.judgement w l is in
       let again = says-repeated (is_some (known table_capacity m.header.sequence.0 l.responses)) c.judge_response.result says c.in-Repeated.is in
       let one = response-judged w c.args.line c.args.time m l c.args.requesting true of again in
-      ap (option_map (λ l. answer_in w l call)) (sym one.0);
+      ap (became_called false call w) (sym one.0);
 }

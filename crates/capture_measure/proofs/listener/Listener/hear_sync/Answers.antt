@@ -4,9 +4,9 @@ use Rattle.sync_watch.specs.declared.judgement.Judgement.TheVariants.{Newer, Rep
 use Rattle.slave_port.specs.History.{Call, Event}
 use Rattle.capture_model.specs.declared.watched.Watched.{Watched}
 use Rattle.capture_model.specs.Listening.{setup_in, is_of}
-use Rattle.capture_measure.specs.Inner.Listener.{IsListener}
+use Rattle.capture_measure.specs.Inner.Listener.{IsListener, became_by}
 use Rattle.capture_measure.proofs.Listeners.{IsListener-told}
-use Rattle.capture_measure.proofs.Judged.{sync-other, sync-other-answer, sync-judged, sync-judged-answer, with_sync-judged, sync-anew}
+use Rattle.capture_measure.proofs.Judged.{sync-begins, sync-begins-not, sync-other, sync-other-answer, sync-judged, sync-judged-answer, with_sync-judged, sync-anew}
 use Rattle.capture_measure.proofs.listener.Listener.hear_sync.Goals as goal
 
 pub returns-then-not-is_of-clause-listens : goal.returns-then-not-is_of-clause-listens
@@ -20,14 +20,16 @@ returns-then-not-is_of-clause-listens c = λ w l is.
     (sym (sync-other w c.args.line c.args.time m l other))
     (IsListener-told w c.args.self.now l call c.sync_message.new.self refl stood is)
 
-pub returns-then-not-is_of-clause-answered : goal.returns-then-not-is_of-clause-answered
-returns-then-not-is_of-clause-answered c = λ w l is.
+pub returns-then-not-is_of-clause-became : goal.returns-then-not-is_of-clause-became
+returns-then-not-is_of-clause-became c = λ w l is.
     let m : Contents = contents c.args.message.now in
     let call : Call = Event (Ok m) c.args.time c.args.line in
     let other : is_of w w.master m.header ≡ false =
     subst (λ (v : Watched). is_of v v.master m.header ≡ false) is.watched (sym c.is_of.ensures ∙ c.if-not-is_of.true) in
-    ap Some (c.sync_message.ensures.answer (setup_in w l) l.calls is.port)
-    ∙ sym (sync-other-answer w c.args.line c.args.time m l other)
+    let same = ap Some (c.sync_message.ensures.answer (setup_in w l) l.calls is.port)
+    ∙ sym (sync-other-answer w c.args.line c.args.time m l other) in
+    let begins = sync-begins-not w c.args.line c.args.time m l other in
+    λ i. became_by (sym begins i) (same i)
 
 pub returns-in-Newer-clause-listens : goal.returns-in-Newer-clause-listens
 returns-in-Newer-clause-listens c = λ w l is.
@@ -52,6 +54,28 @@ returns-in-Repeated-clause-listens c = λ w l is.
     (with_sync-judged w c.args.line c.args.time m l Repeated says
     ∙ sym (sync-judged w c.args.line c.args.time m l Repeated of says)) (c.judge_sync.ensures.listens w l is)
 
+pub returns-in-Newer-clause-became : goal.returns-in-Newer-clause-became
+returns-in-Newer-clause-became c = λ w l is.
+    let m : Contents = contents c.args.message.now in
+    let of : is_of w w.master m.header ≡ true =
+    subst (λ (v : Watched). is_of v v.master m.header ≡ true) is.watched (sym c.is_of.ensures ∙ c.if-not-is_of.false) in
+    let says = sym (c.judge_sync.ensures.judgement w l is) ∙ c.in-Newer.is in
+    let known_now = subst (IsListener w c.judge_sync.new.self)
+    (with_sync-judged w c.args.line c.args.time m l Newer says) (c.judge_sync.ensures.listens w l is) in
+    let same = sync-judged-answer w c.args.line c.args.time m l Newer of says in
+    let begins = sync-begins w c.args.line c.args.time m l Newer of says in
+    c.hear_newer.ensures.became w _ known_now ∙ (λ i. became_by (sym begins i) (sym same i))
+
+pub returns-in-Repeated-clause-became : goal.returns-in-Repeated-clause-became
+returns-in-Repeated-clause-became c = λ w l is.
+    let m : Contents = contents c.args.message.now in
+    let of : is_of w w.master m.header ≡ true =
+    subst (λ (v : Watched). is_of v v.master m.header ≡ true) is.watched (sym c.is_of.ensures ∙ c.if-not-is_of.false) in
+    let says = sym (c.judge_sync.ensures.judgement w l is) ∙ c.in-Repeated.is in
+    let same = sync-judged-answer w c.args.line c.args.time m l Repeated of says in
+    let begins = sync-begins w c.args.line c.args.time m l Repeated of says in
+    λ i. became_by (sym begins i) (sym same i)
+
 pub returns-in-BeganAnew-clause-listens : goal.returns-in-BeganAnew-clause-listens
 returns-in-BeganAnew-clause-listens c = λ w l is.
     let m : Contents = contents c.args.message.now in
@@ -64,8 +88,8 @@ returns-in-BeganAnew-clause-listens c = λ w l is.
     subst (IsListener w c.hear_counted.new.self) (sym (sync-judged w c.args.line c.args.time m l BeganAnew of says))
     (c.hear_counted.ensures.listens w _ known_now)
 
-pub returns-in-BeganAnew-clause-answered : goal.returns-in-BeganAnew-clause-answered
-returns-in-BeganAnew-clause-answered c = λ w l is.
+pub returns-in-BeganAnew-clause-became : goal.returns-in-BeganAnew-clause-became
+returns-in-BeganAnew-clause-became c = λ w l is.
     let m : Contents = contents c.args.message.now in
     let call : Call = Event (Ok m) c.args.time c.args.line in
     let of : is_of w w.master m.header ≡ true =
@@ -73,5 +97,7 @@ returns-in-BeganAnew-clause-answered c = λ w l is.
     let says = sym (c.judge_sync.ensures.judgement w l is) ∙ c.in-BeganAnew.is in
     let known_now = subst (IsListener w c.tell_master.new.self) (sync-anew w c.args.line c.args.time m l says)
     (c.tell_master.ensures c.args.line w _ (c.judge_sync.ensures.listens w l is)) in
-    ap Some (c.hear_counted.ensures.answer w _ known_now)
-    ∙ sym (sync-judged-answer w c.args.line c.args.time m l BeganAnew of says)
+    let same = ap Some (c.hear_counted.ensures.answer w _ known_now)
+    ∙ sym (sync-judged-answer w c.args.line c.args.time m l BeganAnew of says) in
+    let begins = sync-begins w c.args.line c.args.time m l BeganAnew of says in
+    λ i. became_by (sym begins i) (same i)

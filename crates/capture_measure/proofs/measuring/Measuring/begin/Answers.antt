@@ -5,6 +5,8 @@ use Rattle.std.proofs.lemmas.List.{append-nil}
 use Rattle.std.specs.Prelude.{option_to_list}
 use Rattle.std.proofs.lemmas.Result.{err_from_is_err_and}
 use Rattle.capture_measure.specs.Measured.{measured_at, measurements}
+use Rattle.capture_measure.specs.Counts.{fates}
+use Rattle.capture_measure.specs.Inner.Counting.{stays}
 use Rattle.capture_measure.proofs.Goes.{GoesUntil-after, kept_until, texts-after}
 use Rattle.capture_measure.proofs.measuring.Measuring.begin.Goals as goal
 
@@ -40,3 +42,10 @@ returns-clause-begun g c = λ earlier row of kept.
       texts-after c.args.self.now.reports.form (option_to_list (measured_at c.args.watched earlier row))
           (measurements c.args.watched earlier) _ _ _ before.1 heard.1,
     )
+
+pub returns-clause-counted : goal.returns-clause-counted
+returns-clause-counted g c = λ earlier row all of kept so.
+    let before = c.in_ok-hear_earlier.ensures.heard c.args.watched earlier kept c.new-listener.ensures in
+    let counted = c.in_ok-hear_earlier.ensures.counted c.args.watched earlier all kept c.new-listener.ensures so in
+    c.in_ok-hear_line.ensures.counted c.args.watched earlier row (fates c.args.watched earlier ++ stays c.args.self.now.stage all)
+    of before.0 counted

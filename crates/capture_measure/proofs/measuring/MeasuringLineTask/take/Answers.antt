@@ -1,4 +1,4 @@
-use Rattle.std.proofs.Common.{◌∙◌, ◌+◌, ℕ, [], ◌∷◌, refl, sym, ap, subst, arith}
+use Rattle.std.proofs.Common.{◌∙◌, ◌+◌, ℕ, List, [], ◌∷◌, refl, sym, ap, subst, arith}
 use Rattle.std.specs.Prelude.{option_to_list}
 use Rattle.std.proofs.lemmas.Result.{err_from_is_err_and}
 use Rattle.text_lines.specs.Counted.{device_of}
@@ -12,7 +12,10 @@ use Rattle.capture_measure.specs.Inner.Measuring.{StopsAt, IsUnread, IsStage}
 use Rattle.capture_measure.specs.Inner.Watching.{IsWatch}
 use Rattle.capture_measure.proofs.Goes.{answered, stopped, unread, texts-append}
 use Rattle.capture_measure.proofs.Rows.{heard-known, measured-more}
-use Rattle.capture_measure.proofs.Taken.{on_ok_then, nothing_goes, nothing_fails, are_within, not_unknown, not_known}
+use Rattle.capture_model.specs.Recorded.{Recorded}
+use Rattle.capture_measure.specs.Counts.{Fate, early_fate, fates_in, IsCounts}
+use Rattle.capture_measure.proofs.Fates.{fates-more, fates-first, fates-still}
+use Rattle.capture_measure.proofs.Taken.{on_ok_then, on_ok_both, nothing_goes, nothing_fails, are_within, not_unknown, not_known}
 use Rattle.capture_measure.proofs.Taken.{heard_before, measured-first, stage_heard, measured-still}
 use Rattle.capture_measure.proofs.Told.{watched-stays}
 use Rattle.capture_measure.proofs.Watches.{whom_known, whom_stays}
@@ -49,6 +52,9 @@ returns-in-Hearing-clause-taken g c = λ r at.
         whom = at.whom ∙ sym (whom_stays r.wanted row.datagram (datagrams r.rows) watched known);
         stage = stage_heard r.wanted (row ∷ r.rows) watched (row ∷ heard r.wanted r.rows) (Hearing c.hear.new.listener)
             later (heard-known r.wanted r.rows row watched known) heard_it.0;
+        counts = subst (λ (all : List Fate). IsCounts all c.hear.new.self.tally.counts)
+            (sym (fates-more r.wanted r.rows row watched known))
+            (c.in_ok-self.ensures.counted watched (heard r.wanted r.rows) row (fates_in r.wanted r.rows) has.1 listens at.counts);
       },
       (
         row,
@@ -79,21 +85,23 @@ returns-in-Some g c = record {
       let still = not_known r.wanted r.rows c.args.self.now.stage at.stage c.in_default.not-Hearing in
       let watch = c.notice.ensures r.wanted r.rows row of (at.watch still) in
       let known = sym (c.watched.ensures r.wanted (datagrams (row ∷ r.rows)) watch) ∙ c.in-Some.is in
-      let (earlier, kept, first, unknown) =
+      let (earlier, kept, first, unknown, those) =
       heard_before r.wanted r.rows row c.in-Some.watched c.args.self.now.stage at.stage c.in_default.not-Hearing
       known in
       let begun = c.begin.ensures.begun earlier row of kept in
       answered r c.args.line.now row c.begin.result c.begin.new.self
       (measurements c.in-Some.watched (row ∷ earlier)) _ _ next
       (measured-first r.wanted r.rows row c.in-Some.watched earlier known first unknown)
-      (on_ok_then c.begin.result (λ is. record {
+      (on_ok_both c.begin.result (λ is counted. record {
         form = c.begin.ensures.form ∙ at.form;
         counted = omega (arith, c.begin.ensures.lines, c.in-Ok.ensures.numbered, at.counted);
         watch = not_unknown r.wanted (row ∷ r.rows) c.in-Some.watched known;
         whom = ap whom_of c.begin.ensures.watch ∙ whom_known r.wanted (datagrams (row ∷ r.rows)) _ watch;
         stage = stage_heard r.wanted (row ∷ r.rows) c.in-Some.watched (row ∷ earlier) c.begin.new.self.stage known first
             is;
-      }) begun.0)
+        counts = subst (λ (all : List Fate). IsCounts all c.begin.new.self.reports.tally.counts)
+            (sym (fates-first r.wanted r.rows row c.in-Some.watched earlier _ known first those)) counted;
+      }) begun.0 (c.begin.ensures.counted earlier row (fates_in r.wanted r.rows) of kept at.counts))
       (subst (λ (f : Form). Goes f c.begin.result (measurements c.in-Some.watched (row ∷ earlier))
       (g.W.Write.contents (device_of c.args.output.now)) (g.W.Write.contents (device_of c.begin.new.output))) at.form
       begun.1);
@@ -118,6 +126,9 @@ returns-in-None g c = record {
         watch = λ none. subst (IsWatch r.wanted (datagrams (row ∷ r.rows))) (sym c.keep.ensures.watch) watch;
         whom = ap whom_of c.keep.ensures.watch ∙ whom_known r.wanted (datagrams (row ∷ r.rows)) _ watch;
         stage = is;
+        counts = subst (λ (all : List Fate). IsCounts all c.keep.new.self.reports.tally.counts)
+            (ap (λ (d : Recorded). early_fate d ∷ fates_in r.wanted r.rows) (sym of.datagram)
+            ∙ sym (fates-still r.wanted r.rows row unknown)) (c.keep.ensures.counted (fates_in r.wanted r.rows) at.counts);
       }) (c.keep.ensures.kept r.wanted r.rows row next unknown numbered at.stage))
       (nothing_goes r.form c.keep.result _ c.keep.ensures.memory);
   failures = nothing_fails c.keep.result _ c.keep.ensures.memory;

@@ -3,7 +3,7 @@ use Rattle.capture_measure.proofs.packets.CaptureMeasuring.new.Goals as goal
 
 pub returns : goal.returns
 returns c = record {
-  form = c.new-2.ensures;
+  form = c.new-2.ensures.form;
   wanted = refl;
   stage = (refl, c.new.ensures c.args.wanted.now, refl);
   whom = refl;

@@ -28,3 +28,7 @@ returns-clause-heard g c = λ watched before row is listens.
 
 pub returns-clause-answered : goal.returns-clause-answered
 returns-clause-answered g c = (c.in-Ok.ensures.numbered, (_, c.in-Ok.ensures.is_row))
+
+pub returns-clause-counted : goal.returns-clause-counted
+returns-clause-counted g c = λ watched before row all is listens so.
+    c.in_ok-hear_line.ensures.counted watched before row all (c.in-Ok.ensures.only row is) listens so

@@ -4,13 +4,14 @@ use Rattle.std.proofs.Math.ListN.{drop_of_length-le}
 use Rattle.std.proofs.lemmas.Result.{err_from_is_err_and}
 use Rattle.capture_measure.specs.Row.{IsRow}
 use Rattle.capture_measure.specs.Measured.{measured_at, measurements}
+use Rattle.capture_measure.specs.Counts.{fates}
 use Rattle.capture_measure.proofs.Goes.{are_next, kept_until, texts-after}
 use Rattle.capture_measure.proofs.reports.Reports.hear_kept.Goals as goal
 
 pub returns-in_err-number-clause-heard : goal.returns-in_err-number-clause-heard
 returns-in_err-number-clause-heard g c = λ watched rows are begun.
     let e = err_from_is_err_and c.from_residual.result c.from_residual.ensures.1 in
-    let (earlier, left, count, listens, appended) = c.loop-line.invariant.heard watched rows are begun in
+    let (earlier, left, count, listens, appended, counted) = c.loop-line.invariant.heard watched rows are begun in
     let within : c.loop-line.line-index < length c.args.kept.now = omega arith in
     let next = are_next earlier rows c.args.kept.now c.loop-line.line-index c.line-item.result within c.line-item.is
     left in
@@ -28,7 +29,7 @@ returns-in_err-number-clause-heard g c = λ watched rows are begun.
 pub loop-line-preserved : goal.loop-line-preserved
 loop-line-preserved g c = record {
   heard = λ watched rows are begun.
-      let (earlier, left, count, listens, appended) = c.loop-line.invariant.heard watched rows are begun in
+      let (earlier, left, count, listens, appended, counted) = c.loop-line.invariant.heard watched rows are begun in
       let within : c.loop-line.line-index < length c.args.kept.now = omega arith in
       let next = are_next earlier rows c.args.kept.now c.loop-line.line-index c.line-item.result within c.line-item.is
       left in
@@ -43,6 +44,8 @@ loop-line-preserved g c = record {
         heard.0,
         texts-after c.args.self.now.form (option_to_list (measured_at watched earlier next.0)) (measurements watched earlier)
             _ _ _ appended (rw c.loop-line.invariant.form at heard.1),
+        λ so. (rw c.as_slice.ensures.value at c.in_ok-number.ensures.counted) watched earlier next.0 (fates watched earlier) row
+            listens (counted so),
       );
   number = omega (arith, c.loop-line.invariant.number, c.in_ok-number.ensures.answered.0);
   form = c.in_ok-number.ensures.form ∙ c.loop-line.invariant.form;
@@ -51,7 +54,14 @@ loop-line-preserved g c = record {
 
 pub returns-clause-heard : goal.returns-clause-heard
 returns-clause-heard g c = λ watched rows are begun.
-    let (earlier, left, count, listens, appended) = c.loop-line.invariant.heard watched rows are begun in
+    let (earlier, left, count, listens, appended, counted) = c.loop-line.invariant.heard watched rows are begun in
     let past : length c.args.kept.now ≤ c.loop-line.line-index = omega arith in
     let all : rows ≡ earlier = rw (drop_of_length-le c.args.kept.now past) at left in
     rw all (listens, appended)
+
+pub returns-clause-counted : goal.returns-clause-counted
+returns-clause-counted g c = λ watched rows are begun so.
+    let (earlier, left, count, listens, appended, counted) = c.loop-line.invariant.heard watched rows are begun in
+    let past : length c.args.kept.now ≤ c.loop-line.line-index = omega arith in
+    let all : rows ≡ earlier = rw (drop_of_length-le c.args.kept.now past) at left in
+    rw all (counted so)

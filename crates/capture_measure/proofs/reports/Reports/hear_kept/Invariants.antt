@@ -6,6 +6,7 @@ use Rattle.capture_model.specs.declared.watched.Watched.{Watched}
 use Rattle.capture_model.specs.Listening.{after_all}
 use Rattle.capture_measure.specs.Row.{Row, datagrams}
 use Rattle.capture_measure.specs.Measured.{texts_as, measurements}
+use Rattle.capture_measure.specs.Counts.{fates, IsCounts}
 use Rattle.capture_measure.specs.Inner.Listener.{IsListener}
 use Rattle.capture_measure.specs.Inner.Measuring.{AreRows}
 use Rattle.capture_measure.proofs.reports.Reports.hear_kept.Given as goal
@@ -18,7 +19,8 @@ invariant-loop-line g l = record {
       × (length earlier ≡ l.line-index)
       × IsListener watched l.listener (after_all watched (datagrams earlier))
       × Appends (g.W.Write.contents (device_of l.fn.output)) (g.W.Write.contents (device_of l.output))
-      (texts_as l.fn.self.form (measurements watched earlier));
+      (texts_as l.fn.self.form (measurements watched earlier))
+      × (IsCounts [] l.fn.self.tally.counts → IsCounts (fates watched earlier) l.self.tally.counts);
   number : l.number ≡ l.line-index;
   form : l.self.form ≡ l.fn.self.form;
   writer : HasNotFailed l.fn.output l.output;

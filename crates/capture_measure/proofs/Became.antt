@@ -1,0 +1,141 @@
+-- What became of a message says why it gave no report, and who began anew by it.
+use Rattle.std.proofs.Common.{◌≡◌, ℕ, Bool, true, false, Option, Some, None, Ok, refl}
+use Rattle.std.specs.Prelude.{if◌then◌else◌, ◌&&◌, not, ◌==◌}
+use Rattle.std.specs.Option.{option_map_or}
+use Rattle.event_codec.specs.declared.message.Header.{Header}
+use Rattle.event_codec.specs.declared.message.Body.{Body}
+use Rattle.event_codec.specs.declared.message.Body.TheVariants.{Sync, DelayReq, FollowUp, DelayResp}
+use Rattle.event_codec.specs.Packet.{Contents}
+use Rattle.sync_watch.specs.declared.judgement.Judgement.{Judgement}
+use Rattle.sync_watch.specs.declared.judgement.Judgement.TheVariants.{Newer, Repeated, BeganAnew}
+use Rattle.sync_watch.specs.Told.{Arrival}
+use Rattle.sync_watch.specs.Judged.{judged_sync}
+use Rattle.slave_port.specs.declared.heard.Heard.{Heard}
+use Rattle.slave_port.specs.History.{Call, Event}
+use Rattle.capture_model.specs.declared.watched.Watched.{Watched}
+use Rattle.capture_model.specs.Listening.{Listening, table_capacity, is_of, arrival_of, answered}
+use Rattle.capture_model.specs.Listening.{ready_judged}
+use Rattle.capture_measure.specs.declared.listener.Became.{Became}
+use Rattle.capture_measure.specs.declared.listener.Became.TheVariants as became
+use Rattle.capture_measure.specs.declared.tally.Why.TheVariants as whys
+use Rattle.capture_measure.specs.Counts.{why_answered, why_heard, is_next, is_last, slave_begins, master_begins, begins_judged}
+use Rattle.capture_measure.specs.Counts.{sync_begins}
+use Rattle.capture_measure.specs.Inner.Counting.{why_by, is_slave_anew, is_master_anew}
+use Rattle.capture_measure.specs.Inner.Listener.{heard_by, became_by, became_called, became_of}
+
+-- ---- what became of a message that a port hears, or not
+heard_called : (begins : Bool) (heard : Option Heard) → heard_by (became_by begins heard) ≡ heard
+heard_called true None = refl
+heard_called false None = refl
+heard_called true (Some heard) = refl
+heard_called false (Some heard) = refl
+
+why_called : (domain : ℕ) (header : Header) (begins : Bool) (heard : Option Heard)
+    → why_by domain header (became_by begins heard) ≡ option_map_or why_answered heard (Some whys.Before)
+why_called domain header true None = refl
+why_called domain header false None = refl
+why_called domain header true (Some heard) = refl
+why_called domain header false (Some heard) = refl
+
+slave_called : (begins : Bool) (heard : Option Heard) → is_slave_anew (became_by begins heard) ≡ false
+slave_called true None = refl
+slave_called false None = refl
+slave_called true (Some heard) = refl
+slave_called false (Some heard) = refl
+
+master_called : (begins : Bool) (heard : Heard) → is_master_anew (became_by begins (Some heard)) ≡ begins
+master_called true heard = refl
+master_called false heard = refl
+
+master_called_not : (heard : Option Heard) → is_master_anew (became_by false heard) ≡ false
+master_called_not None = refl
+master_called_not (Some heard) = refl
+
+-- by what the number of a Sync says
+master_judged : (of : Bool) (j : Judgement) (w : Watched) (line : ℕ) (call : Call) (a : Arrival) (l : Listening)
+    → is_master_anew (became_called (of && begins_judged j w call a l) call w
+    (if of then ready_judged j w line call a l else Some l)) ≡ (of && begins_judged j w call a l)
+master_judged false j w line call a l = refl
+master_judged true Newer w line call a l = master_called (begins_judged Newer w call a l) _
+master_judged true Repeated w line call a l = refl
+master_judged true BeganAnew w line call a l = refl
+
+-- ---- a Delay_Req
+abbrev own : (next last : Bool) → Became
+own next last = if next then became.Asked else if last then became.Repeated else became.Anew
+
+own_unheard : (next last : Bool) → heard_by (own next last) ≡ None
+own_unheard true last = refl
+own_unheard false true = refl
+own_unheard false false = refl
+
+own_why : (domain : ℕ) (header : Header) (next last : Bool) → why_by domain header (own next last)
+    ≡ Some (if next then whys.OfSlave else if last then whys.Again else whys.OfSlave)
+own_why domain header true last = refl
+own_why domain header false true = refl
+own_why domain header false false = refl
+
+own_slave : (next last : Bool) → is_slave_anew (own next last) ≡ (not next && not last)
+own_slave true last = refl
+own_slave false true = refl
+own_slave false false = refl
+
+own_master : (next last : Bool) → is_master_anew (own next last) ≡ false
+own_master true last = refl
+own_master false true = refl
+own_master false false = refl
+
+abbrev asked : (of next last : Bool) → Became
+asked of next last = if of then own next last else became.Foreign
+
+asked_unheard : (of next last : Bool) → heard_by (asked of next last) ≡ None
+asked_unheard true next last = own_unheard next last
+asked_unheard false next last = refl
+
+asked_why : (domain : ℕ) (header : Header) (of next last same : Bool) → (header.domain == domain) ≡ same
+    → why_by domain header (asked of next last)
+    ≡ Some (if of then if next then whys.OfSlave else if last then whys.Again else whys.OfSlave
+    else if header.domain == domain then whys.OtherSlave else whys.OtherDomain)
+asked_why domain header true next last same is = own_why domain header next last
+asked_why domain header false next last same is = refl
+
+asked_slave : (of next last : Bool) → is_slave_anew (asked of next last) ≡ (of && (not next && not last))
+asked_slave true next last = own_slave next last
+asked_slave false next last = refl
+
+asked_master : (of next last : Bool) → is_master_anew (asked of next last) ≡ false
+asked_master true next last = own_master next last
+asked_master false next last = refl
+
+-- ---- any message
+module _ (w : Watched) (line time : ℕ) (m : Contents) where
+  pub heard-became : (body : Body) (l : Listening) → heard_by (became_of w line time m body l) ≡ answered w line time m body l
+  heard-became (Sync origin) l = heard_called (sync_begins w line time m l) _
+  heard-became (DelayReq origin) l =
+      asked_unheard (is_of w w.slave m.header) (is_next w l m.header.sequence.0) (is_last w l m.header.sequence.0)
+  heard-became (FollowUp precise) l = heard_called false _
+  heard-became (DelayResp receive requesting) l = heard_called false _
+
+  pub why-became : (body : Body) (l : Listening)
+      → why_by w.domain m.header (became_of w line time m body l) ≡ why_heard w line time m body l
+  why-became (Sync origin) l = why_called w.domain m.header (sync_begins w line time m l) _
+  why-became (DelayReq origin) l = asked_why w.domain m.header (is_of w w.slave m.header) (is_next w l m.header.sequence.0)
+      (is_last w l m.header.sequence.0) (m.header.domain == w.domain) refl
+  why-became (FollowUp precise) l = why_called w.domain m.header false _
+  why-became (DelayResp receive requesting) l = why_called w.domain m.header false _
+
+  pub slave-became : (body : Body) (l : Listening) → is_slave_anew (became_of w line time m body l) ≡ slave_begins w m body l
+  slave-became (Sync origin) l = slave_called (sync_begins w line time m l) _
+  slave-became (DelayReq origin) l =
+      asked_slave (is_of w w.slave m.header) (is_next w l m.header.sequence.0) (is_last w l m.header.sequence.0)
+  slave-became (FollowUp precise) l = slave_called false _
+  slave-became (DelayResp receive requesting) l = slave_called false _
+
+  pub master-became : (body : Body) (l : Listening)
+      → is_master_anew (became_of w line time m body l) ≡ master_begins w line time m body l
+  master-became (Sync origin) l = master_judged (is_of w w.master m.header)
+      (judged_sync (arrival_of m.header time) table_capacity l.heard) w line (Event (Ok m) time line) (arrival_of m.header time) l
+  master-became (DelayReq origin) l =
+      asked_master (is_of w w.slave m.header) (is_next w l m.header.sequence.0) (is_last w l m.header.sequence.0)
+  master-became (FollowUp precise) l = master_called_not _
+  master-became (DelayResp receive requesting) l = master_called_not _

@@ -1,0 +1,244 @@
+-- What is counted with one datagram more.
+use Rattle.std.proofs.Common.{◌≡◌, ◌∙◌, ◌⊎◌, inl, inr, ℕ, ◌+◌, ◌*◌, ◌<◌, Bool, true, false, List, [], ◌∷◌, length, get_or}
+use Rattle.std.proofs.Common.{replicate, Option, Some, None, Ok, Err, refl, sym, ap, subst, arith}
+use Rattle.std.specs.Prelude.{cond, ◌==◌, count_by, is_some, slice_set}
+use Rattle.std.proofs.lemmas.Bool.{cases_eq, eq-eqb, ne_eqb}
+use Rattle.std.proofs.lemmas.List.{length-set, length-replicate, get_or-replicate, get_or-set_same, get_or-set_other}
+use Rattle.std.proofs.lemmas.List.Sums.{sum_by-cons}
+use Rattle.event_codec.specs.declared.refusal.DecodeRefusal.{DecodeRefusal}
+use Rattle.event_codec.specs.Packet.{Contents}
+use Rattle.event_codec.specs.Reading.{Reading}
+use Rattle.capture_model.specs.declared.watched.Watched.{Watched}
+use Rattle.capture_model.specs.Listening.{Listening}
+use Rattle.capture_model.specs.Recorded.{Recorded}
+use Rattle.capture_lines.specs.Measurement.{Measured}
+use Rattle.capture_measure.specs.declared.listener.Became.{Became}
+use Rattle.capture_measure.specs.declared.listener.Became.TheVariants as became
+use Rattle.capture_measure.specs.declared.tally.Counts.{Counts}
+use Rattle.capture_measure.specs.declared.tally.Kind.{Kind}
+use Rattle.capture_measure.specs.declared.tally.Kind.TheVariants as kinds
+use Rattle.capture_measure.specs.declared.tally.Why.{Why}
+use Rattle.capture_measure.specs.declared.tally.Why.TheVariants as whys
+use Rattle.capture_measure.specs.Counts.{kind_number, why_number, kind_of, kind_of_refused, why_refused, place_of, at_most}
+use Rattle.capture_measure.specs.Counts.{Fate, fate_in, early_fate, is_so, IsCounts}
+use Rattle.capture_measure.specs.Inner.Counting.{with_one, with_unreported, with_why, with_anew, why_by, is_slave_anew, is_master_anew}
+use Rattle.capture_measure.specs.Inner.Listener.{became_of}
+use Rattle.capture_measure.proofs.Became.{why-became, slave-became, master-became}
+
+-- ---- places
+kind_few : (kind : Kind) → kind_number kind < 10
+kind_few kinds.Sync = omega arith
+kind_few kinds.FollowUp = omega arith
+kind_few kinds.DelayReq = omega arith
+kind_few kinds.DelayResp = omega arith
+kind_few kinds.Pdelay = omega arith
+kind_few kinds.Announce = omega arith
+kind_few kinds.Signaling = omega arith
+kind_few kinds.Management = omega arith
+kind_few kinds.Reserved = omega arith
+kind_few kinds.Malformed = omega arith
+
+why_few : (why : Why) → why_number why < 14
+why_few whys.Held = omega arith
+why_few whys.Alone = omega arith
+why_few whys.OfSlave = omega arith
+why_few whys.Again = omega arith
+why_few whys.Before = omega arith
+why_few whys.OtherDomain = omega arith
+why_few whys.OtherMaster = omega arith
+why_few whys.OtherSlave = omega arith
+why_few whys.TooBig = omega arith
+why_few whys.NotNewer = omega arith
+why_few whys.Unrecorded = omega arith
+why_few whys.PeerDelay = omega arith
+why_few whys.TooEarly = omega arith
+why_few whys.NoPart = omega arith
+
+place_within : (k y : ℕ) → k < 10 → y < 14 → k * 14 + y < 140
+place_within k y few some = omega (arith, few, some)
+
+place_few : (kind : Kind) (why : Why) → place_of kind why < 140
+place_few kind why = place_within (kind_number kind) (why_number why) (kind_few kind) (why_few why)
+
+-- ---- one more, or none
+module _ (p : Fate → Bool) (fate : Fate) (all : List Fate) (count : ℕ) where
+  count_yes : p fate ≡ true → count ≡ at_most (count_by p all) → with_one count ≡ at_most (count_by p (fate ∷ all))
+  count_yes is so =
+      let more = sum_by-cons (λ f. cond (p f) 1 0) fate all in
+      let one = ap {B = ℕ} (λ (b : Bool). cond b 1 0) is in
+      omega (arith, more, one, so)
+
+  count_no : p fate ≡ false → count ≡ at_most (count_by p all) → count ≡ at_most (count_by p (fate ∷ all))
+  count_no is so =
+      let more = sum_by-cons (λ f. cond (p f) 1 0) fate all in
+      let none = ap {B = ℕ} (λ (b : Bool). cond b 1 0) is in
+      omega (arith, more, none, so)
+
+slave_more : (b : Became) (counts : Counts) (fate : Fate) (all : List Fate) → fate.slave_anew ≡ is_slave_anew b
+    → counts.slave_anew ≡ at_most (count_by (λ f. f.slave_anew) all)
+    → (with_anew b counts).slave_anew ≡ at_most (count_by (λ f. f.slave_anew) (fate ∷ all))
+slave_more became.Anew counts fate all is so = count_yes (λ f. f.slave_anew) fate all counts.slave_anew is so
+slave_more (became.Heard heard) counts fate all is so = count_no (λ f. f.slave_anew) fate all counts.slave_anew is so
+slave_more (became.HeardAnew heard) counts fate all is so = count_no (λ f. f.slave_anew) fate all counts.slave_anew is so
+slave_more became.HeardBefore counts fate all is so = count_no (λ f. f.slave_anew) fate all counts.slave_anew is so
+slave_more became.Asked counts fate all is so = count_no (λ f. f.slave_anew) fate all counts.slave_anew is so
+slave_more became.Repeated counts fate all is so = count_no (λ f. f.slave_anew) fate all counts.slave_anew is so
+slave_more became.Foreign counts fate all is so = count_no (λ f. f.slave_anew) fate all counts.slave_anew is so
+
+master_more : (b : Became) (counts : Counts) (fate : Fate) (all : List Fate) → fate.master_anew ≡ is_master_anew b
+    → counts.master_anew ≡ at_most (count_by (λ f. f.master_anew) all)
+    → (with_anew b counts).master_anew ≡ at_most (count_by (λ f. f.master_anew) (fate ∷ all))
+master_more (became.HeardAnew heard) counts fate all is so = count_yes (λ f. f.master_anew) fate all counts.master_anew is so
+master_more (became.Heard heard) counts fate all is so = count_no (λ f. f.master_anew) fate all counts.master_anew is so
+master_more became.Anew counts fate all is so = count_no (λ f. f.master_anew) fate all counts.master_anew is so
+master_more became.HeardBefore counts fate all is so = count_no (λ f. f.master_anew) fate all counts.master_anew is so
+master_more became.Asked counts fate all is so = count_no (λ f. f.master_anew) fate all counts.master_anew is so
+master_more became.Repeated counts fate all is so = count_no (λ f. f.master_anew) fate all counts.master_anew is so
+master_more became.Foreign counts fate all is so = count_no (λ f. f.master_anew) fate all counts.master_anew is so
+
+-- the counts of those that gave no report, and of reports, are those of before
+anew_others : (b : Became) (counts : Counts)
+    → ((with_anew b counts).unreported ≡ counts.unreported) × ((with_anew b counts).reports ≡ counts.reports)
+anew_others (became.Heard heard) counts = (refl, refl)
+anew_others (became.HeardAnew heard) counts = (refl, refl)
+anew_others became.HeardBefore counts = (refl, refl)
+anew_others became.Asked counts = (refl, refl)
+anew_others became.Repeated counts = (refl, refl)
+anew_others became.Anew counts = (refl, refl)
+anew_others became.Foreign counts = (refl, refl)
+
+-- the counts of those that gave no report
+abbrev Table : List Fate → List ℕ → Type 0
+Table all there = (kind : Kind) (why : Why) → get_or there (place_of kind why) 0 ≡ at_most (count_by (is_so kind why) all)
+
+module _ (fate : Fate) (all : List Fate) (there : List ℕ) (many : length there ≡ 140) (so : Table all there) where
+  table_none : fate.why ≡ None → Table (fate ∷ all) there
+  table_none none kind why = count_no (is_so kind why) fate all _
+      (ap (λ (o : Option Why). is_so kind why (record fate { why = o })) none) (so kind why)
+
+  table_more : (own : Why) → fate.why ≡ Some own
+      → Table (fate ∷ all) (slice_set there (place_of fate.kind own) (with_one (get_or there (place_of fate.kind own) 0)))
+  table_more own is kind why = by_place (cases_eq (place_of fate.kind own) (place_of kind why))
+    where
+      mine : ℕ
+      mine = place_of fate.kind own
+
+      within : mine < length there
+      within = subst (λ (n : ℕ). mine < n) (sym many) (place_few fate.kind own)
+
+      counted : is_so kind why fate ≡ (mine == place_of kind why)
+      counted = ap (λ (o : Option Why). is_so kind why (record fate { why = o })) is
+
+      by_place : (mine ≡ place_of kind why) ⊎ (mine ≡ place_of kind why → ⊥)
+          → get_or (slice_set there mine (with_one (get_or there mine 0))) (place_of kind why) 0
+          ≡ at_most (count_by (is_so kind why) (fate ∷ all))
+      by_place (inl same) =
+          ap (λ (n : ℕ). get_or (slice_set there mine (with_one (get_or there mine 0))) n 0) (sym same)
+          ∙ get_or-set_same there mine (with_one (get_or there mine 0)) 0 within
+          ∙ ap (λ (n : ℕ). with_one (get_or there n 0)) same
+          ∙ count_yes (is_so kind why) fate all (get_or there (place_of kind why) 0)
+          (counted ∙ eq-eqb mine (place_of kind why) same) (so kind why)
+      by_place (inr other) =
+          get_or-set_other there mine (place_of kind why) (with_one (get_or there mine 0)) 0 (λ same. other (sym same))
+          ∙ count_no (is_so kind why) fate all (get_or there (place_of kind why) 0)
+          (counted ∙ ne_eqb mine (place_of kind why) other) (so kind why)
+
+-- ---- what is counted of a datagram, but for its report
+more_by : (why : Option Why) (b : Became) (fate : Fate) (all : List Fate) (counts : Counts) → fate.why ≡ why → fate.measured ≡ None
+    → fate.slave_anew ≡ is_slave_anew b → fate.master_anew ≡ is_master_anew b → IsCounts all counts
+    → IsCounts (fate ∷ all) (with_why fate.kind why (with_anew b counts))
+more_by None b fate all counts is unmeasured slave master so = record {
+  reports = (anew_others b counts).1
+      ∙ count_no (λ f. is_some f.measured) fate all counts.reports (ap is_some unmeasured) so.reports;
+  slave_anew = slave_more b counts fate all slave so.slave_anew;
+  master_anew = master_more b counts fate all master so.master_anew;
+  unreported = subst (Table (fate ∷ all)) (sym (anew_others b counts).0)
+      (table_none fate all counts.unreported so.places so.unreported is);
+  places = ap length (anew_others b counts).0 ∙ so.places;
+}
+more_by (Some own) b fate all counts is unmeasured slave master so = record {
+  reports = (anew_others b counts).1
+      ∙ count_no (λ f. is_some f.measured) fate all counts.reports (ap is_some unmeasured) so.reports;
+  slave_anew = slave_more b counts fate all slave so.slave_anew;
+  master_anew = master_more b counts fate all master so.master_anew;
+  unreported = subst (λ (there : List ℕ). Table (fate ∷ all)
+      (slice_set there (place_of fate.kind own) (with_one (get_or there (place_of fate.kind own) 0))))
+      (sym (anew_others b counts).0) (table_more fate all counts.unreported so.places so.unreported own is);
+  places = length-set (with_anew b counts).unreported (place_of fate.kind own) _ ∙ ap length (anew_others b counts).0 ∙ so.places;
+}
+
+-- of one that a port hears in this state
+pub heard_counts : (w : Watched) (d : Recorded) (m : Contents) (l : Listening) (b : Became) (all : List Fate) (counts : Counts)
+    → d.said ≡ Ok m → b ≡ became_of w d.line d.time m m.body l → IsCounts all counts
+    → IsCounts (fate_in w d l ∷ all) (with_why (kind_of m.body) (why_by w.domain m.header b) (with_anew b counts))
+heard_counts w d m l b all counts said is so =
+    let own : Recorded = record d { said = Ok m } in
+    subst (λ (s : Reading). IsCounts (fate_in w (record d { said = s }) l ∷ all)
+    (with_why (kind_of m.body) (why_by w.domain m.header b) (with_anew b counts))) (sym said)
+    (more_by (why_by w.domain m.header b) b (fate_in w own l) all counts
+    (sym (ap (why_by w.domain m.header) is ∙ why-became w d.line d.time m m.body l)) refl
+    (sym (ap is_slave_anew is ∙ slave-became w d.line d.time m m.body l))
+    (sym (ap is_master_anew is ∙ master-became w d.line d.time m m.body l)) so)
+
+-- of one that isn't one of the four messages
+pub refused_counts : (w : Watched) (d : Recorded) (refusal : DecodeRefusal) (l : Listening) (all : List Fate) (counts : Counts)
+    → d.said ≡ Err refusal → IsCounts all counts
+    → IsCounts (fate_in w d l ∷ all)
+    (with_unreported (kind_of_refused refusal) (why_refused (kind_of_refused refusal)) counts)
+refused_counts w d refusal l all counts said so =
+    let own : Recorded = record d { said = Err refusal } in
+    subst (λ (s : Reading). IsCounts (fate_in w (record d { said = s }) l ∷ all)
+    (with_unreported (kind_of_refused refusal) (why_refused (kind_of_refused refusal)) counts)) (sym said)
+    (more_by (Some (why_refused (kind_of_refused refusal))) became.HeardBefore (fate_in w own l) all counts refl refl refl refl so)
+
+-- of one that came too early
+pub early_counts : (d : Recorded) (m : Contents) (all : List Fate) (counts : Counts) → d.said ≡ Ok m → IsCounts all counts
+    → IsCounts (early_fate d ∷ all) (with_unreported (kind_of m.body) whys.TooEarly counts)
+early_counts d m all counts said so =
+    let own : Recorded = record d { said = Ok m } in
+    subst (λ (s : Reading). IsCounts (early_fate (record d { said = s }) ∷ all)
+    (with_unreported (kind_of m.body) whys.TooEarly counts)) (sym said)
+    (more_by (Some whys.TooEarly) became.HeardBefore (early_fate own) all counts refl refl refl refl so)
+
+pub early_refused_counts : (d : Recorded) (refusal : DecodeRefusal) (all : List Fate) (counts : Counts) → d.said ≡ Err refusal
+    → IsCounts all counts
+    → IsCounts (early_fate d ∷ all) (with_unreported (kind_of_refused refusal) (why_refused (kind_of_refused refusal)) counts)
+early_refused_counts d refusal all counts said so =
+    let own : Recorded = record d { said = Err refusal } in
+    subst (λ (s : Reading). IsCounts (early_fate (record d { said = s }) ∷ all)
+    (with_unreported (kind_of_refused refusal) (why_refused (kind_of_refused refusal)) counts)) (sym said)
+    (more_by (Some (why_refused (kind_of_refused refusal))) became.HeardBefore (early_fate own) all counts refl refl refl refl so)
+
+-- ---- of a report that was written
+same_head : (f g : Fate) (all : List Fate) (p : Fate → Bool) → p f ≡ p g → count_by p (f ∷ all) ≡ count_by p (g ∷ all)
+same_head f g all p same =
+    sum_by-cons (λ x. cond (p x) 1 0) f all ∙ ap (λ (b : Bool). cond b 1 0 + count_by p all) same
+    ∙ sym (sum_by-cons (λ x. cond (p x) 1 0) g all)
+
+pub written_counts : (fate : Fate) (all : List Fate) (counts : Counts) (m : Measured) → fate.measured ≡ None
+    → IsCounts (fate ∷ all) counts
+    → IsCounts (record fate { measured = Some m } ∷ all) (record counts { reports = with_one counts.reports })
+written_counts fate all counts m unmeasured so =
+    let now : Fate = record fate { measured = Some m } in record {
+      reports =
+          let before = sum_by-cons (λ f. cond (is_some f.measured) 1 0) fate all in
+          let none = ap {B = ℕ} (λ (o : Option Measured). cond (is_some o) 1 0) unmeasured in
+          let more = sum_by-cons (λ f. cond (is_some f.measured) 1 0) now all in
+          omega (arith, before, none, more, so.reports);
+      slave_anew = so.slave_anew ∙ ap at_most (same_head fate now all (λ f. f.slave_anew) refl);
+      master_anew = so.master_anew ∙ ap at_most (same_head fate now all (λ f. f.master_anew) refl);
+      unreported = λ kind why. so.unreported kind why ∙ ap at_most (same_head fate now all (is_so kind why) refl);
+      places = so.places;
+    }
+
+-- ---- none
+pub no_counts : (counts : Counts) → counts.reports ≡ 0 → counts.slave_anew ≡ 0 → counts.master_anew ≡ 0
+    → counts.unreported ≡ replicate 140 0 → IsCounts [] counts
+no_counts counts reports slave master unreported = record {
+  reports = reports;
+  slave_anew = slave;
+  master_anew = master;
+  unreported = λ kind why. ap (λ (there : List ℕ). get_or there (place_of kind why) 0) unreported
+      ∙ get_or-replicate 140 (place_of kind why) 0 0 (place_few kind why);
+  places = ap length unreported ∙ length-replicate {A = ℕ} 140 0;
+}

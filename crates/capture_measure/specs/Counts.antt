@@ -1,0 +1,297 @@
+-- What is counted while an input is measured: what each datagram is, and why it gave no report, if it gave none. Lists have the
+-- newest in front.
+use Rattle.std.specs.Prelude.{◌≡◌, ℕ, ◌+◌, ◌-◌, ◌*◌, ◌^◌, ◌==◌, nat_lt, min, Bool, true, false, not, ◌&&◌, ◌||◌, is_some}
+use Rattle.std.specs.Prelude.{if◌then◌else◌, ⊤, List, [], ◌∷◌, ◌++◌, length, drop, map, count_by, slice_index}
+use Rattle.std.specs.Prelude.{Option, Some, None, Ok, Err}
+use Rattle.std.specs.Option.{option_map_or}
+use Rattle.ptp_units.specs.Sequence.{ahead}
+use Rattle.event_codec.specs.declared.message.Header.{Header}
+use Rattle.event_codec.specs.declared.message.Body.{Body}
+use Rattle.event_codec.specs.declared.message.Body.TheVariants as bodies
+use Rattle.event_codec.specs.declared.refusal.DecodeRefusal.{DecodeRefusal}
+use Rattle.event_codec.specs.declared.refusal.DecodeRefusal.TheVariants.{Short, Version, OtherType, LengthField, Truncated}
+use Rattle.event_codec.specs.declared.refusal.DecodeRefusal.TheVariants.{Nanoseconds}
+use Rattle.event_codec.specs.Packet.{Contents}
+use Rattle.event_codec.specs.Reading.{Reading}
+use Rattle.sync_watch.specs.declared.judgement.Judgement.{Judgement}
+use Rattle.sync_watch.specs.declared.judgement.Judgement.TheVariants.{Newer, Repeated, BeganAnew}
+use Rattle.sync_watch.specs.Told.{Arrival, Sync}
+use Rattle.sync_watch.specs.Judged.{judged_sync, judged_refused}
+use Rattle.slave_port.specs.declared.heard.Heard.{Heard}
+use Rattle.slave_port.specs.declared.heard.Heard.TheVariants as answers
+use Rattle.slave_port.specs.declared.reason.Reason.{Reason}
+use Rattle.slave_port.specs.declared.reason.Reason.TheVariants as reasons
+use Rattle.slave_port.specs.History.{Call, Event, next_number}
+use Rattle.text_lines.specs.Lines.{lines_of}
+use Rattle.text_lines.specs.Task.{TakesLines}
+use Rattle.capture_model.specs.declared.watched.Watched.{Watched}
+use Rattle.capture_model.specs.Recorded.{Recorded}
+use Rattle.capture_model.specs.Listening.{Listening, setup_in, table_capacity, is_of, is_stale, answer_in, arrival_of, answered}
+use Rattle.capture_model.specs.Listening.{after_all}
+use Rattle.capture_lines.specs.Measurement.{Measured}
+use Rattle.capture_measure.specs.declared.input.Outcome.{Outcome}
+use Rattle.capture_measure.specs.declared.input.Outcome.TheVariants.{Lines, Capture}
+use Rattle.capture_measure.specs.declared.measuring.Form.{Form}
+use Rattle.capture_measure.specs.declared.tally.Counts.{Counts}
+use Rattle.capture_measure.specs.declared.tally.Kind.{Kind}
+use Rattle.capture_measure.specs.declared.tally.Kind.TheVariants as kinds
+use Rattle.capture_measure.specs.declared.tally.Why.{Why}
+use Rattle.capture_measure.specs.declared.tally.Why.TheVariants as whys
+use Rattle.capture_measure.specs.declared.watch.Wanted.{Wanted}
+use Rattle.capture_measure.specs.Watch.{watched_in}
+use Rattle.capture_measure.specs.Row.{Row, datagrams, heard}
+use Rattle.capture_measure.specs.Measured.{measured_at}
+use Rattle.capture_measure.specs.Measure as lines
+
+-- the places of kinds and of reasons, in the order in which they are told
+abbrev pub kind_number : Kind → ℕ
+kind_number kinds.Sync = 0
+kind_number kinds.FollowUp = 1
+kind_number kinds.DelayReq = 2
+kind_number kinds.DelayResp = 3
+kind_number kinds.Pdelay = 4
+kind_number kinds.Announce = 5
+kind_number kinds.Signaling = 6
+kind_number kinds.Management = 7
+kind_number kinds.Reserved = 8
+kind_number kinds.Malformed = 9
+
+abbrev pub why_number : Why → ℕ
+why_number whys.Held = 0
+why_number whys.Alone = 1
+why_number whys.OfSlave = 2
+why_number whys.Again = 3
+why_number whys.Before = 4
+why_number whys.OtherDomain = 5
+why_number whys.OtherMaster = 6
+why_number whys.OtherSlave = 7
+why_number whys.TooBig = 8
+why_number whys.NotNewer = 9
+why_number whys.Unrecorded = 10
+why_number whys.PeerDelay = 11
+why_number whys.TooEarly = 12
+why_number whys.NoPart = 13
+
+-- where the count of a kind and a reason stands: kind by kind, of each those of its fourteen reasons
+abbrev pub place_of : Kind → Why → ℕ
+place_of kind why = kind_number kind * 14 + why_number why
+
+-- ---- what a datagram is
+abbrev pub kind_of : Body → Kind
+kind_of (bodies.Sync origin) = kinds.Sync
+kind_of (bodies.DelayReq origin) = kinds.DelayReq
+kind_of (bodies.FollowUp precise) = kinds.FollowUp
+kind_of (bodies.DelayResp receive requesting) = kinds.DelayResp
+
+-- a message of another type (IEEE 1588-2019, table 36)
+abbrev pub kind_of_type : (number : ℕ) → Kind
+kind_of_type number =
+    if number == 2 || (number == 3 || number == 10) then kinds.Pdelay
+    else if number == 11 then kinds.Announce
+    else if number == 12 then kinds.Signaling
+    else if number == 13 then kinds.Management
+    else kinds.Reserved
+
+-- what isn't one of the four messages
+abbrev pub kind_of_refused : DecodeRefusal → Kind
+kind_of_refused (OtherType number) = kind_of_type number
+kind_of_refused Short = kinds.Malformed
+kind_of_refused Version = kinds.Malformed
+kind_of_refused LengthField = kinds.Malformed
+kind_of_refused Truncated = kinds.Malformed
+kind_of_refused Nanoseconds = kinds.Malformed
+
+-- what octets are that say this
+abbrev pub kind_said : Reading → Kind
+kind_said (Ok m) = kind_of m.body
+kind_said (Err refusal) = kind_of_refused refusal
+
+-- ---- why a datagram gave no report
+-- one of a kind that isn't one of the four messages
+abbrev pub why_refused : Kind → Why
+why_refused kinds.Pdelay = whys.PeerDelay
+why_refused _ = whys.NoPart
+
+-- a message that the port ignored
+abbrev pub why_ignored : Reason → Why
+why_ignored reasons.OtherDomain = whys.OtherDomain
+why_ignored reasons.OtherMaster = whys.OtherMaster
+why_ignored reasons.NoMaster = whys.OtherMaster
+why_ignored reasons.TooBig = whys.TooBig
+why_ignored reasons.NotNewer = whys.NotNewer
+why_ignored reasons.OtherRequester = whys.OtherSlave
+why_ignored reasons.UnknownRequest = whys.Unrecorded
+why_ignored reasons.EgressUnknown = whys.Unrecorded
+why_ignored (reasons.Decode refusal) = whys.NoPart
+why_ignored reasons.WrongType = whys.NoPart
+
+-- a message to which the port answered so; none where it gave a report
+abbrev pub why_answered : Heard → Option Why
+why_answered (answers.Report report) = None
+why_answered answers.Held = Some whys.Held
+why_answered answers.Completed = Some whys.Alone
+why_answered (answers.Ignored reason) = Some (why_ignored reason)
+
+-- a Delay_Req of the slave is the first, or 1 to 256 ahead of the last one
+abbrev pub is_next : Watched → Listening → (number : ℕ) → Bool
+is_next w l number = not l.asked || nat_lt (ahead number (next_number (setup_in w l) l.calls)) table_capacity
+
+-- a Delay_Req of the slave has the number of the last one
+abbrev pub is_last : Watched → Listening → (number : ℕ) → Bool
+is_last w l number = ahead number (next_number (setup_in w l) l.calls) == 65535
+
+-- a Delay_Req of the slave
+abbrev pub why_own : Watched → Listening → (number : ℕ) → Why
+why_own w l number =
+    if is_next w l number then whys.OfSlave else if is_last w l number then whys.Again else whys.OfSlave
+
+-- any Delay_Req
+abbrev pub why_request : Watched → Header → Listening → Why
+why_request w header l =
+    if is_of w w.slave header then why_own w l header.sequence.0
+    else if header.domain == w.domain then whys.OtherSlave
+    else whys.OtherDomain
+
+-- a message, of which none came before where the port hears it
+abbrev pub why_heard : Watched → (line time : ℕ) → Contents → Body → Listening → Option Why
+why_heard w line time m (bodies.DelayReq origin) l = Some (why_request w m.header l)
+why_heard w line time m body l = option_map_or why_answered (answered w line time m body l) (Some whys.Before)
+
+-- any datagram, by what its octets say
+abbrev pub why_said : Watched → (line time : ℕ) → Reading → Listening → Option Why
+why_said w line time (Ok m) l = why_heard w line time m m.body l
+why_said w line time (Err refusal) l = Some (why_refused (kind_of_refused refusal))
+
+-- one that isn't heard, since it came before it was known whom to watch
+abbrev pub why_early : Reading → Why
+why_early (Ok m) = whys.TooEarly
+why_early (Err refusal) = why_refused (kind_of_refused refusal)
+
+-- ---- who began anew
+-- the slave, by a Delay_Req
+abbrev pub slave_begins : Watched → Contents → Body → Listening → Bool
+slave_begins w m (bodies.DelayReq origin) l =
+    is_of w w.slave m.header && (not (is_next w l m.header.sequence.0) && not (is_last w l m.header.sequence.0))
+slave_begins w m body l = false
+
+-- this is what a number says of the master
+abbrev pub is_beginning : Judgement → Bool
+is_beginning Newer = false
+is_beginning Repeated = false
+is_beginning BeganAnew = true
+
+-- the master, by a Sync whose number says nothing, and which the port refuses, as the ones before it
+abbrev pub begins_newer : Watched → Call → Arrival → Listening → Bool
+begins_newer w call a l = is_stale (answer_in w l call) && is_beginning (judged_refused a table_capacity l.heard)
+
+-- the master, by what the number of its Sync says
+abbrev pub begins_judged : Judgement → Watched → Call → Arrival → Listening → Bool
+begins_judged Newer w call a l = begins_newer w call a (record l { heard = Sync a ∷ l.heard })
+begins_judged Repeated w call a l = false
+begins_judged BeganAnew w call a l = true
+
+-- the master, by a Sync
+abbrev pub sync_begins : Watched → (line time : ℕ) → Contents → Listening → Bool
+sync_begins w line time m l = is_of w w.master m.header
+    && begins_judged (judged_sync (arrival_of m.header time) table_capacity l.heard) w (Event (Ok m) time line)
+    (arrival_of m.header time) l
+
+-- the master, by any message
+abbrev pub master_begins : Watched → (line time : ℕ) → Contents → Body → Listening → Bool
+master_begins w line time m (bodies.Sync origin) l = sync_begins w line time m l
+master_begins w line time m body l = false
+
+-- ---- what came of each datagram
+-- what a datagram is, why it gave no report or what was measured at it, and whether it says that one began anew
+pub record Fate : Type 0 where
+  pub kind : Kind
+  pub why : Option Why
+  pub measured : Option Measured
+  pub slave_anew : Bool
+  pub master_anew : Bool
+
+-- who began anew, by what octets say
+abbrev pub slave_said : Watched → Reading → Listening → Bool
+slave_said w (Ok m) l = slave_begins w m m.body l
+slave_said w (Err refusal) l = false
+
+abbrev pub master_said : Watched → (line time : ℕ) → Reading → Listening → Bool
+master_said w line time (Ok m) l = master_begins w line time m m.body l
+master_said w line time (Err refusal) l = false
+
+-- what comes of a datagram that a port hears in this state, but for what is measured
+abbrev pub fate_in : Watched → Recorded → Listening → Fate
+fate_in w d l = record {
+  kind = kind_said d.said;
+  why = why_said w d.line d.time d.said l;
+  measured = None;
+  slave_anew = slave_said w d.said l;
+  master_anew = master_said w d.line d.time d.said l;
+}
+
+-- what comes of a row, after these that were heard
+abbrev pub fate_at : Watched → (earlier : List Row) → Row → Fate
+fate_at w earlier row =
+    record (fate_in w row.datagram (after_all w (datagrams earlier))) { measured = measured_at w earlier row }
+
+-- what comes of rows that are heard
+abbrev pub fates : Watched → List Row → List Fate
+fates w [] = []
+fates w (row ∷ earlier) = fate_at w earlier row ∷ fates w earlier
+
+-- what comes of a datagram that isn't heard, since it came too early
+abbrev pub early_fate : Recorded → Fate
+early_fate d = record {
+  kind = kind_said d.said;
+  why = Some (why_early d.said);
+  measured = None;
+  slave_anew = false;
+  master_anew = false;
+}
+
+-- the same of rows
+abbrev pub early_fates : List Row → List Fate
+early_fates rows = map (λ row. early_fate row.datagram) rows
+
+-- what comes of all lines: of those that are heard, and of the others, which came before them
+abbrev pub fates_in : Wanted → List Row → List Fate
+fates_in w rows = option_map_or (λ watched. fates watched (heard w rows)) (watched_in w (datagrams rows)) []
+    ++ early_fates (drop (length (heard w rows)) rows)
+
+-- ---- how many there are
+-- so many, as far as is counted
+abbrev pub at_most : ℕ → ℕ
+at_most count = min count (2 ^ 64 - 1)
+
+-- the count of a kind and a reason
+abbrev pub count_at : Counts → Kind → Why → ℕ
+count_at counts kind why = slice_index counts.unreported (place_of kind why)
+
+-- a datagram of this kind gave no report for this reason
+abbrev pub is_so : Kind → Why → Fate → Bool
+is_so kind why fate = option_map_or (λ own. place_of fate.kind own == place_of kind why) fate.why false
+
+-- how many of these there are of each
+pub record IsCounts (all : List Fate) (counts : Counts) : Type 0 where
+  pub reports : counts.reports ≡ at_most (count_by (λ fate. is_some fate.measured) all)
+  pub slave_anew : counts.slave_anew ≡ at_most (count_by (λ fate. fate.slave_anew) all)
+  pub master_anew : counts.master_anew ≡ at_most (count_by (λ fate. fate.master_anew) all)
+  pub unreported : (kind : Kind) (why : Why) → count_at counts kind why ≡ at_most (count_by (is_so kind why) all)
+  pub places : length counts.unreported ≡ 140
+
+-- counts are there, and are these
+abbrev pub AreCounted : List Fate → Option Counts → Type 0
+AreCounted all None = ⊥
+AreCounted all (Some counts) = IsCounts all counts
+
+-- where these octets are a whole recording of lines, this is counted of them
+abbrev pub CountsLines : Form → Wanted → List ℕ → Option Counts → Type 0
+CountsLines form w octets counts =
+    (read : lines.Recording) × (text : List ℕ) × TakesLines lines.measure_rules 1 (lines_of octets) (lines.begun form w) read text
+    × AreCounted (fates_in w read.rows) counts
+
+-- what is counted of an input of lines that was measured to its end
+abbrev pub CountsInput : Form → Wanted → List ℕ → Outcome → Option Counts → Type 0
+CountsInput form w octets (Lines (Ok count)) counts = CountsLines form w octets counts
+CountsInput form w octets (Lines (Err stop)) counts = ⊤
+CountsInput form w octets (Capture answer) counts = ⊤

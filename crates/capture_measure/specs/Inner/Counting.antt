@@ -1,0 +1,60 @@
+-- What is counted by one datagram more.
+use Rattle.std.specs.Prelude.{ℕ, ◌+◌, ◌-◌, ◌^◌, min, ◌==◌, Bool, true, false, List, [], slice_index, slice_set, if◌then◌else◌}
+use Rattle.std.specs.Prelude.{Option, Some, None}
+use Rattle.event_codec.specs.declared.message.Header.{Header}
+use Rattle.capture_measure.specs.declared.listener.Became.{Became}
+use Rattle.capture_measure.specs.declared.listener.Became.TheVariants.{Heard, HeardAnew, HeardBefore, Asked, Repeated, Anew, Foreign}
+use Rattle.capture_measure.specs.declared.measuring.Stage.{Stage}
+use Rattle.capture_measure.specs.declared.measuring.Stage.TheVariants as stages
+use Rattle.capture_measure.specs.declared.tally.Counts.{Counts}
+use Rattle.capture_measure.specs.declared.tally.Kind.{Kind}
+use Rattle.capture_measure.specs.declared.tally.Why.{Why}
+use Rattle.capture_measure.specs.declared.tally.Why.TheVariants as whys
+use Rattle.capture_measure.specs.Counts.{place_of, why_answered, Fate}
+
+-- one more, as far as is counted
+abbrev pub with_one : ℕ → ℕ
+with_one count = min (count + 1) (2 ^ 64 - 1)
+
+-- one more of a kind that gave no report for a reason
+abbrev pub with_unreported : Kind → Why → Counts → Counts
+with_unreported kind why counts = record counts {
+  unreported = slice_set counts.unreported (place_of kind why)
+      (with_one (slice_index counts.unreported (place_of kind why)));
+}
+
+-- the same, where there is a reason
+abbrev pub with_why : Kind → Option Why → Counts → Counts
+with_why kind None counts = counts
+with_why kind (Some why) counts = with_unreported kind why counts
+
+-- the slave or the master began anew
+abbrev pub with_anew : Became → Counts → Counts
+with_anew Anew counts = record counts { slave_anew = with_one counts.slave_anew }
+with_anew (HeardAnew heard) counts = record counts { master_anew = with_one counts.master_anew }
+with_anew _ counts = counts
+
+-- why a message gave no report of which this became in this domain
+abbrev pub why_by : (domain : ℕ) → Header → Became → Option Why
+why_by domain header (Heard heard) = why_answered heard
+why_by domain header (HeardAnew heard) = why_answered heard
+why_by domain header HeardBefore = Some whys.Before
+why_by domain header Asked = Some whys.OfSlave
+why_by domain header Anew = Some whys.OfSlave
+why_by domain header Repeated = Some whys.Again
+why_by domain header Foreign = Some (if header.domain == domain then whys.OtherSlave else whys.OtherDomain)
+
+-- who began anew, by what became of a message
+abbrev pub is_slave_anew : Became → Bool
+is_slave_anew Anew = true
+is_slave_anew _ = false
+
+abbrev pub is_master_anew : Became → Bool
+is_master_anew (HeardAnew heard) = true
+is_master_anew _ = false
+
+-- what stays counted of the lines before, once it is known whom to watch: nothing where these were kept, and are heard
+abbrev pub stays : Stage → List Fate → List Fate
+stays (stages.Kept kept) all = []
+stays stages.Passed all = all
+stays (stages.Hearing listener) all = all
