@@ -19,7 +19,7 @@ use Rattle.capture_measure.specs.declared.input.Outcome.TheVariants as outcomes
 use Rattle.capture_measure.specs.Measure.{Recording, measure_rules}
 use Rattle.capture_measure.specs.Capture.{Capture, capture_rules}
 use Rattle.capture_measure.specs.Inner.Ended.{ended_rules, capture_ended_rules}
-use Rattle.capture_measure.specs.Inner.Outcomes.{LinesTell, LinesCount, PacketsTell}
+use Rattle.capture_measure.specs.Inner.Outcomes.{LinesTell, LinesCount, PacketsTell, PacketsCount}
 
 -- ---- lines
 took : (number : ℕ) (those : List (List ℕ)) (r read : Recording) (text : List ℕ)
@@ -123,7 +123,7 @@ capture_ended c octets left before after ended all = record {
   text = all.text;
   taken = packets_taken c octets all.parts [] all.state all.text all.taken;
   last = all.last;
-  ends = (all.ends.0, all.ends.2);
+  ends = (all.ends.0, all.ends.3);
   output = all.output;
   input = all.input;
 }
@@ -158,6 +158,17 @@ capture_tells c octets left before after ended all = (
   all.text,
   packets_taken c octets all.parts [] all.state all.text all.taken,
   all.ends.1,
+)
+
+pub capture_counts : (c : Capture) (octets : List ℕ) (left before after : Option (List ℕ)) (ended : CaptureEnded)
+    → packets.AnswersCapture capture_ended_rules c octets left before after ended
+    → PacketsCount c octets (outcomes.Capture (Ok ended.packets)) ended.counts
+capture_counts c octets left before after ended all = (
+  all.parts,
+  all.state,
+  all.text,
+  packets_taken c octets all.parts [] all.state all.text all.taken,
+  all.ends.2,
 )
 
 pub capture_failed : {R W : Type 0} (what : CaptureCause LineFault) (input input' : Counted R) (output output' : Counted W)

@@ -18,10 +18,11 @@ use Rattle.capture_measure.specs.declared.watch.Wanted.{Wanted}
 use Rattle.capture_measure.specs.Measure.{begun, head_text}
 use Rattle.capture_measure.specs.Capture.{capture_begun}
 use Rattle.capture_measure.specs.Input.{IsOutcome}
-use Rattle.capture_measure.specs.Inner.Outcomes.{LinesAnswer, PacketsAnswer, LinesTell, LinesCount, PacketsTell, IsOfCapture}
+use Rattle.capture_measure.specs.Inner.Outcomes.{LinesAnswer, PacketsAnswer, LinesTell, LinesCount, PacketsTell, PacketsCount}
 use Rattle.capture_measure.specs.declared.tally.Counts.{Counts}
 use Rattle.capture_measure.specs.declared.watch.Whom.{Whom}
-use Rattle.capture_measure.specs.Counts.{fates_in, AreCounted, CountsInput}
+use Rattle.capture_measure.specs.Chosen.{chosen}
+use Rattle.capture_measure.specs.Counts.{fates_in, AreCounted, AreCaptured, CountsInput}
 use Rattle.capture_measure.specs.Row.{datagrams}
 use Rattle.capture_measure.specs.Summary.{whom_in, capture_whom, TellsWhom}
 use Rattle.capture_measure.proofs.Exact as exact
@@ -184,11 +185,27 @@ lined_counts form w all rest first outcome counts read are told = λ octets know
     lines_count form w octets outcome counts
     (subst (λ (o : List ℕ). LinesCount (begun form w) o outcome counts) (sym is.split) (told behind is.is_left))
 
--- nothing is said of a capture
-pub captured_counts : (form : Form) (w : Wanted) (octets : List ℕ) (outcome : Outcome) (counts : Option Counts)
-    → IsOfCapture outcome → CountsInput form w octets outcome counts
-captured_counts form w octets (Lines answer) counts is = absurd is
-captured_counts form w octets (Capture answer) counts is = tt
+packets_count : (form : Form) (w : Wanted) (octets : List ℕ) (outcome : Outcome) (counts : Option Counts)
+    → PacketsCount (capture_begun form w) octets outcome counts → CountsInput form w octets outcome counts
+packets_count form w octets (Lines answer) counts told = absurd told
+packets_count form w octets (Capture (Ok count)) counts (parts, read, text, has, is) = (
+  parts,
+  read,
+  text,
+  has,
+  subst (λ (v : Wanted). AreCaptured v (chosen v read.rows) read.rows counts)
+      (exact_capture.read_on form w (packets_of parts) read text has.taken).wanted is,
+)
+packets_count form w octets (Capture (Err stop)) counts told = tt
+
+pub captured_counts : (form : Form) (w : Wanted) (all rest : Option (List ℕ)) (first : List ℕ) (outcome : Outcome)
+    (counts : Option Counts) → Consumes all rest first → AreEnough first rest
+    → ForSome rest (λ octets. PacketsCount (capture_begun form w) (first ++ octets) outcome counts)
+    → ForSome all (λ octets. CountsInput form w octets outcome counts)
+captured_counts form w all rest first outcome counts read are told = λ octets known.
+    let (behind, is) = is_begun all rest first octets read are known in
+    packets_count form w octets outcome counts
+    (subst (λ (o : List ℕ). PacketsCount (capture_begun form w) o outcome counts) (sym is.split) (told behind is.is_left))
 
 pub captured_whom : (form : Form) (w : Wanted) (all rest : Option (List ℕ)) (first : List ℕ) (outcome : Outcome)
     (whom : Option Whom) → Consumes all rest first → AreEnough first rest

@@ -19,6 +19,7 @@ pub mod Readings
 pub mod Reported
 pub mod Inputs
 pub mod Interfaces
+pub mod CaptureFates
 pub mod Chosen
 pub mod Recordings
 pub mod Rows

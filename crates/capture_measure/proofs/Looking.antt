@@ -32,6 +32,8 @@ use Rattle.capture_measure.proofs.Watches.{whom_known, whom_stays}
 use Rattle.capture_measure.specs.Inner.Capturing.{IsCapturing, IsCaptureStage, IsHearingAt, AddsRow}
 use Rattle.capture_measure.specs.Inner.Listener.{IsListener}
 use Rattle.capture_measure.specs.Inner.Recordings.{interface_in, AreKeptRows, AreRecordings, BeginsWith, IsFoundAt, IsNoticed}
+use Rattle.capture_measure.specs.Counts.{early_at, IsCounts}
+use Rattle.capture_measure.proofs.CaptureFates.{none_so_far}
 use Rattle.capture_measure.proofs.KeptRows.{one_there}
 use Rattle.capture_measure.proofs.Chosen.{chosen-stays, capture-stays, heard-known, measured-more, measured-other}
 use Rattle.capture_measure.proofs.Chosen.{chosen-after, unlooked, unknown, known_there, capture-first, heard-first, measured-unknown, where_met}
@@ -41,13 +43,14 @@ use Rattle.capture_measure.proofs.Goes.{texts-append, until_whole}
 pub still_looking : (task : CaptureMeasuring) (k : Capture) (r : InterfaceRow) (count : ℕ) → task.reports.reports.form ≡ k.form
     → task.wanted ≡ k.wanted → task.stage ≡ Looking count → count ≡ min (length k.rows + 1) kept_most
     → chosen k.wanted (r ∷ k.rows) ≡ None → AreRecordings k.wanted (r ∷ k.rows) task.recordings.recordings.items
-    → IsCapturing task (with_packet r k)
-still_looking task k r count form wanted stage counted none are = record {
+    → IsCounts [] task.reports.reports.tally.counts → IsCapturing task (with_packet r k)
+still_looking task k r count form wanted stage counted none are nothing = record {
   form = form;
   wanted = wanted;
   stage = subst (IsCaptureStage k.wanted (r ∷ k.rows) task.recordings.recordings.items) (sym stage) (none, are, omega (arith, counted));
   whom = ap (λ (s : Stage). whom_at s task.recordings.recordings.items) stage
       ∙ sym (ap (option_map (λ i. whom_in k.wanted (datagrams (rows_at i (r ∷ k.rows))))) none);
+  counts = none_so_far k.wanted (r ∷ k.rows) task.reports.reports.tally.counts none nothing;
 }
 
 -- what one more row adds, whatever it is
@@ -69,6 +72,11 @@ module _ (w : Wanted) (rows : List InterfaceRow) (r : InterfaceRow) (recordings 
   pub noticed_there : (d : Recording) → IsNoticed w (datagrams (rows_at r.interface (r ∷ rows))) (get_or recordings place d)
   noticed_there d = subst (λ (i : InterfaceOf). IsNoticed w (datagrams (rows_at i (r ∷ rows))) (get_or recordings place d)) (there d)
       (are.each place d within).noticed
+
+  pub early_there : (d : Recording)
+      → IsCounts (early_at w (rows_at r.interface (r ∷ rows))) (get_or recordings place d).early.counts
+  early_there d = subst (λ (i : InterfaceOf). IsCounts (early_at w (rows_at i (r ∷ rows))) (get_or recordings place d).early.counts)
+      (there d) (are.each place d within).early
 
   pub kept_there : (d : Recording) → length rows < kept_most
       → AreKeptRows [] (get_or recordings place d).kept.items (rows_at r.interface (r ∷ rows))

@@ -25,6 +25,7 @@ use Rattle.capture_measure.specs.Interfaces.{InterfaceRow, is_same_interface, ro
 use Rattle.capture_measure.specs.Interfaces.{interfaces_most}
 use Rattle.capture_measure.specs.Chosen.{tells, is_domain_met, is_port_met}
 use Rattle.capture_measure.specs.Capture.{IsDatagramRow}
+use Rattle.capture_measure.specs.Counts.{early_at, IsCounts}
 use Rattle.capture_measure.specs.Inner.Recordings.{interface_in, IsMet, IsNoticed, IsFresh, AreKeptRows, IsRecording, AreRecordings}
 use Rattle.capture_measure.specs.Inner.Recordings.{HasAdded, IsFoundAt, KeepsMore}
 use Rattle.capture_measure.proofs.Interfaces.{AreDistinct, distinct_in, not_among, no_rows, same_interface}
@@ -132,17 +133,20 @@ IsRecording-other w rows r x other is =
     let same = sym (same_rows (interface_in x) r rows other) in record {
       noticed = subst (λ (rs : List Row). IsNoticed w (datagrams rs) x) same is.noticed;
       kept = λ few. subst (AreKeptRows [] x.kept.items) same (is.kept (omega (arith, few)));
+      early = subst (λ (rs : List Row). IsCounts (early_at w rs) x.early.counts) same is.early;
     }
 
 pub IsRecording-there : (w : Wanted) (rows : List InterfaceRow) (r : InterfaceRow) (interface : InterfaceOf) (x : Recording)
     → interface ≡ r.interface → interface_in x ≡ interface
     → IsNoticed w (r.row.datagram ∷ datagrams (rows_at interface rows)) x
-    → (length rows + 1 ≤ kept_most → AreKeptRows [] x.kept.items (r.row ∷ rows_at interface rows)) → IsRecording w (r ∷ rows) x
-IsRecording-there w rows r interface x there is noticed kept =
+    → (length rows + 1 ≤ kept_most → AreKeptRows [] x.kept.items (r.row ∷ rows_at interface rows))
+    → IsCounts (early_at w (r.row ∷ rows_at interface rows)) x.early.counts → IsRecording w (r ∷ rows) x
+IsRecording-there w rows r interface x there is noticed kept early =
     let same : r.row ∷ rows_at interface rows ≡ rows_at (interface_in x) (r ∷ rows) =
     sym (ap (λ (i : InterfaceOf). rows_at i (r ∷ rows)) is ∙ more_rows interface r rows there) in record {
       noticed = subst (λ (rs : List Row). IsNoticed w (datagrams rs) x) same noticed;
       kept = λ few. subst (AreKeptRows [] x.kept.items) same (kept (omega (arith, few)));
+      early = subst (λ (rs : List Row). IsCounts (early_at w rs) x.early.counts) same early;
     }
 
 -- the others are at other interfaces
@@ -201,6 +205,7 @@ fresh_recording w rows interface x fresh none =
     let nothing : [] ≡ rows_at (interface_in x) rows = sym (ap (λ (i : InterfaceOf). rows_at i rows) fresh.is_at ∙ none) in record {
       noticed = subst (λ (rs : List Row). IsNoticed w (datagrams rs) x) nothing fresh.noticed;
       kept = λ few. subst (λ (kept : List Kept). AreKeptRows [] kept (rows_at (interface_in x) rows)) (sym fresh.kept) (sym nothing);
+      early = subst (λ (rs : List Row). IsCounts (early_at w rs) x.early.counts) nothing fresh.early;
     }
 
 pub each_added : (w : Wanted) (rows : List InterfaceRow) (interface : InterfaceOf) (found : Option ℕ) (old new : List Recording)
@@ -246,9 +251,11 @@ pub added_taken : (w : Wanted) (rows : List InterfaceRow) (r : InterfaceRow) (pl
     → AreRecordings w rows old → HasAdded w r.interface (Some place) old added → was ≡ get_or added place was
     → interface_in x ≡ interface_in was → ((ds : List Recorded) → IsNoticed w ds was → IsNoticed w (r.row.datagram ∷ ds) x)
     → (length rows + 1 ≤ kept_most → (rs : List Row) → AreKeptRows [] was.kept.items rs → AreKeptRows [] x.kept.items (r.row ∷ rs))
+    → ((rs : List Row) → IsNoticed w (datagrams rs) was → IsCounts (early_at w rs) was.early.counts
+    → IsCounts (early_at w (r.row ∷ rs)) x.early.counts)
     → AreRecordings w (r ∷ rows) (slice_set added place x)
     × IsFoundAt r.interface (interfaces_in (r ∷ rows)) (Some place) (slice_set added place x)
-added_taken w rows r place old added was x are has at is noticed kept =
+added_taken w rows r place old added was x are has at is noticed kept early =
     let (among, within, there) = has.found_at in
     let all : map interface_in added ≡ interfaces_in (r ∷ rows) = interfaces_added w rows r (Some place) old added are has in
     let each = each_added w rows r.interface (Some place) old added are has in
@@ -256,7 +263,8 @@ added_taken w rows r place old added was x are has at is noticed kept =
     let here : interface_in was ≡ r.interface = ap interface_in at ∙ there was in
     let new = IsRecording-there w rows r (interface_in was) x here is
     (noticed (datagrams (rows_at (interface_in was) rows)) stood.noticed)
-    (λ few. kept few (rows_at (interface_in was) rows) (stood.kept (omega (arith, few)))) in (
+    (λ few. kept few (rows_at (interface_in was) rows) (stood.kept (omega (arith, few))))
+    (early (rows_at (interface_in was) rows) stood.noticed stood.early) in (
       taken_there w rows r added place x all within there (is ∙ here) each new,
       (
         ap (is_among r.interface) (sym all) ∙ among,

@@ -1,6 +1,6 @@
 -- A worked capture of two interfaces, at one of which alone a slave asks: which is measured, which of its rows are heard, and what
 -- is written of them.
-use Rattle.std.proofs.Common.{◌≡◌, refl, List, [], ◌∷◌, codes, Some, None}
+use Rattle.std.proofs.Common.{◌≡◌, refl, List, [], ◌∷◌, map, codes, Some, None}
 use Rattle.ptp_units.specs.Moment.{stamp}
 use Rattle.event_codec.specs.declared.message.Body.TheVariants.{Sync, DelayReq, DelayResp}
 use Rattle.ptp_units.specs.Nanoseconds.{decimals}
@@ -10,6 +10,8 @@ use Rattle.capture_measure.specs.declared.measuring.Form.TheVariants.{Table}
 use Rattle.capture_measure.specs.Row.{Row}
 use Rattle.capture_measure.specs.Interfaces.{InterfaceRow, interfaces_in}
 use Rattle.capture_measure.specs.Chosen.{chosen, heard_at, capture_written}
+use Rattle.capture_measure.specs.Counts.{capture_fates}
+use Rattle.capture_measure.specs.declared.tally.Why.TheVariants.{OfSlave, Alone}
 use Rattle.capture_measure.proofs.Worked.{port, said, a_line, anybody}
 
 -- an interface without a name, and one that has one
@@ -61,3 +63,7 @@ no_slave = refl
 row_written : capture_written Table anybody rows ≡ codes "8.1,1000,4000,response,8\n"
 unfolding digits decimals
 row_written = refl
+
+-- of those at the tap the Delay_Resp brings the report, and those at the first interface aren't counted
+why_not : map (λ fate. fate.why) (capture_fates anybody tap rows) ≡ None ∷ Some OfSlave ∷ Some Alone ∷ []
+why_not = refl

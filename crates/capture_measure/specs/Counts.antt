@@ -24,6 +24,9 @@ use Rattle.slave_port.specs.declared.reason.Reason.TheVariants as reasons
 use Rattle.slave_port.specs.History.{Call, Event, next_number}
 use Rattle.text_lines.specs.Lines.{lines_of}
 use Rattle.text_lines.specs.Task.{TakesLines}
+use Rattle.capture_file.specs.Packet.{InterfaceOf}
+use Rattle.capture_file.specs.Parts.{Part}
+use Rattle.capture_file.specs.Task as packets
 use Rattle.capture_model.specs.declared.watched.Watched.{Watched}
 use Rattle.capture_model.specs.Recorded.{Recorded}
 use Rattle.capture_model.specs.Listening.{Listening, setup_in, table_capacity, is_of, is_stale, answer_in, arrival_of, answered}
@@ -41,7 +44,10 @@ use Rattle.capture_measure.specs.declared.watch.Wanted.{Wanted}
 use Rattle.capture_measure.specs.Watch.{watched_in}
 use Rattle.capture_measure.specs.Row.{Row, datagrams, heard}
 use Rattle.capture_measure.specs.Measured.{measured_at}
+use Rattle.capture_measure.specs.Interfaces.{InterfaceRow, rows_at}
+use Rattle.capture_measure.specs.Chosen.{chosen, heard_at, watched_at, capture_watched}
 use Rattle.capture_measure.specs.Measure as lines
+use Rattle.capture_measure.specs.Capture as captures
 
 -- the places of kinds and of reasons, in the order in which they are told
 abbrev pub kind_number : Kind → ℕ
@@ -258,6 +264,20 @@ abbrev pub fates_in : Wanted → List Row → List Fate
 fates_in w rows = option_map_or (λ watched. fates watched (heard w rows)) (watched_in w (datagrams rows)) []
     ++ early_fates (drop (length (heard w rows)) rows)
 
+-- of rows at an interface those by which it isn't known yet whom they are of, as one that comes too early
+abbrev pub early_with : (known : Option Watched) → Recorded → List Fate → List Fate
+early_with None d all = early_fate d ∷ all
+early_with (Some watched) d all = all
+
+abbrev pub early_at : Wanted → List Row → List Fate
+early_at w [] = []
+early_at w (row ∷ earlier) = early_with (watched_at w (datagrams (row ∷ earlier))) row.datagram (early_at w earlier)
+
+-- what comes of the rows of a capture at the interface that is measured: of those that are heard, and of those before them
+abbrev pub capture_fates : Wanted → InterfaceOf → List InterfaceRow → List Fate
+capture_fates w interface rows = option_map_or (λ watched. fates watched (heard_at w rows)) (capture_watched w rows) []
+    ++ early_at w (drop (length (heard_at w rows)) (rows_at interface rows))
+
 -- ---- how many there are
 -- so many, as far as is counted
 abbrev pub at_most : ℕ → ℕ
@@ -290,8 +310,21 @@ CountsLines form w octets counts =
     (read : lines.Recording) × (text : List ℕ) × TakesLines lines.measure_rules 1 (lines_of octets) (lines.begun form w) read text
     × AreCounted (fates_in w read.rows) counts
 
--- what is counted of an input of lines that was measured to its end
+-- what is counted of a capture, at the interface that is measured, once that is known
+abbrev pub AreCaptured : Wanted → (measured : Option InterfaceOf) → List InterfaceRow → Option Counts → Type 0
+AreCaptured w None rows counts = counts ≡ None
+AreCaptured w (Some interface) rows counts = AreCounted (capture_fates w interface rows) counts
+
+-- and where these octets are a whole capture
+abbrev pub CountsPackets : Form → Wanted → List ℕ → Option Counts → Type 0
+CountsPackets form w octets counts =
+    (parts : List Part) × (read : captures.Capture) × (text : List ℕ)
+    × packets.HasTaken captures.capture_rules (captures.capture_begun form w) octets parts [] read text
+    × AreCaptured w (chosen w read.rows) read.rows counts
+
+-- what is counted of an input that was measured to its end
 abbrev pub CountsInput : Form → Wanted → List ℕ → Outcome → Option Counts → Type 0
 CountsInput form w octets (Lines (Ok count)) counts = CountsLines form w octets counts
 CountsInput form w octets (Lines (Err stop)) counts = ⊤
-CountsInput form w octets (Capture answer) counts = ⊤
+CountsInput form w octets (Capture (Ok count)) counts = CountsPackets form w octets counts
+CountsInput form w octets (Capture (Err stop)) counts = ⊤

@@ -12,7 +12,7 @@ ghost use Rattle.capture_measure.specs.Summary.{TellsWhom};
 ghost use Rattle.capture_measure.specs.Counts.{CountsInput};
 ghost use Rattle.capture_measure.specs.Inner.Capturing.{IsCapturing};
 ghost use Rattle.capture_measure.specs.Inner.Measuring.{IsMeasuring};
-ghost use Rattle.capture_measure.specs.Inner.Outcomes.{LinesAnswer, PacketsAnswer, LinesTell, LinesCount, PacketsTell, IsOfCapture};
+ghost use Rattle.capture_measure.specs.Inner.Outcomes.{LinesAnswer, PacketsAnswer, LinesTell, LinesCount, PacketsTell, PacketsCount};
 
 use crate::measuring::{Form, Measuring, write_head};
 use crate::packets::CaptureMeasuring;
@@ -172,13 +172,14 @@ fn measure_packets<R: Read, W: Write>(
         (W.contents (device_of output.old)) (W.contents (device_of output.new)) result.0) }
     ensures whom { (c : Capture) → IsCapturing capture c → ForSome (R.remaining (device_of input.old)) (λ octets.
         PacketsTell c (start.now ++ octets) result.0 result.1.whom) }
-    ensures captured { IsOfCapture result.0 }
+    ensures counts { (c : Capture) → IsCapturing capture c → ForSome (R.remaining (device_of input.old)) (λ octets.
+        PacketsCount c (start.now ++ octets) result.0 result.1.counts) }
     ensures failures { OutcomeFailed result.0 input.old input.new output.old output.new }
 {
     match answer_packets_behind(alloc, start, &mut capture, input, output) {
         Ok(ended) => {
             let whom = ended.whom;
-            let counts = capture.counts();
+            let counts = ended.counts;
             let of = Measured::Capture(capture);
             (
                 Outcome::Capture(Ok(ended.packets)),

@@ -1,6 +1,6 @@
 //! A capture that is measured packet by packet.
 
-ghost use Rattle.std.specs.Prelude.{◌≡◌, ◌∷◌, ◌<◌, ℕ, List, [], length, MatchResult, OnOk, ⊤, option_to_list};
+ghost use Rattle.std.specs.Prelude.{◌≡◌, ◌∷◌, ◌++◌, ◌<◌, ℕ, List, [], length, get_or, MatchResult, OnOk, ⊤, option_to_list, if◌then◌else◌};
 ghost use Rattle.std.specs.String.{string_bytes};
 ghost use Rattle.std.specs.Io.KnownBytes.{Appends};
 ghost use Rattle.datagram_text.specs.Shown.{stamp_text};
@@ -13,6 +13,8 @@ ghost use Rattle.capture_measure.specs.Row.{Row, datagrams};
 ghost use Rattle.capture_measure.specs.Measured.{measured_at, measurements};
 ghost use Rattle.capture_measure.specs.Interfaces.{InterfaceRow};
 ghost use Rattle.capture_measure.specs.Capture.{Capture, capture_begun, IsDatagramRow, TakesPacket, StopsAtPacket};
+ghost use Rattle.capture_measure.specs.Counts.{Fate, fate_at, fates, IsCounts};
+ghost use Rattle.capture_measure.specs.Inner.Counting.{counts_at};
 ghost use Rattle.capture_measure.specs.Inner.Hearing.{recorded_of, IsOfOutput, Goes};
 ghost use Rattle.capture_measure.specs.Inner.Listener.{IsListener};
 ghost use Rattle.capture_measure.specs.Inner.Recordings.{row_at, AreKeptRows, BeginsWith};
@@ -22,7 +24,7 @@ ghost use Rattle.capture_measure.specs.Inner.Capturing.{IsCapturing, IsLooking, 
 use crate::interface_counts::InterfaceCounts;
 use crate::listener::Listener;
 use crate::measuring::Form;
-use crate::recording::{Kept, Recordings, datagram_of};
+use crate::recording::{Kept, Recording, Recordings, datagram_of};
 use crate::reports::{Datagram, Reports};
 use crate::tally::Counts;
 use crate::watch::{Wanted, Whom};
@@ -79,6 +81,9 @@ impl PacketReports {
             → OnOk result (IsListener watched listener.new (after_all watched (datagrams (row_at time datagram.now ∷ earlier))))
             × Goes self.old.reports.form result (option_to_list (measured_at watched earlier (row_at time datagram.now)))
             (W.contents (device_of output.old)) (W.contents (device_of output.new)) }
+        ensures counted { (watched : Watched) (earlier : List Row) (all : List Fate)
+            → IsListener watched listener.old (after_all watched (datagrams earlier)) → IsCounts all self.old.reports.tally.counts
+            → OnOk result (IsCounts (fate_at watched earlier (row_at time datagram.now) ∷ all) self.new.reports.tally.counts) }
         ensures of_output { MatchResult result (λ _. ⊤) IsOfOutput }
         ensures form { self.new.reports.form ≡ self.old.reports.form }
         ensures failures { MatchResult result
@@ -105,6 +110,9 @@ impl PacketReports {
             → OnOk result (IsListener watched listener.new (after_all watched (datagrams rows)))
             × Goes self.old.reports.form result (measurements watched rows)
             (W.contents (device_of output.old)) (W.contents (device_of output.new)) }
+        ensures counted { (watched : Watched) (rows : List Row) → AreKeptRows [] kept.now rows
+            → IsListener watched listener.old (after_all watched []) → IsCounts [] self.old.reports.tally.counts
+            → OnOk result (IsCounts (fates watched rows) self.new.reports.tally.counts) }
         ensures of_output { MatchResult result (λ _. ⊤) IsOfOutput }
         ensures form { self.new.reports.form ≡ self.old.reports.form }
         ensures failures { MatchResult result
@@ -126,6 +134,8 @@ pub(crate) struct CaptureEnded {
     pub(crate) packets: u64,
     /// Whom those at the interface that is measured are of; None where that isn't known.
     pub(crate) whom: Option<Whom>,
+    /// What was counted of them.
+    pub(crate) counts: Option<Counts>,
 }
 
 /// Measures each packet of a capture.
@@ -170,14 +180,19 @@ impl PacketTask for CaptureMeasuring {
         }
     }
 
-    /// How many packets there were, and whom those are of that are measured.
+    /// How many packets there were, whom those are of that are measured, and what was counted of these.
     fn finish<W: Write>(
         &mut self,
         packets: u64,
         _output: &mut Counted<W>,
     ) -> Result<CaptureEnded, LineFault> {
         let whom = self.whom();
-        Ok(CaptureEnded { packets, whom })
+        let counts = self.counts();
+        Ok(CaptureEnded {
+            packets,
+            whom,
+            counts,
+        })
     }
 }
 
@@ -319,6 +334,11 @@ impl CaptureMeasuring {
             × Goes self.old.reports.reports.form result (measurements watched rows)
             (W.contents (device_of output.old)) (W.contents (device_of output.new)) }
         ensures form { self.new.reports.reports.form ≡ self.old.reports.reports.form }
+        ensures counted { (rows : List Row) (early : List Fate)
+            → BeginsWith is_kept self.old.recordings.recordings.items place (row_at time datagram.now) rows
+            → IsCounts [] self.old.reports.reports.tally.counts
+            → ((d : Recording) → IsCounts early (get_or self.old.recordings.recordings.items place d).early.counts)
+            → OnOk result (IsCounts (fates watched rows ++ (if is_kept then [] else early)) self.new.reports.reports.tally.counts) }
         ensures wanted { self.new.wanted ≡ self.old.wanted }
         ensures recordings { self.new.recordings ≡ self.old.recordings }
         ensures failures { MatchResult result
@@ -350,7 +370,9 @@ impl CaptureMeasuring {
     }
 
     /// What was counted of the packets that are measured, where these are known.
-    pub(crate) fn counts(&self) -> Option<Counts> {
+    pub(crate) fn counts(&self) -> Option<Counts>
+        ensures { result ≡ counts_at self.now.stage self.now.reports.reports.tally.counts }
+    {
         match &self.stage {
             Stage::Looking(_) => None,
             Stage::Hearing(..) => Some(self.reports.reports.tally.counts),

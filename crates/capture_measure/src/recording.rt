@@ -9,6 +9,7 @@ ghost use Rattle.capture_measure.specs.Row.{Row, kept_most};
 ghost use Rattle.capture_measure.specs.Interfaces.{InterfaceRow, interfaces_in, is_same_interface};
 ghost use Rattle.capture_measure.specs.Chosen.{watched_at};
 ghost use Rattle.capture_measure.specs.Capture.{IsDatagramRow};
+ghost use Rattle.capture_measure.specs.Counts.{Fate, early_with, IsCounts};
 ghost use Rattle.capture_measure.specs.Inner.Hearing.{recorded_of};
 ghost use Rattle.capture_measure.specs.Inner.Recordings.{interface_in, row_at, IsMet, IsNoticed, IsFresh, AreRecordings};
 ghost use Rattle.capture_measure.specs.Inner.Recordings.{IsFoundAt, HasAdded, KeepsMore};
@@ -130,6 +131,7 @@ impl Recording {
             → IsNoticed wanted.now (recorded_of datagram.now ∷ ds) self.new }
         ensures place { self.new.place ≡ self.old.place }
         ensures kept { self.new.kept ≡ self.old.kept }
+        ensures early { self.new.early ≡ self.old.early }
     {
         if let Ok(message) = &datagram.said {
             self.watch.notice(datagram.number, message);
@@ -150,10 +152,14 @@ impl Recording {
 
     /// Counts a datagram by which it isn't known yet whom its datagrams are of.
     fn count_early(&mut self, datagram: &Datagram<'_>)
-        ensures { self.new ≡ record self.old { early = self.new.early } }
+        ensures counted { (w : Wanted) (ds : List Recorded) (all : List Fate) → IsNoticed w ds self.old
+            → IsCounts all self.old.early.counts
+            → IsCounts (early_with (watched_at w ds) (recorded_of datagram.now) all) self.new.early.counts }
+        ensures others { self.new ≡ record self.old { early = self.new.early } }
     {
-        if self.watched().is_none() {
-            self.early.count_early(datagram);
+        match self.watched() {
+            Some(_) => {}
+            None => self.early.count_early(datagram),
         }
     }
 
@@ -297,6 +303,7 @@ impl Recordings {
     /// What came at the interface of this place before it was known whom to watch.
     pub(crate) fn early(&self, place: usize) -> Tally
         requires { place < length self.now.recordings.items }
+        ensures { (d : Recording) → result ≡ (get_or self.now.recordings.items place d).early }
     {
         self.recordings[place].early
     }

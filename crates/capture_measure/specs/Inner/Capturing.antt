@@ -1,5 +1,5 @@
 -- What is kept while a capture is measured.
-use Rattle.std.specs.Prelude.{◌≡◌, ℕ, ◌+◌, ◌<◌, nat_lt, Bool, min, ◌++◌, List, length, get_or, Some, None, Option, Result, OnOk}
+use Rattle.std.specs.Prelude.{◌≡◌, ℕ, ◌+◌, ◌<◌, nat_lt, Bool, min, ◌++◌, List, [], length, get_or, Some, None, Option, Result, OnOk}
 use Rattle.text_lines.specs.declared.line_fault.LineFault.{LineFault}
 use Rattle.capture_file.specs.declared.packet.Captured.{Captured}
 use Rattle.capture_file.specs.Packet.{interface_of}
@@ -17,6 +17,8 @@ use Rattle.capture_measure.specs.Interfaces.{InterfaceRow}
 use Rattle.capture_measure.specs.Chosen.{chosen, heard_at, capture_watched}
 use Rattle.capture_measure.specs.Capture.{Capture, measured_so_far, with_packet}
 use Rattle.capture_measure.specs.Summary.{capture_whom}
+use Rattle.capture_measure.specs.Counts.{IsCounts}
+use Rattle.capture_measure.specs.Inner.Counting.{CountsSoFar}
 use Rattle.capture_measure.specs.Inner.Ended.{whom_at}
 use Rattle.capture_measure.specs.Inner.Hearing.{Goes}
 use Rattle.capture_measure.specs.Inner.Listener.{IsListener}
@@ -44,6 +46,7 @@ pub record IsCapturing (task : CaptureMeasuring) (c : Capture) : Type 0 where
   pub wanted : task.wanted ≡ c.wanted
   pub stage : IsCaptureStage c.wanted c.rows task.recordings.recordings.items task.stage
   pub whom : whom_at task.stage task.recordings.recordings.items ≡ capture_whom c.wanted c.rows
+  pub counts : CountsSoFar c.wanted (chosen c.wanted c.rows) c.rows task.reports.reports.tally.counts
 
 -- A datagram comes by which it isn't known yet whom to watch. It was counted, and is kept where few came before.
 pub record IsLooking (task : CaptureMeasuring) (c : Capture) (is_kept : Bool) : Type 0 where
@@ -52,6 +55,7 @@ pub record IsLooking (task : CaptureMeasuring) (c : Capture) (is_kept : Bool) : 
   pub unchosen : chosen c.wanted c.rows ≡ None
   pub recordings : AreRecordings c.wanted c.rows task.recordings.recordings.items
   pub kept : is_kept ≡ nat_lt (length c.rows) kept_most
+  pub nothing : IsCounts [] task.reports.reports.tally.counts
   pub counted : (count : ℕ) × (task.stage ≡ Looking count) × (count ≡ min (length c.rows + 1) kept_most)
 
 -- the row of a datagram that a packet carries

@@ -2,15 +2,30 @@
 use Rattle.std.specs.Prelude.{ℕ, ◌+◌, ◌-◌, ◌^◌, min, ◌==◌, Bool, true, false, List, [], slice_index, slice_set, if◌then◌else◌}
 use Rattle.std.specs.Prelude.{Option, Some, None}
 use Rattle.event_codec.specs.declared.message.Header.{Header}
+use Rattle.capture_file.specs.Packet.{InterfaceOf}
 use Rattle.capture_measure.specs.declared.listener.Became.{Became}
 use Rattle.capture_measure.specs.declared.listener.Became.TheVariants.{Heard, HeardAnew, HeardBefore, Asked, Repeated, Anew, Foreign}
 use Rattle.capture_measure.specs.declared.measuring.Stage.{Stage}
 use Rattle.capture_measure.specs.declared.measuring.Stage.TheVariants as stages
+use Rattle.capture_measure.specs.declared.packets.Stage.{Stage as PacketStage}
+use Rattle.capture_measure.specs.declared.packets.Stage.TheVariants.{Looking, Hearing}
 use Rattle.capture_measure.specs.declared.tally.Counts.{Counts}
 use Rattle.capture_measure.specs.declared.tally.Kind.{Kind}
 use Rattle.capture_measure.specs.declared.tally.Why.{Why}
 use Rattle.capture_measure.specs.declared.tally.Why.TheVariants as whys
-use Rattle.capture_measure.specs.Counts.{place_of, why_answered, Fate}
+use Rattle.capture_measure.specs.declared.watch.Wanted.{Wanted}
+use Rattle.capture_measure.specs.Interfaces.{InterfaceRow}
+use Rattle.capture_measure.specs.Counts.{place_of, why_answered, Fate, capture_fates, IsCounts}
+
+-- what is counted of a capture so far: nothing until it is known which interface is measured
+abbrev pub CountsSoFar : Wanted → (measured : Option InterfaceOf) → List InterfaceRow → Counts → Type 0
+CountsSoFar w None rows counts = IsCounts [] counts
+CountsSoFar w (Some interface) rows counts = IsCounts (capture_fates w interface rows) counts
+
+-- what the end of a capture answers of it
+abbrev pub counts_at : PacketStage → Counts → Option Counts
+counts_at (Looking count) counts = None
+counts_at (Hearing place listener) counts = Some counts
 
 -- one more, as far as is counted
 abbrev pub with_one : ℕ → ℕ

@@ -14,7 +14,8 @@ use Rattle.capture_measure.specs.Row.{datagrams}
 use Rattle.capture_measure.specs.Measure.{Recording, measure_rules}
 use Rattle.capture_measure.specs.Capture.{Capture, capture_rules}
 use Rattle.capture_measure.specs.Summary.{whom_in, capture_whom}
-use Rattle.capture_measure.specs.Counts.{fates_in, IsCounts}
+use Rattle.capture_measure.specs.Counts.{fates_in, IsCounts, AreCaptured}
+use Rattle.capture_measure.specs.Chosen.{chosen}
 use Rattle.capture_measure.specs.Inner.Watching.{whom_of}
 
 -- the rules of lines, by which the end tells whom they are of, and what was counted of them
@@ -34,7 +35,8 @@ abbrev pub capture_ended_rules : PacketRules Capture CaptureEnded LineFault
 capture_ended_rules = record {
   Takes = capture_rules.Takes;
   Stops = capture_rules.Stops;
-  Ends = λ packets c answer out. (answer.packets ≡ packets) × (answer.whom ≡ capture_whom c.wanted c.rows) × (out ≡ []);
+  Ends = λ packets c answer out. (answer.packets ≡ packets) × (answer.whom ≡ capture_whom c.wanted c.rows)
+      × AreCaptured c.wanted (chosen c.wanted c.rows) c.rows answer.counts × (out ≡ []);
   StopsAtEnd = λ c fault out. ⊥;
   is_of_writer = is_write;
 }

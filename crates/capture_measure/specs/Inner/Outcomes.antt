@@ -11,7 +11,8 @@ use Rattle.capture_measure.specs.Capture as capture
 use Rattle.capture_measure.specs.Capture.{capture_rules}
 use Rattle.capture_measure.specs.declared.tally.Counts.{Counts}
 use Rattle.capture_measure.specs.declared.watch.Whom.{Whom}
-use Rattle.capture_measure.specs.Counts.{fates_in, AreCounted}
+use Rattle.capture_measure.specs.Counts.{fates_in, AreCounted, AreCaptured}
+use Rattle.capture_measure.specs.Chosen.{chosen}
 use Rattle.capture_measure.specs.Row.{datagrams}
 use Rattle.capture_measure.specs.Summary.{whom_in, capture_whom}
 
@@ -40,14 +41,17 @@ LinesCount r octets (Lines (Ok count)) counts =
 LinesCount r octets (Lines (Err stop)) counts = ⊤
 LinesCount r octets (Capture answer) counts = ⊥
 
--- it was a capture
-abbrev pub IsOfCapture : Outcome → Type 0
-IsOfCapture (Lines answer) = ⊥
-IsOfCapture (Capture answer) = ⊤
-
 abbrev pub PacketsTell : capture.Capture → List ℕ → Outcome → Option Whom → Type 0
 PacketsTell c octets (Lines answer) whom = ⊥
 PacketsTell c octets (Capture (Ok count)) whom =
     (parts : List Part) × (read : capture.Capture) × (text : List ℕ) × packets.HasTaken capture_rules c octets parts [] read text
     × (whom ≡ capture_whom read.wanted read.rows)
 PacketsTell c octets (Capture (Err stop)) whom = ⊤
+
+-- and this is counted of a capture
+abbrev pub PacketsCount : capture.Capture → List ℕ → Outcome → Option Counts → Type 0
+PacketsCount c octets (Lines answer) counts = ⊥
+PacketsCount c octets (Capture (Ok count)) counts =
+    (parts : List Part) × (read : capture.Capture) × (text : List ℕ) × packets.HasTaken capture_rules c octets parts [] read text
+    × AreCaptured read.wanted (chosen read.wanted read.rows) read.rows counts
+PacketsCount c octets (Capture (Err stop)) counts = ⊤

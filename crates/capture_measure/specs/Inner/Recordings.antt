@@ -18,6 +18,7 @@ use Rattle.capture_measure.specs.Row.{Row, datagrams, kept_most}
 use Rattle.capture_measure.specs.Interfaces.{InterfaceRow, rows_at, is_among, with_interface, interfaces_in, interfaces_most}
 use Rattle.capture_measure.specs.Chosen.{is_domain_met, is_port_met}
 use Rattle.capture_measure.specs.Capture.{IsDatagramRow}
+use Rattle.capture_measure.specs.Counts.{early_at, IsCounts}
 use Rattle.capture_measure.specs.Inner.Hearing.{recorded_of}
 use Rattle.capture_measure.specs.Inner.Watching.{IsWatch}
 
@@ -53,6 +54,7 @@ pub record IsFresh (w : Wanted) (interface : InterfaceOf) (recording : Recording
   pub is_at : interface_in recording ≡ interface
   pub noticed : IsNoticed w [] recording
   pub kept : recording.kept.items ≡ []
+  pub early : IsCounts [] recording.early.counts
 
 -- after these rows come those of what is kept up to those rows
 abbrev pub AreKeptRows : (earlier : List Row) → List Kept → List Row → Type 0
@@ -71,6 +73,7 @@ pub record IsRecording (w : Wanted) (rows : List InterfaceRow) (recording : Reco
   pub noticed : IsNoticed w (datagrams (rows_at (interface_in recording) rows)) recording
   pub kept : length rows ≤ kept_most
       → AreKeptRows [] recording.kept.items (rows_at (interface_in recording) rows)
+  pub early : IsCounts (early_at w (rows_at (interface_in recording) rows)) recording.early.counts
 
 -- what is known of all interfaces that are looked at
 pub record AreRecordings (w : Wanted) (rows : List InterfaceRow) (recordings : List Recording) : Type 0 where

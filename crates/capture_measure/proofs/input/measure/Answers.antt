@@ -47,8 +47,11 @@ returns-clause-whom g c =
     read first (rw c.octets-start.ensures.octets at told)
 
 pub returns-then-is_capture-clause-counts : goal.returns-then-is_capture-clause-counts
-returns-then-is_capture-clause-counts g c = λ octets known.
-    captured_counts c.args.form c.args.wanted.now octets c.measure_packets.result.0 _ c.measure_packets.ensures.captured
+returns-then-is_capture-clause-counts g c =
+    let (read, first) = c.in-Ok.ensures.read in
+    let told = c.measure_packets.ensures.counts (capture_begun c.args.form c.args.wanted.now) c.new-capture.ensures in
+    captured_counts c.args.form c.args.wanted.now _ _ (first_octets c.in-Ok.beginning) c.measure_packets.result.0
+    c.measure_packets.result.1.counts read first (rw c.octets-start.ensures.octets at told)
 
 pub returns-clause-counts : goal.returns-clause-counts
 returns-clause-counts g c =

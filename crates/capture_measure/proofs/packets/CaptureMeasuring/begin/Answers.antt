@@ -1,4 +1,5 @@
 use Rattle.std.proofs.Common.{◌≡◌, List, [], ◌∷◌, refl, sym, subst}
+use Rattle.std.proofs.lemmas.List.{append-nil}
 use Rattle.std.specs.Prelude.{option_to_list}
 use Rattle.std.proofs.lemmas.Result.{err_from_is_err_and}
 use Rattle.std.specs.Io.KnownBytes.{Appends}
@@ -7,6 +8,8 @@ use Rattle.capture_model.specs.Listening.{after_all}
 use Rattle.capture_measure.specs.declared.recording.Kept.{Kept}
 use Rattle.capture_measure.specs.Row.{Row, datagrams}
 use Rattle.capture_measure.specs.Measured.{texts_as, measured_at, measurements}
+use Rattle.capture_measure.specs.declared.tally.Tally.{Tally}
+use Rattle.capture_measure.specs.Counts.{Fate, fates, IsCounts}
 use Rattle.capture_measure.specs.Inner.Listener.{IsListener}
 use Rattle.capture_measure.specs.Inner.Recordings.{row_at, AreKeptRows}
 use Rattle.capture_measure.proofs.KeptRows.{those_kept, alone, one_there, until_alone, went_alone}
@@ -58,3 +61,23 @@ returns-clause-begun g c = λ rows begins.
           )
     ] in
     ((refl, heard.0), heard.1)
+
+pub returns-clause-counted : goal.returns-clause-counted
+returns-clause-counted g c = λ rows early begins so there.
+    let recordings = c.args.self.now.recordings.recordings.items in
+    let row : Row = row_at c.args.time c.args.datagram.now in
+    elim c.if-is_kept.branch [
+      | then-is_kept+in_ok-hear_kept w ↦
+          let kept = those_kept c.args.is_kept recordings c.args.place row rows w.if-is_kept.true begins in
+          rw (w.self-is, w.if-is_kept.true) (subst (λ (all : List Fate). IsCounts all w.hear_kept.new.self.reports.tally.counts)
+          (sym (append-nil (fates c.args.watched rows)))
+          (w.in_ok-hear_kept.ensures.counted c.args.watched rows
+          (one_there recordings c.args.place c.requires.place
+          (λ d. subst (λ (k : List Kept). AreKeptRows [] k rows) (sym (w.kept.ensures d)) (kept d))) c.new-listener.ensures so))
+      | else-is_kept+in_ok-hear w ↦
+          let same : rows ≡ row ∷ [] = alone c.args.is_kept recordings c.args.place row rows w.if-is_kept.false begins in
+          let own = one_there recordings c.args.place c.requires.place
+          (λ d. subst (λ (t : Tally). IsCounts early t.counts) (sym (w.early-self.ensures d)) (there d)) in
+          rw (w.self-is, w.if-is_kept.false, same)
+          (w.in_ok-hear.ensures.counted c.args.watched [] early c.new-listener.ensures own)
+    ]

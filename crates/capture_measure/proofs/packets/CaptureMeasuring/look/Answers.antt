@@ -20,7 +20,11 @@ use Rattle.capture_measure.proofs.Looking.{still_looking, adds_all, unlooked_sti
 use Rattle.capture_measure.proofs.Looking.{heard_now, began, whom_began}
 use Rattle.capture_measure.specs.Summary.{capture_whom}
 use Rattle.capture_measure.specs.Inner.Ended.{whom_at}
-use Rattle.capture_measure.proofs.Taken.{on_ok_then}
+use Rattle.capture_measure.specs.Counts.{Fate, early_at, IsCounts}
+use Rattle.capture_measure.proofs.CaptureFates.{so_far, first-fates}
+use Rattle.capture_measure.proofs.Interfaces.{same_interface}
+use Rattle.capture_measure.proofs.Looking.{early_there}
+use Rattle.capture_measure.proofs.Taken.{on_ok_both}
 use Rattle.capture_measure.proofs.packets.CaptureMeasuring.look.Goals as goal
 
 pub returns-in_err-found-clause-taken : goal.returns-in_err-found-clause-taken
@@ -38,7 +42,7 @@ returns-in_default-clause-taken g c = λ k at.
     let none : chosen k.wanted (r ∷ k.rows) ≡ None = unlooked_still k.wanted k.rows r at.unchosen
     (not_found r.interface (interfaces_in (r ∷ k.rows)) c.in_ok-found.found c.take.new.self.recordings.items found c.in_default.not-Some) in (
       still_looking _ k r at.counted.0 at.form at.wanted at.counted.1 at.counted.2 none
-          (subst (λ (w : Wanted). AreRecordings w (r ∷ k.rows) c.take.new.self.recordings.items) at.wanted are),
+          (subst (λ (w : Wanted). AreRecordings w (r ∷ k.rows) c.take.new.self.recordings.items) at.wanted are) at.nothing,
       [],
       measured-still k.wanted k.rows r at.unchosen none,
       Appends-nil _,
@@ -62,8 +66,11 @@ returns-in-Some-watched-clause-taken g c = λ k at.
     let heard : List Row = if c.args.is_kept then rows_at r.interface (r ∷ k.rows) else r.row ∷ [] in
     let same = heard_now k.wanted k.rows r c.args.is_kept at.unchosen is at.kept in
     let begun = c.begin.ensures.begun heard
-    (begins_with k.wanted k.rows r recordings c.in-Some.place are within there c.args.is_kept r.row at.kept refl) in (
-      on_ok_then c.begin.result (λ hearing. record {
+    (begins_with k.wanted k.rows r recordings c.in-Some.place are within there c.args.is_kept r.row at.kept refl) in
+    let counts = c.begin.ensures.counted heard (early_at k.wanted (rows_at r.interface (r ∷ k.rows)))
+    (begins_with k.wanted k.rows r recordings c.in-Some.place are within there c.args.is_kept r.row at.kept refl) at.nothing
+    (early_there k.wanted k.rows r recordings c.in-Some.place are within there) in (
+      on_ok_both c.begin.result (λ hearing counted. record {
         form = c.begin.ensures.form ∙ at.form;
         wanted = c.begin.ensures.wanted ∙ at.wanted;
         stage = subst (λ (it : Recordings). IsCaptureStage k.wanted (r ∷ k.rows) it.recordings.items c.begin.new.self.stage)
@@ -74,7 +81,12 @@ returns-in-Some-watched-clause-taken g c = λ k at.
             (sym c.begin.ensures.recordings)
             (whom_began k.wanted k.rows r recordings c.in-Some.place c.in-Some-watched.watched heard c.begin.new.self.stage are within there
             is hearing);
-      }) begun.0,
+        counts = so_far k.wanted (r ∷ k.rows) r.interface c.begin.new.self.reports.reports.tally.counts is
+            (subst (λ (all : List Fate). IsCounts all c.begin.new.self.reports.reports.tally.counts)
+            (sym (first-fates k.wanted r.interface k.rows r c.args.is_kept c.in-Some-watched.watched heard
+            ((same_interface r.interface r.interface).1 refl) known
+            (capture-first k.wanted k.rows r c.in-Some-watched.watched is known) refl same)) counted);
+      }) begun.0 counts,
       measurements c.in-Some-watched.watched heard,
       measured-first k.wanted k.rows r c.in-Some-watched.watched heard at.unchosen
           (capture-first k.wanted k.rows r c.in-Some-watched.watched is known) same,
@@ -97,7 +109,7 @@ returns-in-None-clause-taken g c = λ k at.
     sym (c.watched.ensures k.wanted (datagrams (rows_at r.interface (r ∷ k.rows))) d
     (noticed_there k.wanted k.rows r recordings c.in-Some.place are within there d)) ∙ c.in-None.is) in
     let none : chosen k.wanted (r ∷ k.rows) ≡ None = unknown_still k.wanted k.rows r at.unchosen not_known in (
-      still_looking _ k r at.counted.0 at.form at.wanted at.counted.1 at.counted.2 none are,
+      still_looking _ k r at.counted.0 at.form at.wanted at.counted.1 at.counted.2 none are at.nothing,
       [],
       measured-still k.wanted k.rows r at.unchosen none,
       Appends-nil _,

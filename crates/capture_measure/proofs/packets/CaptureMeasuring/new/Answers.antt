@@ -7,4 +7,5 @@ returns c = record {
   wanted = refl;
   stage = (refl, c.new.ensures c.args.wanted.now, refl);
   whom = refl;
+  counts = c.new-2.ensures.counted;
 }

@@ -47,7 +47,7 @@ returns-then-not-is_asked-clause-taken g c = λ k at.
     ∙ sym (says c.args.captured.now.interface _ c.args.self.now.wanted c.is_asked.result c.is_asked.ensures c.as_ref.ensures.value) ∙ c.if-not-is_asked.true in (
       k,
       [],
-      record { form = at.form; wanted = at.wanted; stage = at.stage; whom = at.whom },
+      record { form = at.form; wanted = at.wanted; stage = at.stage; whom = at.whom; counts = at.counts },
       inr (λ r row. absurd (cc (rw passed at row.0)), refl, refl),
       Appends-nil _,
     )
@@ -73,12 +73,12 @@ returns-clause-taken g c = λ k at.
           let (later, out, is, takes, appended) = taken_row {T = ⊤} (Ok tt) c.args.number (packet_of (packets.Captured c.args.captured.now))
           k r w.take_datagram.new.self _ _ (asked, w.in-Datagram.octets.now, w.in-Datagram.ensures.found, refl, w.datagram_of-datagram.ensures.row)
           (w.in_ok-take_datagram.ensures.taken k at) in
-          rw (w.self-is, w.output-is) (later, out, record { form = is.form; wanted = is.wanted; stage = is.stage; whom = is.whom }, takes, appended)
+          rw (w.self-is, w.output-is) (later, out, record { form = is.form; wanted = is.wanted; stage = is.stage; whom = is.whom; counts = is.counts }, takes, appended)
       | in_default w ↦
           rw (w.self-is, w.output-is) (
             k,
             [],
-            record { form = at.form; wanted = at.wanted; stage = at.stage; whom = at.whom },
+            record { form = at.form; wanted = at.wanted; stage = at.stage; whom = at.whom; counts = at.counts },
             inr (
               λ r row. carries_none c.find_datagram-found.result c.args.captured.now.link c.args.captured.now.octets.now row.1
                   c.find_datagram-found.ensures.only w.in_default.not-Datagram row.2,

@@ -1,4 +1,4 @@
-use Rattle.std.proofs.Common.{◌≡◌, ◌∙◌, ◌+◌, true, false, [], length, get_or, refl, sym, subst, arith}
+use Rattle.std.proofs.Common.{◌≡◌, ◌∙◌, ◌+◌, ◌∷◌, List, true, false, [], length, get_or, refl, sym, subst, arith}
 use Rattle.std.specs.Prelude.{option_to_list}
 use Rattle.std.proofs.KnownBytes.{Appends-nil}
 use Rattle.text_lines.specs.Counted.{device_of}
@@ -16,7 +16,10 @@ use Rattle.capture_measure.proofs.KeptRows.{one_there}
 use Rattle.capture_measure.specs.declared.packets.Stage.{Stage}
 use Rattle.capture_measure.specs.Summary.{capture_whom}
 use Rattle.capture_measure.specs.Inner.Ended.{whom_at}
-use Rattle.capture_measure.proofs.Taken.{on_ok_then}
+use Rattle.capture_measure.specs.Counts.{Fate, capture_fates, IsCounts}
+use Rattle.capture_measure.proofs.CaptureFates.{so_far, so_far_known, none_known, more-fates, other-fates}
+use Rattle.capture_measure.proofs.Chosen.{chosen-stays}
+use Rattle.capture_measure.proofs.Taken.{on_ok_then, on_ok_both}
 use Rattle.capture_measure.proofs.packets.CaptureMeasuring.take_datagram.Goals as goal
 use Rattle.capture_measure.proofs.packets.CaptureMeasuring.take_datagram.Goals.{then-is_kept, else-is_kept}
 
@@ -32,6 +35,7 @@ returns-after-is_kept-clause-taken g c = λ k at.
         unchosen = none;
         recordings = are;
         kept = few;
+        nothing = none_known k.wanted k.rows c.args.self.now.reports.reports.tally.counts none at.counts;
         counted = (c.in-Looking.count + 1, refl, omega (arith, counted, w.if-is_kept.true));
       })
       | else-is_kept w ↦ rw w.self-is (record {
@@ -40,6 +44,7 @@ returns-after-is_kept-clause-taken g c = λ k at.
         unchosen = none;
         recordings = are;
         kept = few;
+        nothing = none_known k.wanted k.rows c.args.self.now.reports.reports.tally.counts none at.counts;
         counted = (c.in-Looking.count, refl, omega (arith, counted, w.if-is_kept.false));
       })
     ])
@@ -57,15 +62,27 @@ returns-then-is_at-clause-taken g c = λ k at.
     let (watched, within, is, known, listens) = subst (IsCaptureStage k.wanted k.rows recordings) c.in-Hearing.is at.stage in
     let same : (d : Recording) → is_same_interface (interface_in (get_or recordings c.in-Hearing.place d)) r.interface ≡ true =
     λ d. sym (c.is_at.ensures d) ∙ c.if-is_at.true in
-    let heard = c.hear.ensures.heard watched (heard_at k.wanted k.rows) listens in (
-      on_ok_then c.hear.result (λ listens. record {
+    let heard = c.hear.ensures.heard watched (heard_at k.wanted k.rows) listens in
+    let before : (d : Recording) → IsCounts (capture_fates k.wanted (interface_in (get_or recordings c.in-Hearing.place d)) k.rows)
+    c.args.self.now.reports.reports.tally.counts =
+    λ d. so_far_known k.wanted k.rows (interface_in (get_or recordings c.in-Hearing.place d)) c.args.self.now.reports.reports.tally.counts
+    (is d) at.counts in
+    let counted = one_there recordings c.in-Hearing.place within (λ d. on_ok_then c.hear.result
+    (λ so. so_far k.wanted (r ∷ k.rows) (interface_in (get_or recordings c.in-Hearing.place d)) c.hear.new.self.reports.tally.counts
+    (chosen-stays k.wanted k.rows r (interface_in (get_or recordings c.in-Hearing.place d)) (is d))
+    (subst (λ (all : List Fate). IsCounts all c.hear.new.self.reports.tally.counts)
+    (sym (more-fates k.wanted (interface_in (get_or recordings c.in-Hearing.place d)) k.rows r watched (is d) known (same d))) so))
+    (c.hear.ensures.counted watched (heard_at k.wanted k.rows)
+    (capture_fates k.wanted (interface_in (get_or recordings c.in-Hearing.place d)) k.rows) listens (before d))) in (
+      on_ok_both c.hear.result (λ listens so. record {
         form = c.hear.ensures.form ∙ at.form;
         wanted = at.wanted;
         stage = hears_more k.wanted k.rows r recordings c.in-Hearing.place watched within is known c.hear.new.listener same listens;
         whom = subst (λ (s : Stage). whom_at s recordings ≡ capture_whom k.wanted k.rows) c.in-Hearing.is at.whom
             ∙ sym (one_there recordings c.in-Hearing.place within (λ d. capture_whom_stays k.wanted k.rows r
             (interface_in (get_or recordings c.in-Hearing.place d)) watched (is d) known));
-      }) heard.0,
+        counts = so;
+      }) heard.0 counted,
       option_to_list (measured_at watched (heard_at k.wanted k.rows) r.row),
       measures_more k.wanted k.rows r recordings c.in-Hearing.place watched within is known same,
       subst (λ (f : Form). Goes f c.hear.result (option_to_list (measured_at watched (heard_at k.wanted k.rows) r.row))
@@ -86,6 +103,14 @@ returns-else-is_at-clause-taken g c = λ k at.
         whom = subst (λ (s : Stage). whom_at s recordings ≡ capture_whom k.wanted k.rows) c.in-Hearing.is at.whom
             ∙ sym (one_there recordings c.in-Hearing.place within (λ d. capture_whom_stays k.wanted k.rows r
             (interface_in (get_or recordings c.in-Hearing.place d)) watched (is d) known));
+        counts = one_there recordings c.in-Hearing.place within (λ d.
+            so_far k.wanted (r ∷ k.rows) (interface_in (get_or recordings c.in-Hearing.place d))
+            c.args.self.now.reports.reports.tally.counts
+            (chosen-stays k.wanted k.rows r (interface_in (get_or recordings c.in-Hearing.place d)) (is d))
+            (subst (λ (all : List Fate). IsCounts all c.args.self.now.reports.reports.tally.counts)
+            (sym (other-fates k.wanted (interface_in (get_or recordings c.in-Hearing.place d)) k.rows r watched (is d) known (other d)))
+            (so_far_known k.wanted k.rows (interface_in (get_or recordings c.in-Hearing.place d))
+            c.args.self.now.reports.reports.tally.counts (is d) at.counts)));
       },
       [],
       measures_nothing k.wanted k.rows r recordings c.in-Hearing.place watched within is known other,

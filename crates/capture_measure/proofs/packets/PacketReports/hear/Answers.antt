@@ -1,4 +1,5 @@
-use Rattle.std.proofs.Common.{List, refl, sym, subst}
+use Rattle.std.proofs.Common.{◌∷◌, List, Some, None, refl, sym, subst}
+use Rattle.std.specs.Prelude.{OnOk}
 use Rattle.std.proofs.KnownBytes.{Appends-nil}
 use Rattle.std.proofs.lemmas.Result.{err_from_is_err_and}
 use Rattle.std.specs.Io.KnownBytes.{Appends}
@@ -7,7 +8,10 @@ use Rattle.capture_lines.specs.Measurement.{Measured}
 use Rattle.capture_model.specs.Recorded.{Recorded}
 use Rattle.capture_measure.specs.Row.{Row, datagrams}
 use Rattle.capture_measure.specs.Inner.Recordings.{row_at}
-use Rattle.capture_measure.specs.Measured.{texts_as}
+use Rattle.capture_measure.specs.Measured.{measured_at, texts_as}
+use Rattle.capture_model.specs.Listening.{after_all}
+use Rattle.capture_measure.specs.Counts.{Fate, fate_in, IsCounts}
+use Rattle.capture_measure.proofs.Fates.{one_there, none_there, fate-measured}
 use Rattle.capture_measure.specs.Inner.Hearing.{recorded_of, measured_by, Goes}
 use Rattle.capture_measure.proofs.Goes.{goes_one, GoesUntil-none}
 use Rattle.capture_measure.proofs.Heard.{on_ok, nothing_said, said_at}
@@ -42,3 +46,27 @@ returns-clause-heard g c = λ watched earlier listens.
           (goes_one c.args.self.now.reports.form c.write.result (measured_by c.in-Some.completed row.time d.line) _ _
           (rw (c.at.ensures, c.listen.ensures.form, c.as_str.ensures.value, c.in_ok-write_time.ensures) at c.write.ensures.written)),
     )
+
+pub returns-in_default-clause-counted : goal.returns-in_default-clause-counted
+returns-in_default-clause-counted g c = λ watched earlier all listens so.
+    let d : Recorded = recorded_of c.args.datagram.now in
+    let row : Row = row_at c.args.time c.args.datagram.now in
+    let heard = c.listen.ensures.heard watched (datagrams earlier) listens in
+    let none = none_there (measured_at watched earlier row)
+    (nothing_said watched earlier row d refl c.listen.result heard.1 c.in_default.is) in
+    subst (λ (f : Fate). IsCounts (f ∷ all) c.listen.new.self.tally.counts)
+    (fate-measured watched earlier row d None refl none) (c.listen.ensures.counted watched (datagrams earlier) all listens so)
+
+pub returns-clause-counted : goal.returns-clause-counted
+returns-clause-counted g c = λ watched earlier all listens so.
+    let d : Recorded = recorded_of c.args.datagram.now in
+    let row : Row = row_at c.args.time c.args.datagram.now in
+    let heard = c.listen.ensures.heard watched (datagrams earlier) listens in
+    let m : Measured = measured_by c.in-Some.completed row.time d.line in
+    let fate : Fate = fate_in watched d (after_all watched (datagrams earlier)) in
+    let is = one_there (measured_at watched earlier row) m
+    (said_at watched earlier row d refl c.listen.result c.in-Some.completed row.time heard.1 c.in-Some.is refl) in
+    subst (λ (f : Fate). OnOk c.write.result (IsCounts (f ∷ all) c.write.new.self.tally.counts))
+    (fate-measured watched earlier row d (Some m) refl is)
+    ((rw (c.at.ensures, c.as_str.ensures.value, c.in_ok-write_time.ensures) at c.write.ensures.counted) fate all refl
+    (c.listen.ensures.counted watched (datagrams earlier) all listens so))

@@ -6,6 +6,7 @@ use Rattle.capture_model.specs.declared.watched.Watched.{Watched}
 use Rattle.capture_model.specs.Listening.{after_all}
 use Rattle.capture_measure.specs.Row.{Row, datagrams}
 use Rattle.capture_measure.specs.Measured.{texts_as, measurements}
+use Rattle.capture_measure.specs.Counts.{fates, IsCounts}
 use Rattle.capture_measure.specs.Inner.Listener.{IsListener}
 use Rattle.capture_measure.specs.Inner.Recordings.{AreKeptRows}
 use Rattle.capture_measure.proofs.packets.PacketReports.hear_kept.Given as goal
@@ -17,7 +18,8 @@ invariant-loop-it g l = record {
       → (earlier : List Row) × AreKeptRows earlier (drop l.it-index l.kept) rows
       × IsListener watched l.listener (after_all watched (datagrams earlier))
       × Appends (g.W.Write.contents (device_of l.fn.output)) (g.W.Write.contents (device_of l.output))
-      (texts_as l.fn.self.reports.form (measurements watched earlier));
+      (texts_as l.fn.self.reports.form (measurements watched earlier))
+      × (IsCounts [] l.fn.self.reports.tally.counts → IsCounts (fates watched earlier) l.self.reports.tally.counts);
   form : l.self.reports.form ≡ l.fn.self.reports.form;
   writer : HasNotFailed l.fn.output l.output;
 }

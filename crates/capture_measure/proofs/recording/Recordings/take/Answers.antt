@@ -2,7 +2,10 @@ use Rattle.std.proofs.Common.{◌∙◌, ◌≤◌, ℕ, List, ◌∷◌, length
 use Rattle.std.proofs.lemmas.Bool.{ltb-false}
 use Rattle.capture_file.specs.Packet.{InterfaceOf, interface_of}
 use Rattle.capture_model.specs.Recorded.{Recorded}
-use Rattle.capture_measure.specs.Row.{Row, kept_most}
+use Rattle.capture_measure.specs.Row.{Row, datagrams, kept_most}
+use Rattle.capture_measure.specs.Chosen.{watched_at}
+use Rattle.capture_measure.specs.Counts.{early_with, early_at, IsCounts}
+use Rattle.capture_measure.specs.declared.tally.Tally.{Tally}
 use Rattle.capture_measure.specs.Capture.{IsDatagramRow}
 use Rattle.capture_measure.specs.declared.recording.Recording.{Recording}
 use Rattle.capture_measure.specs.Inner.Recordings.{interface_in, place_of, HasAdded, IsMet, IsNoticed}
@@ -22,17 +25,26 @@ returns-in_ok-keep-clause-taken c = λ rows r at row few are.
     (subst (λ (found : Option ℕ). HasAdded c.args.wanted.now (interface_of c.args.captured.now.interface) found old new) c.in-Some.is
     c.in_ok-found.ensures) in
     added_taken c.args.wanted.now rows r c.in-Some.place old new was x are has c.index_mut-recording.ensures.value
-    (ap interface_in c.keep.ensures.others ∙ ap interface_in c.count_early.ensures ∙ ap place_of c.notice.ensures.place)
+    (ap interface_in c.keep.ensures.others ∙ ap interface_in c.count_early.ensures.others ∙ ap place_of c.notice.ensures.place)
     (λ ds is.
     let noticed = c.notice.ensures.noticed ds is in
     let ds' : List Recorded = recorded_of c.args.datagram.now ∷ ds in
     subst (λ (d : Row). IsNoticed c.args.wanted.now (d.datagram ∷ ds) x) (sym row) (record {
-      watch = subst (IsWatch c.args.wanted.now ds') (sym (ap (λ (it : Recording). it.watch) c.keep.ensures.others ∙ ap (λ (it : Recording). it.watch) c.count_early.ensures)) noticed.watch;
-      met = subst (IsMet c.args.wanted.now ds') (sym (ap (λ (it : Recording). it.met) c.keep.ensures.others ∙ ap (λ (it : Recording). it.met) c.count_early.ensures)) noticed.met;
+      watch = subst (IsWatch c.args.wanted.now ds') (sym (ap (λ (it : Recording). it.watch) c.keep.ensures.others ∙ ap (λ (it : Recording). it.watch) c.count_early.ensures.others)) noticed.watch;
+      met = subst (IsMet c.args.wanted.now ds') (sym (ap (λ (it : Recording). it.met) c.keep.ensures.others ∙ ap (λ (it : Recording). it.met) c.count_early.ensures.others)) noticed.met;
     }))
     (λ short rs kept. keeps_row rs r.row was.kept.items x.kept.items c.args.datagram.now.number c.args.captured.now.time
-    c.args.datagram.now.octets.now (rw (ap (λ (it : Recording). it.kept) c.count_early.ensures, c.notice.ensures.kept) at c.in_ok-keep.ensures.kept)
+    c.args.datagram.now.octets.now (rw (ap (λ (it : Recording). it.kept) c.count_early.ensures.others, c.notice.ensures.kept) at c.in_ok-keep.ensures.kept)
     (subst (IsDatagramRow c.args.datagram.now.number c.args.captured.now.time c.args.datagram.now.octets.now) (sym row) c.requires) kept)
+    (λ rs noticed so.
+    let ds' : List Recorded = recorded_of c.args.datagram.now ∷ datagrams rs in
+    let counted = c.count_early.ensures.counted c.args.wanted.now ds' (early_at c.args.wanted.now rs)
+    (c.notice.ensures.noticed (datagrams rs) noticed)
+    (subst (λ (t : Tally). IsCounts (early_at c.args.wanted.now rs) t.counts) (sym c.notice.ensures.early) so) in
+    subst (λ (d : Row). IsCounts (early_with (watched_at c.args.wanted.now (d.datagram ∷ datagrams rs)) d.datagram
+    (early_at c.args.wanted.now rs)) x.early.counts) (sym row) (subst (λ (t : Tally). IsCounts (early_with
+    (watched_at c.args.wanted.now ds') (recorded_of c.args.datagram.now) (early_at c.args.wanted.now rs)) t.counts)
+    (sym (ap (λ (it : Recording). it.early) c.keep.ensures.others)) counted))
 
 pub returns-else-is_kept-clause-taken : goal.returns-else-is_kept-clause-taken
 returns-else-is_kept-clause-taken c = λ rows r at row few are.
@@ -46,15 +58,22 @@ returns-else-is_kept-clause-taken c = λ rows r at row few are.
     c.in_ok-found.ensures) in
     let many : kept_most ≤ length rows = ltb-false (length rows) kept_most (sym few ∙ c.if-is_kept.false) in
     added_taken c.args.wanted.now rows r c.in-Some.place old new was x are has c.index_mut-recording.ensures.value
-    (ap interface_in c.count_early.ensures ∙ ap place_of c.notice.ensures.place)
+    (ap interface_in c.count_early.ensures.others ∙ ap place_of c.notice.ensures.place)
     (λ ds is.
     let noticed = c.notice.ensures.noticed ds is in
     let ds' : List Recorded = recorded_of c.args.datagram.now ∷ ds in
     subst (λ (d : Row). IsNoticed c.args.wanted.now (d.datagram ∷ ds) x) (sym row) (record {
-      watch = subst (IsWatch c.args.wanted.now ds') (sym (ap (λ (it : Recording). it.watch) c.count_early.ensures)) noticed.watch;
-      met = subst (IsMet c.args.wanted.now ds') (sym (ap (λ (it : Recording). it.met) c.count_early.ensures)) noticed.met;
+      watch = subst (IsWatch c.args.wanted.now ds') (sym (ap (λ (it : Recording). it.watch) c.count_early.ensures.others)) noticed.watch;
+      met = subst (IsMet c.args.wanted.now ds') (sym (ap (λ (it : Recording). it.met) c.count_early.ensures.others)) noticed.met;
     }))
     (λ short rs kept. absurd (omega (arith, many, short)))
+    (λ rs noticed so.
+    let ds' : List Recorded = recorded_of c.args.datagram.now ∷ datagrams rs in
+    let counted = c.count_early.ensures.counted c.args.wanted.now ds' (early_at c.args.wanted.now rs)
+    (c.notice.ensures.noticed (datagrams rs) noticed)
+    (subst (λ (t : Tally). IsCounts (early_at c.args.wanted.now rs) t.counts) (sym c.notice.ensures.early) so) in
+    subst (λ (d : Row). IsCounts (early_with (watched_at c.args.wanted.now (d.datagram ∷ datagrams rs)) d.datagram
+    (early_at c.args.wanted.now rs)) x.early.counts) (sym row) counted)
 
 pub returns-in_default-clause-taken : goal.returns-in_default-clause-taken
 returns-in_default-clause-taken c = λ rows r at row few are.
