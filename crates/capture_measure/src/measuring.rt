@@ -6,8 +6,7 @@ ghost use Rattle.std.specs.List.{All};
 ghost use Rattle.text_lines.specs.Counted.{device_of, HasFailed, HasNotFailed, HasFailedIf};
 ghost use Rattle.std.specs.Io.KnownBytes.{Appends};
 ghost use Rattle.text_lines.specs.Fault.{is_write};
-ghost use Rattle.text_lines.specs.Lines.{line_limit, input_limit, GivesWithin};
-ghost use Rattle.text_lines.specs.Task.{FailedAt};
+ghost use Rattle.text_lines.specs.Lines.{line_limit};
 ghost use Rattle.capture_model.specs.Listening.{after_all};
 ghost use Rattle.capture_lines.specs.Measurement.{measured_of};
 ghost use Rattle.capture_measure.specs.Watch.{watched_in};
@@ -32,10 +31,8 @@ use crate::watch::{Wanted, Watch, Whom};
 use capture_lines::{Measurement, Timed, read_timed, table_head};
 use capture_model::Watched;
 use std::alloc::Global;
-use std::io::{Read, Write};
-use text_lines::{
-    Cause, Counted, LINE_LIMIT, LineFault, LineTask, Stopped, answer_lines, write_text,
-};
+use std::io::Write;
+use text_lines::{Counted, LINE_LIMIT, LineFault, LineTask, write_text};
 
 /// The most octets of a datagram, which is written in two digits each.
 const DATAGRAM_LIMIT: usize = LINE_LIMIT / 2;

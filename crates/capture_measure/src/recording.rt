@@ -1,6 +1,6 @@
 //! What is known of the interfaces of a capture while it isn't known whom to watch.
 
-ghost use Rattle.std.specs.Prelude.{◌≡◌, ◌<◌, ◌&&◌, ◌||◌, ◌==◌, ℕ, nat_lt, false, List, [], ◌∷◌, length, map, get_or, IfOk, IfSome, OnOk, option_map, slice_get};
+ghost use Rattle.std.specs.Prelude.{◌≡◌, ◌<◌, ◌&&◌, ◌||◌, ◌==◌, nat_lt, false, List, [], ◌∷◌, length, map, get_or, IfOk, IfSome, OnOk, option_map, slice_get};
 ghost use Rattle.std.specs.Option.{option_map_or};
 ghost use Rattle.event_codec.specs.Port.{is_same_port};
 ghost use Rattle.capture_file.specs.Packet.{interface_of};
