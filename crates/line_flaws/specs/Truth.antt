@@ -1,7 +1,7 @@
 -- What a flaw says, which is so of the line. Of the octets that it quotes, of a key near another or too much, and of why
 -- octets are no JSON, nothing is said here.
 use Rattle.std.specs.Prelude.{◌≡◌, ◌≢◌, ◌⊎◌, ℕ, List, codes, false, Option, Some, None, IsSome}
-use Rattle.std.specs.Prelude.{IsSomeAnd, All, Contains, option_map}
+use Rattle.std.specs.Prelude.{IsSomeAnd, All, Contains}
 use Rattle.std.specs.Str.{IsUtf8}
 use Rattle.serde_json.specs.Data.{Data}
 use Rattle.serde_json.specs.Find.{get, as_object}
@@ -12,7 +12,7 @@ use Rattle.schedule_lines.specs.TranscriptLine.{transcript_line_of}
 use Rattle.schedule_lines.specs.declared.reading.schedule.Line.TheVariants as schedules
 use Rattle.schedule_lines.specs.declared.reading.transcript.TranscriptLine.TheVariants as transcripts
 use Rattle.line_flaws.specs.Keys.{needed_keys, text_of}
-use Rattle.line_flaws.specs.Wanted.{HasWanted, is_wanted_part, wanted_at}
+use Rattle.line_flaws.specs.Wanted.{HasWanted, HasWrongPart, wanted_at}
 use Rattle.line_flaws.specs.declared.flaw.Flaw.{Flaw}
 use Rattle.line_flaws.specs.declared.flaw.Form.{Form}
 use Rattle.line_flaws.specs.declared.flaw.Form.TheVariants.{Schedule, Transcript}
@@ -51,7 +51,7 @@ IsSoOfValue form events d (flaws.NoKind near) = (get (codes "ev") d ≡ None) ×
 IsSoOfValue form events d (flaws.Missing key near) = (get (text_of key) d ≡ None) × IsNeeded form d key
 IsSoOfValue form events d (flaws.Wrong key found) = wanted_at key d ≡ Some false
 IsSoOfValue form events d (flaws.WrongPart key part found) =
-    (wanted_at key d ≡ Some false) × (option_map (is_wanted_part part) (get (text_of key) d) ≡ Some false)
+    (wanted_at key d ≡ Some false) × HasWrongPart d key part
 IsSoOfValue form events d (flaws.TooMuch key kind out) = HasNeeded form d
 IsSoOfValue form events d (flaws.HasOutcome) =
     (form ≡ Schedule) × IsSome (get (codes "n") d) × IsSome (get (codes "out") d)

@@ -1,8 +1,9 @@
 -- What is wanted of a key's value: that it is read.
-use Rattle.std.specs.Prelude.{◌≡◌, pos, Bool, true, Option, Some, is_some, option_map, option_and_then}
+use Rattle.std.specs.Prelude.{◌≡◌, ℕ, pos, Bool, true, false, Option, Some, IsSomeAnd, is_some, option_map}
+use Rattle.std.specs.Prelude.{option_and_then}
 use Rattle.serde_json.specs.Data.{Data}
 use Rattle.serde_json.specs.Find.{get, as_str}
-use Rattle.schedule_lines.specs.Json.{item_at, whole_in, whole_below, signed_octet_in, name_in, clock_in}
+use Rattle.schedule_lines.specs.Json.{has_items, item_at, whole_in, whole_below, signed_octet_in, name_in, clock_in}
 use Rattle.schedule_lines.specs.Json.{octets_in, moment_in, difference_in}
 use Rattle.schedule_lines.specs.Line.{kind_of}
 use Rattle.schedule_lines.specs.TranscriptLine.{follow_in, report_of}
@@ -89,3 +90,30 @@ part_wanted parts.SyncTag = wanteds.Tag
 part_wanted parts.FollowTag = wanteds.TagOrNull
 part_wanted parts.RequestTag = wanteds.Tag
 part_wanted parts.ResponseTag = wanteds.Tag
+
+-- the array that has a part: a moment, or tags
+abbrev pub array_of : Part → Wanted
+array_of parts.Seconds = wanteds.Moment
+array_of parts.Nanoseconds = wanteds.Moment
+array_of parts.Fraction = wanteds.Moment
+array_of parts.SyncTag = wanteds.Tags
+array_of parts.FollowTag = wanteds.Tags
+array_of parts.RequestTag = wanteds.Tags
+array_of parts.ResponseTag = wanteds.Tags
+
+-- what is wanted of a key is an array that has this part
+abbrev pub IsPartOf : Key → Part → Type 0
+IsPartOf key part = wanted_of key ≡ array_of part
+
+-- how many parts an array has that is wanted; none where none is
+abbrev pub part_count : Wanted → ℕ
+part_count wanteds.Moment = 3
+part_count wanteds.Tags = 4
+part_count _ = 0
+
+-- a part of a key's value isn't wanted: the value is an array with as many items as it has parts, and at the place of
+-- this part isn't what is read there
+abbrev pub HasWrongPart : Data → Key → Part → Type 0
+HasWrongPart d key part =
+    IsPartOf key part × IsSomeAnd (get (text_of key) d) (λ value.
+    (has_items (part_count (wanted_of key)) value ≡ true) × (is_wanted_part part value ≡ false))

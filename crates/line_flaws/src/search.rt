@@ -6,8 +6,10 @@ ghost use Rattle.serde_json.specs.Find.{as_str, get};
 ghost use Rattle.schedule_lines.specs.Json.{field, has_items};
 ghost use Rattle.line_flaws.specs.declared.flaw.Form.TheVariants.{Schedule, Transcript};
 ghost use Rattle.line_flaws.specs.declared.key.Key.TheVariants.{At, Ev, Kind, Node, Out, Tags};
+ghost use Rattle.line_flaws.specs.declared.wanted.Wanted.TheVariants as wanteds;
 ghost use Rattle.line_flaws.specs.Keys.{is_timed, needed_keys, outcome_keys_in, text_of, told_keys};
-ghost use Rattle.line_flaws.specs.Wanted.{HasWanted, is_wanted, is_wanted_part, wanted_at, wanted_of};
+ghost use Rattle.line_flaws.specs.Wanted.{HasWanted, HasWrongPart, IsPartOf, array_of, is_wanted, is_wanted_part};
+ghost use Rattle.line_flaws.specs.Wanted.{part_count, wanted_at, wanted_of};
 ghost use Rattle.line_flaws.specs.Truth.{HasNeeded, IsNeeded, IsSoOfValue};
 ghost use Rattle.line_flaws.specs.Inner.Met.{is_met};
 
@@ -307,7 +309,7 @@ impl<'a, 'v> Search<'a, 'v> {
     /// That a part of a key's value isn't what is wanted.
     fn wrong_at(self, key: Key, part: Part) -> Flaw<'a>
         requires key { wanted_at key (view self.value.now) ≡ Some false }
-        requires part { option_map (is_wanted_part part) (get (text_of key) (view self.value.now)) ≡ Some false }
+        requires part { HasWrongPart (view self.value.now) key part }
         ensures { (events : ℕ) → IsSoOfValue self.entry.form events (view self.entry.value.now) result }
     {
         Flaw::WrongPart {
@@ -372,7 +374,9 @@ impl<'a, 'v> Search<'a, 'v> {
 fn wrong_part(key: Key, value: &Value) -> Option<Part>
     requires { is_met (wanted_of key) (view value.now) ≡ true }
     ensures { MatchOption result (is_wanted key (view value.now) ≡ true) (λ part.
-        (is_wanted key (view value.now) ≡ false) × (is_wanted_part part (view value.now) ≡ false)) }
+        (is_wanted key (view value.now) ≡ false) × IsPartOf key part
+        × (has_items (part_count (wanted_of key)) (view value.now) ≡ true)
+        × (is_wanted_part part (view value.now) ≡ false)) }
 {
     match key {
         Key::At => wrong_in_moment(value),
@@ -386,7 +390,8 @@ fn wrong_part(key: Key, value: &Value) -> Option<Part>
 fn wrong_in_moment(value: &Value) -> Option<Part>
     requires { has_items 3 (view value.now) ≡ true }
     ensures { MatchOption result (is_wanted At (view value.now) ≡ true) (λ part.
-        (is_wanted At (view value.now) ≡ false) × (is_wanted_part part (view value.now) ≡ false)) }
+        (is_wanted At (view value.now) ≡ false) × (array_of part ≡ wanteds.Moment)
+        × (is_wanted_part part (view value.now) ≡ false)) }
 {
     if !Part::Seconds.is_in(value) {
         return Some(Part::Seconds);
@@ -404,7 +409,8 @@ fn wrong_in_moment(value: &Value) -> Option<Part>
 fn wrong_in_tags(value: &Value) -> Option<Part>
     requires { has_items 4 (view value.now) ≡ true }
     ensures { MatchOption result (is_wanted Tags (view value.now) ≡ true) (λ part.
-        (is_wanted Tags (view value.now) ≡ false) × (is_wanted_part part (view value.now) ≡ false)) }
+        (is_wanted Tags (view value.now) ≡ false) × (array_of part ≡ wanteds.Tags)
+        × (is_wanted_part part (view value.now) ≡ false)) }
 {
     if !Part::SyncTag.is_in(value) {
         return Some(Part::SyncTag);
