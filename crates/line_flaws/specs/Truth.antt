@@ -1,6 +1,6 @@
 -- What a flaw says, which is so of the line. Of the octets that it quotes, of a key near another or too much, and of why
 -- octets are no JSON, nothing is said here.
-use Rattle.std.specs.Prelude.{◌≡◌, ◌≢◌, ◌⊎◌, ℕ, List, codes, false, Option, Some, None, IsSome}
+use Rattle.std.specs.Prelude.{◌≡◌, ◌≢◌, ◌⊎◌, ℕ, List, codes, false, if◌then◌else◌, Option, Some, None, is_some, IsSome}
 use Rattle.std.specs.Prelude.{IsSomeAnd, All, Contains}
 use Rattle.std.specs.Str.{IsUtf8}
 use Rattle.serde_json.specs.Data.{Data}
@@ -17,6 +17,7 @@ use Rattle.line_flaws.specs.declared.flaw.Flaw.{Flaw}
 use Rattle.line_flaws.specs.declared.flaw.Form.{Form}
 use Rattle.line_flaws.specs.declared.flaw.Form.TheVariants.{Schedule, Transcript}
 use Rattle.line_flaws.specs.declared.key.Key.{Key}
+use Rattle.line_flaws.specs.declared.key.Key.TheVariants as keys
 use Rattle.line_flaws.specs.declared.flaw.Flaw.TheVariants as flaws
 
 -- a flaw of octets that aren't JSON: whether they are UTF-8
@@ -38,6 +39,14 @@ IsEventLine number d = (line : TraceLine) × (transcript_line_of d ≡ Some (tra
 abbrev pub IsNeeded : Form → Data → Key → Type 0
 IsNeeded form d key = IsSomeAnd (needed_keys form d) (λ needed. Contains needed key)
 
+-- the key that says what the line is: `ev`, or where that isn't there `kind`
+abbrev pub telling_key : Data → Key
+telling_key d = if is_some (get (codes "ev") d) then keys.Ev else keys.Kind
+
+-- a key says what the line is, or is one that such a line needs
+abbrev pub IsAsked : Form → Data → Key → Type 0
+IsAsked form d key = (key ≡ telling_key d) ⊎ IsNeeded form d key
+
 -- each key that the line needs is there, with a value that is wanted
 abbrev pub HasNeeded : Form → Data → Type 0
 HasNeeded form d = IsSomeAnd (needed_keys form d) (All (HasWanted d))
@@ -47,16 +56,17 @@ abbrev pub IsSoOfValue : Form → ℕ → Data → Flaw → Type 0
 IsSoOfValue form events d (flaws.NoText octet) = ⊥
 IsSoOfValue form events d (flaws.NoJson octet why) = ⊥
 IsSoOfValue form events d (flaws.NoObject found) = as_object d ≡ None
-IsSoOfValue form events d (flaws.NoKind near) = (get (codes "ev") d ≡ None) × (get (codes "kind") d ≡ None)
+IsSoOfValue form events d (flaws.NoKind near) =
+    IsSome (as_object d) × (get (codes "ev") d ≡ None) × (get (codes "kind") d ≡ None)
 IsSoOfValue form events d (flaws.Missing key near) = (get (text_of key) d ≡ None) × IsNeeded form d key
-IsSoOfValue form events d (flaws.Wrong key found) = wanted_at key d ≡ Some false
+IsSoOfValue form events d (flaws.Wrong key found) = (wanted_at key d ≡ Some false) × IsAsked form d key
 IsSoOfValue form events d (flaws.WrongPart key part found) =
-    (wanted_at key d ≡ Some false) × HasWrongPart d key part
+    (wanted_at key d ≡ Some false) × HasWrongPart d key part × IsNeeded form d key
 IsSoOfValue form events d (flaws.TooMuch key kind out) = HasNeeded form d
 IsSoOfValue form events d (flaws.HasOutcome) =
-    (form ≡ Schedule) × IsSome (get (codes "n") d) × IsSome (get (codes "out") d)
+    (form ≡ Schedule) × HasWanted d keys.Ev × IsSome (get (codes "n") d) × IsSome (get (codes "out") d)
 IsSoOfValue form events d (flaws.NoOutcome) =
-    (form ≡ Transcript) × (get (codes "n") d ≡ None) × (get (codes "out") d ≡ None)
+    (form ≡ Transcript) × HasWanted d keys.Ev × (get (codes "n") d ≡ None) × (get (codes "out") d ≡ None)
 IsSoOfValue form events d (flaws.NodeAfterEvent) = (events ≢ 0) × IsNodeLine d
 IsSoOfValue form events d (flaws.OutOfPlace number place) =
     (place ≡ events) × (number ≢ events) × IsEventLine number d

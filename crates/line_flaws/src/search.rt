@@ -2,7 +2,7 @@
 ghost use Rattle.std.specs.Prelude.{◌≡◌, ◌++◌, ◌∷◌, [], All, MatchOption, ℕ, true, false, Some, None};
 ghost use Rattle.std.specs.Prelude.{is_some, option_map};
 ghost use Rattle.serde_json.specs.View.{view};
-ghost use Rattle.serde_json.specs.Find.{as_str, get};
+ghost use Rattle.serde_json.specs.Find.{as_object, as_str, get};
 ghost use Rattle.schedule_lines.specs.Json.{field, has_items};
 ghost use Rattle.line_flaws.specs.declared.flaw.Form.TheVariants.{Schedule, Transcript};
 ghost use Rattle.line_flaws.specs.declared.key.Key.TheVariants.{At, Ev, Kind, Node, Out, Tags};
@@ -10,7 +10,7 @@ ghost use Rattle.line_flaws.specs.declared.wanted.Wanted.TheVariants as wanteds;
 ghost use Rattle.line_flaws.specs.Keys.{is_timed, needed_keys, outcome_keys_in, text_of, told_keys};
 ghost use Rattle.line_flaws.specs.Wanted.{HasWanted, HasWrongPart, IsPartOf, array_of, is_wanted, is_wanted_part};
 ghost use Rattle.line_flaws.specs.Wanted.{part_count, wanted_at, wanted_of};
-ghost use Rattle.line_flaws.specs.Truth.{HasNeeded, IsNeeded, IsSoOfValue};
+ghost use Rattle.line_flaws.specs.Truth.{HasNeeded, IsAsked, IsNeeded, IsSoOfValue};
 ghost use Rattle.line_flaws.specs.Inner.Met.{is_met};
 
 use crate::flaw::{Flaw, Form, Part};
@@ -178,6 +178,7 @@ impl<'a, 'v> Search<'a, 'v> {
     /// The flaw of an event of a schedule, of a kind with these keys of its own.
     fn scheduled_flaw(self, own: &'static [Key]) -> Flaw<'a>
         requires form { self.form ≡ Schedule }
+        requires event { HasWanted (view self.value.now) Ev }
         requires keys { needed_keys Schedule (view self.value.now) ≡ Some (Ev ∷ Node ∷ own.now) }
         ensures { (events : ℕ) → IsSoOfValue self.entry.form events (view self.entry.value.now) result }
     {
@@ -198,6 +199,7 @@ impl<'a, 'v> Search<'a, 'v> {
     /// The flaw of an event of a transcript, of a kind with these keys of its own.
     fn told_flaw(self, kind: &str, own: &'static [Key]) -> Flaw<'a>
         requires form { self.form ≡ Transcript }
+        requires event { HasWanted (view self.value.now) Ev }
         requires keys { needed_keys Transcript (view self.value.now)
             ≡ Some (Ev ∷ Node ∷ (own.now ++ (told_keys (is_timed kind.now) ++ outcome_keys_in (view self.value.now)))) }
         ensures { (events : ℕ) → IsSoOfValue self.entry.form events (view self.entry.value.now) result }
@@ -282,7 +284,8 @@ impl<'a, 'v> Search<'a, 'v> {
 
     /// The flaw of a key's value.
     fn value_flaw(self, key: Key, value: &Value) -> Option<Flaw<'a>>
-        requires { get (text_of key) (view self.value.now) ≡ Some (view value.now) }
+        requires value { get (text_of key) (view self.value.now) ≡ Some (view value.now) }
+        requires needed { IsNeeded self.form (view self.value.now) key }
         ensures { MatchOption result (HasWanted (view self.entry.value.now) key)
             (λ flaw. (events : ℕ) → IsSoOfValue self.entry.form events (view self.entry.value.now) flaw) }
     {
@@ -297,7 +300,8 @@ impl<'a, 'v> Search<'a, 'v> {
 
     /// That a key's value isn't what is wanted.
     fn wrong(self, key: Key) -> Flaw<'a>
-        requires { wanted_at key (view self.value.now) ≡ Some false }
+        requires value { wanted_at key (view self.value.now) ≡ Some false }
+        requires asked { IsAsked self.form (view self.value.now) key }
         ensures { (events : ℕ) → IsSoOfValue self.entry.form events (view self.entry.value.now) result }
     {
         Flaw::Wrong {
@@ -310,6 +314,7 @@ impl<'a, 'v> Search<'a, 'v> {
     fn wrong_at(self, key: Key, part: Part) -> Flaw<'a>
         requires key { wanted_at key (view self.value.now) ≡ Some false }
         requires part { HasWrongPart (view self.value.now) key part }
+        requires needed { IsNeeded self.form (view self.value.now) key }
         ensures { (events : ℕ) → IsSoOfValue self.entry.form events (view self.entry.value.now) result }
     {
         Flaw::WrongPart {
@@ -333,6 +338,7 @@ impl<'a, 'v> Search<'a, 'v> {
 
     /// That neither an event nor a node is named.
     fn no_kind(self) -> Flaw<'a>
+        requires object { is_some (as_object (view self.value.now)) ≡ true }
         requires event { is_some (get (text_of Ev) (view self.value.now)) ≡ false }
         requires node { is_some (get (text_of Kind) (view self.value.now)) ≡ false }
         ensures { (events : ℕ) → IsSoOfValue self.entry.form events (view self.entry.value.now) result }
