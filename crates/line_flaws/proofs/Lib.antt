@@ -1,2 +1,3 @@
 mod Searched
+mod Told
 mod Values

@@ -117,3 +117,13 @@ abbrev pub HasWrongPart : Data → Key → Part → Type 0
 HasWrongPart d key part =
     IsPartOf key part × IsSomeAnd (get (text_of key) d) (λ value.
     (has_items (part_count (wanted_of key)) value ≡ true) × (is_wanted_part part value ≡ false))
+
+-- the place of a part in its array
+abbrev pub place_of : Part → ℕ
+place_of parts.Seconds = 0
+place_of parts.Nanoseconds = 1
+place_of parts.Fraction = 2
+place_of parts.SyncTag = 0
+place_of parts.FollowTag = 1
+place_of parts.RequestTag = 2
+place_of parts.ResponseTag = 3

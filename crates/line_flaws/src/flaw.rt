@@ -1,8 +1,7 @@
 //! What is wrong with a line.
 ghost use Rattle.std.specs.Prelude.{◌≡◌};
 ghost use Rattle.serde_json.specs.View.{view};
-ghost use Rattle.line_flaws.specs.Wanted.{is_wanted_part, part_wanted};
-ghost use Rattle.line_flaws.specs.Inner.Met.{place_of};
+ghost use Rattle.line_flaws.specs.Wanted.{is_wanted_part, part_wanted, place_of};
 
 use crate::excerpt::Excerpt;
 use crate::json_fault::JsonFault;

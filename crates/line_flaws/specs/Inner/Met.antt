@@ -1,5 +1,5 @@
 -- What a value is to be.
-use Rattle.std.specs.Prelude.{ℕ, Bool, is_some, option_and_then}
+use Rattle.std.specs.Prelude.{Bool, is_some, option_and_then}
 use Rattle.serde_json.specs.Data.{Data}
 use Rattle.serde_json.specs.Find.{as_str}
 use Rattle.schedule_lines.specs.Json.{has_items, whole_in, whole_below, signed_octet_in, name_in, clock_in}
@@ -7,8 +7,6 @@ use Rattle.schedule_lines.specs.Json.{octets_in, difference_in}
 use Rattle.schedule_lines.specs.Line.{kind_of}
 use Rattle.schedule_lines.specs.TranscriptLine.{follow_in}
 use Rattle.line_flaws.specs.Keys.{node_keys, outcome_keys}
-use Rattle.line_flaws.specs.declared.flaw.Part.{Part}
-use Rattle.line_flaws.specs.declared.flaw.Part.TheVariants as parts
 use Rattle.line_flaws.specs.declared.wanted.Wanted.{Wanted}
 use Rattle.line_flaws.specs.declared.wanted.Wanted.TheVariants as wanteds
 
@@ -27,13 +25,3 @@ is_met wanteds.Difference d = is_some (difference_in d)
 is_met wanteds.Octets d = is_some (octets_in d)
 is_met wanteds.Tags d = has_items 4 d
 is_met wanteds.TagOrNull d = is_some (follow_in d)
-
--- the place of a part in its array
-abbrev pub place_of : Part → ℕ
-place_of parts.Seconds = 0
-place_of parts.Nanoseconds = 1
-place_of parts.Fraction = 2
-place_of parts.SyncTag = 0
-place_of parts.FollowTag = 1
-place_of parts.RequestTag = 2
-place_of parts.ResponseTag = 3
