@@ -1,3 +1,5 @@
+mod Asked
+mod AskedTold
 mod Searched
 mod Told
 mod Values
