@@ -1,15 +1,23 @@
 -- The keys that a line needs, which a search looks through in four parts.
-use Rattle.std.proofs.Common.{◌≡◌, ◌++◌, ℕ, Bool, true, false, List, ◌∷◌, Some, refl, sym, subst, arith}
-use Rattle.std.specs.Prelude.{All, Contains, IsSomeAnd}
+use Rattle.std.proofs.Common.{◌≡◌, ◌++◌, ℕ, Bool, true, false, List, ◌∷◌, length, Option, Some, None, refl, sym, ap, subst, arith}
+use Rattle.std.specs.Prelude.{All, Contains, IsSomeAnd, is_some}
 use Rattle.std.proofs.lemmas.List.Elements.{All-append, All-contains, All-weaker, All-contains_itself, Contains-append_left, Contains-append_right}
 use Rattle.serde_json.specs.Data.{Data}
 use Rattle.line_flaws.specs.declared.flaw.Form.{Form}
-use Rattle.line_flaws.specs.declared.flaw.Form.TheVariants.{Transcript}
+use Rattle.line_flaws.specs.declared.flaw.Form.TheVariants.{Schedule, Transcript}
 use Rattle.line_flaws.specs.declared.key.Key.{Key}
 use Rattle.line_flaws.specs.declared.key.Key.TheVariants as keys
 use Rattle.line_flaws.specs.Keys.{is_timed, needed_keys, outcome_keys_in, told_keys}
-use Rattle.line_flaws.specs.Truth.{HasNeeded, IsNeeded}
+use Rattle.schedule_lines.specs.Json.{has_keys}
+use Rattle.schedule_lines.specs.Line.{line_of}
+use Rattle.schedule_lines.specs.TranscriptLine.{transcript_line_of}
+use Rattle.schedule_lines.specs.declared.reading.schedule.Line.{Line}
+use Rattle.schedule_lines.specs.declared.reading.transcript.TranscriptLine.{TranscriptLine}
+use Rattle.line_flaws.specs.Read.{HasJustNeeded}
+use Rattle.line_flaws.specs.Truth.{HasNeeded, HasOthers, IsNeeded}
 use Rattle.line_flaws.specs.Wanted.{HasWanted}
+use Rattle.line_flaws.proofs.Asked.{schedule_needed}
+use Rattle.line_flaws.proofs.AskedTold.{transcript_needed}
 
 -- ---- parts of a list
 
@@ -54,3 +62,28 @@ out_needed d text own is =
     subst (λ o. IsSomeAnd o (λ needed. Contains needed keys.Out)) (sym is)
     (Contains-append_right (keys.Ev ∷ keys.Node ∷ own) (told_keys (is_timed text) ++ outcome_keys_in d) keys.Out
     (Contains-append_left (told_keys (is_timed text)) (outcome_keys_in d) keys.Out (among (is_timed text))))
+
+-- ---- what has all that it needs and isn't read has other keys
+
+others_among : (d : Data) (o : Option (List Key)) → IsSomeAnd o (All (HasWanted d))
+    → (IsSomeAnd o (λ needed. All (HasWanted d) needed × (has_keys (length needed) d ≡ true)) → ⊥)
+    → IsSomeAnd o (λ needed. has_keys (length needed) d ≡ false)
+others_among d None all unread = all
+others_among d (Some needed) all unread = test (has_keys (length needed) d) refl
+  where
+    test : (b : Bool) → has_keys (length needed) d ≡ b → has_keys (length needed) d ≡ false
+    test true e = absurd (unread (all, e))
+    test false e = e
+
+pub others : (form : Form) (d : Data) → HasNeeded form d → (HasJustNeeded form d → ⊥) → HasOthers form d
+others form d all unread = others_among d (needed_keys form d) all unread
+
+pub no_scheduled : (d : Data) → line_of d ≡ None → HasJustNeeded Schedule d → ⊥
+no_scheduled d none has =
+    let read : is_some (line_of d) ≡ true = (schedule_needed d).1 has in
+    absurd (cc (ap (λ (o : Option Line). is_some o) none))
+
+pub no_told : (d : Data) → transcript_line_of d ≡ None → HasJustNeeded Transcript d → ⊥
+no_told d none has =
+    let read : is_some (transcript_line_of d) ≡ true = (transcript_needed d).1 has in
+    absurd (cc (ap (λ (o : Option TranscriptLine). is_some o) none))

@@ -1,12 +1,13 @@
 -- What a flaw says, which is so of the line. Of the octets that it quotes, of a key near another or too much, and of why
 -- octets are no JSON, nothing is said here.
 use Rattle.std.specs.Prelude.{◌≡◌, ◌≢◌, ◌⊎◌, ℕ, List, codes, false, if◌then◌else◌, Option, Some, None, is_some, IsSome}
-use Rattle.std.specs.Prelude.{IsSomeAnd, All, Contains}
+use Rattle.std.specs.Prelude.{length, IsSomeAnd, All, Contains}
 use Rattle.std.specs.Str.{IsUtf8}
 use Rattle.serde_json.specs.Data.{Data}
 use Rattle.serde_json.specs.Find.{get, as_object}
 use Rattle.network_model.specs.declared.node.NodeSpec.{NodeSpec}
 use Rattle.trace_model.specs.declared.line.TraceLine.{TraceLine}
+use Rattle.schedule_lines.specs.Json.{has_keys}
 use Rattle.schedule_lines.specs.Line.{line_of}
 use Rattle.schedule_lines.specs.TranscriptLine.{transcript_line_of}
 use Rattle.schedule_lines.specs.declared.reading.schedule.Line.TheVariants as schedules
@@ -51,6 +52,10 @@ IsAsked form d key = (key ≡ telling_key d) ⊎ IsNeeded form d key
 abbrev pub HasNeeded : Form → Data → Type 0
 HasNeeded form d = IsSomeAnd (needed_keys form d) (All (HasWanted d))
 
+-- the value hasn't just as many keys as the line needs
+abbrev pub HasOthers : Form → Data → Type 0
+HasOthers form d = IsSomeAnd (needed_keys form d) (λ needed. has_keys (length needed) d ≡ false)
+
 -- a flaw of the value of a line of a form, after so many events
 abbrev pub IsSoOfValue : Form → ℕ → Data → Flaw → Type 0
 IsSoOfValue form events d (flaws.NoText octet) = ⊥
@@ -62,7 +67,7 @@ IsSoOfValue form events d (flaws.Missing key near) = (get (text_of key) d ≡ No
 IsSoOfValue form events d (flaws.Wrong key found) = (wanted_at key d ≡ Some false) × IsAsked form d key
 IsSoOfValue form events d (flaws.WrongPart key part found) =
     (wanted_at key d ≡ Some false) × HasWrongPart d key part × IsNeeded form d key
-IsSoOfValue form events d (flaws.TooMuch key kind out) = HasNeeded form d
+IsSoOfValue form events d (flaws.TooMuch key kind out) = HasNeeded form d × HasOthers form d
 IsSoOfValue form events d (flaws.HasOutcome) =
     (form ≡ Schedule) × HasWanted d keys.Ev × IsSome (get (codes "n") d) × IsSome (get (codes "out") d)
 IsSoOfValue form events d (flaws.NoOutcome) =

@@ -10,7 +10,8 @@ ghost use Rattle.line_flaws.specs.declared.wanted.Wanted.TheVariants as wanteds;
 ghost use Rattle.line_flaws.specs.Keys.{is_timed, needed_keys, outcome_keys_in, text_of, told_keys};
 ghost use Rattle.line_flaws.specs.Wanted.{HasWanted, HasWrongPart, IsPartOf, array_of, is_wanted, is_wanted_part};
 ghost use Rattle.line_flaws.specs.Wanted.{part_count, wanted_at, wanted_of};
-ghost use Rattle.line_flaws.specs.Truth.{HasNeeded, IsAsked, IsNeeded, IsSoOfValue};
+ghost use Rattle.line_flaws.specs.Read.{HasJustNeeded};
+ghost use Rattle.line_flaws.specs.Truth.{HasNeeded, HasOthers, IsAsked, IsNeeded, IsSoOfValue};
 ghost use Rattle.line_flaws.specs.Inner.Met.{is_met};
 
 use crate::flaw::{Flaw, Form, Part};
@@ -92,6 +93,7 @@ fn key_too_much<'a>(line: &'a [u8], allowed: Allowed) -> Option<&'a [u8]> {
 
 /// The flaw of a value that isn't a line of the form.
 pub(crate) fn flaw_in<'a>(form: Form, line: &'a [u8], value: &Value) -> Flaw<'a>
+    requires { ¬ HasJustNeeded form (view value.now) }
     ensures { (events : ℕ) → IsSoOfValue form events (view value.now) result }
 {
     Search { line, value, form }.flaw()
@@ -119,6 +121,7 @@ impl<'a, 'v> Search<'a, 'v> {
 
     /// The flaw of the value.
     fn flaw(self) -> Flaw<'a>
+        requires { ¬ HasJustNeeded self.form (view self.value.now) }
         ensures { (events : ℕ) → IsSoOfValue self.entry.form events (view self.entry.value.now) result }
     {
         if !self.value.is_object() {
@@ -137,6 +140,7 @@ impl<'a, 'v> Search<'a, 'v> {
 
     /// The flaw of a node.
     fn node_flaw(self) -> Flaw<'a>
+        requires unread { ¬ HasJustNeeded self.form (view self.value.now) }
         requires node { is_some (get (text_of Kind) (view self.value.now)) ≡ true }
         requires no_event { is_some (get (text_of Ev) (view self.value.now)) ≡ false }
         ensures { (events : ℕ) → IsSoOfValue self.entry.form events (view self.entry.value.now) result }
@@ -160,6 +164,7 @@ impl<'a, 'v> Search<'a, 'v> {
 
     /// The flaw of an event.
     fn event_flaw(self) -> Flaw<'a>
+        requires unread { ¬ HasJustNeeded self.form (view self.value.now) }
         requires event { is_some (get (text_of Ev) (view self.value.now)) ≡ true }
         ensures { (events : ℕ) → IsSoOfValue self.entry.form events (view self.entry.value.now) result }
     {
@@ -177,6 +182,7 @@ impl<'a, 'v> Search<'a, 'v> {
 
     /// The flaw of an event of a schedule, of a kind with these keys of its own.
     fn scheduled_flaw(self, own: &'static [Key]) -> Flaw<'a>
+        requires unread { ¬ HasJustNeeded self.form (view self.value.now) }
         requires form { self.form ≡ Schedule }
         requires event { HasWanted (view self.value.now) Ev }
         requires keys { needed_keys Schedule (view self.value.now) ≡ Some (Ev ∷ Node ∷ own.now) }
@@ -198,6 +204,7 @@ impl<'a, 'v> Search<'a, 'v> {
 
     /// The flaw of an event of a transcript, of a kind with these keys of its own.
     fn told_flaw(self, kind: &str, own: &'static [Key]) -> Flaw<'a>
+        requires unread { ¬ HasJustNeeded self.form (view self.value.now) }
         requires form { self.form ≡ Transcript }
         requires event { HasWanted (view self.value.now) Ev }
         requires keys { needed_keys Transcript (view self.value.now)
@@ -237,6 +244,7 @@ impl<'a, 'v> Search<'a, 'v> {
 
     /// The first flaw of the values of these keys, which the line needs, and else that there are more.
     fn flaw_of(self, kind: Key, allowed: Allowed) -> Flaw<'a>
+        requires unread { ¬ HasJustNeeded self.form (view self.value.now) }
         requires keys { needed_keys self.form (view self.value.now)
             ≡ Some (allowed.common.now ++ (allowed.own.now ++ (allowed.told.now ++ allowed.outcome.now))) }
         ensures { (events : ℕ) → IsSoOfValue self.entry.form events (view self.entry.value.now) result }
@@ -356,7 +364,8 @@ impl<'a, 'v> Search<'a, 'v> {
 
     /// That a key isn't allowed: the first without escapes, where there is one.
     fn too_much(self, kind: Key, allowed: Allowed) -> Flaw<'a>
-        requires { HasNeeded self.form (view self.value.now) }
+        requires needed { HasNeeded self.form (view self.value.now) }
+        requires others { HasOthers self.form (view self.value.now) }
         ensures { (events : ℕ) → IsSoOfValue self.entry.form events (view self.entry.value.now) result }
     {
         let key: &'a [u8] = match key_too_much(self.line, allowed) {

@@ -1,6 +1,7 @@
 use Rattle.std.proofs.Common.{◌∙◌, sym, ap, inl, Some}
 use Rattle.serde_json.specs.View.{view}
 use Rattle.line_flaws.specs.declared.flaw.Form.TheVariants.{Schedule}
+use Rattle.line_flaws.proofs.Searched.{no_scheduled}
 use Rattle.line_flaws.proofs.line.scheduled_flaw.Goals as goal
 
 pub returns-in-Some-Node-clause-so : goal.returns-in-Some-Node-clause-so
@@ -10,3 +11,6 @@ returns-in-Some-Node-clause-so c =
 
 pub returns-in-None-clause-so : goal.returns-in-None-clause-so
 returns-in-None-clause-so c = c.flaw_in.ensures c.args.events
+
+pub flaw_in-requires : goal.flaw_in-requires
+flaw_in-requires c = no_scheduled (view c.args.value.now) (sym c.of.ensures ∙ c.in-None.is)

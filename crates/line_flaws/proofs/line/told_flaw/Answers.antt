@@ -1,6 +1,7 @@
 use Rattle.std.proofs.Common.{◌∙◌, sym, ap, inr, Some}
 use Rattle.serde_json.specs.View.{view}
 use Rattle.line_flaws.specs.declared.flaw.Form.TheVariants.{Transcript}
+use Rattle.line_flaws.proofs.Searched.{no_told}
 use Rattle.line_flaws.proofs.line.told_flaw.Goals as goal
 
 pub returns-in-Some-Event-clause-so : goal.returns-in-Some-Event-clause-so
@@ -15,3 +16,6 @@ returns-in-Some-Node-clause-so c =
 
 pub returns-in-None-clause-so : goal.returns-in-None-clause-so
 returns-in-None-clause-so c = c.flaw_in.ensures c.args.events
+
+pub flaw_in-requires : goal.flaw_in-requires
+flaw_in-requires c = no_told (view c.args.value.now) (sym c.of.ensures ∙ c.in-None.is)
