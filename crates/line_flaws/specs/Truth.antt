@@ -1,7 +1,7 @@
--- What a flaw says, which is so of the line. Of the octets that it quotes, of a key near another or too much, and of why
+-- What a flaw says, which is so of the line. Of the octets that it quotes of values, of a key near another, and of why
 -- octets are no JSON, nothing is said here.
 use Rattle.std.specs.Prelude.{◌≡◌, ◌≢◌, ◌⊎◌, ℕ, List, codes, false, if◌then◌else◌, Option, Some, None, is_some, IsSome}
-use Rattle.std.specs.Prelude.{length, IsSomeAnd, All, Contains}
+use Rattle.std.specs.Prelude.{[], ◌∷◌, ◌++◌, length, IsSomeAnd, All, Contains}
 use Rattle.std.specs.Str.{IsUtf8}
 use Rattle.serde_json.specs.Data.{Data}
 use Rattle.serde_json.specs.Find.{get, as_object}
@@ -56,6 +56,11 @@ HasNeeded form d = IsSomeAnd (needed_keys form d) (All (HasWanted d))
 abbrev pub HasOthers : Form → Data → Type 0
 HasOthers form d = IsSomeAnd (needed_keys form d) (λ needed. has_keys (length needed) d ≡ false)
 
+-- octets are, in its quotes, a key of the value that the line doesn't need
+abbrev pub IsOther : Form → Data → List ℕ → Type 0
+IsOther form d octets = (name : List ℕ) × (octets ≡ 34 ∷ (name ++ 34 ∷ [])) × IsSome (get name d)
+    × IsSomeAnd (needed_keys form d) (All (λ key. text_of key ≢ name))
+
 -- a flaw of the value of a line of a form, after so many events
 abbrev pub IsSoOfValue : Form → ℕ → Data → Flaw → Type 0
 IsSoOfValue form events d (flaws.NoText octet) = ⊥
@@ -67,7 +72,8 @@ IsSoOfValue form events d (flaws.Missing key near) = (get (text_of key) d ≡ No
 IsSoOfValue form events d (flaws.Wrong key found) = (wanted_at key d ≡ Some false) × IsAsked form d key
 IsSoOfValue form events d (flaws.WrongPart key part found) =
     (wanted_at key d ≡ Some false) × HasWrongPart d key part × IsNeeded form d key
-IsSoOfValue form events d (flaws.TooMuch key kind out) = HasNeeded form d × HasOthers form d
+IsSoOfValue form events d (flaws.TooMuch key kind out) =
+    HasNeeded form d × HasOthers form d × ((key.now ≡ []) ⊎ IsOther form d key.now)
 IsSoOfValue form events d (flaws.HasOutcome) =
     (form ≡ Schedule) × HasWanted d keys.Ev × IsSome (get (codes "n") d) × IsSome (get (codes "out") d)
 IsSoOfValue form events d (flaws.NoOutcome) =

@@ -1,6 +1,8 @@
 //! The pieces of a JSON object or array, as they stand.
-ghost use Rattle.std.specs.Prelude.{◌≤◌, length};
+ghost use Rattle.std.specs.Prelude.{◌≡◌, ◌≤◌, ◌∷◌, ◌++◌, [], IfSome, length};
 ghost use Rattle.std.specs.Iterator.{at_most};
+
+use std::str;
 
 /// Where the first `,`, `:`, `]` or `}` stands that is in no text and in no inner brackets, or the
 /// length where there is none.
@@ -100,6 +102,16 @@ pub(crate) fn unquoted(key: &[u8]) -> &[u8] {
     match key {
         [b'"', name @ .., b'"'] => name,
         _ => key,
+    }
+}
+
+/// The name that a key in its quotes is, where it has no escapes.
+pub(crate) fn plain_name(key: &[u8]) -> Option<&str>
+    ensures { IfSome result (λ name. key.now ≡ 34 ∷ (name.now ++ 34 ∷ [])) }
+{
+    match key {
+        [b'"', name @ .., b'"'] if !name.contains(&b'\\') => str::from_utf8(name).ok(),
+        _ => None,
     }
 }
 

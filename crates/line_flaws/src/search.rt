@@ -1,6 +1,6 @@
 //! The search for the flaw of a line that is JSON.
 ghost use Rattle.std.specs.Prelude.{◌≡◌, ◌++◌, ◌∷◌, [], All, MatchOption, ℕ, true, false, Some, None};
-ghost use Rattle.std.specs.Prelude.{is_some, option_map};
+ghost use Rattle.std.specs.Prelude.{◌≢◌, IfSome, is_some, option_map};
 ghost use Rattle.serde_json.specs.View.{view};
 ghost use Rattle.serde_json.specs.Find.{as_object, as_str, get};
 ghost use Rattle.schedule_lines.specs.Json.{field, has_items};
@@ -11,12 +11,12 @@ ghost use Rattle.line_flaws.specs.Keys.{is_timed, needed_keys, outcome_keys_in, 
 ghost use Rattle.line_flaws.specs.Wanted.{HasWanted, HasWrongPart, IsPartOf, array_of, is_wanted, is_wanted_part};
 ghost use Rattle.line_flaws.specs.Wanted.{part_count, wanted_at, wanted_of};
 ghost use Rattle.line_flaws.specs.Read.{HasJustNeeded};
-ghost use Rattle.line_flaws.specs.Truth.{HasNeeded, HasOthers, IsAsked, IsNeeded, IsSoOfValue};
+ghost use Rattle.line_flaws.specs.Truth.{HasNeeded, HasOthers, IsAsked, IsOther, IsNeeded, IsSoOfValue};
 ghost use Rattle.line_flaws.specs.Inner.Met.{is_met};
 
 use crate::flaw::{Flaw, Form, Part};
 use crate::key::{Key, node_keys, outcome_keys, own_keys, told_keys};
-use crate::pieces::{Members, item_text, unquoted, value_text};
+use crate::pieces::{Members, item_text, plain_name, unquoted, value_text};
 use serde_json::Value;
 
 /// A line, the value that it is, and the form that it isn't a line of.
@@ -42,7 +42,10 @@ struct Allowed {
 
 impl Allowed {
     /// Whether a key is one of these, without its quotes.
-    fn has(self, name: &[u8]) -> bool {
+    fn has(self, name: &[u8]) -> bool
+        ensures { result ≡ false → All (λ key. text_of key ≢ name.now)
+            (self.common.now ++ (self.own.now ++ (self.told.now ++ self.outcome.now))) }
+    {
         is_among(self.common, name)
             || is_among(self.own, name)
             || is_among(self.told, name)
@@ -51,7 +54,9 @@ impl Allowed {
 }
 
 /// Whether one of the keys has this name.
-fn is_among(keys: &[Key], name: &[u8]) -> bool {
+fn is_among(keys: &[Key], name: &[u8]) -> bool
+    ensures { result ≡ false → All (λ key. text_of key ≢ name.now) keys.now }
+{
     for key in keys {
         if key.text().as_bytes() == name {
             return true;
@@ -75,16 +80,6 @@ fn key_near<'a>(line: &'a [u8], keys: &[Key], allowed: Allowed) -> Option<&'a [u
     for member in Members::of(line) {
         let name = unquoted(member.key);
         if !allowed.has(name) && is_near_one(keys, name) {
-            return Some(member.key);
-        }
-    }
-    None
-}
-
-/// The first key of a line, without escapes, that isn't allowed.
-fn key_too_much<'a>(line: &'a [u8], allowed: Allowed) -> Option<&'a [u8]> {
-    for member in Members::of(line) {
-        if !allowed.has(unquoted(member.key)) && !member.key.contains(&b'\\') {
             return Some(member.key);
         }
     }
@@ -362,13 +357,44 @@ impl<'a, 'v> Search<'a, 'v> {
         }
     }
 
+    /// Whether a key of the line, without escapes, is one of the value that isn't allowed.
+    fn is_other(self, key: &[u8], allowed: Allowed) -> bool
+        requires { needed_keys self.form (view self.value.now)
+            ≡ Some (allowed.common.now ++ (allowed.own.now ++ (allowed.told.now ++ allowed.outcome.now))) }
+        ensures { result ≡ true → IsOther self.entry.form (view self.entry.value.now) key.now }
+    {
+        let Some(name) = plain_name(key) else {
+            return false;
+        };
+        if allowed.has(name.as_bytes()) {
+            return false;
+        }
+        self.value.get(name).is_some()
+    }
+
+    /// The first key of the line, without escapes, that isn't allowed.
+    fn key_too_much(self, allowed: Allowed) -> Option<&'a [u8]>
+        requires { needed_keys self.form (view self.value.now)
+            ≡ Some (allowed.common.now ++ (allowed.own.now ++ (allowed.told.now ++ allowed.outcome.now))) }
+        ensures { IfSome result (λ key. IsOther self.entry.form (view self.entry.value.now) key.now) }
+    {
+        for member in Members::of(self.line) {
+            if self.is_other(member.key, allowed) {
+                return Some(member.key);
+            }
+        }
+        None
+    }
+
     /// That a key isn't allowed: the first without escapes, where there is one.
     fn too_much(self, kind: Key, allowed: Allowed) -> Flaw<'a>
+        requires keys { needed_keys self.form (view self.value.now)
+            ≡ Some (allowed.common.now ++ (allowed.own.now ++ (allowed.told.now ++ allowed.outcome.now))) }
         requires needed { HasNeeded self.form (view self.value.now) }
         requires others { HasOthers self.form (view self.value.now) }
         ensures { (events : ℕ) → IsSoOfValue self.entry.form events (view self.entry.value.now) result }
     {
-        let key: &'a [u8] = match key_too_much(self.line, allowed) {
+        let key: &'a [u8] = match self.key_too_much(allowed) {
             Some(key) => key,
             None => &[],
         };
