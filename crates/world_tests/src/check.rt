@@ -1,7 +1,6 @@
 //! What the checker says of worked transcripts, whole and line by line, and of each with one line
 //! changed.
 
-use crate::exchanges::{LINE, ONE_EXCHANGE};
 use crate::memory::specs;
 use crate::script::{nodes_of, read_line};
 use exchange_check::{CheckFault, Checker, Judgement, Results, TraceLine, Verdict, Why, check};
@@ -9,6 +8,7 @@ use network_model::Nodes;
 use std::alloc::Global;
 use std::process::Abort;
 use std::test::Fail;
+use worked_exchanges::{LINE, ONE_EXCHANGE};
 
 /// The exchange with a one-step Sync, which leaves a quarter of a nanosecond later, but for its report.
 const ONE_STEP: &str = "

@@ -1,10 +1,8 @@
-//! Tests by the public calls of networks, worlds and the checker: worked exchanges and transcripts.
+//! Tests by the public calls of networks, worlds and the checker: worked exchanges, and lines that tell them.
 #![tactic(auto)]
 
 #[cfg(test)]
 mod check;
-#[cfg(test)]
-mod exchanges;
 #[cfg(test)]
 mod memory;
 #[cfg(test)]
@@ -13,8 +11,6 @@ mod moments;
 mod nodes;
 #[cfg(test)]
 mod script;
-#[cfg(test)]
-mod texts;
 #[cfg(test)]
 mod traces;
 #[cfg(test)]

@@ -1,12 +1,12 @@
 //! The nodes of a network: worked networks, and that a call succeeds where memory is there, which no contract says.
 
-use crate::exchanges::LINE;
 use crate::script::nodes_of;
 use event_codec::{PortConfig, PortIdentity};
 use network_model::{Name, NodeKind, NodeSpec, Nodes, WorldRefusal};
 use ptp_units::Seq;
 use std::alloc::Global;
 use std::test::Fail;
+use worked_exchanges::LINE;
 
 const MASTER: PortIdentity = PortIdentity {
     clock: [0x00, 0x11, 0x22, 0xff, 0xfe, 0x33, 0x44, 0x55],

@@ -219,7 +219,7 @@ fn plain(kind: &str, node: Name) -> Result<Event, Fail> {
     }
 }
 
-pub(crate) fn word<'a>(words: &mut Words<'a>) -> Result<&'a str, Fail> {
+fn word<'a>(words: &mut Words<'a>) -> Result<&'a str, Fail> {
     Ok(words.next().ok_or("a word is missing")?)
 }
 

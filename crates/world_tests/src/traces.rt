@@ -1,13 +1,13 @@
 //! What happens in worlds, told as lines: the checker accepts them, with the number of their reports,
 //! and finds out numbers that came round.
 
-use crate::exchanges::{EXCHANGES, Exchange, LONG_RUNS, LongRun, PAIR, Part};
 use crate::script::{nodes_of, read_row};
 use exchange_check::{Checker, TraceLine, Verdict, check};
 use network_model::{Event, Nodes};
 use std::alloc::Global;
 use std::process::Abort;
 use std::test::Fail;
+use worked_exchanges::{EXCHANGES, Exchange, LONG_RUNS, LongRun, PAIR, Part};
 use world_model::World;
 
 /// The network of the nodes of a script.

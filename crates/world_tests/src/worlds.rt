@@ -1,9 +1,5 @@
 //! Worked exchanges in a world, and runs that are too long for a script.
 
-use crate::exchanges::{
-    EXCHANGES, Exchange, LINE, LONG_RUNS, LongRun, ONE_EXCHANGE, PAIR, Part, REFUSED,
-    SECOND_ANSWER, SLAVES_AGREE, TWO_SLAVES,
-};
 use crate::moments::moment;
 use crate::script::{nodes_of, read_row};
 use network_model::{Name, Nodes};
@@ -11,6 +7,10 @@ use std::alloc::{AllocError, Global};
 use std::process::Abort;
 use std::slice;
 use std::test::Fail;
+use worked_exchanges::{
+    EXCHANGES, Exchange, LINE, LONG_RUNS, LongRun, ONE_EXCHANGE, PAIR, Part, REFUSED,
+    SECOND_ANSWER, SLAVES_AGREE, TWO_SLAVES,
+};
 use world_model::{Event, Heard, Outcome, Report, RunStop, Stepped, World, WorldRefusal, run};
 
 /// The world of the nodes of a script.

@@ -1,14 +1,19 @@
 //! The worked exchanges as lines of text: what `replay` writes of each is what its script says, and
 //! `check_text` accepts that with the number of its reports.
 
-use crate::exchanges::{EXCHANGES, LINE, LONG_RUNS, LongRun, PAIR, Part, REFUSED};
-use crate::script::word;
 use std::alloc::Global;
 use std::process::Abort;
 use std::str;
+use std::str::SplitWhitespace;
 use std::test::Fail;
 use text_lines::Counted;
 use transcript_text::{Fault, FaultKind, check_text, replay};
+use worked_exchanges::{EXCHANGES, LINE, LONG_RUNS, LongRun, PAIR, Part, REFUSED};
+
+/// The next word of a script's line.
+fn word<'a>(words: &mut SplitWhitespace<'a>) -> Result<&'a str, Fail> {
+    Ok(words.next().ok_or("a word is missing")?)
+}
 
 /// A member of a line, its value a text or not.
 fn member(alloc: Global, key: &str, value: &str) -> Result<String, Fail> {

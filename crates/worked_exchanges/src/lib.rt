@@ -2,26 +2,28 @@
 //! formulas. `report 131072000 131072000 [5,7,8,13]` has twice the offset, twice the mean path delay,
 //! and the tags by which Sync, Follow_Up, Delay_Req and Delay_Resp came.
 
+#![tactic(auto)]
+
 use exchange_check::Why;
 
 /// What happens among some nodes.
 #[derive(Clone, Copy)]
-pub(crate) struct Exchange {
+pub struct Exchange {
     /// Its nodes.
-    pub(crate) nodes: &'static str,
+    pub nodes: &'static str,
     /// Its events, in parts, one after the other.
-    pub(crate) events: &'static [&'static str],
+    pub events: &'static [&'static str],
 }
 
 /// A master, a slave and a clock between the two.
-pub(crate) const LINE: &str = "
+pub const LINE: &str = "
 master M 001122fffe334455 0
 slave S 00aabbfffeccddee 0
 clock T
 ";
 
 /// A master and a slave.
-pub(crate) const PAIR: &str = "
+pub const PAIR: &str = "
 master M 001122fffe334455 0
 slave S 00aabbfffeccddee 0
 ";
@@ -40,7 +42,7 @@ slave S 00aabbfffeccddee 0
 ";
 
 /// A master, a slave behind one clock, and a slave behind that clock and two more.
-pub(crate) const TWO_SLAVES: &str = "
+pub const TWO_SLAVES: &str = "
 master M 001122fffe334455 0
 clock T1
 clock T2
@@ -51,7 +53,7 @@ slave S2 00aabbfffeccddff 0
 
 /// One exchange with a slave that is 1,000 ns ahead. The two cables take 500 ns, the clock 2,000 ns
 /// for the Sync and 3,500.25 ns for the Delay_Req.
-pub(crate) const ONE_EXCHANGE: &str = "
+pub const ONE_EXCHANGE: &str = "
 0 stepclock S 65536000 -> done
 1 setmaster S M -> done
 2 sync M [1,0,0] reads [1,0,0] -> made 0012002c00000200000000000000000000000000001122fffe33445500010000000000000000000000000000
@@ -69,7 +71,7 @@ pub(crate) const ONE_EXCHANGE: &str = "
 ";
 
 /// The Delay_Req takes a second way through the clock, which is slower, over a cable of 700 ns.
-pub(crate) const SECOND_ANSWER: &str = "
+pub const SECOND_ANSWER: &str = "
 14 enter T 8 [2,500,0] -> entered
 15 leave T 14 [2,9000,0] -> made
 16 arrive M 15 [2,9700,0] -> made
@@ -254,7 +256,7 @@ const CLOCK_STEPS: &str = "
 
 /// A slave 7 ns ahead and one 9 ns behind. Each cable takes 100 ns, each clock 1,000 ns for the Sync and
 /// three units for a Delay_Req.
-pub(crate) const SLAVES_AGREE: &str = "
+pub const SLAVES_AGREE: &str = "
 0 stepclock S1 458752 -> done
 1 stepclock S2 -589824 -> done
 2 setmaster S1 M -> done
@@ -338,7 +340,7 @@ const ONE_POOL: &str = "
 ";
 
 /// Events that a world refuses in which nothing happened.
-pub(crate) const REFUSED: &str = "
+pub const REFUSED: &str = "
 - tick X -> 603
 - setmaster S X -> 603
 - sync S [0,0,0] -> 604
@@ -438,7 +440,7 @@ const TICKED_TOO_SELDOM: &str = "
 
 /// A part of what happens in a network.
 #[derive(Clone, Copy)]
-pub(crate) enum Part {
+pub enum Part {
     /// The events of a script.
     Script(&'static str),
     /// The master draws so many Syncs, at 2 s.
@@ -447,15 +449,15 @@ pub(crate) enum Part {
 
 /// A run that is too long for a script, of a master and a slave.
 #[derive(Clone, Copy)]
-pub(crate) struct LongRun {
+pub struct LongRun {
     /// Its parts, one after the other.
-    pub(crate) parts: &'static [Part],
+    pub parts: &'static [Part],
     /// The first line of its transcript whose report isn't sound, if there is one, and why it isn't.
-    pub(crate) refused: Option<(u64, Why)>,
+    pub refused: Option<(u64, Why)>,
 }
 
 /// Runs in which all numbers of Syncs are drawn.
-pub(crate) const LONG_RUNS: [LongRun; 4] = [
+pub const LONG_RUNS: [LongRun; 4] = [
     LongRun {
         // The numbers came round, and pair wrongly.
         parts: &[
@@ -510,7 +512,7 @@ pub(crate) const LONG_RUNS: [LongRun; 4] = [
 ];
 
 /// The worked exchanges.
-pub(crate) const EXCHANGES: [Exchange; 19] = [
+pub const EXCHANGES: [Exchange; 19] = [
     Exchange {
         // One exchange.
         nodes: LINE,
