@@ -1,12 +1,12 @@
 -- What is told of a report, piece by piece.
-use Rattle.std.proofs.Common.{◌≡◌, ◌∙◌, ℕ, ◌+◌, ◌==◌, ◌<◌, ◌≤◌, true, false, List, [], ◌∷◌, ◌++◌, length, get_or, drop, Result, Ok, Err}
-use Rattle.std.proofs.Common.{refl, sym, ap, subst, append_assoc, append-nil, arith, if◌then◌else◌}
+use Rattle.std.proofs.Common.{◌≡◌, ◌∙◌, ℕ, ◌+◌, ◌<◌, ◌≤◌, true, false, List, [], ◌∷◌, ◌++◌, length, get_or, drop, Result, Ok, Err}
+use Rattle.std.proofs.Common.{refl, sym, ap, subst, append_assoc, append-nil, if◌then◌else◌}
 use Rattle.std.specs.Prelude.{codes, is_ok, OnOk}
 use Rattle.std.proofs.lemmas.List.{drop_more, drop_all}
 use Rattle.trace_model.specs.declared.verdict.Why.{Why}
 use Rattle.exchange_story.specs.declared.report.Reported.{Reported}
 use Rattle.exchange_story.specs.Report.{begin_text, reason_text, TellsJudged, TellsReasons}
-use Rattle.exchange_story.specs.Inner.Sound.{is_sound}
+use Rattle.exchange_story.specs.Counts.{is_sound}
 
 -- ---- reasons
 

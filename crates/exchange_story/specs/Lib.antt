@@ -1,2 +1,3 @@
 pub mod Report
+pub mod Counts
 pub mod Inner

@@ -2,7 +2,7 @@
 ghost use Rattle.std.specs.Prelude.{◌≡◌, ◌++◌, OnOk, codes};
 ghost use Rattle.std.specs.String.{string_bytes};
 ghost use Rattle.exchange_story.specs.Report.{begin_text, reason_text};
-ghost use Rattle.exchange_story.specs.Inner.Sound.{is_sound};
+ghost use Rattle.exchange_story.specs.Counts.{is_sound};
 
 use exchange_check::{Judgement, Why};
 use network_model::{Name, Report};

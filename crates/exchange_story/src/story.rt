@@ -1,6 +1,8 @@
 //! What is told of a transcript's reports.
-ghost use Rattle.std.specs.Prelude.{◌≡◌, ◌++◌, List, ℕ, OnOk};
+ghost use Rattle.std.specs.Prelude.{◌≡◌, [], ◌∷◌, ◌++◌, List, ℕ, OnOk};
 ghost use Rattle.std.specs.String.{string_bytes};
+ghost use Rattle.trace_model.specs.declared.verdict.Why.{Why};
+ghost use Rattle.exchange_story.specs.Counts.{counts_of, TellsCounts};
 ghost use Rattle.exchange_story.specs.Report.{TellsReport};
 
 use crate::case::Case;
@@ -10,6 +12,7 @@ use crate::tally::Tally;
 use exchange_check::{Checker, Reasons, TraceLine};
 use network_model::NodeSpec;
 use std::alloc::{AllocError, Global};
+use std::marker::Model;
 
 /// What was recorded of a transcript so far, and how many of its reports are sound; of a schedule its nodes alone.
 #[derive(Drop)]
@@ -19,9 +22,20 @@ pub struct Story {
     tally: Tally,
 }
 
+impl Model for Story {
+    ghost use Rattle.exchange_story.specs.Counts.{Counts};
+    ghost use Rattle.exchange_story.specs.Inner.Tally.{counts_in};
+
+    ghost Value = { Counts };
+
+    ghost view = { λ story. counts_in story.tally };
+}
+
 impl Story {
     /// Nothing was recorded yet.
-    pub fn new(alloc: Global) -> Story {
+    pub fn new(alloc: Global) -> Story
+        ensures { result ≡ counts_of [] }
+    {
         Story {
             alloc,
             record: Record::new(alloc),
@@ -30,17 +44,23 @@ impl Story {
     }
 
     /// Takes one more node, before the first event.
-    pub fn push_node(&mut self, node: NodeSpec) -> Result<(), AllocError> {
+    pub fn push_node(&mut self, node: NodeSpec) -> Result<(), AllocError>
+        ensures { self.new ≡ self.old }
+    {
         self.record.push_node(node)
     }
 
     /// Takes what was recorded of one more event, the last that this checker was fed.
-    pub fn push_event(&mut self, line: TraceLine, checker: &Checker) -> Result<(), AllocError> {
+    pub fn push_event(&mut self, line: TraceLine, checker: &Checker) -> Result<(), AllocError>
+        ensures { self.new ≡ self.old }
+    {
         self.record.push_event(self.alloc, line, checker)
     }
 
     /// Counts one more report, which these reasons stand against.
-    pub fn count(&mut self, reasons: &Reasons) {
+    pub fn count(&mut self, reasons: &Reasons)
+        ensures { (reports : List (List Why)) → self.old ≡ counts_of reports → self.new ≡ counts_of (reasons.now ∷ reports) }
+    {
         self.tally.count(reasons);
     }
 
@@ -76,11 +96,16 @@ impl Story {
 
     /// Appends how many reports there are, how many fail which conditions, and where octets stand against one, how
     /// many messages have other ones.
-    pub fn push_tally(&self, text: &mut String) -> Result<(), AllocError> {
-        self.tally.push(text)?;
-        if self.tally.has_octets() {
-            self.record.push_differing(text)?;
+    pub fn push_tally(&self, text: &mut String) -> Result<(), AllocError>
+        ensures { OnOk result ((told : List ℕ) × TellsCounts self.now told
+            × (string_bytes text.new ≡ string_bytes text.old ++ told)) }
+    {
+        self.tally.push(self.alloc, text)?;
+        if !self.tally.has_octets() {
+            return Ok(());
         }
-        Ok(())
+        let mut messages = String::new(self.alloc);
+        self.record.push_differing(&mut messages)?;
+        text.push_str(messages.as_str())
     }
 }

@@ -1,7 +1,14 @@
 //! How many reports there are, and how many fail which conditions.
+ghost use Rattle.std.specs.Prelude.{◌≡◌, ◌+◌, ◌==◌, [], ◌∷◌, ◌++◌, List, ℕ, OnOk, if◌then◌else◌};
+ghost use Rattle.std.specs.String.{string_bytes};
+ghost use Rattle.trace_model.specs.declared.verdict.Why.{Why};
+ghost use Rattle.exchange_story.specs.Counts.{aside_text, counted, counts_of, failing_text, has_octets, is_octets_alone};
+ghost use Rattle.exchange_story.specs.Counts.{is_sound, noun_text, stands};
+ghost use Rattle.exchange_story.specs.Counts.{TellsFailing, TellsReports, told_reasons};
+ghost use Rattle.exchange_story.specs.Inner.Tally.{counts_in, failing_in};
 
 use exchange_check::{Reasons, Why};
-use std::alloc::AllocError;
+use std::alloc::{AllocError, Global};
 
 /// All reasons, in the order in which they are told.
 const REASONS: [Why; 8] = [
@@ -15,6 +22,70 @@ const REASONS: [Why; 8] = [
     Why::Bytes,
 ];
 
+/// Against how many reports each reason stands. Counts stay at 2^64 - 1.
+#[derive(Clone, Copy, Debug)]
+pub(crate) struct Failing {
+    no_such_line: u64,
+    broken_journey: u64,
+    other_number: u64,
+    other_master: u64,
+    wrong_reading: u64,
+    too_big: u64,
+    wrong_value: u64,
+    bytes: u64,
+}
+
+impl Failing {
+    /// There is no report yet.
+    fn none() -> Failing
+        ensures { (why : Why) → failing_in result why ≡ 0 }
+    {
+        Failing {
+            no_such_line: 0,
+            broken_journey: 0,
+            other_number: 0,
+            other_master: 0,
+            wrong_reading: 0,
+            too_big: 0,
+            wrong_value: 0,
+            bytes: 0,
+        }
+    }
+
+    /// Against how many reports this reason stands.
+    fn of(&self, why: Why) -> u64
+        ensures { result ≡ failing_in self.now why }
+    {
+        match why {
+            Why::NoSuchLine => self.no_such_line,
+            Why::BrokenJourney => self.broken_journey,
+            Why::OtherNumber => self.other_number,
+            Why::OtherMaster => self.other_master,
+            Why::WrongReading => self.wrong_reading,
+            Why::TooBig => self.too_big,
+            Why::WrongValue => self.wrong_value,
+            Why::Bytes => self.bytes,
+        }
+    }
+
+    /// The same after one more report, which these reasons stand against.
+    fn after(&self, whys: &[Why]) -> Failing
+        ensures { (why : Why) → failing_in result why
+            ≡ (if stands why whys.now then counted (failing_in self.now why + 1) else failing_in self.now why) }
+    {
+        Failing {
+            no_such_line: more(self.no_such_line, stands(Why::NoSuchLine, whys)),
+            broken_journey: more(self.broken_journey, stands(Why::BrokenJourney, whys)),
+            other_number: more(self.other_number, stands(Why::OtherNumber, whys)),
+            other_master: more(self.other_master, stands(Why::OtherMaster, whys)),
+            wrong_reading: more(self.wrong_reading, stands(Why::WrongReading, whys)),
+            too_big: more(self.too_big, stands(Why::TooBig, whys)),
+            wrong_value: more(self.wrong_value, stands(Why::WrongValue, whys)),
+            bytes: more(self.bytes, stands(Why::Bytes, whys)),
+        }
+    }
+}
+
 /// How many reports there are. Counts stay at 2^64 - 1.
 #[derive(Clone, Copy, Debug)]
 pub(crate) struct Tally {
@@ -22,70 +93,146 @@ pub(crate) struct Tally {
     sound: u64,
     /// How many reports octets alone stand against.
     octets_alone: u64,
-    /// How many reports each reason stands against, in their order.
-    failing: [u64; 8],
+    failing: Failing,
 }
 
 impl Tally {
     /// There is no report yet.
-    pub(crate) fn new() -> Tally {
+    pub(crate) fn new() -> Tally
+        ensures { counts_in result ≡ counts_of [] }
+    {
         Tally {
             reports: 0,
             sound: 0,
             octets_alone: 0,
-            failing: [0; 8],
+            failing: Failing::none(),
         }
     }
 
     /// One more report, which these reasons stand against.
-    pub(crate) fn count(&mut self, reasons: &Reasons) {
+    pub(crate) fn count(&mut self, reasons: &Reasons)
+        ensures { (reports : List (List Why)) → counts_in self.old ≡ counts_of reports
+            → counts_in self.new ≡ counts_of (reasons.now ∷ reports) }
+    {
         let whys = reasons.as_slice();
         self.reports = self.reports.saturating_add(1);
-        match whys {
-            [] => self.sound = self.sound.saturating_add(1),
-            [Why::Bytes] => self.octets_alone = self.octets_alone.saturating_add(1),
-            _ => {}
-        }
-        for (count, reason) in self.failing.iter_mut().zip(REASONS) {
-            if whys.contains(&reason) {
-                *count = count.saturating_add(1);
-            }
-        }
+        self.sound = more(self.sound, is_sound(whys));
+        self.octets_alone = more(self.octets_alone, is_octets_alone(whys));
+        self.failing = self.failing.after(whys);
     }
 
     /// Whether octets stand against a report.
-    pub(crate) fn has_octets(&self) -> bool {
-        self.failing[7] > 0
+    pub(crate) fn has_octets(&self) -> bool
+        ensures { result ≡ has_octets (counts_in self.now) }
+    {
+        self.failing.bytes > 0
     }
 
     /// Appends how many reports there are, and how many fail which conditions.
-    pub(crate) fn push(&self, text: &mut String) -> Result<(), AllocError> {
+    pub(crate) fn push(&self, alloc: Global, text: &mut String) -> Result<(), AllocError>
+        ensures { OnOk result ((told : List ℕ) × TellsReports (self.now.reports == 0) (counts_in self.now) told
+            × (string_bytes text.new ≡ string_bytes text.old ++ told)) }
+    {
         if self.reports == 0 {
             return text.push_str("there is no report, so nothing was judged\n");
         }
-        let noun = if self.reports == 1 {
-            "report"
-        } else {
-            "reports"
-        };
-        write!(text, "{} {noun}: {} sound\n", self.reports, self.sound)?;
-        for (count, reason) in self.failing.iter().zip(REASONS) {
-            if *count > 0 {
-                write!(
-                    text,
-                    "  {} stands against {count}: {reason}\n",
-                    reason.code()
-                )?;
-            }
-        }
-        if self.has_octets() {
-            let sound = self.sound.saturating_add(self.octets_alone);
-            write!(
-                text,
-                "were octets left aside (708), {sound} of {} {noun} would be sound\n",
-                self.reports
-            )?;
+        write!(
+            text,
+            "{} {}: {} sound\n",
+            self.reports,
+            noun(self.reports),
+            self.sound
+        )?;
+        self.push_failing(alloc, text)?;
+        self.push_aside(text)
+    }
+
+    /// Appends a line for each reason that stands against a report.
+    fn push_failing(&self, alloc: Global, text: &mut String) -> Result<(), AllocError>
+        ensures { OnOk result ((told : List ℕ) × TellsFailing (failing_in self.now.failing) told_reasons told
+            × (string_bytes text.new ≡ string_bytes text.old ++ told)) }
+    {
+        for why in REASONS {
+            push_reason(alloc, text, why, self.failing.of(why))?;
         }
         Ok(())
     }
+
+    /// Appends how many reports would be sound were octets left aside, where these stand against one.
+    fn push_aside(&self, text: &mut String) -> Result<(), AllocError>
+        ensures { OnOk result (string_bytes text.new ≡ string_bytes text.old ++ aside_text (counts_in self.now)) }
+    {
+        if !self.has_octets() {
+            return Ok(());
+        }
+        write!(
+            text,
+            "were octets left aside (708), {} of {} {} would be sound\n",
+            self.sound.saturating_add(self.octets_alone),
+            self.reports,
+            noun(self.reports)
+        )
+    }
+}
+
+/// Whether no reason stands against a report.
+fn is_sound(whys: &[Why]) -> bool
+    ensures { result ≡ is_sound whys.now }
+{
+    whys.is_empty()
+}
+
+/// Whether octets stand against a report, and no other reason does.
+fn is_octets_alone(whys: &[Why]) -> bool
+    ensures { result ≡ is_octets_alone whys.now }
+{
+    whys.len() == 1 && stands(Why::Bytes, whys)
+}
+
+/// Whether this reason is one of those against a report.
+fn stands(reason: Why, whys: &[Why]) -> bool
+    ensures { result ≡ stands reason whys.now }
+{
+    for why in whys {
+        if why.code() == reason.code() {
+            return true;
+        }
+    }
+    false
+}
+
+/// A count, with one more where it is to count.
+fn more(count: u64, counts: bool) -> u64
+    ensures { result ≡ (if counts then counted (count + 1) else count) }
+{
+    if counts {
+        count.saturating_add(1)
+    } else {
+        count
+    }
+}
+
+/// The word for so many reports.
+fn noun(reports: u64) -> &'static str
+    ensures { result.now ≡ noun_text reports }
+{
+    if reports == 1 { "report" } else { "reports" }
+}
+
+/// Appends the line of a reason that stands against so many reports; nothing where it stands against none.
+fn push_reason(alloc: Global, text: &mut String, why: Why, count: u64) -> Result<(), AllocError>
+    ensures { OnOk result ((words : List ℕ)
+        × (string_bytes text.new ≡ string_bytes text.old ++ failing_text why count words)) }
+{
+    if count == 0 {
+        return Ok(());
+    }
+    let mut words = String::new(alloc);
+    write!(words, "{why}")?;
+    write!(
+        text,
+        "  {} stands against {count}: {}\n",
+        why.code(),
+        words.as_str()
+    )
 }

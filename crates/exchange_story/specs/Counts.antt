@@ -1,0 +1,111 @@
+-- How many reports there are, how many fail which conditions, and what is told of that.
+use Rattle.std.specs.Prelude.{◌≡◌, ℕ, ◌+◌, ◌-◌, ◌^◌, ◌==◌, ◌&&◌, min, nat_lt, Bool, true, false, List, [], ◌∷◌, ◌++◌}
+use Rattle.std.specs.Prelude.{length, map, count_by, slice_index, codes, if◌then◌else◌, ⊤}
+use Rattle.std.specs.List.{list_any}
+use Rattle.std.specs.Fmt.{decimal}
+use Rattle.trace_model.specs.declared.verdict.Why.{Why}
+use Rattle.trace_model.specs.declared.verdict.Why.TheVariants.{NoSuchLine, OtherNumber, OtherMaster, BrokenJourney}
+use Rattle.trace_model.specs.declared.verdict.Why.TheVariants.{WrongReading, WrongValue, TooBig, Bytes}
+use Rattle.trace_model.specs.Refusal.{code_of}
+
+-- all reasons, in the order in which they are told
+abbrev pub told_reasons : List Why
+told_reasons =
+    NoSuchLine ∷ BrokenJourney ∷ OtherNumber ∷ OtherMaster ∷ WrongReading ∷ TooBig ∷ WrongValue ∷ Bytes ∷ []
+
+-- how many reports there are, how many of them are sound, against how many octets stand alone, and against how many each
+-- reason stands, in that order
+pub record Counts : Type 0 where
+  pub reports : ℕ
+  pub sound : ℕ
+  pub octets_alone : ℕ
+  pub failing : List ℕ
+
+-- a count, which stays at 2^64 - 1
+abbrev pub counted : ℕ → ℕ
+counted n = min n (2 ^ 64 - 1)
+
+-- whether no reason stands against a report
+abbrev pub is_sound : List Why → Bool
+is_sound [] = true
+is_sound (why ∷ others) = false
+
+-- whether this reason is one of those against a report
+abbrev pub stands : Why → List Why → Bool
+stands why whys = list_any (λ other. code_of other == code_of why) whys
+
+-- whether octets stand against a report, and no other reason does
+abbrev pub is_octets_alone : List Why → Bool
+is_octets_alone whys = (length whys == 1) && stands Bytes whys
+
+-- the counts of reports, by the reasons against each
+abbrev pub counts_of : List (List Why) → Counts
+counts_of reports = record {
+  reports = counted (length reports);
+  sound = counted (count_by is_sound reports);
+  octets_alone = counted (count_by is_octets_alone reports);
+  failing = map (λ why. counted (count_by (stands why) reports)) told_reasons;
+}
+
+-- against how many reports this reason stands
+abbrev pub against : Counts → Why → ℕ
+against counts NoSuchLine = slice_index counts.failing 0
+against counts BrokenJourney = slice_index counts.failing 1
+against counts OtherNumber = slice_index counts.failing 2
+against counts OtherMaster = slice_index counts.failing 3
+against counts WrongReading = slice_index counts.failing 4
+against counts TooBig = slice_index counts.failing 5
+against counts WrongValue = slice_index counts.failing 6
+against counts Bytes = slice_index counts.failing 7
+
+-- whether octets stand against a report
+abbrev pub has_octets : Counts → Bool
+has_octets counts = nat_lt 0 (against counts Bytes)
+
+-- the word for so many reports
+abbrev pub noun_text : ℕ → List ℕ
+noun_text reports = if reports == 1 then codes "report" else codes "reports"
+
+-- the line that says how many reports there are, and how many are sound
+abbrev pub reports_text : Counts → List ℕ
+reports_text counts =
+    decimal counts.reports ++ codes " " ++ noun_text counts.reports ++ codes ": " ++ decimal counts.sound
+    ++ codes " sound\n"
+
+-- the line of a reason that stands against so many reports, with these words for it; none where it stands against none
+abbrev pub failing_text : Why → ℕ → List ℕ → List ℕ
+failing_text why count words = if count == 0 then [] else
+    (codes "  " ++ decimal (code_of why) ++ codes " stands against " ++ decimal count ++ codes ": " ++ words
+    ++ codes "\n")
+
+-- the lines of these reasons, by against how many reports each stands
+abbrev pub TellsFailing : (Why → ℕ) → List Why → List ℕ → Type 0
+TellsFailing failing [] text = text ≡ []
+TellsFailing failing (why ∷ others) text =
+    (words : List ℕ) × (behind : List ℕ) × TellsFailing failing others behind
+    × (text ≡ failing_text why (failing why) words ++ behind)
+
+-- where octets stand against a report, the line that says how many reports would be sound were they left aside
+abbrev pub aside_text : Counts → List ℕ
+aside_text counts = if has_octets counts then
+    (codes "were octets left aside (708), " ++ decimal (counted (counts.sound + counts.octets_alone)) ++ codes " of "
+    ++ decimal counts.reports ++ codes " " ++ noun_text counts.reports ++ codes " would be sound\n")
+    else []
+
+-- what is told of reports, by whether there is none
+abbrev pub TellsReports : Bool → Counts → List ℕ → Type 0
+TellsReports true counts text = text ≡ codes "there is no report, so nothing was judged\n"
+TellsReports false counts text =
+    (failing : List ℕ) × TellsFailing (against counts) told_reasons failing
+    × (text ≡ reports_text counts ++ (failing ++ aside_text counts))
+
+-- lines on the messages that have other octets, by whether octets stand against a report: none where they don't
+abbrev pub TellsMessages : Bool → List ℕ → Type 0
+TellsMessages true text = ⊤
+TellsMessages false text = text ≡ []
+
+-- what is told of counts
+abbrev pub TellsCounts : Counts → List ℕ → Type 0
+TellsCounts counts text =
+    (reports : List ℕ) × (messages : List ℕ) × TellsReports (counts.reports == 0) counts reports
+    × TellsMessages (has_octets counts) messages × (text ≡ reports ++ messages)
