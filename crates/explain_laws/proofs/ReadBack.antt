@@ -1,8 +1,7 @@
 -- The JSON of a judged report, read again.
-use Rattle.std.proofs.Common.{◌≡◌, ◌∙◌, ℕ, ℤ, ◌<◌, ◌≤◌, ◌^◌, ◌==◌, Bool, true, false, ◌&&◌, ◌||◌, nat_lt, List, [], ◌∷◌, ◌++◌, codes, Option, Some, None, IfSome}
+use Rattle.std.proofs.Common.{◌≡◌, ◌∙◌, ℕ, ℤ, ◌<◌, ◌^◌, ◌==◌, true, false, ◌&&◌, nat_lt, List, [], ◌∷◌, ◌++◌, codes, Option, Some, None, IfSome}
 use Rattle.std.proofs.Common.{refl, ap, sym, arith, append_assoc}
-use Rattle.std.specs.Prelude.{option_map, option_and_then}
-use Rattle.std.specs.Char.{is_ascii_alphanumeric}
+use Rattle.std.specs.Prelude.{option_map}
 use Rattle.std.specs.Fmt.{decimal, signed_decimal}
 use Rattle.std.specs.List.{list_all, flat_map}
 use Rattle.std.specs.Str.{IsAscii}
@@ -17,11 +16,10 @@ use Rattle.json.specs.Tree as tree
 use Rattle.json.specs.Tree.{ItemsHaveNumbers}
 use Rattle.json.specs.Print.{escape_byte, escape}
 use Rattle.json.proofs.Printed.Decimals.{IsNumber-decimal}
-use Rattle.serde_json.specs.Data.{string, array, Items, item, no_items}
+use Rattle.serde_json.specs.Data.{string, array}
 use Rattle.serde_json.specs.Read.{read, of_items}
 use Rattle.serde_json.specs.Written.{compact_text, items_outline, items_text}
-use Rattle.serde_json.proofs.Numbers.{number_of-decimal}
-use Rattle.network_model.specs.Name.{IsName, is_name_octet}
+use Rattle.network_model.specs.Name.{is_name_octet}
 use Rattle.trace_model.specs.declared.judgement.Results.{Results}
 use Rattle.trace_model.specs.declared.verdict.Why.{Why}
 use Rattle.trace_model.specs.declared.verdict.Why.TheVariants.{NoSuchLine, OtherNumber, OtherMaster, BrokenJourney}

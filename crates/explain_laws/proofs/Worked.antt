@@ -1,5 +1,5 @@
 -- A worked judgement: its JSON, and that it is within its range.
-use Rattle.std.proofs.Common.{◌≡◌, [], ◌∷◌, codes, pos, None, Some, refl, arith}
+use Rattle.std.proofs.Common.{◌≡◌, [], ◌∷◌, codes, pos, Some, refl, arith}
 use Rattle.std.specs.Fmt.{digits}
 use Rattle.trace_model.specs.declared.verdict.Why.TheVariants.{WrongValue, Bytes}
 use Rattle.schedule_lines.proofs.Names.{IsName-from_test}
