@@ -3,3 +3,4 @@ pub mod Events
 pub mod Faults
 pub mod Untold
 pub mod Seen
+pub mod Reports

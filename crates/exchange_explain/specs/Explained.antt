@@ -1,8 +1,11 @@
--- What `explain` answers, by the input that it reads. Of the text that it writes only the last line of a transcript's is
--- said, its verdict.
-use Rattle.std.specs.Prelude.{◌≡◌, ◌⊎◌, ℕ, ◌+◌, List, ◌++◌, codes, Option, Some, None, Result, MatchResult, ⊤}
+-- What `explain` answers and writes, by the input that it reads. Of the text that it writes is said what it tells of the
+-- reports of a transcript, and what it tells at the end of an input without a fault.
+use Rattle.std.specs.Prelude.{◌≡◌, ◌⊎◌, ℕ, ◌+◌, ◌==◌, Bool, true, false, List, [], ◌∷◌, ◌++◌, codes, if◌then◌else◌}
+use Rattle.std.specs.Prelude.{Option, Some, None, Result, MatchResult, ⊤}
+use Rattle.std.specs.Fmt.{decimal}
 use Rattle.std.specs.Option.{ForSome}
 use Rattle.network_model.specs.declared.refusal.WorldRefusal.{WorldRefusal}
+use Rattle.trace_model.specs.declared.verdict.Why.{Why}
 use Rattle.text_lines.specs.declared.counted.Counted.{Counted}
 use Rattle.text_lines.specs.declared.fault.Cause.{Cause}
 use Rattle.text_lines.specs.declared.fault.Stopped.{Stopped}
@@ -15,28 +18,63 @@ use Rattle.schedule_reading.specs.declared.fault.TaskFault.TheVariants.{Write, W
 use Rattle.schedule_reading.specs.declared.transcript.Judged.{Judged}
 use Rattle.schedule_reading.specs.Fault.{is_write}
 use Rattle.schedule_reading.specs.Verdict.{verdict_text}
+use Rattle.exchange_story.specs.declared.report.Reported.{Reported}
+use Rattle.exchange_story.specs.Counts.{counts_of, TellsCounts}
+use Rattle.exchange_story.specs.Report.{TellsReport}
 use Rattle.exchange_explain.specs.declared.explaining.Explained.{Explained}
 use Rattle.exchange_explain.specs.declared.explaining.Explained.TheVariants.{Whole, Flawed}
 use Rattle.exchange_explain.specs.declared.input.Found.{Found}
 use Rattle.exchange_explain.specs.declared.input.Found.TheVariants.{Transcript, Schedule}
 use Rattle.exchange_explain.specs.declared.input.Input.{Input}
 use Rattle.exchange_explain.specs.Input.{nothing, lines_in, Takes, Faults, IsFound, FaultsAtEnd}
+use Rattle.exchange_explain.specs.Judgements.{is_told}
 
--- the lines up to the first that has a fault, and that fault with its line, where there was one
+-- whether only the first report that is refused is told; the lines up to the first that has a fault; the reasons against
+-- each of their reports, newest first; and that fault with its line, where there was one
 pub record Seen : Type 0 where
+  pub first : Bool
   pub input : Input
+  pub reports : List (List Why)
   pub fault : Option (ℕ × TaskFault)
 
--- a line that is taken, or the first one that isn't
-abbrev pub SeesFirst : List ℕ → Input → (later : Input) → Option (ℕ × TaskFault) → Type 0
-SeesFirst line input later None = (judged : Option Judged) × Takes line input later judged
-SeesFirst line input later (Some (number, fault)) =
-    (number ≡ lines_in input + 1) × Faults fault input line × (later ≡ input)
+-- the reasons against each report after one more line, in front those against its report, where it has one
+abbrev pub with_report : Option Judged → List (List Why) → List (List Why)
+with_report None reports = reports
+with_report (Some judged) reports = judged.judgement.reasons ∷ reports
 
--- what one more line does: after the first fault nothing
-abbrev pub Sees : List ℕ → Option (ℕ × TaskFault) → (seen later : Seen) → Type 0
-Sees line None seen later = SeesFirst line seen.input later.input later.fault
-Sees line (Some found) seen later = later ≡ seen
+-- a report that was judged, as it is told
+abbrev pub reported_of : Judged → Reported
+reported_of judged = record {
+  line = judged.line;
+  event = judged.event;
+  node = judged.node;
+  report = judged.report;
+  judgement = judged.judgement;
+}
+
+-- what is told of a report, by whether it is told
+abbrev pub TellsIf : Bool → Reported → List ℕ → Type 0
+TellsIf true reported told = TellsReport reported told
+TellsIf false reported told = told ≡ []
+
+-- what is told of a line after which the input is this: what its report is judged to be, where it has one that is told
+abbrev pub TellsLine : Bool → Input → Option Judged → List ℕ → Type 0
+TellsLine first later None told = told ≡ []
+TellsLine first later (Some judged) told = TellsIf (is_told first judged.event later) (reported_of judged) told
+
+-- a line that is taken, or the first one that isn't, of which anything may be told
+abbrev pub SeesFirst : List ℕ → (seen later : Seen) → Option (ℕ × TaskFault) → List ℕ → Type 0
+SeesFirst line seen later None told =
+    (judged : Option Judged) × Takes line seen.input later.input judged
+    × (later.reports ≡ with_report judged seen.reports) × TellsLine seen.first later.input judged told
+SeesFirst line seen later (Some (number, fault)) told =
+    (number ≡ lines_in seen.input + 1) × Faults fault seen.input line × (later.input ≡ seen.input)
+    × (later.reports ≡ seen.reports)
+
+-- what one more line does: after the first fault nothing, and anything may be told of it
+abbrev pub Sees : List ℕ → Option (ℕ × TaskFault) → (seen later : Seen) → List ℕ → Type 0
+Sees line None seen later told = (later.first ≡ seen.first) × SeesFirst line seen later later.fault told
+Sees line (Some found) seen later told = later ≡ seen
 
 -- the answer at the end of lines without a fault: what the input is, or why its nodes are no network
 abbrev pub IsAnswer : Input → Explained → Type 0
@@ -49,47 +87,63 @@ abbrev pub EndsIn : Input → Option (ℕ × TaskFault) → Explained → Type 0
 EndsIn input None answer = IsAnswer input answer
 EndsIn input (Some (line, what)) answer = answer ≡ Flawed line what
 
--- a text that is told of what an input is: that of a transcript ends in its verdict, as `check` tells it
-abbrev pub IsLastText : Found → List ℕ → Type 0
-IsLastText (Transcript verdict) text =
-    (before : List ℕ) × (text ≡ before ++ (codes "verdict: " ++ verdict_text verdict))
-IsLastText (Schedule count) text = ⊤
+-- that a schedule of so many events happens, and what tells more
+abbrev pub happening_text : ℕ → List ℕ
+happening_text count =
+    if count == 1
+    then codes "a schedule of 1 event, which happens; 'ptpx replay' makes a transcript of it, which 'ptpx check' judges\n"
+    else
+    (codes "a schedule of " ++ decimal count
+    ++ codes " events, which all happen; 'ptpx replay' makes a transcript of it, which 'ptpx check' judges\n")
 
--- a text that is told at the end
-abbrev pub TellsEnd : Explained → List ℕ → Type 0
-TellsEnd (Whole found) text = IsLastText found text
-TellsEnd (Flawed line what) text = ⊤
+-- what an input is: of a transcript its verdict, as `check` tells it
+abbrev pub found_text : Found → List ℕ
+found_text (Transcript verdict) = codes "verdict: " ++ verdict_text verdict
+found_text (Schedule count) = happening_text count
+
+-- what is told of what an input is: of a transcript first how many reports there are, and how many fail which conditions
+abbrev pub TellsFound : Found → List (List Why) → List ℕ → Type 0
+TellsFound (Transcript verdict) reports told =
+    (counts : List ℕ) × TellsCounts (counts_of reports) counts × (told ≡ counts ++ found_text (Transcript verdict))
+TellsFound (Schedule count) reports told = told ≡ found_text (Schedule count)
+
+-- what is told at the end; after a fault anything may be
+abbrev pub TellsEnd : Explained → List (List Why) → List ℕ → Type 0
+TellsEnd (Whole found) reports told = TellsFound found reports told
+TellsEnd (Flawed line what) reports told = ⊤
 
 -- Each line is looked at, to the last. Only where the writer fails or memory is refused lines are looked at no further.
 abbrev pub explain_rules : Rules Seen Explained TaskFault
 explain_rules = record {
   lines_limit = lines_limit;
-  Takes = λ line seen later written. Sees line seen.fault seen later;
-  Stops = λ line seen fault written. (fault ≡ Write) ⊎ (fault ≡ Memory);
-  Ends = λ lines seen answer written. EndsIn seen.input seen.fault answer × TellsEnd answer written;
-  StopsAtEnd = λ seen fault written. (fault ≡ Write) ⊎ (fault ≡ Memory);
+  Takes = λ line seen later written. Sees line seen.fault seen later written;
+  Stops = λ line seen fault written. ((fault ≡ Write) ⊎ (fault ≡ Memory)) × (written ≡ []);
+  Ends = λ lines seen answer written. EndsIn seen.input seen.fault answer × TellsEnd answer seen.reports written;
+  StopsAtEnd = λ seen fault written. ((fault ≡ Write) ⊎ (fault ≡ Memory)) × (written ≡ []);
   is_of_writer = is_write;
 }
 
 -- no line was looked at
-abbrev pub unseen : Seen
-unseen = record { input = nothing; fault = None }
+abbrev pub unseen : Bool → Seen
+unseen first = record { first = first; input = nothing; reports = []; fault = None }
 
 -- What an answer over these octets says, of what is left of them, and where there is one of what was written. Where it
 -- stopped, a text may stand behind what was told of the lines.
-abbrev pub Explains : List ℕ → (left before after : Option (List ℕ)) → Result Explained (Stopped (Cause TaskFault))
-    → Type 0
-Explains octets left before after answer = MatchResult answer
-    (AnswersAll explain_rules unseen octets left before after)
-    (λ stop. (told : Option (List ℕ)) × AnswersUntil explain_rules unseen octets left before told stop.line stop.what)
+abbrev pub Explains : Bool → List ℕ → (left before after : Option (List ℕ))
+    → Result Explained (Stopped (Cause TaskFault)) → Type 0
+Explains first octets left before after answer = MatchResult answer
+    (AnswersAll explain_rules (unseen first) octets left before after)
+    (λ stop. (told : Option (List ℕ))
+    × AnswersUntil explain_rules (unseen first) octets left before told stop.line stop.what)
 
 -- what an answer says where the reader tells its octets, and where the writer does
-abbrev pub ExplainsAnswer : {R W : Type 0} → (R → Option (List ℕ)) → (W → Option (List ℕ))
+abbrev pub ExplainsAnswer : {R W : Type 0} → Bool → (R → Option (List ℕ)) → (W → Option (List ℕ))
     → Result Explained (Stopped (Cause TaskFault))
     → (input input' : Counted R) (output output' : Counted W) → Type 0
-ExplainsAnswer remaining contents answer input input' output output' =
+ExplainsAnswer first remaining contents answer input input' output output' =
     ForSome (remaining (device_of input)) (λ octets.
-    Explains octets (remaining (device_of input')) (contents (device_of output)) (contents (device_of output')) answer)
+    Explains first octets (remaining (device_of input')) (contents (device_of output)) (contents (device_of output'))
+    answer)
 
 -- Which of the two devices failed where this stopped it. After a fault of reading a text is written, which may fail.
 abbrev pub HasFailedAt : {R W : Type 0} → Cause TaskFault

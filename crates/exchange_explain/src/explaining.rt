@@ -1,15 +1,20 @@
 //! What is wrong with a transcript or a schedule, for a person.
-ghost use Rattle.std.specs.Prelude.{◌≡◌, ◌+◌, MatchResult, Some, None, option_map, string_bytes};
+ghost use Rattle.std.specs.Prelude.{◌≡◌, ◌+◌, [], ◌∷◌, ◌++◌, List, ℕ, MatchResult, OnOk, Some, None, string_bytes};
 ghost use Rattle.std.specs.Io.KnownBytes.{Appends};
+ghost use Rattle.trace_model.specs.declared.verdict.Why.{Why};
 ghost use Rattle.schedule_reading.specs.declared.fault.TaskFault.TheVariants.{World};
 ghost use Rattle.schedule_reading.specs.Fault.{is_write};
+ghost use Rattle.exchange_story.specs.Counts.{counts_of};
+ghost use Rattle.exchange_story.specs.Report.{TellsReport};
 ghost use Rattle.exchange_explain.specs.declared.explaining.Explained.TheVariants.{Flawed};
 ghost use Rattle.text_lines.specs.Counted.{device_of, HasFailedIf, HasNotFailed};
 ghost use Rattle.text_lines.specs.Lines.{input_limit, lines_limit, GivesWithin};
-ghost use Rattle.exchange_explain.specs.Explained.{Seen, Sees, SeesFirst, EndsIn, TellsEnd, explain_rules};
+ghost use Rattle.exchange_explain.specs.Explained.{Seen, Sees, EndsIn, TellsEnd, TellsFound, TellsIf, TellsLine};
+ghost use Rattle.exchange_explain.specs.Explained.{explain_rules, reported_of, with_report};
 ghost use Rattle.exchange_explain.specs.Explained.{ExplainsAnswer, ExplainFailedWith};
 ghost use Rattle.exchange_explain.specs.Input.{lines_in};
-ghost use Rattle.exchange_explain.specs.Inner.Explaining.{IsExplaining, IsSeenAlike, fault_kept};
+ghost use Rattle.exchange_explain.specs.Judgements.{is_told};
+ghost use Rattle.exchange_explain.specs.Inner.Explaining.{IsExplaining, IsKeptAlike, IsSeenAlike, HasEvent, HasEventFor};
 
 use crate::flaws::{Flaws, push_foreign};
 use crate::found::push_found;
@@ -118,8 +123,9 @@ impl Explaining {
 
     /// Tells what there is to tell of one more line.
     fn tell_line(&mut self, line: &[u8]) -> Result<(), TaskFault>
-        ensures { (seen : Seen) → IsExplaining self.old seen → MatchResult result
-            (λ _. (later : Seen) × IsExplaining self.new later × Sees line.now seen.fault seen later)
+        ensures { (seen : Seen) → IsExplaining self.old seen → string_bytes self.old.text ≡ [] → MatchResult result
+            (λ _. (later : Seen) × IsExplaining self.new later
+            × Sees line.now seen.fault seen later (string_bytes self.new.text))
             (λ fault. fault ≡ TaskFault.Memory) }
     {
         match &mut self.flaws {
@@ -130,8 +136,10 @@ impl Explaining {
 
     /// Takes a line where none before it has a fault, and tells its report, or its fault.
     fn take_line(&mut self, line: &[u8]) -> Result<(), TaskFault>
-        ensures { self.old.flaws ≡ None → MatchResult result
-            (λ _. SeesFirst line.now self.old.input self.new.input (option_map fault_kept self.new.flaws))
+        ensures { (seen : Seen) → IsExplaining self.old seen → self.old.flaws ≡ None → string_bytes self.old.text ≡ []
+            → MatchResult result
+            (λ _. (later : Seen) × IsExplaining self.new later
+            × Sees line.now None seen later (string_bytes self.new.text))
             (λ fault. fault ≡ TaskFault.Memory) }
     {
         match self.input.take(self.alloc, line) {
@@ -143,7 +151,11 @@ impl Explaining {
 
     /// Keeps what was recorded of a line that the input took, and tells its report.
     fn tell_taken(&mut self, line: &[u8], judged: Option<Judged>) -> Result<(), AllocError>
-        ensures { IsSeenAlike self.old self.new }
+        ensures alike { IsSeenAlike self.old self.new }
+        ensures told { (reports : List (List Why)) → self.old.story ≡ counts_of reports
+            → HasEventFor self.old.input judged → string_bytes self.old.text ≡ []
+            → OnOk result ((self.new.story ≡ counts_of (with_report judged reports))
+            × TellsLine self.old.first self.old.input judged (string_bytes self.new.text)) }
     {
         self.keep(line)?;
         match judged {
@@ -154,7 +166,7 @@ impl Explaining {
 
     /// Keeps what was recorded of a line that a transcript took.
     fn keep(&mut self, line: &[u8]) -> Result<(), AllocError>
-        ensures { IsSeenAlike self.old self.new }
+        ensures { IsKeptAlike self.old self.new }
     {
         let Input::Transcript(transcript) = &self.input else {
             return Ok(());
@@ -170,14 +182,36 @@ impl Explaining {
         }
     }
 
-    /// Tells what a report is judged to be, and where it is refused its exchange.
+    /// Counts a report, and tells what it is judged to be, where it is told.
     fn tell_report(&mut self, reported: &Reported) -> Result<(), AllocError>
-        ensures { IsSeenAlike self.old self.new }
+        ensures alike { IsSeenAlike self.old self.new }
+        ensures told { (reports : List (List Why)) → self.old.story ≡ counts_of reports
+            → HasEvent self.old.input → string_bytes self.old.text ≡ []
+            → OnOk result ((self.new.story ≡ counts_of (reported.now.judgement.reasons ∷ reports))
+            × TellsIf (is_told self.old.first reported.now.event self.old.input) reported.now
+            (string_bytes self.new.text)) }
     {
         self.story.count(&reported.judgement.reasons);
-        if self.first && !self.input.is_first_refused(reported.event) {
+        if !self.is_told(reported.event) {
             return Ok(());
         }
+        self.push_report(reported)
+    }
+
+    /// Whether the report of the event of this number is told.
+    fn is_told(&self, event: u64) -> bool
+        ensures { result ≡ is_told self.now.first event self.now.input }
+    {
+        !self.first || self.input.is_first_refused(event)
+    }
+
+    /// Appends what a report is judged to be, and where it is refused its exchange.
+    fn push_report(&mut self, reported: &Reported) -> Result<(), AllocError>
+        ensures alike { IsSeenAlike self.old self.new }
+        ensures counts { self.new.story ≡ self.old.story }
+        ensures told { HasEvent self.old.input → OnOk result ((told : List ℕ) × TellsReport reported.now told
+            × (string_bytes self.new.text ≡ string_bytes self.old.text ++ told)) }
+    {
         let Input::Transcript(transcript) = &self.input else {
             return Ok(());
         };
@@ -189,9 +223,9 @@ impl Explaining {
 
     /// Tells the first fault, which is at this line.
     fn tell_fault(&mut self, fault: TaskFault, line: &[u8]) -> Result<(), TaskFault>
-        ensures { MatchResult result
-            (λ _. (self.new.input ≡ self.old.input)
-            × (option_map fault_kept self.new.flaws ≡ Some (lines_in self.old.input + 1, fault)))
+        ensures { (seen : Seen) → seen.first ≡ self.old.first → seen.input ≡ self.old.input
+            → self.old.story ≡ counts_of seen.reports → MatchResult result
+            (λ _. IsExplaining self.new (record seen { fault = Some (lines_in seen.input + 1, fault) }))
             (λ stop. stop ≡ TaskFault.Memory) }
     {
         let mut flaws = Flaws::new(self.input.next_line()?, fault, &self.input);
@@ -206,8 +240,9 @@ impl Explaining {
 
     /// Tells what there is to tell at the end.
     fn tell_end(&mut self) -> Result<Explained, TaskFault>
-        ensures { (seen : Seen) → IsExplaining self.old seen → MatchResult result
-            (λ answer. EndsIn seen.input seen.fault answer × TellsEnd answer (string_bytes self.new.text))
+        ensures { (seen : Seen) → IsExplaining self.old seen → string_bytes self.old.text ≡ [] → MatchResult result
+            (λ answer. EndsIn seen.input seen.fault answer
+            × TellsEnd answer seen.reports (string_bytes self.new.text))
             (λ fault. fault ≡ TaskFault.Memory) }
     {
         if let Some(flaws) = &self.flaws {
@@ -219,14 +254,25 @@ impl Explaining {
         }
         match self.input.found() {
             Ok(found) => {
-                if let Found::Transcript(_) = found {
-                    self.story.push_tally(&mut self.text)?;
-                }
-                push_found(&mut self.text, found)?;
+                self.tell_found(found)?;
                 Ok(Explained::Whole(found))
             }
             Err(TaskFault::World(why)) => self.tell_no_network(why),
             Err(_) => Err(TaskFault::Memory),
+        }
+    }
+
+    /// Tells what the input is; of a transcript first how many of its reports fail which conditions.
+    fn tell_found(&mut self, found: Found) -> Result<(), AllocError>
+        ensures { (reports : List (List Why)) → self.old.story ≡ counts_of reports → string_bytes self.old.text ≡ []
+            → OnOk result (TellsFound found reports (string_bytes self.new.text)) }
+    {
+        match found {
+            Found::Transcript(_) => {
+                self.story.push_tally(&mut self.text)?;
+                push_found(&mut self.text, found)
+            }
+            Found::Schedule(_) => push_found(&mut self.text, found),
         }
     }
 
@@ -267,7 +313,9 @@ impl Explaining {
 }
 
 /// A report, for its story.
-fn reported(judged: Judged) -> Reported {
+fn reported(judged: Judged) -> Reported
+    ensures { result ≡ reported_of judged }
+{
     Reported {
         line: judged.line,
         event: judged.event,
@@ -306,7 +354,7 @@ pub fn explain<R: Read, W: Write>(
     input: &mut Counted<R>,
     output: &mut Counted<W>,
 ) -> Result<Explained, Stopped<Cause<TaskFault>>>
-    ensures explained { ExplainsAnswer R.remaining W.contents result input.old input.new output.old output.new }
+    ensures explained { ExplainsAnswer first R.remaining W.contents result input.old input.new output.old output.new }
     // Of any reader only so much is read, whatever the writer is.
     ensures bounded { GivesWithin R.remaining (input_limit lines_limit) input.old input.new }
     ensures failures { ExplainFailedWith result input.old input.new output.old output.new }

@@ -1,6 +1,6 @@
 //! What a whole input is found to be, for a person.
-ghost use Rattle.std.specs.Prelude.{OnOk, string_bytes};
-ghost use Rattle.exchange_explain.specs.Explained.{IsLastText};
+ghost use Rattle.std.specs.Prelude.{◌≡◌, ◌++◌, OnOk, string_bytes};
+ghost use Rattle.exchange_explain.specs.Explained.{found_text, happening_text};
 
 use crate::input::Found;
 use schedule_reading::push_verdict;
@@ -8,7 +8,7 @@ use std::alloc::AllocError;
 
 /// Appends what an input is found to be; of a transcript its verdict.
 pub(crate) fn push_found(text: &mut String, found: Found) -> Result<(), AllocError>
-    ensures { OnOk result (IsLastText found (string_bytes text.new)) }
+    ensures { OnOk result (string_bytes text.new ≡ string_bytes text.old ++ found_text found) }
 {
     match found {
         Found::Transcript(verdict) => {
@@ -20,7 +20,9 @@ pub(crate) fn push_found(text: &mut String, found: Found) -> Result<(), AllocErr
 }
 
 /// Appends that a schedule's events happen, and what tells more.
-fn push_happening(text: &mut String, count: u64) -> Result<(), AllocError> {
+fn push_happening(text: &mut String, count: u64) -> Result<(), AllocError>
+    ensures { OnOk result (string_bytes text.new ≡ string_bytes text.old ++ happening_text count) }
+{
     match count {
         1 => text.push_str(
             "a schedule of 1 event, which happens; 'ptpx replay' makes a transcript of it, which 'ptpx check' judges\n",

@@ -151,7 +151,7 @@ RunsForm true remaining contents options status input input' output output' =
 RunsForm false remaining contents options status input input' output output' =
     (answer : Result Explained (Stopped (Cause TaskFault))) × (status ≡ explaining_status answer)
     × ExplainFailedWith answer input input' output output'
-    × ExplainsAnswer remaining contents answer input input' output output'
+    × ExplainsAnswer options.first remaining contents answer input input' output output'
 
 abbrev pub RunsExplain : {R W : Type 0} → (R → Option (List ℕ)) → (W → Option (List ℕ)) → ExplainOptions → ℕ
     → (input input' : Counted R) (output output' : Counted W) → Type 0

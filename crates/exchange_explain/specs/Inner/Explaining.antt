@@ -1,8 +1,12 @@
 -- How far `explain` is.
-use Rattle.std.specs.Prelude.{◌≡◌, ℕ, option_map}
+use Rattle.std.specs.Prelude.{◌≡◌, ◌≢◌, ℕ, [], Option, Some, None, option_map, string_bytes, ⊤}
 use Rattle.schedule_reading.specs.declared.fault.TaskFault.{TaskFault}
+use Rattle.schedule_reading.specs.declared.transcript.Judged.{Judged}
+use Rattle.exchange_story.specs.Counts.{counts_of}
 use Rattle.exchange_explain.specs.declared.explaining.Explaining.{Explaining}
 use Rattle.exchange_explain.specs.declared.flaws.Flaws.{Flaws}
+use Rattle.exchange_explain.specs.declared.input.Input.{Input}
+use Rattle.exchange_explain.specs.declared.input.Input.TheVariants.{Transcript, Schedule}
 use Rattle.exchange_explain.specs.Explained.{Seen}
 
 -- the first fault of an input, as it is kept
@@ -10,10 +14,30 @@ abbrev pub fault_kept : Flaws → ℕ × TaskFault
 fault_kept flaws = (flaws.line, flaws.what)
 
 -- what is kept of the lines of an input
-abbrev pub IsExplaining : Explaining → Seen → Type 0
-IsExplaining task seen = seen ≡ record { input = task.input; fault = option_map fault_kept task.flaws }
+pub record IsExplaining (task : Explaining) (seen : Seen) : Type 0 where
+  pub first : seen.first ≡ task.first
+  pub input : seen.input ≡ task.input
+  pub counts : task.story ≡ counts_of seen.reports
+  pub fault : seen.fault ≡ option_map fault_kept task.flaws
 
 -- nothing changed of what the lines were seen to be
-abbrev pub IsSeenAlike : (task later : Explaining) → Type 0
-IsSeenAlike task later =
-    (later.input ≡ task.input) × (option_map fault_kept later.flaws ≡ option_map fault_kept task.flaws)
+pub record IsSeenAlike (task later : Explaining) : Type 0 where
+  pub first : later.first ≡ task.first
+  pub input : later.input ≡ task.input
+  pub fault : option_map fault_kept later.flaws ≡ option_map fault_kept task.flaws
+
+-- nor of the counts and of what is told
+pub record IsKeptAlike (task later : Explaining) : Type 0 where
+  pub alike : IsSeenAlike task later
+  pub counts : later.story ≡ task.story
+  pub told : string_bytes later.text ≡ string_bytes task.text
+
+-- an input is a transcript that has an event
+abbrev pub HasEvent : Input → Type 0
+HasEvent (Transcript state) = state.lines ≢ []
+HasEvent (Schedule state) = ⊥
+
+-- so it is where there is a report
+abbrev pub HasEventFor : Input → Option Judged → Type 0
+HasEventFor input None = ⊤
+HasEventFor input (Some judged) = HasEvent input
