@@ -1,0 +1,81 @@
+-- Tables that hold the last records, and what they hold after a message.
+use Rattle.std.proofs.Common.{◌≡◌, ◌∙◌, ℕ, List, ◌∷◌, [], take, sym, ap, Option, Some, None, if◌then◌else◌, unwrap_or}
+use Rattle.pairing.specs.Marked.{Entry, Marked, entry, empty, newest_first, first_value, replace_first, find}
+use Rattle.pairing.proofs.Lists.{take-more, take-nil}
+use Rattle.pairing.proofs.Laws.{newest_first-push, newest_first-set, take-replace_first}
+use Rattle.tap_crossing.specs.declared.sighting.Kind.{Kind}
+use Rattle.tap_crossing.specs.declared.sighting.Kind.TheVariants as kinds
+use Rattle.tap_crossing.specs.declared.sighting.Placed.{Placed}
+use Rattle.tap_crossing.specs.declared.places.Record.{Record}
+use Rattle.tap_crossing.specs.Records.{unclosed, with, new_record, joined, open_record, records, is_same_kind}
+use Rattle.tap_crossing.specs.Told.{comes_to}
+use Rattle.tap_crossing.specs.StandsFor.{Tables, StandsFor}
+use Rattle.tap_crossing.specs.Inner.Kept.{kept, told_in}
+
+-- one that is empty
+pub held-empty : (capacity : ℕ) (table : Marked Record) → table ≡ empty → newest_first table ≡ take capacity []
+held-empty capacity table is = ap newest_first is ∙ sym (take-nil capacity)
+
+module _ (capacity : ℕ) (p : Placed) (table : Marked Record) (all : List (Entry Record))
+    (held : newest_first table ≡ take capacity all) where
+  found : unclosed (find p.number.0 table) ≡ open_record capacity p.number.0 all
+  found = ap (λ (es : List (Entry Record)). unclosed (first_value p.number.0 es)) held
+
+  joins : (record_found : Option Record)
+      → newest_first (kept capacity p record_found table) ≡ take capacity (joined p record_found all)
+  joins None =
+      newest_first-push capacity (entry p.number.0 (with p new_record)) table
+      ∙ ap (λ (es : List (Entry Record)). take capacity (entry p.number.0 (with p new_record) ∷ es)) held
+      ∙ take-more capacity (entry p.number.0 (with p new_record)) all
+  joins (Some r) =
+      newest_first-set p.number.0 (with p r) table ∙ ap (replace_first p.number.0 (with p r)) held
+      ∙ sym (take-replace_first p.number.0 (with p r) capacity all)
+
+  -- the table holds the last records after the message, too
+  pub held-kept : newest_first (kept capacity p (unclosed (find p.number.0 table)) table)
+      ≡ take capacity (joined p (open_record capacity p.number.0 all) all)
+  held-kept =
+      joins (unclosed (find p.number.0 table)) ∙ ap (λ (r : Option Record). take capacity (joined p r all)) found
+
+  -- and this is told
+  pub told-held : told_in p (unclosed (find p.number.0 table))
+      ≡ comes_to p (unwrap_or (open_record capacity p.number.0 all) new_record)
+  told-held = ap (told_in p) found
+
+-- what is kept stands for one more Sync or Follow_Up
+pub stands-sync : {capacity : ℕ} {met : List Placed} {old : Tables} (p : Placed) (new : Marked Record) → p.kind ≡ kinds.Sync
+    → StandsFor capacity old met → new ≡ kept old.capacity p (unclosed (find p.number.0 old.syncs)) old.syncs
+    → StandsFor capacity (record old { syncs = new }) (p ∷ met)
+stands-sync {capacity} {met} {old} p new is stands joins =
+    let all = records capacity kinds.Sync met in
+    let others = records capacity kinds.DelayReq met in
+    record {
+      capacity_is = stands.capacity_is;
+      syncs_held = ap newest_first joins
+          ∙ ap (λ (n : ℕ). newest_first (kept n p (unclosed (find p.number.0 old.syncs)) old.syncs)) stands.capacity_is
+          ∙ held-kept capacity p old.syncs all stands.syncs_held
+          ∙ sym (ap (λ (k : Kind). take capacity
+          (if is_same_kind kinds.Sync k then joined p (open_record capacity p.number.0 all) all else all)) is);
+      requests_held = stands.requests_held
+          ∙ sym (ap (λ (k : Kind). take capacity
+          (if is_same_kind kinds.DelayReq k then joined p (open_record capacity p.number.0 others) others else others)) is);
+    }
+
+-- and for one more Delay_Req or Delay_Resp
+pub stands-request : {capacity : ℕ} {met : List Placed} {old : Tables} (p : Placed) (new : Marked Record) → p.kind ≡ kinds.DelayReq
+    → StandsFor capacity old met → new ≡ kept old.capacity p (unclosed (find p.number.0 old.requests)) old.requests
+    → StandsFor capacity (record old { requests = new }) (p ∷ met)
+stands-request {capacity} {met} {old} p new is stands joins =
+    let others = records capacity kinds.Sync met in
+    let all = records capacity kinds.DelayReq met in
+    record {
+      capacity_is = stands.capacity_is;
+      requests_held = ap newest_first joins
+          ∙ ap (λ (n : ℕ). newest_first (kept n p (unclosed (find p.number.0 old.requests)) old.requests)) stands.capacity_is
+          ∙ held-kept capacity p old.requests all stands.requests_held
+          ∙ sym (ap (λ (k : Kind). take capacity
+          (if is_same_kind kinds.DelayReq k then joined p (open_record capacity p.number.0 all) all else all)) is);
+      syncs_held = stands.syncs_held
+          ∙ sym (ap (λ (k : Kind). take capacity
+          (if is_same_kind kinds.Sync k then joined p (open_record capacity p.number.0 others) others else others)) is);
+    }

@@ -1,0 +1,130 @@
+-- Worked cases: messages that are met at two taps, in units.
+use Rattle.std.proofs.Common.{◌≡◌, ℕ, ℤ, pos, negsuc, Bool, true, false, List, [], ◌∷◌, Some, None, Option, refl}
+use Rattle.ptp_units.specs.Moment.{stamp}
+use Rattle.tap_crossing.specs.declared.sighting.Kind.{Kind}
+use Rattle.tap_crossing.specs.declared.sighting.Kind.TheVariants as kinds
+use Rattle.tap_crossing.specs.declared.sighting.Place.{Place}
+use Rattle.tap_crossing.specs.declared.sighting.Place.TheVariants as places
+use Rattle.tap_crossing.specs.declared.sighting.Placed.{Placed}
+use Rattle.tap_crossing.specs.declared.crossing.Crossing.{Crossing}
+use Rattle.tap_crossing.specs.declared.crossing.NoCrossing.TheVariants as reasons
+use Rattle.tap_crossing.specs.declared.crossing.Outcome.TheVariants as outcomes
+use Rattle.tap_crossing.specs.Told.{told}
+
+-- a message of this number: its place, line, time, correction, the seconds of its timestamp, and whether another tells that
+abbrev message : Kind → (number : ℕ) → Place → (line time : ℕ) → (correction : ℤ) → (seconds : ℕ) → Bool → Placed
+message kind number place line time correction seconds needs_other = record {
+  kind = kind;
+  number = record { 0 = number };
+  place = place;
+  sighting = record {
+    line = line;
+    time = time;
+    correction = record { 0 = correction };
+    timestamp = stamp seconds 0;
+    needs_other = needs_other;
+  };
+}
+
+abbrev two_step : (number : ℕ) → Place → (line time : ℕ) → (correction : ℤ) → Placed
+two_step number place line time correction = message kinds.Sync number place line time correction 0 true
+
+abbrev one_step : (number : ℕ) → Place → (line time : ℕ) → (correction : ℤ) → Placed
+one_step number place line time correction = message kinds.Sync number place line time correction 5 false
+
+abbrev follow_up : (number : ℕ) → Place → (line : ℕ) → (correction : ℤ) → (seconds : ℕ) → Placed
+follow_up number place line correction seconds = message kinds.Sync number place line 0 correction seconds false
+
+-- a crossing of 7 with these lines
+abbrev crossed : Kind → (time : ℕ) → (taken corrected rest : ℤ) → (first_line second_line : ℕ) → (from_line to_line : Option ℕ) → Crossing
+crossed kind time taken corrected rest first_line second_line from_line to_line = record {
+  kind = kind;
+  number = record { 0 = 7 };
+  time = time;
+  taken = taken;
+  corrected = corrected;
+  rest = rest;
+  first_line = first_line;
+  second_line = second_line;
+  from_line = from_line;
+  to_line = to_line;
+}
+
+-- a clock of two steps that tells 1 less than it should
+abbrev met : List Placed
+met = two_step 7 places.Second 5 4000 (pos 0) ∷ follow_up 7 places.AtFrom 4 (pos 10) 5
+    ∷ two_step 7 places.First 3 1000 (pos 0) ∷ []
+
+waits : told 256 (two_step 7 places.Second 5 4000 (pos 0)) (two_step 7 places.First 3 1000 (pos 0) ∷ []) ≡ outcomes.Waits
+waits = refl
+
+of_two_steps : told 256 (follow_up 7 places.AtTo 6 (pos 2009) 5) met
+    ≡ outcomes.Crossed (crossed kinds.Sync 1000 (pos 3000) (pos 1999) (pos 1001) 3 5 (Some 4) (Some 6))
+of_two_steps = refl
+
+-- the lines of the second tap come first
+in_another_order : told 256 (two_step 7 places.First 5 1000 (pos 0)) (follow_up 7 places.AtFrom 6 (pos 10) 5
+    ∷ follow_up 7 places.AtTo 4 (pos 2009) 5 ∷ two_step 7 places.Second 3 4000 (pos 0) ∷ [])
+    ≡ outcomes.Crossed (crossed kinds.Sync 1000 (pos 3000) (pos 1999) (pos 1001) 5 3 (Some 6) (Some 4))
+in_another_order = refl
+
+-- a clock of one step, which makes a two-step Sync none; what isn't needed counts nowhere
+of_one_step : told 256 (one_step 7 places.Second 5 4000 (pos 2004)) (follow_up 7 places.AtFrom 4 (pos 10) 6
+    ∷ one_step 7 places.First 3 1000 (pos 4) ∷ [])
+    ≡ outcomes.Crossed (crossed kinds.Sync 1000 (pos 3000) (pos 2000) (pos 1000) 3 5 None None)
+of_one_step = refl
+
+-- a clock of two steps behind a master of one step: its Follow_Up counts whole
+of_one_step_at_from : told 256 (follow_up 7 places.AtTo 6 (pos 2010) 5) (two_step 7 places.Second 5 4000 (pos 4)
+    ∷ one_step 7 places.First 3 1000 (pos 4) ∷ [])
+    ≡ outcomes.Crossed (crossed kinds.Sync 1000 (pos 3000) (pos 2010) (pos 990) 3 5 None (Some 6))
+of_one_step_at_from = refl
+
+of_two_steps_at_from_alone : told 256 (one_step 7 places.Second 5 4000 (pos 4)) (two_step 7 places.First 3 1000 (pos 4) ∷ [])
+    ≡ outcomes.Closed reasons.TwoStepAtFromAlone
+of_two_steps_at_from_alone = refl
+
+another_timestamp : told 256 (follow_up 7 places.AtTo 6 (pos 2009) 6) met ≡ outcomes.Closed reasons.OtherTimestamp
+another_timestamp = refl
+
+too_big : told 256 (follow_up 7 places.AtTo 6 (pos 9223372036854775807) 6) met ≡ outcomes.Closed reasons.TooBig
+too_big = refl
+
+-- the second tap's clock is behind: what was taken is below 0
+behind : told 256 (one_step 7 places.Second 5 400 (pos 0)) (one_step 7 places.First 3 1000 (pos 0) ∷ [])
+    ≡ outcomes.Crossed (crossed kinds.Sync 1000 (negsuc 599) (pos 0) (negsuc 599) 3 5 None None)
+behind = refl
+
+-- a Sync that comes again before its record closes
+again : told 256 (two_step 7 places.Second 6 4001 (pos 0)) met ≡ outcomes.Spoils
+again = refl
+
+spoiled : told 256 (follow_up 7 places.AtTo 7 (pos 2009) 5) (two_step 7 places.Second 6 4001 (pos 0) ∷ met)
+    ≡ outcomes.IsSpoiled
+spoiled = refl
+
+-- and behind it: another record is opened, which doesn't close
+after_it_closed : told 256 (two_step 7 places.Second 7 4001 (pos 0)) (follow_up 7 places.AtTo 6 (pos 2009) 5 ∷ met)
+    ≡ outcomes.Waits
+after_it_closed = refl
+
+-- where one record counts, that of another number is in its stead
+out_of_the_last : told 1 (follow_up 7 places.AtTo 6 (pos 2009) 5) (two_step 8 places.First 6 5000 (pos 0) ∷ met)
+    ≡ outcomes.Waits
+out_of_the_last = refl
+
+another_number : told 2 (follow_up 7 places.AtTo 6 (pos 2009) 5) (two_step 8 places.First 6 5000 (pos 0) ∷ met)
+    ≡ outcomes.Crossed (crossed kinds.Sync 1000 (pos 3000) (pos 1999) (pos 1001) 3 5 (Some 4) (Some 6))
+another_number = refl
+
+-- a Delay_Req of the same number, which goes the other way: its Delay_Resp comes from `from` to `to`
+abbrev request : Place → (line time : ℕ) → (correction : ℤ) → Placed
+request place line time correction = message kinds.DelayReq 7 place line time correction 0 true
+
+abbrev response : Place → (line : ℕ) → (correction : ℤ) → Placed
+response place line correction = message kinds.DelayReq 7 place line 0 correction 5 false
+
+of_a_request : told 1 (response places.AtTo 10 (pos 1500)) (response places.AtFrom 9 (pos 0)
+    ∷ request places.Second 8 9000 (pos 100) ∷ request places.First 7 7000 (pos 0) ∷ met)
+    ≡ outcomes.Crossed (crossed kinds.DelayReq 7000 (pos 2000) (pos 1600) (pos 400) 7 8 (Some 9) (Some 10))
+of_a_request = refl

@@ -1,0 +1,17 @@
+//! Messages that are met at two taps of a network: which of them are one message, how long it took from tap to
+//! tap, and by how much its correction grew on the way.
+//!
+//! What is told of a message is a function of the list of those that were met before (`specs/Told.antt`).
+#![tactic(auto)]
+
+mod crossing;
+mod places;
+mod sighting;
+mod taps;
+mod watched;
+
+pub use crossing::{Crossing, NoCrossing, Outcome};
+pub use places::{Places, Record};
+pub use sighting::{Kind, Place, Placed, Sighting, Tap};
+pub use taps::Taps;
+pub use watched::Watched;
