@@ -9,6 +9,8 @@ use Rattle.tap_crossing.specs.declared.sighting.Placed.{Placed}
 use Rattle.tap_crossing.specs.declared.crossing.Crossing.{Crossing}
 use Rattle.tap_crossing.specs.declared.crossing.NoCrossing.TheVariants as reasons
 use Rattle.tap_crossing.specs.declared.crossing.Outcome.TheVariants as outcomes
+use Rattle.tap_crossing.specs.Open.{number_of, open_count}
+use Rattle.tap_crossing.specs.Records.{records}
 use Rattle.tap_crossing.specs.Told.{told}
 
 -- a message of this number: its place, line, time, correction, the seconds of its timestamp, and whether another tells that
@@ -128,3 +130,20 @@ of_a_request : told 1 (response places.AtTo 10 (pos 1500)) (response places.AtFr
     ∷ request places.Second 8 9000 (pos 100) ∷ request places.First 7 7000 (pos 0) ∷ met)
     ≡ outcomes.Crossed (crossed kinds.DelayReq 7000 (pos 2000) (pos 1600) (pos 400) 7 8 (Some 9) (Some 10))
 of_a_request = refl
+
+-- how many records of Syncs are open that were met at `from` alone, with their Follow_Ups
+abbrev lost : List Placed → ℕ
+lost all = open_count (number_of (record { first = true; second = false; at_from = true; at_to = false }))
+    (records 256 kinds.Sync all)
+
+-- two Syncs that never came to `to`, between one that did and one that came twice
+two_are_lost : lost (follow_up 9 places.AtFrom 10 (pos 0) 5 ∷ two_step 9 places.First 9 3000 (pos 0)
+    ∷ two_step 8 places.First 8 2001 (pos 0) ∷ follow_up 8 places.AtFrom 7 (pos 0) 5 ∷ two_step 8 places.First 6 2000 (pos 0)
+    ∷ follow_up 7 places.AtTo 6 (pos 2009) 5 ∷ follow_up 6 places.AtFrom 2 (pos 0) 5 ∷ two_step 6 places.First 1 0 (pos 0)
+    ∷ met) ≡ 2
+two_are_lost = refl
+
+-- one that went out of those that count stays lost
+lost_and_gone : open_count 5 (records 1 kinds.Sync (follow_up 6 places.AtTo 6 (pos 0) 5 ∷ two_step 7 places.First 3 1000 (pos 0)
+    ∷ follow_up 6 places.AtFrom 2 (pos 0) 5 ∷ two_step 6 places.First 1 0 (pos 0) ∷ [])) ≡ 1
+lost_and_gone = refl

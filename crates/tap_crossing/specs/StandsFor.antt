@@ -6,19 +6,25 @@ use Rattle.tap_crossing.specs.declared.sighting.Placed.{Placed}
 use Rattle.tap_crossing.specs.declared.places.Record.{Record}
 use Rattle.tap_crossing.specs.declared.crossing.Outcome.{Outcome}
 use Rattle.tap_crossing.specs.Records.{records}
+use Rattle.tap_crossing.specs.Open.{HoldsOpen}
 use Rattle.tap_crossing.specs.Told.{told}
 
--- what is kept: of each kind a table
+-- what is kept: of each kind a table, and how many records are open
 pub record Tables : Type 0 where
   pub capacity : ℕ
   pub syncs : Marked Record
   pub requests : Marked Record
+  pub open_syncs : List ℕ
+  pub open_requests : List ℕ
 
--- the tables stand for the messages that were met, newest first: they hold the records that were opened last
+-- the tables stand for the messages that were met, newest first: they hold the records that were opened last,
+-- and tell how many of all are open
 pub record StandsFor (capacity : ℕ) (tables : Tables) (met : List Placed) : Type 0 where
   pub capacity_is : tables.capacity ≡ capacity
   pub syncs_held : newest_first tables.syncs ≡ take capacity (records capacity kinds.Sync met)
   pub requests_held : newest_first tables.requests ≡ take capacity (records capacity kinds.DelayReq met)
+  pub syncs_open : HoldsOpen tables.open_syncs (records capacity kinds.Sync met)
+  pub requests_open : HoldsOpen tables.open_requests (records capacity kinds.DelayReq met)
 
 -- whatever they stood for, they stand for one more message
 abbrev pub StandsAfter : Placed → (old new : Tables) → Type 0

@@ -11,7 +11,7 @@ mod taps;
 mod watched;
 
 pub use crossing::{Crossing, NoCrossing, Outcome};
-pub use places::{Places, Record};
+pub use places::{Filled, Places, Record};
 pub use sighting::{Kind, Place, Placed, Sighting, Tap};
 pub use taps::Taps;
 pub use watched::Watched;

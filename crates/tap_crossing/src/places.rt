@@ -1,4 +1,5 @@
-ghost use Rattle.std.specs.Prelude.{◌≡◌};
+ghost use Rattle.std.specs.Prelude.{◌≡◌, ◌<◌, IfSome};
+ghost use Rattle.tap_crossing.specs.Open.{bit, number_of, filled, open_number};
 ghost use Rattle.tap_crossing.specs.Record.{no_places, place_in, with_place, needed, complete, after};
 
 use crate::sighting::{Place, Sighting};
@@ -14,6 +15,36 @@ pub struct Places {
     pub at_from: Option<Sighting>,
     /// Its Follow_Up or Delay_Resp at `to`.
     pub at_to: Option<Sighting>,
+}
+
+/// In which places of a record something was met.
+#[derive(Clone, Copy, Debug, PartialEq, Eq)]
+pub struct Filled {
+    /// The event message at the tap that it meets first.
+    pub first: bool,
+    /// The event message at the other tap.
+    pub second: bool,
+    /// Its Follow_Up or Delay_Resp at `from`.
+    pub at_from: bool,
+    /// Its Follow_Up or Delay_Resp at `to`.
+    pub at_to: bool,
+}
+
+fn bit(is_set: bool) -> usize
+    ensures value { result ≡ bit is_set }
+    ensures within { result < 2 }
+{
+    if is_set { 1 } else { 0 }
+}
+
+impl Filled {
+    /// The places as one number.
+    pub(crate) fn number(&self) -> usize
+        ensures value { result ≡ number_of self.now }
+        ensures within { result < 16 }
+    {
+        bit(self.first) + 2 * bit(self.second) + 4 * bit(self.at_from) + 8 * bit(self.at_to)
+    }
 }
 
 /// What is met of one number.
@@ -76,6 +107,17 @@ impl Places {
         }
     }
 
+    fn filled(&self) -> Filled
+        ensures { result ≡ filled self.now }
+    {
+        Filled {
+            first: self.first.is_some(),
+            second: self.second.is_some(),
+            at_from: self.at_from.is_some(),
+            at_to: self.at_to.is_some(),
+        }
+    }
+
     /// The same with what was met of this place.
     pub(crate) fn with(&self, place: Place, sighting: Sighting) -> Places
         ensures { result ≡ with_place place sighting self.now }
@@ -120,6 +162,17 @@ impl Places {
 }
 
 impl Record {
+    /// The number of the filled places, where it is open.
+    pub(crate) fn open_number(&self) -> Option<usize>
+        ensures value { result ≡ open_number self.now }
+        ensures within { IfSome result (λ number. number < 16) }
+    {
+        match self {
+            Record::Open(places) => Some(places.filled().number()),
+            Record::Spoiled | Record::Closed => None,
+        }
+    }
+
     /// What becomes of the record when a message comes to it.
     pub(crate) fn after(self, place: Place, sighting: Sighting) -> Record
         ensures { result ≡ after place sighting self }
