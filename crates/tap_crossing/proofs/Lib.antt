@@ -1,3 +1,4 @@
+mod Captured
 mod Counts
 mod Tables
 mod Worked

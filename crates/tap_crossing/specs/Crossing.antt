@@ -1,8 +1,9 @@
 -- A crossing: what a message took from tap to tap, by how much it was corrected, and what rests; and why a record that has
 -- what it needs is none. Numbers are in units of 2^-16 ns.
-use Rattle.std.specs.Prelude.{ℕ, ℤ, pos, ◌+ℤ◌, ◌-ℤ◌, Bool, false, not, ◌&&◌, ◌||◌, ◌==◌, Option, Some, None, is_none}
+use Rattle.std.specs.Prelude.{◌≡◌, ℕ, ℤ, pos, ◌+ℤ◌, ◌-ℤ◌, Bool, false, not, ◌&&◌, ◌||◌, ◌==◌, Option, Some, None, is_none}
 use Rattle.std.specs.Prelude.{if◌then◌else◌}
 use Rattle.ptp_units.specs.Moment.{Stamp}
+use Rattle.ptp_units.specs.Exchange.{IsBracket}
 use Rattle.ptp_units.specs.Interval.{exact}
 use Rattle.ptp_units.specs.declared.sequence.Seq.{Seq}
 use Rattle.tap_crossing.specs.declared.sighting.Kind.{Kind}
@@ -83,3 +84,9 @@ crossing kind number c = record {
   from_line = line_of c.at_from;
   to_line = line_of c.at_to;
 }
+
+-- what was taken and what was corrected lies between -2^96 and 2^96, and what rests is their difference
+pub record IsWithin (x : Crossing) : Type 0 where
+  pub taken : IsBracket x.taken
+  pub corrected : IsBracket x.corrected
+  pub rest : x.rest ≡ x.taken -ℤ x.corrected

@@ -6,6 +6,7 @@ use Rattle.tap_crossing.specs.declared.sighting.Placed.{Placed}
 use Rattle.tap_crossing.specs.declared.places.Complete.{Complete}
 use Rattle.tap_crossing.specs.declared.places.Record.{Record}
 use Rattle.tap_crossing.specs.declared.places.Record.TheVariants as standings
+use Rattle.tap_crossing.specs.declared.crossing.Crossing.{Crossing}
 use Rattle.tap_crossing.specs.declared.crossing.NoCrossing.{NoCrossing}
 use Rattle.tap_crossing.specs.declared.crossing.Outcome.{Outcome}
 use Rattle.tap_crossing.specs.declared.crossing.Outcome.TheVariants as outcomes
@@ -38,3 +39,11 @@ comes_to p standings.Closed = outcomes.IsSpoiled
 -- what is told of the newest message
 abbrev pub told : (capacity : ℕ) → Placed → (earlier : List Placed) → Outcome
 told capacity p earlier = comes_to p (unwrap_or (open_record capacity p.number.0 (records capacity p.kind earlier)) new_record)
+
+-- where it is a crossing, this holds of that
+abbrev pub IfCrossed : Outcome → (Crossing → Type 0) → Type 0
+IfCrossed outcomes.Waits P = Unit {0}
+IfCrossed outcomes.Spoils P = Unit {0}
+IfCrossed outcomes.IsSpoiled P = Unit {0}
+IfCrossed (outcomes.Crossed x) P = P x
+IfCrossed (outcomes.Closed reason) P = Unit {0}

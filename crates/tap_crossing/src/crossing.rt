@@ -3,8 +3,8 @@ ghost use Rattle.ptp_units.specs.Moment.{bound};
 ghost use Rattle.ptp_units.specs.Exchange.{IsBracket};
 ghost use Rattle.tap_crossing.specs.Crossing.{is_too_big, is_any_too_big, is_same_timestamp, timestamp_told};
 ghost use Rattle.tap_crossing.specs.Crossing.{is_other_timestamp, no_crossing, correction_of, growth, taken, corrected};
-ghost use Rattle.tap_crossing.specs.Crossing.{line_of, crossing};
-ghost use Rattle.tap_crossing.specs.Told.{closes, comes_to};
+ghost use Rattle.tap_crossing.specs.Crossing.{line_of, crossing, IsWithin};
+ghost use Rattle.tap_crossing.specs.Told.{closes, comes_to, IfCrossed};
 
 use crate::places::{Complete, Record};
 use crate::sighting::{Kind, Placed, Sighting};
@@ -173,7 +173,8 @@ impl Complete {
     }
 
     fn crossing(&self, kind: Kind, number: Seq) -> Crossing
-        ensures { result ≡ crossing kind number self.now }
+        ensures value { result ≡ crossing kind number self.now }
+        ensures within { IsWithin result }
     {
         let taken = self.taken();
         let corrected = self.corrected();
@@ -193,7 +194,8 @@ impl Complete {
 
     /// What is told when the record closes.
     fn closes(&self, kind: Kind, number: Seq) -> Outcome
-        ensures { result ≡ closes kind number self.now }
+        ensures value { result ≡ closes kind number self.now }
+        ensures within { IfCrossed result IsWithin }
     {
         match self.no_crossing(kind) {
             Some(reason) => Outcome::Closed(reason),
@@ -204,7 +206,8 @@ impl Complete {
 
 /// What is told when a message comes to a record that isn't closed.
 pub(crate) fn comes_to(placed: &Placed, found: &Record) -> Outcome
-    ensures { result ≡ comes_to placed.now found.now }
+    ensures value { result ≡ comes_to placed.now found.now }
+    ensures within { IfCrossed result IsWithin }
 {
     let Record::Open(places) = found else {
         return Outcome::IsSpoiled;

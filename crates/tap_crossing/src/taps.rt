@@ -1,11 +1,12 @@
 ghost use Rattle.std.specs.Prelude.{◌≡◌, ◌≤◌, ◌<◌, ◌%◌, ◌^◌, ℕ, List, [], Option, IfSome, unwrap_or, option_and_then};
 ghost use Rattle.pairing.specs.Marked.{find};
 ghost use Rattle.tap_crossing.specs.Records.{unclosed};
-ghost use Rattle.tap_crossing.specs.Told.{told};
+ghost use Rattle.tap_crossing.specs.Told.{told, IfCrossed};
 ghost use Rattle.tap_crossing.specs.StandsFor.{StandsFor, StandsAfter, IsTold};
 ghost use Rattle.tap_crossing.specs.declared.sighting.Placed.{Placed};
 ghost use Rattle.tap_crossing.specs.Open.{open_number, number_of, open_count};
 ghost use Rattle.tap_crossing.specs.Records.{with, new_record, records};
+ghost use Rattle.tap_crossing.specs.Crossing.{IsWithin};
 ghost use Rattle.tap_crossing.specs.Inner.Counted.{one_more, one_less, recounted};
 ghost use Rattle.tap_crossing.specs.Inner.Kept.{kept, told_in};
 
@@ -85,6 +86,7 @@ fn come<T: PairTable<Record>>(table: &mut T, counts: &mut [u64; 16], placed: Pla
     ensures kept { T.marked table.new ≡ kept T.CAPACITY placed
         (unclosed (find placed.number.0 (T.marked table.old))) (T.marked table.old) }
     ensures told { result ≡ told_in placed (unclosed (find placed.number.0 (T.marked table.old))) }
+    ensures within { IfCrossed result IsWithin }
     ensures counted { counts.new ≡ recounted (unclosed (find placed.number.0 (T.marked table.old)))
         (with placed (unwrap_or (unclosed (find placed.number.0 (T.marked table.old))) new_record)) counts.old }
 {
@@ -123,6 +125,7 @@ impl<T: PairTable<Record>> Taps<T> {
     /// messages, and opens one where none of the last ones does.
     pub fn meet(&mut self, placed: Placed) -> Outcome
         ensures told { IsTold placed self.old result }
+        ensures within { IfCrossed result IsWithin }
         ensures stands { StandsAfter placed self.old self.new }
     {
         match placed.kind {
