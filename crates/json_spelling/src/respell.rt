@@ -11,7 +11,7 @@ use json::Scratch;
 use std::alloc::{AllocError, Global};
 use std::{mem, str};
 
-/// What spells lines again. It keeps its buffers from line to line.
+/// What spells lines again. It keeps its text and the reader's scratch from line to line; the members of a line take memory anew.
 #[derive(Drop)]
 pub struct Respeller {
     alloc: Global,

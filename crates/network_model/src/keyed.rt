@@ -7,8 +7,8 @@ use crate::node::NodeSpec;
 use sha2::{Digest, Sha256};
 use std::hash::{BuildHasher, DefaultHasher, Hasher};
 
-/// SipHash that has taken a digest of all names and identities of a network as its key. Whoever picks them doesn't know the
-/// key before the last is picked, and each change of one changes it.
+/// SipHash that has taken a digest of all names and identities of a network as its key. The key is known only once all of them
+/// are picked, and another name or identity gives another key. That none meet is not said.
 #[derive(Clone, Copy)]
 pub(crate) struct KeyedState {
     keyed: DefaultHasher,
