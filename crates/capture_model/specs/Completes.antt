@@ -72,7 +72,7 @@ EachCompletionIsReported =
     (last_sync_completion (setup_at w heard) (heard.call ∷ heard.port.calls))
     (last_delay_completion (setup_at w heard) (heard.call ∷ heard.port.calls)))
 
--- No pair is missed, whatever is recorded.
+-- What is held pairs, whatever is recorded. What is held `EachExchangeIsFound` says.
 pub record WhatIsHeldCompletes : Type 0 where
   pub syncs : EachSyncPairs
   pub follow_ups : EachFollowUpPairs

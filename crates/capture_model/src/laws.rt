@@ -102,7 +102,10 @@ pub fn what_is_held_completes()
 ///
 /// The premises are on what is recorded, with numbers below 65,536, as octets have them, but that the port is asked what it
 /// hears, so that copies don't count, and which Sync completed last, where three that aren't newer say that the master began
-/// anew; and in place of two of them what it answers may stand. The law says nothing of what more is reported: that each report is right is said by [`each_report_is_exact`].
+/// anew; and in place of three of them what it answers may stand: that it uses the Sync, or the Delay_Resp, and that nothing
+/// completes after. They look back over the whole recording, behind a beginning too, where the port forgets: soon after
+/// one, while numbers come again, they may fail. The law says nothing of what more is reported: that each report is right
+/// is said by [`each_report_is_exact`].
 pub fn each_exchange_is_found()
     ensures { EachExchangeIsFound }
 {}
