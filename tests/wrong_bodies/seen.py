@@ -1,5 +1,5 @@
 """What of a file the prover reads in a crate above it: of code all but comments, bodies and functions that aren't public; of
-definitions all but comments. So what is refused in that crate stays refused where nothing else of the file changes."""
+definitions all but comments. A body that meets its contract there, or doesn't, goes on to do so where nothing else of the file changes."""
 import re
 
 # What a text in code is made of. A lifetime is told from a character by the mark that ends that.
