@@ -4,6 +4,7 @@ pub mod Heads
 pub mod Packets
 pub mod OptionSteps
 pub mod Taking
+pub mod Left
 pub mod Ends
 pub mod Blocks
 pub mod Descriptions

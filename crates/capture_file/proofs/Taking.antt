@@ -17,7 +17,7 @@ use Rattle.capture_file.specs.declared.progress.Progress.{Progress}
 use Rattle.capture_file.specs.Packet.{PacketOf}
 use Rattle.capture_file.specs.Parts.{Form, Start, Pcap, Section, IsPart, form_behind, octets_of, packets_of}
 use Rattle.capture_file.specs.Wrong.{IsFault}
-use Rattle.capture_file.specs.Task.{PacketRules, TakesPackets, AnswersCapture, AnswersUntil, Answers}
+use Rattle.capture_file.specs.Task.{PacketRules, TakesPackets, HasTaken, AnswersCapture, AnswersUntil, Answers}
 use Rattle.capture_file.specs.Inner.Reading.{packet_in, begun_with, IsRead, IsEnd, StopsPart, ReadsPart}
 use Rattle.capture_file.proofs.Starts.{behind_start}
 use Rattle.capture_file.specs.Inner.Taking.{IsBehind, IsTaken, StopsIn, TakesPart, StopsTaking, StopsTakingFor}
@@ -264,6 +264,13 @@ nothing_behind l l' rest read end left =
     at_end : (l' : Option (List ℕ)) (unread : List ℕ) → IsAtEnd l' → l' ≡ Some unread → rest ≡ unread → (rest ≡ []) × (l' ≡ Some [])
     at_end None unread end left' split = absurd cc
     at_end (Some xs) unread end left' split = let same : xs ≡ unread = cc in (split ∙ sym same ∙ end, ap Some end)
+
+-- all parts were taken
+pub all_taken : {S A F : Type 0} (rules : PacketRules S A F) (start state : S) (form form' : Form) (progress : Progress) (i l l' b n : Option (List ℕ)) (octets : List ℕ)
+    → (t : IsTaken rules start form progress i l b n state) → IsEnd form form' l l' → i ≡ Some octets → HasTaken rules start octets t.parts [] state t.text
+all_taken rules start state form form' progress i l l' b n octets t (other, same, read, end) known =
+    let (rest, left, split) = behind_parts rules start state form progress i l b n octets t known in
+    record { are = t.are; split = split ∙ ap (λ r. octets_of t.parts ++ r) (nothing_behind l l' rest read end left).0; taken = t.taken }
 
 -- the end has an answer
 pub ends : {S A F : Type 0} (rules : PacketRules S A F) (start state : S) (form form' : Form) (progress : Progress) (i l l' b n n' : Option (List ℕ)) (answer : A) (written octets : List ℕ)

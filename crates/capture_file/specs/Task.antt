@@ -105,3 +105,21 @@ FailedAt rules Memory input input' output output' = HasNotFailed input input' ×
 FailedAt rules (Capture fault) input input' output output' = HasNotFailed input input' × HasNotFailed output output'
 FailedAt rules (Task fault) input input' output output' =
     HasNotFailed input input' × HasFailedIf (rules.is_of_writer fault) output output'
+
+-- what a task is after a fault, which was in this state before it: it stays so, but at a fault of its own
+abbrev pub IsLeftAt : {T S F : Type 0} → (is_at : T → S → Type 0) → (is_left : T → T → F → Type 0) → S → T → CaptureCause F
+    → Type 0
+IsLeftAt is_at is_left state task Read = is_at task state
+IsLeftAt is_at is_left state task Memory = is_at task state
+IsLeftAt is_at is_left state task (Capture fault) = is_at task state
+IsLeftAt {T} is_at is_left state task (Task what) = (before : T) × is_at before state × is_left before task what
+
+-- All packets took a task from its start to a state, or those before a fault, and this is left of it.
+abbrev pub LeavesTask : {T S A F : Type 0} → PacketRules S A F → (is_at : T → S → Type 0) → (is_left : T → T → F → Type 0)
+    → (is_ended : T → T → Type 0) → (start : S) → List ℕ → T → Result A (CaptureStop F) → Type 0
+LeavesTask {T} {S} rules is_at is_left is_ended start octets task answer = MatchResult answer
+    (λ _. (parts : List Part) × (state : S) × (text : List ℕ) × HasTaken rules start octets parts [] state text
+    × (before : T) × is_at before state × is_ended before task)
+    (λ stop. (parts : List Part) × (rest : List ℕ) × (state : S) × (text : List ℕ)
+    × HasTaken rules start octets parts rest state text × (stop.packets ≡ length (packets_of parts))
+    × IsLeftAt is_at is_left state task stop.what)

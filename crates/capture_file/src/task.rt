@@ -1,10 +1,10 @@
 //! The one loop over the packets of a capture.
-ghost use Rattle.std.specs.Prelude.{◌≡◌, ◌≤◌, ◌+◌, List, ℕ, ◌++◌, length, MatchResult, IfOk};
+ghost use Rattle.std.specs.Prelude.{◌≡◌, ◌≤◌, ◌+◌, List, ℕ, ◌++◌, length, Ok, Err, MatchResult, IfOk, ⊤};
 ghost use Rattle.std.specs.Option.{ForSome};
 ghost use Rattle.std.specs.Io.KnownBytes.{Appends};
 ghost use Rattle.text_lines.specs.Counted.{device_of, HasNotFailed, HasFailedIf};
 ghost use Rattle.text_lines.specs.Task.{WentOut};
-ghost use Rattle.capture_file.specs.Task.{PacketRules, Answers, FailedAt, is_of_writer};
+ghost use Rattle.capture_file.specs.Task.{PacketRules, Answers, FailedAt, IsLeftAt, LeavesTask, is_of_writer};
 ghost use Rattle.capture_file.specs.Inner.Reading.{packet_in};
 ghost use Rattle.capture_file.specs.Packet.{packet_of};
 ghost use Rattle.capture_file.specs.Inner.Taking.{IsBehind, TakesPart, StopsTaking};
@@ -34,6 +34,12 @@ pub trait PacketTask {
     /// The states that a task may be seen in.
     ghost is_at: { Self → State → Type 0 };
 
+    /// What a task is after this fault of a packet, or of the end, by what it was before.
+    ghost is_left: { Self → Self → Self.Fault → Type 0 } = { λ _ _ _. ⊤ };
+
+    /// What a task is once the end answered, by what it was before.
+    ghost is_ended: { Self → Self → Type 0 } = { λ _ _. ⊤ };
+
     /// Takes one more packet, of this number, counted from 1.
     fn take<W: Write>(
         &mut self,
@@ -50,6 +56,7 @@ pub trait PacketTask {
             × rules.Takes number (packet_of packet.now) state later written × Appends before after written)
             (λ what. (written : List ℕ) × rules.Stops number (packet_of packet.now) state what written
             × WentOut (rules.is_of_writer what) (Appends before after written)) }
+        ensures left { (what : Self.Fault) → result ≡ Err what → is_left self.old self.new what }
         ensures failures { MatchResult result
             (λ _. HasNotFailed output.old output.new)
             (λ what. HasFailedIf (rules.is_of_writer what) output.old output.new) };
@@ -68,6 +75,8 @@ pub trait PacketTask {
             (λ answer. (written : List ℕ) × rules.Ends packets state answer written × Appends before after written)
             (λ what. (written : List ℕ) × rules.StopsAtEnd state what written
             × WentOut (rules.is_of_writer what) (Appends before after written)) }
+        ensures left { (what : Self.Fault) → result ≡ Err what → is_left self.old self.new what }
+        ensures kept { (answer : Self.Answer) → result ≡ Ok answer → is_ended self.old self.new }
         ensures failures { MatchResult result
             (λ _. HasNotFailed output.old output.new)
             (λ what. HasFailedIf (rules.is_of_writer what) output.old output.new) };
@@ -89,6 +98,9 @@ fn take_part<T: PacketTask, W: Write>(
         (λ _. (later : T.State) × (written : List ℕ) × T.is_at task.new later
         × TakesPart T.rules (progress.packets + 1) (packet_in part.now) state later written × Appends before after written)
         (λ stop. StopsTaking T.rules progress (packet_in part.now) state before after stop) }
+    ensures left { (state : T.State) → T.is_at task.old state → MatchResult result
+        (λ _. ⊤)
+        (λ stop. IsLeftAt T.is_at T.is_left state task.new stop.what) }
     ensures failures { MatchResult result
         (λ _. HasNotFailed output.old output.new)
         (λ stop. HasFailedIf (is_of_writer T.rules stop.what) output.old output.new) }
@@ -137,6 +149,8 @@ pub fn answer_packets_behind<T: PacketTask, R: Read, W: Write>(
     ensures answered { (state : T.State) → T.is_at task.old state → ForSome (R.remaining (device_of input.old)) (λ octets.
         Answers T.rules state (start.now ++ octets) (R.remaining (device_of input.new))
         (W.contents (device_of output.old)) (W.contents (device_of output.new)) result) }
+    ensures left { (state : T.State) → T.is_at task.old state → ForSome (R.remaining (device_of input.old)) (λ octets.
+        LeavesTask T.rules T.is_at T.is_left T.is_ended state (start.now ++ octets) task.new result) }
     ensures failures { MatchResult result
         (λ _. HasNotFailed input.old input.new × HasNotFailed output.old output.new)
         (λ stop. FailedAt T.rules stop.what input.old input.new output.old output.new) }

@@ -1,5 +1,5 @@
 -- How octets are cut at their first LF.
-use Rattle.std.proofs.Common.{◌≡◌, ◌≢◌, ℕ, suc, ◌+◌, ◌<◌, ◌==◌, List, [], ◌∷◌, ◌++◌, true, false, length, refl, ◌∙◌, arith, add_comm, zero-add, if◌then◌else◌}
+use Rattle.std.proofs.Common.{◌≡◌, ◌≢◌, ℕ, suc, ◌+◌, ◌<◌, ◌≤◌, ◌==◌, List, [], ◌∷◌, ◌++◌, Bool, true, false, length, refl, ◌∙◌, ap, arith, add_comm, zero-add, if◌then◌else◌}
 use Rattle.std.proofs.lemmas.Bool.{ne_eqb}
 use Rattle.std.proofs.lemmas.List.Elements.{All-head, All-tail}
 use Rattle.std.proofs.lemmas.List.Sums.{sum_by-cons}
@@ -57,3 +57,28 @@ longer_line [] x rest h other = rw (ne_eqb x 10 other) (begun x (lines_of rest))
 longer_line (y ∷ ys) x rest h other =
     let (line, others, e, longer) = longer_line ys x rest (All-tail (λ y. y ≢ 10) y ys h) other in
     rw (first_is y ys h) (begun_longer y (length ys) _ line others e longer)
+
+begin_within : (x : ℕ) (lines : List (List ℕ)) (n : ℕ) → length lines ≤ n + 1 → length (begin_line x lines) ≤ n + 1
+begin_within x [] n within = omega arith
+begin_within x (line ∷ lines) n within = within
+
+-- there is one line at most that has no LF
+pub lines_within : (octets : List ℕ) → length (lines_of octets) ≤ lfs_in octets + 1
+lines_within [] = omega arith
+lines_within (x ∷ rest) =
+    go (x == 10) refl (lines_within rest)
+  where
+    lfs : lfs_in (x ∷ rest) ≡ (if x == 10 then 1 else 0) + lfs_in rest
+    lfs = sum_by-cons (λ x. if x == 10 then 1 else 0) x rest
+
+    go : (b : Bool) → (x == 10) ≡ b → length (lines_of rest) ≤ lfs_in rest + 1 → length (lines_of (x ∷ rest)) ≤ lfs_in (x ∷ rest) + 1
+    go true is within =
+        let more : lfs_in (x ∷ rest) ≡ 1 + lfs_in rest = lfs ∙ ap (λ (b : Bool). (if b then 1 else 0) + lfs_in rest) is in
+        let cut : lines_of (x ∷ rest) ≡ [] ∷ lines_of rest = ap (λ (b : Bool). if b then [] ∷ lines_of rest else begin_line x (lines_of rest)) is in
+        let size : length (lines_of (x ∷ rest)) ≡ suc (length (lines_of rest)) = ap length cut in
+        omega (arith, within, more, size)
+    go false is within =
+        let more : lfs_in (x ∷ rest) ≡ 0 + lfs_in rest = lfs ∙ ap (λ (b : Bool). (if b then 1 else 0) + lfs_in rest) is in
+        let cut : lines_of (x ∷ rest) ≡ begin_line x (lines_of rest) = ap (λ (b : Bool). if b then [] ∷ lines_of rest else begin_line x (lines_of rest)) is in
+        let size : length (lines_of (x ∷ rest)) ≡ length (begin_line x (lines_of rest)) = ap length cut in
+        omega (arith, begin_within x (lines_of rest) (lfs_in rest) within, more, size)

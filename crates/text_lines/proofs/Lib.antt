@@ -5,3 +5,4 @@ pub mod Reading
 pub mod Bounds
 pub mod TakenLines
 pub mod OneAnswer
+pub mod Unwritten

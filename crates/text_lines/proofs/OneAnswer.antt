@@ -83,20 +83,20 @@ is_taken rules number (first ∷ lines) start state text (suc place) line (next,
     }
 
 -- a place that a list has
-is_within : {A : Type 0} (xs : List A) (k : ℕ) (x : A) → slice_get xs k ≡ Some x → k < length xs
+pub is_within : {A : Type 0} (xs : List A) (k : ℕ) (x : A) → slice_get xs k ≡ Some x → k < length xs
 is_within [] k x e = absurd cc
 is_within (y ∷ ys) zero x e = omega arith
 is_within (y ∷ ys) (suc k) x e = let inner = is_within ys k x e in omega (arith, inner)
 
 -- and its front has, too
-get_taken : {A : Type 0} (xs : List A) (k n : ℕ) → k < n → slice_get (take n xs) k ≡ slice_get xs k
+pub get_taken : {A : Type 0} (xs : List A) (k n : ℕ) → k < n → slice_get (take n xs) k ≡ slice_get xs k
 get_taken [] k zero below = absurd (omega arith)
 get_taken [] k (suc n) below = refl
 get_taken (x ∷ xs) k zero below = absurd (omega arith)
 get_taken (x ∷ xs) zero (suc n) below = refl
 get_taken (x ∷ xs) (suc k) (suc n) below = get_taken xs k n (omega arith)
 
-take-take-less : {A : Type 0} (xs : List A) (k n : ℕ) → k < n → take k (take n xs) ≡ take k xs
+pub take-take-less : {A : Type 0} (xs : List A) (k n : ℕ) → k < n → take k (take n xs) ≡ take k xs
 take-take-less [] zero (suc n) below = refl
 take-take-less [] (suc k) (suc n) below = refl
 take-take-less xs k zero below = absurd (omega arith)

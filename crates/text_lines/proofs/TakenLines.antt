@@ -108,6 +108,13 @@ taken_more rules start octets before count ended state later left left' now now'
       lfs = λ unended. let lfs = so_far.lfs refl in let one = lf unended in rw more (omega (arith, lfs, one));
     }
 
+pub all_taken : {S A F : Type 0} (rules : Rules S A F) (start : S) (octets : List ℕ) (before : Option (List ℕ)) (count : ℕ) (ended : Bool) (state : S) (left now : Option (List ℕ))
+    → HasTaken rules start octets before count ended state left now → after_lines count octets ≡ []
+    → (text : List ℕ) × TakesLines rules 1 (lines_of octets) start state text
+all_taken rules start octets before count ended state left now so_far none =
+    let all = within_list count (lines_of octets) (so_far.rest ∙ ap lines_of none) so_far.within in
+    (so_far.text, rw (all, take_all (length (lines_of octets)) (lines_of octets) (le_refl _)) at so_far.taken)
+
 pub taken_all : {S A F : Type 0} (rules : Rules S A F) (start : S) (octets : List ℕ) (before : Option (List ℕ)) (count : ℕ) (ended : Bool) (state : S) (left left' now now' : Option (List ℕ)) (answer : A) (last : List ℕ)
     → HasTaken rules start octets before count ended state left now → after_lines count octets ≡ [] → left' ≡ Some []
     → rules.Ends count state answer last → Appends now now' last → AnswersAll rules start octets left' before now' answer

@@ -98,3 +98,17 @@ FailedAt rules (Reading fault) input input' output output' =
     IsFromReading fault input input' × HasNotFailed output output'
 FailedAt rules (Task fault) input input' output output' =
     HasNotFailed input input' × HasFailedIf (rules.is_of_writer fault) output output'
+
+-- what a task is after a fault, which was in this state before it: it stays so at a fault in reading
+abbrev pub IsLeftAt : {T S F : Type 0} → (is_at : T → S → Type 0) → (is_left : T → T → F → Type 0) → S → T → Cause F → Type 0
+IsLeftAt is_at is_left state task (Reading fault) = is_at task state
+IsLeftAt {T} is_at is_left state task (Task what) = (before : T) × is_at before state × is_left before task what
+
+-- All lines took a task from its start to a state, or those before a fault, and this is left of it.
+abbrev pub LeavesTask : {T S A F : Type 0} → Rules S A F → (is_at : T → S → Type 0) → (is_left : T → T → F → Type 0)
+    → (is_ended : T → T → Type 0) → (start : S) → List ℕ → T → Result A (Stopped (Cause F)) → Type 0
+LeavesTask {T} {S} rules is_at is_left is_ended start octets task answer = MatchResult answer
+    (λ _. (state : S) × (text : List ℕ) × TakesLines rules 1 (lines_of octets) start state text
+    × (before : T) × is_at before state × is_ended before task)
+    (λ stop. (earlier : ℕ) × (stop.line ≡ earlier + 1) × (state : S) × (text : List ℕ)
+    × TakesLines rules 1 (take earlier (lines_of octets)) start state text × IsLeftAt is_at is_left state task stop.what)

@@ -1,9 +1,9 @@
-ghost use Rattle.std.specs.Prelude.{◌≡◌, ◌≢◌, ◌≤◌, ◌<◌, ◌++◌, All, List, ℕ, length, MatchResult};
+ghost use Rattle.std.specs.Prelude.{◌≡◌, ◌≢◌, ◌≤◌, ◌<◌, ◌++◌, All, List, ℕ, length, Ok, Err, MatchResult, ⊤};
 ghost use Rattle.std.specs.Option.{ForSome};
 ghost use Rattle.std.specs.Io.KnownBytes.{Appends};
 ghost use Rattle.text_lines.specs.Counted.{device_of, greatest_count, HasNotFailed, HasFailedIf};
 ghost use Rattle.text_lines.specs.Lines.{line_limit, input_limit, GivesWithin};
-ghost use Rattle.text_lines.specs.Task.{Rules, WentOut, Answers, FailedAt};
+ghost use Rattle.text_lines.specs.Task.{Rules, WentOut, Answers, FailedAt, LeavesTask};
 
 use crate::counted::Counted;
 use crate::fault::{Cause, Stopped};
@@ -25,6 +25,12 @@ pub trait LineTask {
     /// The states that a task may be seen in.
     ghost is_at: { Self → State → Type 0 };
 
+    /// What a task is after this fault of a line, or of the end, by what it was before.
+    ghost is_left: { Self → Self → Self.Fault → Type 0 } = { λ _ _ _. ⊤ };
+
+    /// What a task is once the end answered, by what it was before.
+    ghost is_ended: { Self → Self → Type 0 } = { λ _ _. ⊤ };
+
     /// The most lines of an input, fewer than 2^64 - 1: a fault after the last of them has a number, too.
     fn lines_limit() -> u64
         ensures limit { result ≡ rules.lines_limit }
@@ -42,12 +48,15 @@ pub trait LineTask {
             × rules.Takes line.now state later written × Appends before after written)
             (λ what. (written : List ℕ) × rules.Stops line.now state what written
             × WentOut (rules.is_of_writer what) (Appends before after written)) }
+        ensures left { (what : Self.Fault) → result ≡ Err what → is_left self.old self.new what }
         ensures failures { MatchResult result
             (λ _. HasNotFailed output.old output.new)
             (λ what. HasFailedIf (rules.is_of_writer what) output.old output.new) };
 
     /// Leaves the input where reading failed. `_start` is what was read of the line that isn't taken.
-    fn leave(&mut self, _start: &[u8]) {}
+    fn leave(&mut self, _start: &[u8])
+        ensures { (state : State) → is_at self.old state → is_at self.new state }
+    {}
 
     /// Ends after the last of so many lines.
     fn finish<W: Write>(
@@ -63,6 +72,8 @@ pub trait LineTask {
             (λ answer. (written : List ℕ) × rules.Ends lines state answer written × Appends before after written)
             (λ what. (written : List ℕ) × rules.StopsAtEnd state what written
             × WentOut (rules.is_of_writer what) (Appends before after written)) }
+        ensures left { (what : Self.Fault) → result ≡ Err what → is_left self.old self.new what }
+        ensures kept { (answer : Self.Answer) → result ≡ Ok answer → is_ended self.old self.new }
         ensures failures { MatchResult result
             (λ _. HasNotFailed output.old output.new)
             (λ what. HasFailedIf (rules.is_of_writer what) output.old output.new) };
@@ -104,6 +115,8 @@ pub fn answer_lines_behind<T: LineTask, R: Read, W: Write>(
     ensures answered { (state : T.State) → T.is_at task.old state → ForSome (R.remaining (device_of input.old)) (λ octets.
         Answers T.rules state (start.now ++ octets) (R.remaining (device_of input.new))
         (W.contents (device_of output.old)) (W.contents (device_of output.new)) result) }
+    ensures left { (state : T.State) → T.is_at task.old state → ForSome (R.remaining (device_of input.old)) (λ octets.
+        LeavesTask T.rules T.is_at T.is_left T.is_ended state (start.now ++ octets) task.new result) }
     // Of any reader only so much is read, whatever the writer is.
     ensures bounded { GivesWithin R.remaining (input_limit T.rules.lines_limit) input.old input.new }
     ensures failures { MatchResult result

@@ -1,6 +1,7 @@
-use Rattle.std.proofs.Common.{rules, ◌++◌}
+use Rattle.std.proofs.Common.{rules, ◌++◌, refl, Err}
 use Rattle.capture_file.specs.Inner.Reading.{form_of}
-use Rattle.capture_file.proofs.Taking.{next, read_is, end_is, stops_reading, stops_taking, answers_stop, ends, stops_at_end, stops_before, all_known, begun_within}
+use Rattle.capture_file.proofs.Taking.{next, read_is, end_is, stops_reading, stops_taking, answers_stop, all_taken, ends, stops_at_end, stops_before, all_known, begun_within}
+use Rattle.capture_file.proofs.Left.{left_behind, left_before, left_reading, left_at_end}
 use Rattle.capture_file.proofs.task.answer_packets_behind.Goals as goal
 
 pub returns-in_default-clause-answered : goal.returns-in_default-clause-answered
@@ -58,3 +59,49 @@ returns-clause-answered g c = λ start at octets known.
     let (written, stops, went) = c.in-Err-finish.ensures.ended state stands in
     stops_at_end g.T.PacketTask.rules start state (form_of c.loop-part.form) (form_of c.read_part.new.form) c.loop-part.progress _ _ _ _ _ _ c.in-Err-finish.fault
     c.stop-in-Err-finish.result written (c.args.start.now ++ octets) c.loop-part.invariant.within taken (end_is _ _ c.in-Ok-None.field-0 _ _ c.in-Ok-None.field-0-is c.in-Ok-None.ensures.part) stops went (all_known _ c.args.start.now octets known) c.stop-in-Err-finish.ensures
+
+pub returns-in_default-clause-left : goal.returns-in_default-clause-left
+returns-in_default-clause-left g c = λ start at octets known.
+    left_before g.T.PacketTask.rules g.T.PacketTask.is_at g.T.PacketTask.is_left g.T.PacketTask.is_ended start (c.args.start.now ++ octets)
+    c.args.task.now c.stop.result c.stop.ensures at
+
+pub returns-in_err-progress-in-Ok-Some-clause-left : goal.returns-in_err-progress-in-Ok-Some-clause-left
+returns-in_err-progress-in-Ok-Some-clause-left g c = λ start at octets known.
+    let (state, stands, taken) = c.loop-part.invariant.taken start at in
+    let stop = c.in_err-progress-in-Ok-Some.field-0.0 in
+    left_behind g.T.PacketTask.rules g.T.PacketTask.is_at g.T.PacketTask.is_left g.T.PacketTask.is_ended start state (form_of c.loop-part.form)
+    c.loop-part.progress _ _ _ _ (c.args.start.now ++ octets) c.take_part.new.task c.from_residual.result stop (search rules) taken
+    (all_known _ c.args.start.now octets known) (c.in_err-progress-in-Ok-Some.ensures.taken state stands).0
+    (c.in_err-progress-in-Ok-Some.ensures.left state stands)
+
+pub returns-in-Err-clause-left : goal.returns-in-Err-clause-left
+returns-in-Err-clause-left g c = λ start at octets known.
+    let (state, stands, taken) = c.loop-part.invariant.taken start at in
+    let left = left_reading g.T.PacketTask.is_at g.T.PacketTask.is_left state c.loop-part.task c.loop-part.progress c.in-Err.stop
+    c.stop_part.result c.stop_part.ensures stands in
+    left_behind g.T.PacketTask.rules g.T.PacketTask.is_at g.T.PacketTask.is_left g.T.PacketTask.is_ended start state (form_of c.loop-part.form)
+    c.loop-part.progress _ _ _ _ (c.args.start.now ++ octets) c.loop-part.task (Err c.stop_part.result) c.stop_part.result refl taken
+    (all_known _ c.args.start.now octets known) left.0 left.1
+
+pub returns-in-Ok-finish-clause-left : goal.returns-in-Ok-finish-clause-left
+returns-in-Ok-finish-clause-left g c = λ start at octets known.
+    let (state, stands, taken) = c.loop-part.invariant.taken start at in (
+      taken.parts,
+      state,
+      taken.text,
+      all_taken g.T.PacketTask.rules start state (form_of c.loop-part.form) (form_of c.read_part.new.form) c.loop-part.progress _ _ _ _ _ (c.args.start.now ++ octets)
+          taken (end_is _ _ c.in-Ok-None.field-0 _ _ c.in-Ok-None.field-0-is c.in-Ok-None.ensures.part) (all_known _ c.args.start.now octets known),
+      c.loop-part.task,
+      stands,
+      c.in-Ok-finish.ensures.kept c.in-Ok-finish.answer refl,
+    )
+
+pub returns-clause-left : goal.returns-clause-left
+returns-clause-left g c = λ start at octets known.
+    let (state, stands, taken) = c.loop-part.invariant.taken start at in
+    let left = left_at_end g.T.PacketTask.is_at g.T.PacketTask.is_left state c.loop-part.task c.finish.new.self c.loop-part.progress
+    c.in-Err-finish.fault c.stop-in-Err-finish.result c.stop-in-Err-finish.ensures stands
+    (c.in-Err-finish.ensures.left c.in-Err-finish.fault refl) in
+    left_behind g.T.PacketTask.rules g.T.PacketTask.is_at g.T.PacketTask.is_left g.T.PacketTask.is_ended start state (form_of c.loop-part.form)
+    c.loop-part.progress _ _ _ _ (c.args.start.now ++ octets) c.finish.new.self (Err c.stop-in-Err-finish.result) c.stop-in-Err-finish.result refl taken
+    (all_known _ c.args.start.now octets known) left.0 left.1

@@ -1,8 +1,8 @@
-use Rattle.std.proofs.Common.{rules, ◌∙◌, ◌+◌, ◌++◌, ap}
+use Rattle.std.proofs.Common.{rules, ◌∙◌, ◌+◌, ◌++◌, refl, ap}
 use Rattle.std.specs.Io.KnownBytes.{prepend_known}
 use Rattle.text_lines.proofs.Bounds.{line_more, input_within}
 use Rattle.text_lines.proofs.KnownOctets.{none_begun}
-use Rattle.text_lines.proofs.TakenLines.{begun, taken_more, taken_all, stopped_reading, stopped_taking, stopped_at_end}
+use Rattle.text_lines.proofs.TakenLines.{begun, taken_more, all_taken, taken_all, stopped_reading, stopped_taking, stopped_at_end}
 use Rattle.text_lines.proofs.task.answer_lines_behind.Goals as goal
 
 pub loop-task-init : goal.loop-task-init
@@ -99,3 +99,41 @@ pub returns-in-Err-finish-clause-bounded : goal.returns-in-Err-finish-clause-bou
 returns-in-Err-finish-clause-bounded g c =
     rw (← c.loop-task.invariant.limit)
     (input_within _ _ c.loop-task.lines.count _ _ _ (search rules) c.loop-task.invariant.bounded c.in-Ok-false.ensures.given)
+
+pub returns-in-Err-clause-left : goal.returns-in-Err-clause-left
+returns-in-Err-clause-left g c =
+    λ first began octets known.
+    let (state, at, so_far) = c.loop-task.invariant.taken first began octets known in
+    rw c.into.ensures.1 (_, c.into.ensures.0 ∙ c.in-Err.ensures.count, state, so_far.text, so_far.taken, c.leave.ensures state at)
+
+pub returns-in-Err-take-clause-left : goal.returns-in-Err-take-clause-left
+returns-in-Err-take-clause-left g c =
+    λ first began octets known.
+    let (state, at, so_far) = c.loop-task.invariant.taken first began octets known in
+    let read = c.in-Ok-true.ensures in
+    let count = rw c.in-Ok-true.field-0-test at read.count in
+    (_, c.count.ensures ∙ count, state, so_far.text, so_far.taken, (_, at, c.in-Err-take.ensures.left c.in-Err-take.what refl))
+
+pub returns-in-Err-finish-clause-left : goal.returns-in-Err-finish-clause-left
+returns-in-Err-finish-clause-left g c =
+    λ first began octets known.
+    let (state, at, so_far) = c.loop-task.invariant.taken first began octets known in
+    let read = c.in-Ok-false.ensures in
+    let count = rw c.in-Ok-false.field-0-test at read.count in (
+      _,
+      ap (λ n. n + 1) (c.count-in-Err-finish.ensures ∙ count),
+      state,
+      so_far.text,
+      so_far.taken,
+      (_, at, c.in-Err-finish.ensures.left c.in-Err-finish.what refl),
+    )
+
+pub returns-in-Ok-clause-left : goal.returns-in-Ok-clause-left
+returns-in-Ok-clause-left g c =
+    λ first began octets known.
+    let (state, at, so_far) = c.loop-task.invariant.taken first began octets known in
+    let read = c.in-Ok-false.ensures in
+    let count = rw c.in-Ok-false.field-0-test at read.count in
+    let end = rw c.in-Ok-false.field-0-test at (read.next _ so_far.input) in
+    let (text, taken) = all_taken g.T.LineTask.rules first (_ ++ octets) _ _ _ state _ _ so_far end.0 in
+    (state, text, taken, c.loop-task.task, at, c.in-Ok.ensures.kept c.in-Ok.answer refl)
