@@ -1,4 +1,6 @@
 pub mod WorkedExchange
+pub mod WorkedMessages
+pub mod WorkedFindings
 pub mod Good
 pub mod Certain
 pub mod Lines
@@ -9,6 +11,14 @@ pub mod MessagesAfter
 pub mod Stays
 pub mod Soundness
 pub mod Packets
+pub mod FieldTests
+pub mod ReadAlike
+pub mod JourneyLines
+pub mod Said
+pub mod ByMessages
+pub mod FindingParts
+pub mod LeftTwice
+pub mod Findings
 pub mod Written
 pub mod Octets
 pub mod Exchanges

@@ -1,11 +1,11 @@
 -- Of lines that tell a run, whatever exchange a report line has, its octets are right: each of its lines that tells
 -- of a message counts, so the message was made.
-use Rattle.std.proofs.Common.{◌≡◌, ◌∙◌, ℕ, Bool, true, false, [], ◌∷◌, length, Option, Some, None, Ok, refl, sym, ap}
+use Rattle.std.proofs.Common.{◌≡◌, ◌∙◌, ℕ, ◌<◌, Bool, true, false, [], ◌∷◌, length, Option, Some, None, Ok, refl, sym, ap}
 use Rattle.std.proofs.Common.{subst, option_map, option_and_then, if◌then◌else◌}
 use Rattle.std.specs.Prelude.{◌==◌, ◌&&◌, ◌||◌, not, nat_lt}
 use Rattle.std.specs.Option.{option_map_or}
 use Rattle.std.specs.List.{list_all}
-use Rattle.std.proofs.lemmas.Bool.{and_parts, and_from}
+use Rattle.std.proofs.lemmas.Bool.{and_parts, and_from, ltb-true}
 use Rattle.event_codec.specs.Packet.{Contents}
 use Rattle.slave_port.specs.declared.heard.Report.{Report}
 use Rattle.slave_port.proofs.Options.{some_step, some_image}
@@ -30,6 +30,7 @@ use Rattle.trace_model.specs.Sound.{journey_writes_right}
 use Rattle.trace_model.specs.Told.{TellsOutcome, TellsRun}
 use Rattle.trace_model.specs.Faithful.{TellsPlace}
 use Rattle.trace_model.specs.Complete.{EachExchangeIsWritten}
+use Rattle.trace_model.proofs.Lines.{line_at-number}
 use Rattle.trace_model.proofs.Messages.{each_message_is_written}
 use Rattle.slave_port.specs.declared.heard.Heard.TheVariants as answers
 use Rattle.network_model.specs.declared.stepped.Outcome.TheVariants as outcomes
@@ -44,13 +45,14 @@ passed test (Some y) {x = x} is = by (test y) refl is
     by true e is = (is, let same : y ≡ x = cc in subst (λ (z : _). test z ≡ true) same e)
     by false e is = cc
 
-was_below : {X : Type 0} (found : ℕ → Option X) (limit number : ℕ) {x : X} → below found limit number ≡ Some x
-    → found number ≡ Some x
-was_below found limit number {x = x} is = by (nat_lt number limit) is
+pub was_below : {X : Type 0} (found : ℕ → Option X) (limit number : ℕ) {x : X} → below found limit number ≡ Some x
+    → (number < limit) × (found number ≡ Some x)
+was_below found limit number {x = x} is = by (nat_lt number limit) refl is
   where
-    by : (b : Bool) → (if b then found number else None) ≡ Some x → found number ≡ Some x
-    by true is = is
-    by false is = cc
+    by : (b : Bool) → nat_lt number limit ≡ b → (if b then found number else None) ≡ Some x
+        → (number < limit) × (found number ≡ Some x)
+    by true small is = (ltb-true number limit small, is)
+    by false small is = cc
 
 -- a line that tells of a message tells of one that was made
 made_outcome : (copy : Option Contents) (outcome : Outcome) (out : TraceOut) → TellsOutcome copy outcome out
@@ -200,7 +202,7 @@ module _ (network : Network) (run : Run) (lines : Lines) (told : TellsRun networ
       let copy = some_step (below (line_at network lines) (line_number hearing.0))
       (heard_copy (event_of hearing.0)) hearing.2 in
       line_told network run lines copy.0 e told
-      (was_below (line_at network lines) (line_number hearing.0) copy.0 copy.2)
+      (was_below (line_at network lines) (line_number hearing.0) copy.0 copy.2).1
 
   follow_right : (slave : NodeName) (follow : Option ℕ) (found : Option LinePlace)
       → follow_lines network lines slave follow ≡ Some found
@@ -226,10 +228,28 @@ module _ (network : Network) (run : Run) (lines : Lines) (told : TellsRun networ
       let here = sender_told heard e parts.0 in
       made_right network here.0 e here.1 (and_parts (is_arrival (event_of e)) (is_made e.line.out) parts.1).1
 
--- the journey of what arrived is that of a copy
-journey_found : (network : Network) (e : LinePlace) (kind : Event → Bool) (arrival : LinePlace) (journey : LineJourney)
-    → unbroken network e kind arrival ≡ Some journey
-    → (copy : ℕ) × (line_journey_of network (lines_to e) copy ≡ Some journey)
+-- the line that made what is heard counts
+pub heard_of : (network : Network) (lines : Lines) (o : Option LinePlace) (e : LinePlace)
+    → option_and_then (sender network lines) o ≡ Some e → line_at network lines (line_number e) ≡ Some e
+heard_of network lines o e is =
+    let hearing = some_step (sender network lines) o is in
+    let copy = some_step (below (line_at network lines) (line_number hearing.0)) (heard_copy (event_of hearing.0))
+    hearing.2 in
+    let there = (was_below (line_at network lines) (line_number hearing.0) copy.0 copy.2).1 in
+    subst (λ (n : ℕ). line_at network lines n ≡ Some e) (sym (line_at-number network lines copy.0 e there)) there
+
+-- the journey of what arrived is that of a copy from before it
+pub record FoundJourney (network : Network) (e : LinePlace) (kind : Event → Bool) (arrival : LinePlace)
+    (journey : LineJourney) : Type 0 where
+  pub copy : ℕ
+  pub heard : heard_copy (event_of arrival) ≡ Some copy
+  pub before : copy < line_number arrival
+  pub there : line_journey_of network (lines_to e) copy ≡ Some journey
+  pub begins : kind (event_of journey.origin) ≡ true
+
+pub journey_found : (network : Network) (e : LinePlace) (kind : Event → Bool) (arrival : LinePlace)
+    (journey : LineJourney)
+    → unbroken network e kind arrival ≡ Some journey → FoundJourney network e kind arrival journey
 journey_found network e kind arrival journey is =
     let once = passed (left_once (events network e.earlier)) (journey_to network (lines_to e) kind arrival) is in
     let begins = passed (λ (j : LineJourney). kind (event_of j.origin))
@@ -237,44 +257,55 @@ journey_found network e kind arrival journey is =
     (heard_copy (event_of arrival))) once.0 in
     let copy = some_step (below (line_journey_of network (lines_to e)) (line_number arrival))
     (heard_copy (event_of arrival)) begins.0 in
-    (copy.0, was_below (line_journey_of network (lines_to e)) (line_number arrival) copy.0 copy.2)
+    let there = was_below (line_journey_of network (lines_to e)) (line_number arrival) copy.0 copy.2 in
+    record { copy = copy.0; heard = copy.1; before = there.0; there = there.1; begins = begins.1 }
 
 -- the lines of an exchange
-abbrev of_lines : Option LinePlace → Option (Option LinePlace) → Option LinePlace → Option LinePlace → Option Exchange
+abbrev pub of_lines : Option LinePlace → Option (Option LinePlace) → Option LinePlace → Option LinePlace → Option Exchange
 of_lines s f r a =
     option_and_then (λ (sync : LinePlace). option_and_then
     (λ (follow : Option LinePlace). option_and_then (λ (request : LinePlace).
     option_map (λ (arrival : LinePlace).
     record { sync_arrival = sync; follow = follow; request = request; request_arrival = arrival }) a) r) f) s
 
--- an exchange's Follow_Up and arrival
-exchange_parts : (network : Network) (slave : NodeName) (e : LinePlace) (report : Report) (x : Exchange)
-    → exchange_of network slave e report ≡ Some x
-    → (follow_lines network (lines_to e) slave report.follow_tag ≡ Some x.follow)
-    × (arrival_line network (lines_to e) slave report.response_tag ≡ Some x.request_arrival)
+-- an exchange's lines
+pub record HasLines (network : Network) (slave : NodeName) (e : LinePlace) (report : Report) (x : Exchange) : Type 0 where
+  pub sync : sync_line network (lines_to e) slave report ≡ Some x.sync_arrival
+  pub follow : follow_lines network (lines_to e) slave report.follow_tag ≡ Some x.follow
+  pub request : line_of network (lines_to e) is_request slave report.request_tag ≡ Some x.request
+  pub arrival : arrival_line network (lines_to e) slave report.response_tag ≡ Some x.request_arrival
+
+pub exchange_parts : (network : Network) (slave : NodeName) (e : LinePlace) (report : Report) (x : Exchange)
+    → exchange_of network slave e report ≡ Some x → HasLines network slave e report x
 exchange_parts network slave e report x is = by (is_report_in_place network e report) is
   where
     parts : (s : Option LinePlace) (f : Option (Option LinePlace)) (r a : Option LinePlace)
-        → of_lines s f r a ≡ Some x → (f ≡ Some x.follow) × (a ≡ Some x.request_arrival)
+        → of_lines s f r a ≡ Some x → (s ≡ Some x.sync_arrival) × (f ≡ Some x.follow) × (r ≡ Some x.request)
+        × (a ≡ Some x.request_arrival)
     parts None f r a is = cc
     parts (Some s) None r a is = cc
     parts (Some s) (Some f) None a is = cc
     parts (Some s) (Some f) (Some r) None is = cc
     parts (Some s) (Some f) (Some r) (Some a) is =
-        let same : (record { sync_arrival = s; follow = f; request = r; request_arrival = a }) ≡ x = cc in
-        (ap (λ (y : Exchange). Some y.follow) same, ap (λ (y : Exchange). Some y.request_arrival) same)
+        let same : (record { sync_arrival = s; follow = f; request = r; request_arrival = a }) ≡ x = cc in (
+          ap (λ (y : Exchange). Some y.sync_arrival) same,
+          ap (λ (y : Exchange). Some y.follow) same,
+          ap (λ (y : Exchange). Some y.request) same,
+          ap (λ (y : Exchange). Some y.request_arrival) same,
+        )
 
     by : (placed : Bool) → (if placed
         then of_lines (sync_line network (lines_to e) slave report)
         (follow_lines network (lines_to e) slave report.follow_tag)
         (line_of network (lines_to e) is_request slave report.request_tag)
         (arrival_line network (lines_to e) slave report.response_tag) else None) ≡ Some x
-        → (follow_lines network (lines_to e) slave report.follow_tag ≡ Some x.follow)
-        × (arrival_line network (lines_to e) slave report.response_tag ≡ Some x.request_arrival)
-    by true is = parts (sync_line network (lines_to e) slave report)
+        → HasLines network slave e report x
+    by true is =
+        let found = parts (sync_line network (lines_to e) slave report)
         (follow_lines network (lines_to e) slave report.follow_tag)
         (line_of network (lines_to e) is_request slave report.request_tag)
-        (arrival_line network (lines_to e) slave report.response_tag) is
+        (arrival_line network (lines_to e) slave report.response_tag) is in
+        record { sync = found.0; follow = found.1; request = found.2; arrival = found.3 }
     by false is = cc
 
 pub each_exchange_is_written : EachExchangeIsWritten
@@ -284,8 +315,8 @@ each_exchange_is_written network p e report tells has =
     let parts = exchange_parts network (site e) e report has.x has.lines in
     let sync = journey_found network e draws_sync has.x.sync_arrival has.sync has.sync_unbroken in
     let request = journey_found network e is_request has.x.request_arrival has.request has.request_unbroken in
-    let sync_right = journey_right network run (lines_to e) sync.0 has.sync told sync.1 in
-    let request_right = journey_right network run (lines_to e) request.0 has.request told request.1 in
-    let follow = follow_right network run (lines_to e) told (site e) report.follow_tag has.x.follow parts.0 in
-    let arrival = arrival_right network run (lines_to e) told (site e) report.response_tag has.x.request_arrival parts.1 in
+    let sync_right = journey_right network run (lines_to e) sync.copy has.sync told sync.there in
+    let request_right = journey_right network run (lines_to e) request.copy has.request told request.there in
+    let follow = follow_right network run (lines_to e) told (site e) report.follow_tag has.x.follow parts.follow in
+    let arrival = arrival_right network run (lines_to e) told (site e) report.response_tag has.x.request_arrival parts.arrival in
     (λ i. sync_right i && follow i && request_right i && arrival i)

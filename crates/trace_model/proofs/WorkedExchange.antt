@@ -18,20 +18,20 @@ use Rattle.trace_model.specs.declared.verdict.Why.TheVariants.{OtherMaster, Wron
 use Rattle.trace_model.specs.Record.{line_place}
 use Rattle.trace_model.specs.Verdict.{verdict, line_judgement}
 
-abbrev m : NodeName
+abbrev pub m : NodeName
 m = 77 ∷ []
 
-abbrev s : NodeName
+abbrev pub s : NodeName
 s = 83 ∷ []
 
-abbrev t : NodeName
+abbrev pub t : NodeName
 t = 84 ∷ []
 
-abbrev config : ℕ → List ℕ → PortConfig
+abbrev pub config : ℕ → List ℕ → PortConfig
 config domain clock = record { identity = record { clock = clock; port = 1 }; domain = domain; log = pos 0 }
 
 -- with a slave of this domain
-abbrev network_with : ℕ → Network
+abbrev pub network_with : ℕ → Network
 network_with domain =
     record { name = m; kind = Master (config 0 (0 ∷ 17 ∷ 34 ∷ 255 ∷ 254 ∷ 51 ∷ 68 ∷ 85 ∷ [])) (record { 0 = 0 }) }
     ∷ record { name = s; kind = Slave (config domain (0 ∷ 170 ∷ 187 ∷ 255 ∷ 254 ∷ 204 ∷ 221 ∷ 238 ∷ [])) (record { 0 = 0 }) }
@@ -39,16 +39,16 @@ network_with domain =
     ∷ []
 
 -- the moment of these seconds, nanoseconds and units of 2^-16 ns
-abbrev at : ℕ → ℕ → ℕ → ℕ
+abbrev pub at : ℕ → ℕ → ℕ → ℕ
 at seconds nanoseconds fraction = moment (stamp seconds nanoseconds) fraction
 
-abbrev line : Event → Option ℕ → TraceOut → TraceLine
+abbrev pub line : Event → Option ℕ → TraceOut → TraceLine
 line event reading out = record { event = event; reading = reading; out = out }
 
-abbrev made : List ℕ → TraceOut
+abbrev pub made : List ℕ → TraceOut
 made octets = outs.Made (record { items = octets })
 
-abbrev report_with : ℤ → (sync follow request response : ℕ) → Report
+abbrev pub report_with : ℤ → (sync follow request response : ℕ) → Report
 report_with offset2 sync follow request response =
     record {
       offset2 = offset2;
@@ -60,8 +60,15 @@ report_with offset2 sync follow request response =
       response_tag = response;
     }
 
-abbrev before : List TraceLine
-before =
+-- the octets of the Follow_Up
+abbrev pub follow_up_octets : List ℕ
+follow_up_octets =
+    8 ∷ 18 ∷ 0 ∷ 44 ∷ 0 ∷ 0 ∷ 0 ∷ 0 ∷ 0 ∷ 0 ∷ 0 ∷ 0 ∷ 0 ∷ 0 ∷ 0 ∷ 0 ∷ 0 ∷ 0 ∷ 0 ∷ 0 ∷ 0 ∷ 17 ∷ 34 ∷ 255 ∷ 254 ∷
+    51 ∷ 68 ∷ 85 ∷ 0 ∷ 1 ∷ 0 ∷ 0 ∷ 2 ∷ 0 ∷ 0 ∷ 0 ∷ 0 ∷ 0 ∷ 0 ∷ 1 ∷ 0 ∷ 0 ∷ 0 ∷ 0 ∷ []
+
+-- the lines before the last one, with these octets for the Follow_Up
+abbrev pub before_with : (follow_up : List ℕ) → List TraceLine
+before_with follow_up =
     line (StepClock s (pos 65536000)) None outs.Done
     ∷ line (SetMaster s m) None outs.Done
     ∷ line (Sync m (at 1 0 0)) (Some (at 1 0 0))
@@ -72,9 +79,7 @@ before =
     (made (0 ∷ 18 ∷ 0 ∷ 44 ∷ 0 ∷ 0 ∷ 2 ∷ 0 ∷ 0 ∷ 0 ∷ 0 ∷ 0 ∷ 7 ∷ 208 ∷ 0 ∷ 0 ∷ 0 ∷ 0 ∷ 0 ∷ 0 ∷ 0 ∷ 17 ∷ 34 ∷ 255 ∷
     254 ∷ 51 ∷ 68 ∷ 85 ∷ 0 ∷ 1 ∷ 0 ∷ 0 ∷ 0 ∷ 0 ∷ 0 ∷ 0 ∷ 0 ∷ 0 ∷ 0 ∷ 0 ∷ 0 ∷ 0 ∷ 0 ∷ 0 ∷ []))
     ∷ line (Arrive s 4 (at 1 3000 0)) (Some (at 1 4000 0)) outs.Held
-    ∷ line (Follow m) None (made
-    (8 ∷ 18 ∷ 0 ∷ 44 ∷ 0 ∷ 0 ∷ 0 ∷ 0 ∷ 0 ∷ 0 ∷ 0 ∷ 0 ∷ 0 ∷ 0 ∷ 0 ∷ 0 ∷ 0 ∷ 0 ∷ 0 ∷ 0 ∷ 0 ∷ 17 ∷ 34 ∷ 255 ∷ 254 ∷
-    51 ∷ 68 ∷ 85 ∷ 0 ∷ 1 ∷ 0 ∷ 0 ∷ 2 ∷ 0 ∷ 0 ∷ 0 ∷ 0 ∷ 0 ∷ 0 ∷ 1 ∷ 0 ∷ 0 ∷ 0 ∷ 0 ∷ []))
+    ∷ line (Follow m) None (made follow_up)
     ∷ line (Hear s 6) None outs.Completed
     ∷ line (Request s (at 2 0 0)) (Some (at 2 1000 0))
     (made (1 ∷ 18 ∷ 0 ∷ 44 ∷ 0 ∷ 0 ∷ 0 ∷ 0 ∷ 0 ∷ 0 ∷ 0 ∷ 0 ∷ 0 ∷ 0 ∷ 0 ∷ 0 ∷ 0 ∷ 0 ∷ 0 ∷ 0 ∷ 0 ∷ 170 ∷ 187 ∷ 255 ∷
@@ -89,8 +94,11 @@ before =
     255 ∷ 254 ∷ 204 ∷ 221 ∷ 238 ∷ 0 ∷ 1 ∷ []))
     ∷ line (Stamped s) None outs.Done ∷ []
 
+abbrev pub before : List TraceLine
+before = before_with follow_up_octets
+
 -- the last line, with this first result
-abbrev reported : ℤ → TraceLine
+abbrev pub reported : ℤ → TraceLine
 reported offset2 = line (Hear s 11) None (outs.Report (report_with offset2 5 7 8 13))
 
 accepted : verdict (network_with 0) (reported (pos 131072000) ∷ reverse before) ≡ Accepted 1

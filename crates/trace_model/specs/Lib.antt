@@ -3,7 +3,10 @@ pub mod Line
 pub mod Record
 pub mod Journey
 pub mod Octets
+pub mod Field
 pub mod Sound
+pub mod ByMessages
+pub mod Finding
 pub mod Verdict
 pub mod Told
 pub mod Faithful

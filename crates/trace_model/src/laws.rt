@@ -1,10 +1,13 @@
 //! Laws of lines, each the contract of a function that does nothing: a caller that needs the law in its
 //! proof calls it.
 
+ghost use Rattle.trace_model.specs.ByMessages.{EachTellsTheReadings, EachSoundTellsTheReadings};
 ghost use Rattle.trace_model.specs.Complete.{Complete, CompleteWithinOneTurn, EachExchangeIsWritten};
 ghost use Rattle.trace_model.specs.Complete.{EachMessageIsWritten};
 ghost use Rattle.trace_model.specs.Faithful.{EachEventHasItsLine, EachEventIsRecorded};
 ghost use Rattle.trace_model.specs.Faithful.{EachJourneyIsTold, EachLineIsGood};
+ghost use Rattle.trace_model.specs.Field.{EachFieldIsTested, EachTellsAlike};
+ghost use Rattle.trace_model.specs.Finding.{EachReasonHasItsFinding};
 ghost use Rattle.trace_model.specs.Octets.{EachPacketIsTested};
 ghost use Rattle.trace_model.specs.Soundness.{ReasonsMissNothing, VerdictsTellSoundness};
 
@@ -25,6 +28,32 @@ pub fn verdicts_tell_soundness()
 /// exactly where the octets are the message.
 pub fn each_packet_is_tested()
     ensures { EachPacketIsTested }
+{}
+
+/// Octets are a message exactly where they have no field otherwise: the list of those that they have
+/// otherwise leaves nothing out.
+pub fn fields_are_tested()
+    ensures { EachFieldIsTested }
+{}
+
+/// Whatever octets tell the same as a message is used by a slave as the message is, and answered by a
+/// master as it is: in what fields they differ from it, nobody reads anything.
+pub fn unread_fields_change_nothing()
+    ensures { EachTellsAlike }
+{}
+
+/// The results by the messages are those by the readings where the messages that came to the slave tell
+/// the same as those that ports and clocks write: of octets, only fields that are read are asked for.
+/// So it is where all octets of the exchange are right.
+pub fn messages_tell_the_readings()
+    ensures told { EachTellsTheReadings }
+    ensures sound { EachSoundTellsTheReadings }
+{}
+
+/// Whatever wrote the lines, there is a finding of a reason exactly where it is among the reasons against
+/// a report.
+pub fn each_reason_has_its_finding()
+    ensures { EachReasonHasItsFinding }
 {}
 
 /// Each line that tells an event of a world is good, and counts exactly where the event took effect:
