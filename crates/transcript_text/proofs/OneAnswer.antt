@@ -1,17 +1,13 @@
 -- Octets have one answer of `replay` and of `check_text`, where no device failed and no memory was refused.
-use Rattle.std.proofs.Common.{◌≡◌, ◌≢◌, ◌∙◌, inl, inr, ℕ, ◌+◌, ◌==◌, if◌then◌else◌, List, [], ◌∷◌, ◌++◌, length, true, false, Option, Some, None, Result, Ok, Err, refl, sym, ap, subst}
-use Rattle.std.specs.Prelude.{is_ok, option_map, MatchResult, ⊤}
-use Rattle.std.proofs.lemmas.Bool.{ne_eqb, eq-eqb}
-use Rattle.network_model.specs.declared.refusal.WorldRefusal.{WorldRefusal}
+use Rattle.std.proofs.Common.{◌≡◌, ◌∙◌, ℕ, ◌+◌, List, [], ◌∷◌, ◌++◌, Option, Some, None, Result, Ok, Err, refl, sym, ap, subst}
+use Rattle.std.specs.Prelude.{option_map}
 use Rattle.network_model.specs.Network.{Network}
 use Rattle.network_model.specs.Run.{Run}
 use Rattle.network_model.specs.Clash.{first_clash}
 use Rattle.world_model.specs.State.{State}
-use Rattle.trace_model.specs.Line.{Lines}
 use Rattle.schedule_lines.specs.declared.reading.schedule.Line.{Line}
 use Rattle.schedule_lines.specs.declared.reading.schedule.Line.TheVariants as entries
 use Rattle.schedule_lines.specs.declared.reading.transcript.TranscriptLine.{TranscriptLine}
-use Rattle.schedule_lines.specs.declared.reading.transcript.TranscriptLine.TheVariants as recorded
 use Rattle.text_lines.specs.declared.fault.Cause.{Cause}
 use Rattle.text_lines.specs.declared.fault.Cause.TheVariants.{Reading, Task}
 use Rattle.text_lines.specs.declared.fault.ReadingFault.TheVariants as reading
@@ -21,17 +17,17 @@ use Rattle.text_lines.proofs.OneAnswer.{HasOneCourse, IsSure, answers_one}
 use Rattle.text_lines.proofs.OneAnswer as courses
 use Rattle.schedule_reading.specs.declared.fault.TaskFault.{TaskFault}
 use Rattle.schedule_reading.specs.declared.fault.TaskFault.TheVariants.{Write, Json, Field, World, Memory}
+use Rattle.schedule_reading.proofs.OneFault.{IsInText, in_text, of_writer, same_fault, where_begun, entry_fault, the_fault, happens_well}
+use Rattle.schedule_reading.proofs.OneFault.{clash_at_end, no_clash, record_fault, the_record_fault, no_record_fault, one_recorded}
 use Rattle.transcript_text.specs.declared.fault.FaultKind.{FaultKind}
 use Rattle.transcript_text.specs.declared.fault.Fault.{Fault}
 use Rattle.transcript_text.specs.Fault.{of_task, kind_by, kind_at}
-use Rattle.schedule_reading.specs.Fault.{is_write}
 use Rattle.transcript_text.specs.Answer.{Says}
 use Rattle.schedule_reading.specs.Entry.{entry_in}
-use Rattle.schedule_reading.specs.Schedule.{refusal_of, FaultsIn, FaultsAtEnd}
 use Rattle.transcript_text.specs.Replay as replays
-use Rattle.transcript_text.specs.Replay.{IsEventLine, NodesGoOut, GoesOut, replay_rules, Replays}
+use Rattle.transcript_text.specs.Replay.{NodesGoOut, GoesOut, replay_rules, Replays}
 use Rattle.schedule_reading.specs.Transcript as transcripts
-use Rattle.schedule_reading.specs.Transcript.{Recorded, IsOutOfPlace, FaultsInTranscript}
+use Rattle.schedule_reading.specs.Transcript.{Recorded}
 use Rattle.schedule_reading.specs.Entry.{recorded_in}
 use Rattle.transcript_text.specs.CheckText.{FaultsAtTranscriptEnd, check_rules, Checks}
 use Rattle.schedule_reading.specs.Verdict.{verdict_text}
@@ -52,17 +48,17 @@ sure_cause of (Reading reading.TooManyLines) sure device = device
 sure_cause of (Task kind) sure device = sure device
 
 -- an answer whose fault is told by its kind
-abbrev told_as : {A F : Type 0} → (F → FaultKind) → Result A (Stopped (Cause F)) → Result A Fault
+abbrev pub told_as : {A F : Type 0} → (F → FaultKind) → Result A (Stopped (Cause F)) → Result A Fault
 told_as of (Ok answer) = Ok answer
 told_as of (Err stop) = Err (record { line = stop.line; what = kind_by of stop.what })
 
-record IsTold {S A F : Type 0} (of : F → FaultKind) (rules : Rules S A F) (start : S) (octets : List ℕ) (left before after : Option (List ℕ)) (answer : Result A Fault) : Type 0 where
-  there : Result A (Stopped (Cause F))
-  told : told_as of there ≡ answer
-  says : Answers rules start octets left before after there
-  sure : IsSure (IsDevicesBy of) there
+pub record IsTold {S A F : Type 0} (of : F → FaultKind) (rules : Rules S A F) (start : S) (octets : List ℕ) (left before after : Option (List ℕ)) (answer : Result A Fault) : Type 0 where
+  pub there : Result A (Stopped (Cause F))
+  pub told : told_as of there ≡ answer
+  pub says : Answers rules start octets left before after there
+  pub sure : IsSure (IsDevicesBy of) there
 
-is_told : {S A F : Type 0} (of : F → FaultKind) (rules : Rules S A F) (start : S) (octets : List ℕ) (left before after : Option (List ℕ)) (answer : Result A Fault)
+pub is_told : {S A F : Type 0} (of : F → FaultKind) (rules : Rules S A F) (start : S) (octets : List ℕ) (left before after : Option (List ℕ)) (answer : Result A Fault)
     → Says of rules start octets left before after answer → IsOfInput kind_at answer → IsTold of rules start octets left before after answer
 is_told of rules start octets left before after (Ok answer) all sure = record { there = Ok answer; told = refl; says = all; sure = tt }
 is_told of rules start octets left before after (Err stop) (what, is, until) sure = record {
@@ -79,45 +75,20 @@ says_one of rules start sole octets left before after left' before' after' answe
     let same = answers_one rules start (IsDevicesBy of) sole octets left before after left' before' after' one.there other.there one.says other.says one.sure other.sure in
     (sym other.told ∙ ap (told_as of) same.0 ∙ one.told, same.1, same.2)
 
--- ---- the faults of a transcript
+-- ---- the faults of a task
 
-abbrev IsDevices : TaskFault → Type 0
+abbrev pub IsDevices : TaskFault → Type 0
 IsDevices = IsDevicesBy of_task
 
-of_writer : (fault : TaskFault) → is_write fault ≡ true → IsDevices fault
-of_writer Write is = tt
-of_writer Memory is = tt
-of_writer Json is = absurd cc
-of_writer Field is = absurd cc
-of_writer (World why) is = absurd cc
+own : (kind : TaskFault) → (IsDevices kind → ⊥) → IsInText kind
+own = in_text IsDevices tt tt
 
 -- ---- `replay`
 
-abbrev where_begun : {A : Type 0} → List A → Option TaskFault
-where_begun [] = None
-where_begun (first ∷ others) = Some Field
-
-begun : {A : Type 0} (xs : List A) → xs ≢ [] → where_begun xs ≡ Some Field
-begun [] some = absurd (some refl)
-begun (x ∷ xs) some = refl
-
-abbrev entry_fault : State → Result Line TaskFault → Option TaskFault
-entry_fault s (Err kind) = Some kind
-entry_fault s (Ok (entries.Node node)) = where_begun s.run
-entry_fault s (Ok (entries.Event event)) = option_map World (refusal_of s.network s.run event)
-
-the_fault : (s : State) (line : List ℕ) (kind : TaskFault) → (IsDevices kind → ⊥) → FaultsIn kind s.network s.run line → entry_fault s (entry_in line) ≡ Some kind
-the_fault s line Write sure fault = absurd (sure tt)
-the_fault s line Memory sure fault = absurd (sure tt)
-the_fault s line Json sure fault = ap (entry_fault s) fault
-the_fault s line Field sure (inl error) = ap (entry_fault s) error
-the_fault s line Field sure (inr (node, is, some)) = ap (entry_fault s) is ∙ begun s.run some
-the_fault s line (World why) sure (event, is, refused) = ap (entry_fault s) is ∙ ap (option_map World) refused
-
-no_entry_fault : (s later : State) (entry : Line) (written : List ℕ) → replays.Follows entry s later written → entry_fault s (Ok entry) ≡ None
+no_entry_fault : (s later : State) (entry : Line) (written : List ℕ) → replays.Follows entry s later written → entry_fault s.network s.run (Ok entry) ≡ None
 no_entry_fault s later (entries.Node node) written (first, is, none) = ap where_begun first
 no_entry_fault s later (entries.Event event) written (network, is, line, is_line, all) =
-    let happened = is_line.told.answered.outcome in rw (network, happened) refl
+    let happened = is_line.told.answered.outcome in happens_well s.network s.run event network (rw happened refl)
 
 one_follows : (s one other : State) (entry : Line) (text text' : List ℕ) → replays.Follows entry s one text → replays.Follows entry s other text'
     → (other ≡ one) × (text' ≡ text)
@@ -136,79 +107,30 @@ one_out : (kind : TaskFault) (nodes : Network) (run : Run) (a b : List ℕ) → 
 one_out kind nodes [] a b sure h k = one_of_nodes kind nodes a b sure h k
 one_out kind nodes (event ∷ earlier) a b sure h k = k ∙ sym h
 
-clash_at_end : (kind : TaskFault) (nodes : Network) → (IsDevices kind → ⊥) → FaultsAtEnd kind nodes → Some kind ≡ option_map World (first_clash nodes)
-clash_at_end (World why) nodes sure clash = sym (ap (option_map World) clash)
-clash_at_end Write nodes sure fault = absurd (sure tt)
-clash_at_end Memory nodes sure fault = absurd (sure tt)
-clash_at_end Json nodes sure fault = absurd fault
-clash_at_end Field nodes sure fault = absurd fault
-
-no_clash : (kind : TaskFault) (nodes : Network) → Some kind ≡ option_map World (first_clash nodes) → first_clash nodes ≡ None → ⊥
-no_clash kind nodes clash none = let fine : option_map World (first_clash nodes) ≡ None = ap (option_map World) none in absurd (cc (clash, fine))
-
-same_fault : (fault : Option TaskFault) (one other : TaskFault) → fault ≡ Some one → fault ≡ Some other → other ≡ one
-same_fault fault one other h k = cc (h, k)
-
 replay_course : HasOneCourse replay_rules IsDevices
 replay_course = record {
   one_step = λ line s one other text text' (entry, is, follows) (entry', is', follows').
       let same : entry' ≡ entry = cc (is, is') in
       one_follows s one other entry text text' follows (subst (λ (e : Line). replays.Follows e s other text') same follows');
   no_fault = λ line s later text text' kind sure (entry, is, follows) stops.
-      let none = ap (entry_fault s) is ∙ no_entry_fault s later entry text follows in
-      let some = the_fault s line kind sure stops.0 in
+      let none = ap (entry_fault s.network s.run) is ∙ no_entry_fault s later entry text follows in
+      let some = the_fault s.network s.run line kind (own kind sure) stops.0 in
       absurd (cc (none, some));
   one_fault = λ line s text text' one other sure sure' h k.
-      let same = same_fault (entry_fault s (entry_in line)) one other (the_fault s line one sure h.0) (the_fault s line other sure' k.0) in
+      let same = same_fault (entry_fault s.network s.run (entry_in line)) one other (the_fault s.network s.run line one (own one sure) h.0) (the_fault s.network s.run line other (own other sure') k.0) in
       (same, one_out one s.network s.run text text' sure h.1 (subst (λ (kind : TaskFault). GoesOut kind s.network s.run text') same k.1));
   one_end = λ lines s text text' one other h k. (k.1 ∙ sym h.1, k.2 ∙ sym h.2);
-  no_fault_at_end = λ lines s text text' answer kind sure ends stops. no_clash kind s.network (clash_at_end kind s.network sure stops.1) ends.0;
+  no_fault_at_end = λ lines s text text' answer kind sure ends stops. no_clash kind s.network (clash_at_end kind s.network (own kind sure) stops.1) ends.0;
   one_fault_at_end = λ s text text' one other sure sure' h k.
-      let same = same_fault (option_map World (first_clash s.network)) one other (sym (clash_at_end one s.network sure h.1)) (sym (clash_at_end other s.network sure' k.1)) in
+      let same = same_fault (option_map World (first_clash s.network)) one other (clash_at_end one s.network (own one sure) h.1) (clash_at_end other s.network (own other sure') k.1) in
       (same, one_of_nodes one s.network text text' sure h.2 (subst (λ (kind : TaskFault). NodesGoOut kind s.network text') same k.2));
-  writer = of_writer;
+  writer = of_writer IsDevices tt;
 }
 
 -- ---- `check_text`
 
-abbrev at_place : Recorded → ℕ → Option TaskFault
-at_place s number = if number == length s.lines then option_map World (first_clash s.nodes) else Some Field
-
-abbrev record_fault : Recorded → Result TranscriptLine TaskFault → Option TaskFault
-record_fault s (Err kind) = Some kind
-record_fault s (Ok (recorded.Node node)) = where_begun s.lines
-record_fault s (Ok (recorded.Event number line)) = at_place s number
-
-misplaced : (s : Recorded) (number : ℕ) → number ≢ length s.lines → at_place s number ≡ Some Field
-misplaced s number out = rw (ne_eqb number (length s.lines) out) refl
-
-clashes : (s : Recorded) (why : WorldRefusal) → s.lines ≡ [] → first_clash s.nodes ≡ Some why → at_place s 0 ≡ Some (World why)
-clashes s why none clash =
-    ap (λ (lines : Lines). if 0 == length lines then option_map World (first_clash s.nodes) else Some Field) none ∙ ap (option_map World) clash
-
-out_of_place : (s : Recorded) (entry : TranscriptLine) → IsOutOfPlace s.lines entry → record_fault s (Ok entry) ≡ Some Field
-out_of_place s (recorded.Node node) out = begun s.lines out
-out_of_place s (recorded.Event number line) out = misplaced s number out
-
-the_record_fault : (s : Recorded) (line : List ℕ) (kind : TaskFault) → (IsDevices kind → ⊥) → FaultsInTranscript kind s.nodes s.lines line → record_fault s (recorded_in line) ≡ Some kind
-the_record_fault s line Write sure faults = absurd faults
-the_record_fault s line Memory sure faults = absurd (sure tt)
-the_record_fault s line Json sure faults = ap (record_fault s) faults
-the_record_fault s line Field sure (inl error) = ap (record_fault s) error
-the_record_fault s line Field sure (inr (entry, is, out)) = ap (record_fault s) is ∙ out_of_place s entry out
-the_record_fault s line (World why) sure (first, is, none, clash) = ap (record_fault s) is ∙ clashes s why none clash
-
-no_record_fault : (s later : Recorded) (entry : TranscriptLine) → transcripts.Follows entry s later → record_fault s (Ok entry) ≡ None
-no_record_fault s later (recorded.Node node) (first, is) = ap where_begun first
-no_record_fault s later (recorded.Event number line) (place, network, is) =
-    ap (at_place s) place ∙ rw (eq-eqb (length s.lines) (length s.lines) refl) (ap (option_map World) network)
-
-one_recorded : (s one other : Recorded) (entry : TranscriptLine) → transcripts.Follows entry s one → transcripts.Follows entry s other → other ≡ one
-one_recorded s one other (recorded.Node node) h k = k.1 ∙ sym h.1
-one_recorded s one other (recorded.Event number line) h k = k.2 ∙ sym h.2
-
-clash_at_transcript_end : (kind : TaskFault) (s : Recorded) → (IsDevices kind → ⊥) → FaultsAtTranscriptEnd kind s.nodes s.lines → Some kind ≡ option_map World (first_clash s.nodes)
-clash_at_transcript_end (World why) s sure faults = sym (ap (option_map World) faults.1)
+clash_at_transcript_end : (kind : TaskFault) (s : Recorded) → (IsDevices kind → ⊥) → FaultsAtTranscriptEnd kind s.nodes s.lines → option_map World (first_clash s.nodes) ≡ Some kind
+clash_at_transcript_end (World why) s sure faults = ap (option_map World) faults.1
 clash_at_transcript_end Write s sure faults = absurd (sure tt)
 clash_at_transcript_end Memory s sure faults = absurd (sure tt)
 clash_at_transcript_end Json s sure faults = absurd faults
@@ -221,16 +143,16 @@ check_course = record {
       (one_recorded s one other entry follows (subst (λ (e : TranscriptLine). transcripts.Follows e s other) same follows'), none' ∙ sym none);
   no_fault = λ line s later text text' kind sure (entry, is, follows, nothing) stops.
       let none = ap (record_fault s) is ∙ no_record_fault s later entry follows in
-      let some = the_record_fault s line kind sure stops.0 in
+      let some = the_record_fault s line kind (own kind sure) stops.0 in
       absurd (cc (none, some));
   one_fault = λ line s text text' one other sure sure' h k.
-      (same_fault (record_fault s (recorded_in line)) one other (the_record_fault s line one sure h.0) (the_record_fault s line other sure' k.0), k.1 ∙ sym h.1);
+      (same_fault (record_fault s (recorded_in line)) one other (the_record_fault s line one (own one sure) h.0) (the_record_fault s line other (own other sure') k.0), k.1 ∙ sym h.1);
   one_end = λ lines s text text' one other h k.
       let same = k.1 ∙ sym h.1 in (same, k.2 ∙ ap verdict_text same ∙ sym h.2);
   no_fault_at_end = λ lines s text text' answer kind sure ends stops. no_clash kind s.nodes (clash_at_transcript_end kind s sure stops.0) ends.0;
   one_fault_at_end = λ s text text' one other sure sure' h k.
-      (same_fault (option_map World (first_clash s.nodes)) one other (sym (clash_at_transcript_end one s sure h.0)) (sym (clash_at_transcript_end other s sure' k.0)), k.1 ∙ sym h.1);
-  writer = of_writer;
+      (same_fault (option_map World (first_clash s.nodes)) one other (clash_at_transcript_end one s sure h.0) (clash_at_transcript_end other s sure' k.0), k.1 ∙ sym h.1);
+  writer = of_writer IsDevices tt;
 }
 
 pub replays_one : HasOneAnswer kind_at Replays

@@ -71,6 +71,10 @@ pub record FaultsHaveOneNumber : Type 0 where
 abbrev pub kind_at : Fault → FaultKind
 kind_at fault = fault.what
 
+-- the kind of what stopped lines whose faults are those of a task
+abbrev pub task_kind : Stopped (Cause TaskFault) → FaultKind
+task_kind stop = kind_by of_task stop.what
+
 -- the kind of what stopped lines whose faults are those of a line
 abbrev pub line_kind : Stopped (Cause LineFault) → FaultKind
 line_kind stop = kind_by of_line stop.what
