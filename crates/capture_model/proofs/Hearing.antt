@@ -31,6 +31,7 @@ use Rattle.capture_model.specs.Told.{is_general}
 use Rattle.capture_model.specs.Told.{is_sync}
 use Rattle.capture_model.specs.Finds.{is_own_request, is_master_sync, is_follow_up, is_master_follow_up, is_response_to}
 use Rattle.capture_model.specs.Finds.{is_own_response}
+use Rattle.capture_model.specs.Copies.{is_own_message}
 
 -- the number of the Delay_Req of the slave that a message is
 abbrev pub asked_number : Watched → Contents → Option ℕ
@@ -54,10 +55,6 @@ general-hearing line time m (bodies.Sync origin) is = cc
 general-hearing line time m (bodies.DelayReq origin) is = cc
 general-hearing line time m (bodies.FollowUp precise) is = refl
 general-hearing line time m (bodies.DelayResp receive requesting) is = refl
-
--- what the port knows numbers of: a Sync or a Follow_Up of the master, and its Delay_Resp to the slave
-abbrev pub is_own_message : Watched → Contents → Bool
-is_own_message w m = is_master_sync w m || (is_master_follow_up w m || is_own_response w m)
 
 module _ (w : Watched) (x : Recorded) (l : Listening) (P R Q : Listening → Type 0) where
   -- What may come of a datagram: it isn't heard; its number and time become known, or that it was refused, or that the

@@ -30,7 +30,7 @@ known-cons c number e es = by (nat_eq e.number number)
     by false = refl
 
 -- the one that came last
-known-first : (count number time : ℕ) (es : List (Entry ℕ)) → IsKnown count number time (entry number time ∷ es)
+pub known-first : (count number time : ℕ) (es : List (Entry ℕ)) → IsKnown count number time (entry number time ∷ es)
 known-first count number time es zero low fits = absurd (omega arith)
 known-first count number time es (suc c) low fits =
     known-cons c number (entry number time) es

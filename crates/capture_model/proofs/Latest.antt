@@ -27,7 +27,8 @@ use Rattle.capture_model.specs.Finds.{is_master_sync, is_follow_up, is_master_fo
 use Rattle.capture_model.specs.Finds.{is_own_response}
 use Rattle.capture_model.specs.Finds.{is_delay_req, is_own_request, with_number, says, NoneSays, with_flag, heard_of}
 use Rattle.capture_model.proofs.Newest.{first-cons}
-use Rattle.capture_model.proofs.Hearing.{Keeps, hear_holds, is_own_message, answered-ready, general-hearing}
+use Rattle.capture_model.specs.Copies.{is_own_message}
+use Rattle.capture_model.proofs.Hearing.{Keeps, hear_holds, answered-ready, general-hearing}
 use Rattle.capture_model.proofs.Said.{says-of}
 
 -- the entry of a message of a kind that a datagram says

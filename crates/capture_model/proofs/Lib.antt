@@ -29,9 +29,11 @@ mod Onward
 mod Takes
 mod Begins
 mod Finds
+mod Copies
 mod Worked
 mod WorkedSlave
 mod WorkedClock
 mod WorkedFinds
 mod WorkedOneStep
 mod WorkedBegins
+mod WorkedRestarts

@@ -26,10 +26,10 @@ use Rattle.capture_model.specs.Finds.{answer_of, SyncFirst, FollowUpFirst}
 use Rattle.capture_model.specs.Finds.{ComesDelay, StandsSync, StandsDelay}
 use Rattle.capture_model.proofs.Finds.{each_exchange}
 
-abbrev watched : Watched
+abbrev pub watched : Watched
 watched = record { slave = s_config.identity; master = m_config.identity; domain = 0 }
 
-abbrev line : (number time : ℕ) → Contents → Recorded
+abbrev pub line : (number time : ℕ) → Contents → Recorded
 line number time m = record { line = number; time = time; said = Ok m }
 
 -- none of these is found to say it
@@ -44,7 +44,7 @@ none_says test (d ∷ ds) none =
     All-cons (λ (d : Recorded). says test d ≡ false) d ds parts.0 (none_says test ds parts.1)
 
 -- Sync 5, a Delay_Req, Sync 6, the Follow_Up of Sync 5, and the Delay_Resp
-abbrev response : (number : ℕ) → Contents
+abbrev pub response : (number : ℕ) → Contents
 response number = record {
   header = header_of m_config (0 ∷ 0 ∷ []) (pos 0) number 3 (pos 0);
   body = DelayResp (stamp 2 4500) s_config.identity;

@@ -10,3 +10,4 @@ pub mod Pairs
 pub mod Completes
 pub mod Begins
 pub mod Finds
+pub mod Copies

@@ -3,6 +3,7 @@
 
 ghost use Rattle.capture_model.specs.Begins.{EachBeginningIsTold};
 ghost use Rattle.capture_model.specs.Completes.{WhatIsHeldCompletes};
+ghost use Rattle.capture_model.specs.Copies.{NoCopyIsReported};
 ghost use Rattle.capture_model.specs.Exact.{EachReportIsExact};
 ghost use Rattle.capture_model.specs.Finds.{EachExchangeIsFound};
 ghost use Rattle.capture_model.specs.Lives.{NoReportMixesLives};
@@ -108,4 +109,11 @@ pub fn what_is_held_completes()
 /// is said by [`each_report_is_exact`].
 pub fn each_exchange_is_found()
     ensures { EachExchangeIsFound }
+{}
+
+/// What a port doesn't hear that listens to a recording brings no report, whatever is recorded. It hears no copy of a Sync or
+/// a Follow_Up of the master, or of its Delay_Resp to the slave: where it heard such a message, it doesn't hear the same one
+/// again less than a second from it, behind datagrams that are none of these and no Delay_Req of the slave.
+pub fn no_copy_is_reported()
+    ensures { NoCopyIsReported }
 {}
