@@ -1,0 +1,6 @@
+pub mod Wide
+pub mod Series
+pub mod Trend
+pub mod Noted
+pub mod Quality
+pub mod Inner
