@@ -1,7 +1,8 @@
 -- What is counted with one datagram more.
 use Rattle.std.proofs.Common.{◌≡◌, ◌∙◌, ◌⊎◌, inl, inr, ℕ, ◌+◌, ◌*◌, ◌<◌, Bool, true, false, List, [], ◌∷◌, length, get_or}
 use Rattle.std.proofs.Common.{replicate, Option, Some, None, Ok, Err, refl, sym, ap, subst, arith}
-use Rattle.std.specs.Prelude.{cond, ◌==◌, count_by, is_some, slice_set}
+use Rattle.std.specs.Prelude.{cond, ◌==◌, count_by, is_some, slice_set, map, option_map}
+use Rattle.std.specs.Result.{result_err}
 use Rattle.std.proofs.lemmas.Bool.{cases_eq, eq-eqb, ne_eqb}
 use Rattle.std.proofs.lemmas.List.{length-set, length-replicate, get_or-replicate, get_or-set_same, get_or-set_other}
 use Rattle.std.proofs.lemmas.List.Sums.{sum_by-cons}
@@ -12,6 +13,9 @@ use Rattle.capture_model.specs.declared.watched.Watched.{Watched}
 use Rattle.capture_model.specs.Listening.{Listening}
 use Rattle.capture_model.specs.Recorded.{Recorded}
 use Rattle.capture_lines.specs.Measurement.{Measured}
+use Rattle.recording_quality.specs.declared.quality.Quality.{Quality}
+use Rattle.recording_quality.specs.Noted.{Noted, Reported}
+use Rattle.recording_quality.specs.Quality.{IsQuality}
 use Rattle.capture_measure.specs.declared.listener.Became.{Became}
 use Rattle.capture_measure.specs.declared.listener.Became.TheVariants as became
 use Rattle.capture_measure.specs.declared.tally.Counts.{Counts}
@@ -20,7 +24,7 @@ use Rattle.capture_measure.specs.declared.tally.Kind.TheVariants as kinds
 use Rattle.capture_measure.specs.declared.tally.Why.{Why}
 use Rattle.capture_measure.specs.declared.tally.Why.TheVariants as whys
 use Rattle.capture_measure.specs.Counts.{kind_number, why_number, kind_of, kind_of_refused, why_refused, place_of, at_most}
-use Rattle.capture_measure.specs.Counts.{Fate, fate_in, early_fate, is_so, IsCounts}
+use Rattle.capture_measure.specs.Counts.{Fate, fate_in, early_fate, noted_of, is_so, IsCounts}
 use Rattle.capture_measure.specs.Inner.Counting.{with_one, with_unreported, with_why, with_anew, why_by, is_slave_anew, is_master_anew}
 use Rattle.capture_measure.specs.Inner.Listener.{became_of}
 use Rattle.capture_measure.proofs.Became.{why-became, slave-became, master-became}
@@ -57,7 +61,7 @@ why_few whys.NoPart = omega arith
 place_within : (k y : ℕ) → k < 10 → y < 14 → k * 14 + y < 140
 place_within k y few some = omega (arith, few, some)
 
-place_few : (kind : Kind) (why : Why) → place_of kind why < 140
+pub place_few : (kind : Kind) (why : Why) → place_of kind why < 140
 place_few kind why = place_within (kind_number kind) (why_number why) (kind_few kind) (why_few why)
 
 -- ---- one more, or none
@@ -96,16 +100,17 @@ master_more became.Asked counts fate all is so = count_no (λ f. f.master_anew) 
 master_more became.Repeated counts fate all is so = count_no (λ f. f.master_anew) fate all counts.master_anew is so
 master_more became.Foreign counts fate all is so = count_no (λ f. f.master_anew) fate all counts.master_anew is so
 
--- the counts of those that gave no report, and of reports, are those of before
+-- the counts of those that gave no report, and of reports, and what they are worth are those of before
 anew_others : (b : Became) (counts : Counts)
     → ((with_anew b counts).unreported ≡ counts.unreported) × ((with_anew b counts).reports ≡ counts.reports)
-anew_others (became.Heard heard) counts = (refl, refl)
-anew_others (became.HeardAnew heard) counts = (refl, refl)
-anew_others became.HeardBefore counts = (refl, refl)
-anew_others became.Asked counts = (refl, refl)
-anew_others became.Repeated counts = (refl, refl)
-anew_others became.Anew counts = (refl, refl)
-anew_others became.Foreign counts = (refl, refl)
+    × ((with_anew b counts).quality ≡ counts.quality)
+anew_others (became.Heard heard) counts = (refl, refl, refl)
+anew_others (became.HeardAnew heard) counts = (refl, refl, refl)
+anew_others became.HeardBefore counts = (refl, refl, refl)
+anew_others became.Asked counts = (refl, refl, refl)
+anew_others became.Repeated counts = (refl, refl, refl)
+anew_others became.Anew counts = (refl, refl, refl)
+anew_others became.Foreign counts = (refl, refl, refl)
 
 -- the counts of those that gave no report
 abbrev Table : List Fate → List ℕ → Type 0
@@ -144,8 +149,34 @@ module _ (fate : Fate) (all : List Fate) (there : List ℕ) (many : length there
           (counted ∙ ne_eqb mine (place_of kind why) other) (so kind why)
 
 -- ---- what is counted of a datagram, but for its report
+-- a datagram was noted, and isn't counted yet
+pub record IsNoted (fate : Fate) (all : List Fate) (counts : Counts) : Type 0 where
+  pub reports : counts.reports ≡ at_most (count_by (λ f. is_some f.measured) all)
+  pub slave_anew : counts.slave_anew ≡ at_most (count_by (λ f. f.slave_anew) all)
+  pub master_anew : counts.master_anew ≡ at_most (count_by (λ f. f.master_anew) all)
+  pub unreported : Table all counts.unreported
+  pub places : length counts.unreported ≡ 140
+  pub quality : IsQuality (map noted_of (fate ∷ all)) counts.quality
+
+-- what is noted of it
+pub unreported_noted : (fate : Fate) → fate.measured ≡ None → (noted_of fate).reported ≡ None
+unreported_noted fate unmeasured = λ i. (noted_of (record fate { measured = unmeasured i })).reported
+
+-- it is where nothing else changed
+pub noted_counts : (fate : Fate) (all : List Fate) (counts later : Counts) → IsCounts all counts
+    → later ≡ record counts { quality = later.quality } → IsQuality (map noted_of (fate ∷ all)) later.quality
+    → IsNoted fate all later
+noted_counts fate all counts later so others better = record {
+  reports = ap (λ (c : Counts). c.reports) others ∙ so.reports;
+  slave_anew = ap (λ (c : Counts). c.slave_anew) others ∙ so.slave_anew;
+  master_anew = ap (λ (c : Counts). c.master_anew) others ∙ so.master_anew;
+  unreported = subst (Table all) (sym (ap (λ (c : Counts). c.unreported) others)) so.unreported;
+  places = ap (λ (c : Counts). length c.unreported) others ∙ so.places;
+  quality = better;
+}
+
 more_by : (why : Option Why) (b : Became) (fate : Fate) (all : List Fate) (counts : Counts) → fate.why ≡ why → fate.measured ≡ None
-    → fate.slave_anew ≡ is_slave_anew b → fate.master_anew ≡ is_master_anew b → IsCounts all counts
+    → fate.slave_anew ≡ is_slave_anew b → fate.master_anew ≡ is_master_anew b → IsNoted fate all counts
     → IsCounts (fate ∷ all) (with_why fate.kind why (with_anew b counts))
 more_by None b fate all counts is unmeasured slave master so = record {
   reports = (anew_others b counts).1
@@ -155,6 +186,7 @@ more_by None b fate all counts is unmeasured slave master so = record {
   unreported = subst (Table (fate ∷ all)) (sym (anew_others b counts).0)
       (table_none fate all counts.unreported so.places so.unreported is);
   places = ap length (anew_others b counts).0 ∙ so.places;
+  quality = subst (IsQuality (map noted_of (fate ∷ all))) (sym (anew_others b counts).2) so.quality;
 }
 more_by (Some own) b fate all counts is unmeasured slave master so = record {
   reports = (anew_others b counts).1
@@ -165,11 +197,12 @@ more_by (Some own) b fate all counts is unmeasured slave master so = record {
       (slice_set there (place_of fate.kind own) (with_one (get_or there (place_of fate.kind own) 0))))
       (sym (anew_others b counts).0) (table_more fate all counts.unreported so.places so.unreported own is);
   places = length-set (with_anew b counts).unreported (place_of fate.kind own) _ ∙ ap length (anew_others b counts).0 ∙ so.places;
+  quality = subst (IsQuality (map noted_of (fate ∷ all))) (sym (anew_others b counts).2) so.quality;
 }
 
 -- of one that a port hears in this state
 pub heard_counts : (w : Watched) (d : Recorded) (m : Contents) (l : Listening) (b : Became) (all : List Fate) (counts : Counts)
-    → d.said ≡ Ok m → b ≡ became_of w d.line d.time m m.body l → IsCounts all counts
+    → d.said ≡ Ok m → b ≡ became_of w d.line d.time m m.body l → IsNoted (fate_in w d l) all counts
     → IsCounts (fate_in w d l ∷ all) (with_why (kind_of m.body) (why_by w.domain m.header b) (with_anew b counts))
 heard_counts w d m l b all counts said is so =
     let own : Recorded = record d { said = Ok m } in
@@ -178,36 +211,40 @@ heard_counts w d m l b all counts said is so =
     (more_by (why_by w.domain m.header b) b (fate_in w own l) all counts
     (sym (ap (why_by w.domain m.header) is ∙ why-became w d.line d.time m m.body l)) refl
     (sym (ap is_slave_anew is ∙ slave-became w d.line d.time m m.body l))
-    (sym (ap is_master_anew is ∙ master-became w d.line d.time m m.body l)) so)
+    (sym (ap is_master_anew is ∙ master-became w d.line d.time m m.body l))
+    (subst (λ (s : Reading). IsNoted (fate_in w (record d { said = s }) l) all counts) said so))
 
 -- of one that isn't one of the four messages
 pub refused_counts : (w : Watched) (d : Recorded) (refusal : DecodeRefusal) (l : Listening) (all : List Fate) (counts : Counts)
-    → d.said ≡ Err refusal → IsCounts all counts
+    → d.said ≡ Err refusal → IsNoted (fate_in w d l) all counts
     → IsCounts (fate_in w d l ∷ all)
     (with_unreported (kind_of_refused refusal) (why_refused (kind_of_refused refusal)) counts)
 refused_counts w d refusal l all counts said so =
     let own : Recorded = record d { said = Err refusal } in
     subst (λ (s : Reading). IsCounts (fate_in w (record d { said = s }) l ∷ all)
     (with_unreported (kind_of_refused refusal) (why_refused (kind_of_refused refusal)) counts)) (sym said)
-    (more_by (Some (why_refused (kind_of_refused refusal))) became.HeardBefore (fate_in w own l) all counts refl refl refl refl so)
+    (more_by (Some (why_refused (kind_of_refused refusal))) became.HeardBefore (fate_in w own l) all counts refl refl refl refl
+    (subst (λ (s : Reading). IsNoted (fate_in w (record d { said = s }) l) all counts) said so))
 
 -- of one that came too early
-pub early_counts : (d : Recorded) (m : Contents) (all : List Fate) (counts : Counts) → d.said ≡ Ok m → IsCounts all counts
+pub early_counts : (d : Recorded) (m : Contents) (all : List Fate) (counts : Counts) → d.said ≡ Ok m → IsNoted (early_fate d) all counts
     → IsCounts (early_fate d ∷ all) (with_unreported (kind_of m.body) whys.TooEarly counts)
 early_counts d m all counts said so =
     let own : Recorded = record d { said = Ok m } in
     subst (λ (s : Reading). IsCounts (early_fate (record d { said = s }) ∷ all)
     (with_unreported (kind_of m.body) whys.TooEarly counts)) (sym said)
-    (more_by (Some whys.TooEarly) became.HeardBefore (early_fate own) all counts refl refl refl refl so)
+    (more_by (Some whys.TooEarly) became.HeardBefore (early_fate own) all counts refl refl refl refl
+    (subst (λ (s : Reading). IsNoted (early_fate (record d { said = s })) all counts) said so))
 
 pub early_refused_counts : (d : Recorded) (refusal : DecodeRefusal) (all : List Fate) (counts : Counts) → d.said ≡ Err refusal
-    → IsCounts all counts
+    → IsNoted (early_fate d) all counts
     → IsCounts (early_fate d ∷ all) (with_unreported (kind_of_refused refusal) (why_refused (kind_of_refused refusal)) counts)
 early_refused_counts d refusal all counts said so =
     let own : Recorded = record d { said = Err refusal } in
     subst (λ (s : Reading). IsCounts (early_fate (record d { said = s }) ∷ all)
     (with_unreported (kind_of_refused refusal) (why_refused (kind_of_refused refusal)) counts)) (sym said)
-    (more_by (Some (why_refused (kind_of_refused refusal))) became.HeardBefore (early_fate own) all counts refl refl refl refl so)
+    (more_by (Some (why_refused (kind_of_refused refusal))) became.HeardBefore (early_fate own) all counts refl refl refl refl
+    (subst (λ (s : Reading). IsNoted (early_fate (record d { said = s })) all counts) said so))
 
 -- ---- of a report that was written
 same_head : (f g : Fate) (all : List Fate) (p : Fate → Bool) → p f ≡ p g → count_by p (f ∷ all) ≡ count_by p (g ∷ all)
@@ -215,10 +252,11 @@ same_head f g all p same =
     sum_by-cons (λ x. cond (p x) 1 0) f all ∙ ap (λ (b : Bool). cond b 1 0 + count_by p all) same
     ∙ sym (sum_by-cons (λ x. cond (p x) 1 0) g all)
 
-pub written_counts : (fate : Fate) (all : List Fate) (counts : Counts) (m : Measured) → fate.measured ≡ None
-    → IsCounts (fate ∷ all) counts
-    → IsCounts (record fate { measured = Some m } ∷ all) (record counts { reports = with_one counts.reports })
-written_counts fate all counts m unmeasured so =
+pub written_counts : (fate : Fate) (all : List Fate) (counts : Counts) (quality : Quality) (m : Measured) → fate.measured ≡ None
+    → IsCounts (fate ∷ all) counts → IsQuality (map noted_of (record fate { measured = Some m } ∷ all)) quality
+    → IsCounts (record fate { measured = Some m } ∷ all)
+    (record counts { reports = with_one counts.reports; quality = quality })
+written_counts fate all counts quality m unmeasured so better =
     let now : Fate = record fate { measured = Some m } in record {
       reports =
           let before = sum_by-cons (λ f. cond (is_some f.measured) 1 0) fate all in
@@ -229,16 +267,38 @@ written_counts fate all counts m unmeasured so =
       master_anew = so.master_anew ∙ ap at_most (same_head fate now all (λ f. f.master_anew) refl);
       unreported = λ kind why. so.unreported kind why ∙ ap at_most (same_head fate now all (is_so kind why) refl);
       places = so.places;
+      quality = better;
     }
+
+-- the report of a datagram is noted beside it
+pub written_quality : (fate : Fate) (all : List Fate) (line time : ℕ) (m : Measured) (before after : Quality) → fate.measured ≡ None
+    → fate.datagram.line ≡ line → fate.datagram.time ≡ time → IsQuality (map noted_of (fate ∷ all)) before
+    → ((refusal : Option DecodeRefusal) (earlier : List Noted)
+    → IsQuality (record { line = line; time = time; refusal = refusal; reported = None } ∷ earlier) before
+    → IsQuality (record { line = line; time = time; refusal = refusal; reported = Some (record { by = m.by; report = m.report }) }
+    ∷ earlier) after)
+    → IsQuality (map noted_of (record fate { measured = Some m } ∷ all)) after
+written_quality fate all line time m before after unmeasured of_line of_time so notes =
+    let refusal : Option DecodeRefusal = result_err fate.datagram.said in
+    let of : (l t : ℕ) → Option Reported → Noted =
+    λ (l : ℕ) (t : ℕ) (r : Option Reported). record { line = l; time = t; refusal = refusal; reported = r } in
+    let reported : Option Measured → Option Reported = λ (o : Option Measured). option_map (λ x. record { by = x.by; report = x.report }) o in
+    let noted : IsQuality (of line time None ∷ map noted_of all) before =
+    subst (λ (n : Noted). IsQuality (n ∷ map noted_of all) before)
+    (λ i. of (of_line i) (of_time i) (reported (unmeasured i))) so in
+    subst (λ (n : Noted). IsQuality (n ∷ map noted_of all) after)
+    (λ i. of (sym of_line i) (sym of_time i) (reported (Some m)))
+    (notes refusal (map noted_of all) noted)
 
 -- ---- none
 pub no_counts : (counts : Counts) → counts.reports ≡ 0 → counts.slave_anew ≡ 0 → counts.master_anew ≡ 0
-    → counts.unreported ≡ replicate 140 0 → IsCounts [] counts
-no_counts counts reports slave master unreported = record {
+    → counts.unreported ≡ replicate 140 0 → IsQuality [] counts.quality → IsCounts [] counts
+no_counts counts reports slave master unreported quality = record {
   reports = reports;
   slave_anew = slave;
   master_anew = master;
   unreported = λ kind why. ap (λ (there : List ℕ). get_or there (place_of kind why) 0) unreported
       ∙ get_or-replicate 140 (place_of kind why) 0 0 (place_few kind why);
   places = ap length unreported ∙ length-replicate {A = ℕ} 140 0;
+  quality = quality;
 }

@@ -1,12 +1,14 @@
 -- What the first octets of an input tell of all of them.
-use Rattle.std.proofs.Common.{◌≡◌, ◌⊎◌, ℕ, ◌<◌, List, ◌++◌, ◌∷◌, [], length, take, drop, inl, inr, refl, sym, ap, subst, ◌∙◌, arith, append-nil, Option, Some, Ok, Err}
+use Rattle.std.proofs.Common.{◌≡◌, ◌⊎◌, ℕ, ◌<◌, List, ◌++◌, ◌∷◌, [], length, take, drop, inl, inr, refl, sym, ap, subst, ◌∙◌, arith, append-nil, Option, Some, Err}
 use Rattle.std.specs.Option.{ForSome}
 use Rattle.std.specs.Io.KnownBytes.{Appends, Consumes, IsAtEnd}
 use Rattle.std.proofs.Math.Seq.{take-append_seam, drop-append_seam}
 use Rattle.std.proofs.lemmas.Grind.{common_steps}
 use Rattle.text_lines.specs.declared.fault.Cause.TheVariants.{Reading, Task}
 use Rattle.text_lines.specs.declared.fault.ReadingFault.TheVariants.{Read}
-use Rattle.text_lines.specs.declared.line_fault.LineFault.TheVariants.{Field}
+use Rattle.text_lines.specs.declared.fault.Cause.{Cause}
+use Rattle.text_lines.specs.declared.line_fault.LineFault.{LineFault}
+use Rattle.text_lines.specs.declared.line_fault.LineFault.TheVariants.{Write, Field, Memory}
 use Rattle.text_lines.specs.Lines.{lfs_in}
 use Rattle.text_lines.proofs.KnownOctets.{Consumes-known}
 use Rattle.capture_file.specs.Beginning.{AreEnough, enough, start_of}
@@ -18,17 +20,9 @@ use Rattle.capture_measure.specs.declared.watch.Wanted.{Wanted}
 use Rattle.capture_measure.specs.Measure.{begun, head_text}
 use Rattle.capture_measure.specs.Capture.{capture_begun}
 use Rattle.capture_measure.specs.Input.{IsOutcome}
-use Rattle.capture_measure.specs.Inner.Outcomes.{LinesAnswer, PacketsAnswer, LinesTell, LinesCount, PacketsTell, PacketsCount}
-use Rattle.capture_measure.specs.declared.tally.Counts.{Counts}
-use Rattle.capture_measure.specs.declared.watch.Whom.{Whom}
-use Rattle.capture_measure.specs.Chosen.{chosen}
-use Rattle.capture_measure.specs.Counts.{fates_in, AreCounted, AreCaptured, CountsInput}
-use Rattle.capture_measure.specs.Row.{datagrams}
-use Rattle.capture_measure.specs.Summary.{whom_in, capture_whom, TellsWhom}
-use Rattle.capture_measure.proofs.Exact as exact
-use Rattle.capture_measure.proofs.ExactCapture as exact_capture
-use Rattle.text_lines.specs.Lines.{lines_of}
-use Rattle.capture_file.specs.Parts.{packets_of}
+use Rattle.capture_measure.specs.Inner.Outcomes.{LinesAnswer, PacketsAnswer, LinesTell, PacketsTell}
+use Rattle.capture_measure.specs.declared.input.Summary.{Summary}
+use Rattle.capture_measure.specs.Told.{IsLinesSummary, TellsInput}
 
 cut_at : (n : ℕ) (first rest : List ℕ) → (length first ≡ n) ⊎ ((length first < n) × (rest ≡ []))
     → (take n (first ++ rest) ≡ first) × (drop n (first ++ rest) ≡ rest)
@@ -129,89 +123,40 @@ failed_ahead form w all rest before after seen read few head = λ octets known.
     let (unread, is, split) = Consumes-known all rest seen octets read known in
     inl (seen, unread, split, few, record { stopped = refl; head = head; input = is })
 
--- ---- whom they are of
-lines_whom : (form : Form) (w : Wanted) (octets : List ℕ) (outcome : Outcome) (whom : Option Whom)
-    → LinesTell (begun form w) octets outcome whom → TellsWhom form w octets outcome whom
-lines_whom form w octets (Lines (Ok count)) whom (read, text, taken, is) = (
-  read,
-  text,
-  taken,
-  is ∙ ap (λ (v : Wanted). Some (whom_in v (datagrams read.rows)))
-      (exact.read_on 1 (lines_of octets) (begun form w) read text taken).wanted,
-)
-lines_whom form w octets (Lines (Err stop)) whom told = tt
-lines_whom form w octets (Capture answer) whom told = absurd told
+-- ---- what is told
+lines_told : (form : Form) (w : Wanted) (octets : List ℕ) (outcome : Outcome) (summary : Summary)
+    → LinesTell form w octets outcome summary → TellsInput form w octets outcome summary
+lines_told form w octets (Lines answer) summary told = told
+lines_told form w octets (Capture answer) summary told = absurd told
 
-lines_count : (form : Form) (w : Wanted) (octets : List ℕ) (outcome : Outcome) (counts : Option Counts)
-    → LinesCount (begun form w) octets outcome counts → CountsInput form w octets outcome counts
-lines_count form w octets (Lines (Ok count)) counts (read, text, taken, is) = (
-  read,
-  text,
-  taken,
-  subst (λ (v : Wanted). AreCounted (fates_in v read.rows) counts)
-      (exact.read_on 1 (lines_of octets) (begun form w) read text taken).wanted is,
-)
-lines_count form w octets (Lines (Err stop)) counts told = tt
-lines_count form w octets (Capture answer) counts told = absurd told
+packets_told : (form : Form) (w : Wanted) (octets : List ℕ) (outcome : Outcome) (summary : Summary)
+    → PacketsTell form w octets outcome summary → TellsInput form w octets outcome summary
+packets_told form w octets (Lines answer) summary told = absurd told
+packets_told form w octets (Capture answer) summary told = told
 
-packets_whom : (form : Form) (w : Wanted) (octets : List ℕ) (outcome : Outcome) (whom : Option Whom)
-    → PacketsTell (capture_begun form w) octets outcome whom → TellsWhom form w octets outcome whom
-packets_whom form w octets (Lines answer) whom told = absurd told
-packets_whom form w octets (Capture (Ok count)) whom (parts, read, text, has, is) = (
-  parts,
-  read,
-  text,
-  has,
-  is ∙ ap (λ (v : Wanted). capture_whom v read.rows)
-      (exact_capture.read_on form w (packets_of parts) read text has.taken).wanted,
-)
-packets_whom form w octets (Capture (Err stop)) whom told = tt
-
-pub lined_whom : (form : Form) (w : Wanted) (all rest : Option (List ℕ)) (first : List ℕ) (outcome : Outcome) (whom : Option Whom)
+pub lined_told : (form : Form) (w : Wanted) (all rest : Option (List ℕ)) (first : List ℕ) (outcome : Outcome) (summary : Summary)
     → Consumes all rest first → AreEnough first rest
-    → ForSome rest (λ octets. LinesTell (begun form w) (first ++ octets) outcome whom)
-    → ForSome all (λ octets. TellsWhom form w octets outcome whom)
-lined_whom form w all rest first outcome whom read are told = λ octets known.
+    → ForSome rest (λ octets. LinesTell form w (first ++ octets) outcome summary)
+    → ForSome all (λ octets. TellsInput form w octets outcome summary)
+lined_told form w all rest first outcome summary read are told = λ octets known.
     let (behind, is) = is_begun all rest first octets read are known in
-    lines_whom form w octets outcome whom
-    (subst (λ (o : List ℕ). LinesTell (begun form w) o outcome whom) (sym is.split) (told behind is.is_left))
+    lines_told form w octets outcome summary
+    (subst (λ (o : List ℕ). LinesTell form w o outcome summary) (sym is.split) (told behind is.is_left))
 
-pub lined_counts : (form : Form) (w : Wanted) (all rest : Option (List ℕ)) (first : List ℕ) (outcome : Outcome)
-    (counts : Option Counts) → Consumes all rest first → AreEnough first rest
-    → ForSome rest (λ octets. LinesCount (begun form w) (first ++ octets) outcome counts)
-    → ForSome all (λ octets. CountsInput form w octets outcome counts)
-lined_counts form w all rest first outcome counts read are told = λ octets known.
+pub captured_told : (form : Form) (w : Wanted) (all rest : Option (List ℕ)) (first : List ℕ) (outcome : Outcome) (summary : Summary)
+    → Consumes all rest first → AreEnough first rest
+    → ForSome rest (λ octets. PacketsTell form w (first ++ octets) outcome summary)
+    → ForSome all (λ octets. TellsInput form w octets outcome summary)
+captured_told form w all rest first outcome summary read are told = λ octets known.
     let (behind, is) = is_begun all rest first octets read are known in
-    lines_count form w octets outcome counts
-    (subst (λ (o : List ℕ). LinesCount (begun form w) o outcome counts) (sym is.split) (told behind is.is_left))
+    packets_told form w octets outcome summary
+    (subst (λ (o : List ℕ). PacketsTell form w o outcome summary) (sym is.split) (told behind is.is_left))
 
-packets_count : (form : Form) (w : Wanted) (octets : List ℕ) (outcome : Outcome) (counts : Option Counts)
-    → PacketsCount (capture_begun form w) octets outcome counts → CountsInput form w octets outcome counts
-packets_count form w octets (Lines answer) counts told = absurd told
-packets_count form w octets (Capture (Ok count)) counts (parts, read, text, has, is) = (
-  parts,
-  read,
-  text,
-  has,
-  subst (λ (v : Wanted). AreCaptured v (chosen v read.rows) read.rows counts)
-      (exact_capture.read_on form w (packets_of parts) read text has.taken).wanted is,
-)
-packets_count form w octets (Capture (Err stop)) counts told = tt
-
-pub captured_counts : (form : Form) (w : Wanted) (all rest : Option (List ℕ)) (first : List ℕ) (outcome : Outcome)
-    (counts : Option Counts) → Consumes all rest first → AreEnough first rest
-    → ForSome rest (λ octets. PacketsCount (capture_begun form w) (first ++ octets) outcome counts)
-    → ForSome all (λ octets. CountsInput form w octets outcome counts)
-captured_counts form w all rest first outcome counts read are told = λ octets known.
-    let (behind, is) = is_begun all rest first octets read are known in
-    packets_count form w octets outcome counts
-    (subst (λ (o : List ℕ). PacketsCount (capture_begun form w) o outcome counts) (sym is.split) (told behind is.is_left))
-
-pub captured_whom : (form : Form) (w : Wanted) (all rest : Option (List ℕ)) (first : List ℕ) (outcome : Outcome)
-    (whom : Option Whom) → Consumes all rest first → AreEnough first rest
-    → ForSome rest (λ octets. PacketsTell (capture_begun form w) (first ++ octets) outcome whom)
-    → ForSome all (λ octets. TellsWhom form w octets outcome whom)
-captured_whom form w all rest first outcome whom read are told = λ octets known.
-    let (behind, is) = is_begun all rest first octets read are known in
-    packets_whom form w octets outcome whom
-    (subst (λ (o : List ℕ). PacketsTell (capture_begun form w) o outcome whom) (sym is.split) (told behind is.is_left))
+-- where nothing of the first line was taken
+pub none_told : (form : Form) (w : Wanted) (octets : List ℕ) (what : Cause LineFault) (outcome : Outcome) (summary : Summary)
+    → outcome ≡ Lines (Err (record { line = 1; what = what })) → IsLinesSummary w summary []
+    → TellsInput form w octets outcome summary
+none_told form w octets (Reading fault) outcome summary is told = rw is (0, refl, begun form w, [], (refl, refl), told)
+none_told form w octets (Task Field) outcome summary is told = rw is (0, refl, begun form w, [], (refl, refl), told)
+none_told form w octets (Task Write) outcome summary is told = rw is tt
+none_told form w octets (Task Memory) outcome summary is told = rw is tt

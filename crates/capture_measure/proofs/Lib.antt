@@ -2,7 +2,7 @@ pub mod AsLines
 pub mod Became
 pub mod Bodies
 pub mod Counting
-pub mod Ended
+pub mod Summaries
 pub mod Exact
 pub mod ExactCapture
 pub mod Fates
@@ -15,6 +15,7 @@ pub mod Listeners
 pub mod Looking
 pub mod OneCourse
 pub mod OneRow
+pub mod Once
 pub mod Readings
 pub mod Reported
 pub mod Inputs

@@ -26,12 +26,13 @@ use Rattle.capture_measure.specs.Chosen.{is_met, watched_at, chosen, heard_at, c
 use Rattle.capture_measure.specs.Capture.{Capture, IsPacketRow, TakesPacket, StopsAtPacket, with_packet, measured_so_far}
 use Rattle.std.proofs.lemmas.Option.{slice_get-get_or}
 use Rattle.capture_measure.specs.Summary.{whom_in, capture_whom}
-use Rattle.capture_measure.specs.Inner.Ended.{whom_at}
+use Rattle.capture_measure.specs.Inner.Stages.{whom_at}
 use Rattle.capture_measure.specs.Inner.Watching.{whom_of}
 use Rattle.capture_measure.proofs.Watches.{whom_known, whom_stays}
 use Rattle.capture_measure.specs.Inner.Capturing.{IsCapturing, IsCaptureStage, IsHearingAt, AddsRow}
 use Rattle.capture_measure.specs.Inner.Listener.{IsListener}
-use Rattle.capture_measure.specs.Inner.Recordings.{interface_in, AreKeptRows, AreRecordings, BeginsWith, IsFoundAt, IsNoticed}
+use Rattle.capture_measure.specs.Inner.Recordings.{AreKeptRows, AreRecordings, BeginsWith, IsFoundAt, IsNoticed}
+use Rattle.capture_measure.specs.Told.{interface_in}
 use Rattle.capture_measure.specs.Counts.{early_at, IsCounts}
 use Rattle.capture_measure.proofs.CaptureFates.{none_so_far}
 use Rattle.capture_measure.proofs.KeptRows.{one_there}

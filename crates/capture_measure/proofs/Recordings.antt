@@ -26,7 +26,8 @@ use Rattle.capture_measure.specs.Interfaces.{interfaces_most}
 use Rattle.capture_measure.specs.Chosen.{tells, is_domain_met, is_port_met}
 use Rattle.capture_measure.specs.Capture.{IsDatagramRow}
 use Rattle.capture_measure.specs.Counts.{early_at, IsCounts}
-use Rattle.capture_measure.specs.Inner.Recordings.{interface_in, IsMet, IsNoticed, IsFresh, AreKeptRows, IsRecording, AreRecordings}
+use Rattle.capture_measure.specs.Inner.Recordings.{IsMet, IsNoticed, IsFresh, AreKeptRows, IsRecording, AreRecordings}
+use Rattle.capture_measure.specs.Told.{interface_in}
 use Rattle.capture_measure.specs.Inner.Recordings.{HasAdded, IsFoundAt, KeepsMore}
 use Rattle.capture_measure.proofs.Interfaces.{AreDistinct, distinct_in, not_among, no_rows, same_interface}
 use Rattle.capture_measure.proofs.Chosen.{or_stays}

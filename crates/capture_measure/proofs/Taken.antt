@@ -10,8 +10,9 @@ use Rattle.text_lines.specs.Counted.{HasNotFailed, HasFailedIf}
 use Rattle.capture_model.specs.declared.watched.Watched.{Watched}
 use Rattle.capture_measure.specs.declared.listener.Listener.{Listener}
 use Rattle.capture_measure.specs.declared.measuring.Form.{Form}
+use Rattle.capture_measure.specs.declared.measuring.Measuring.{Measuring}
 use Rattle.text_lines.specs.declared.line_fault.LineFault.{LineFault}
-use Rattle.text_lines.specs.declared.line_fault.LineFault.TheVariants.{Memory}
+use Rattle.text_lines.specs.declared.line_fault.LineFault.TheVariants.{Write, Field, Memory}
 use Rattle.capture_measure.specs.declared.measuring.Stage.{Stage}
 use Rattle.capture_measure.specs.declared.measuring.Stage.TheVariants.{Kept, Passed, Hearing}
 use Rattle.capture_measure.specs.declared.watch.Wanted.{Wanted}
@@ -21,8 +22,8 @@ use Rattle.capture_measure.specs.Measured.{measurements, measured_in}
 use Rattle.text_lines.specs.Fault.{is_write}
 use Rattle.capture_measure.specs.Counts.{early_fates, fates_in}
 use Rattle.capture_measure.specs.Inner.Counting.{stays}
-use Rattle.capture_measure.specs.Inner.Hearing.{Goes, GoesUntil}
-use Rattle.capture_measure.specs.Inner.Measuring.{AreWithin, AreKept, IsHearing, IsStage}
+use Rattle.capture_measure.specs.Inner.Hearing.{Goes, GoesUntil, IsOfOutput}
+use Rattle.capture_measure.specs.Inner.Measuring.{AreWithin, AreKept, IsHearing, IsStage, IsLeft}
 use Rattle.capture_measure.proofs.Goes.{GoesUntil-none}
 use Rattle.capture_measure.proofs.Rows.{heard-few, heard-many, unknown_before, measured-known, measured-unknown}
 use Rattle.capture_measure.proofs.Fates.{fates-unknown, no-early}
@@ -104,3 +105,32 @@ pub measured-still : (w : Wanted) (rows : List Row) (row : Row)
 measured-still w rows row unknown =
     measured-unknown w (row ∷ rows) unknown
     ∙ sym (measured-unknown w rows (unknown_before w rows row unknown))
+
+-- ---- what is left at a fault
+-- one answer has one fault
+pub same_fault : {T : Type 0} (r : Result T LineFault) (one other : LineFault) → r ≡ Err one → r ≡ Err other → one ≡ other
+same_fault (Ok x) one other is same = cc
+same_fault (Err fault) one other is same = let first : fault ≡ one = cc in let second : fault ≡ other = cc in sym first ∙ second
+
+-- a fault of what is written isn't one of a line
+pub not_field : (fault : LineFault) → IsOfOutput fault → fault ≡ Field → ⊥
+not_field fault of is = subst IsOfOutput is of
+
+pub goes_field : {T : Type 0} (form : Form) (r : Result T LineFault) (ms : List Measured) (before after : Option (List ℕ))
+    → Goes form r ms before after → (what : LineFault) → r ≡ Err what → what ≡ Field → ⊥
+goes_field {T} form r ms before after goes what is field =
+    none (subst (λ (a : Result T LineFault). Goes form a ms before after) (is ∙ ap Err field) goes)
+  where
+    none : GoesUntil form Field ms before after → ⊥
+    none (went, left, may, same, out) = may
+
+pub memory_field : {T : Type 0} (r : Result T LineFault) → MatchResult r (λ _. ⊤) (λ fault. fault ≡ Memory) → (what : LineFault)
+    → r ≡ Err what → what ≡ Field → ⊥
+memory_field (Ok x) only what is field = cc
+memory_field (Err fault) only what is field = let same : fault ≡ what = cc in let both : Memory ≡ Field = sym only ∙ same ∙ field in cc
+
+-- so it is left, where nothing changed at a line that is none of a recording
+pub left_by : (old new : Measuring) (what : LineFault) → (what ≡ Field → new ≡ old) → IsLeft old new what
+left_by old new Field same = same refl
+left_by old new Write same = tt
+left_by old new Memory same = tt

@@ -1,9 +1,10 @@
 -- What is counted while an input is measured: what each datagram is, and why it gave no report, if it gave none. Lists have the
 -- newest in front.
 use Rattle.std.specs.Prelude.{◌≡◌, ℕ, ◌+◌, ◌-◌, ◌*◌, ◌^◌, ◌==◌, nat_lt, min, Bool, true, false, not, ◌&&◌, ◌||◌, is_some}
-use Rattle.std.specs.Prelude.{if◌then◌else◌, ⊤, List, [], ◌∷◌, ◌++◌, length, drop, map, count_by, slice_index}
-use Rattle.std.specs.Prelude.{Option, Some, None, Ok, Err}
+use Rattle.std.specs.Prelude.{if◌then◌else◌, List, [], ◌∷◌, ◌++◌, length, drop, map, count_by, slice_index}
+use Rattle.std.specs.Prelude.{Option, Some, None, Ok, Err, option_map}
 use Rattle.std.specs.Option.{option_map_or}
+use Rattle.std.specs.Result.{result_err}
 use Rattle.ptp_units.specs.Sequence.{ahead}
 use Rattle.event_codec.specs.declared.message.Header.{Header}
 use Rattle.event_codec.specs.declared.message.Body.{Body}
@@ -22,19 +23,14 @@ use Rattle.slave_port.specs.declared.heard.Heard.TheVariants as answers
 use Rattle.slave_port.specs.declared.reason.Reason.{Reason}
 use Rattle.slave_port.specs.declared.reason.Reason.TheVariants as reasons
 use Rattle.slave_port.specs.History.{Call, Event, next_number}
-use Rattle.text_lines.specs.Lines.{lines_of}
-use Rattle.text_lines.specs.Task.{TakesLines}
 use Rattle.capture_file.specs.Packet.{InterfaceOf}
-use Rattle.capture_file.specs.Parts.{Part}
-use Rattle.capture_file.specs.Task as packets
 use Rattle.capture_model.specs.declared.watched.Watched.{Watched}
 use Rattle.capture_model.specs.Recorded.{Recorded}
 use Rattle.capture_model.specs.Listening.{Listening, setup_in, table_capacity, is_of, is_stale, answer_in, arrival_of, answered}
 use Rattle.capture_model.specs.Listening.{after_all}
 use Rattle.capture_lines.specs.Measurement.{Measured}
-use Rattle.capture_measure.specs.declared.input.Outcome.{Outcome}
-use Rattle.capture_measure.specs.declared.input.Outcome.TheVariants.{Lines, Capture}
-use Rattle.capture_measure.specs.declared.measuring.Form.{Form}
+use Rattle.recording_quality.specs.Noted.{Noted}
+use Rattle.recording_quality.specs.Quality.{IsQuality}
 use Rattle.capture_measure.specs.declared.tally.Counts.{Counts}
 use Rattle.capture_measure.specs.declared.tally.Kind.{Kind}
 use Rattle.capture_measure.specs.declared.tally.Kind.TheVariants as kinds
@@ -45,9 +41,7 @@ use Rattle.capture_measure.specs.Watch.{watched_in}
 use Rattle.capture_measure.specs.Row.{Row, datagrams, heard}
 use Rattle.capture_measure.specs.Measured.{measured_at}
 use Rattle.capture_measure.specs.Interfaces.{InterfaceRow, rows_at}
-use Rattle.capture_measure.specs.Chosen.{chosen, heard_at, watched_at, capture_watched}
-use Rattle.capture_measure.specs.Measure as lines
-use Rattle.capture_measure.specs.Capture as captures
+use Rattle.capture_measure.specs.Chosen.{heard_at, watched_at, capture_watched}
 
 -- the places of kinds and of reasons, in the order in which they are told
 abbrev pub kind_number : Kind → ℕ
@@ -208,8 +202,9 @@ master_begins w line time m (bodies.Sync origin) l = sync_begins w line time m l
 master_begins w line time m body l = false
 
 -- ---- what came of each datagram
--- what a datagram is, why it gave no report or what was measured at it, and whether it says that one began anew
+-- a datagram, what it is, why it gave no report or what was measured at it, and whether it says that one began anew
 pub record Fate : Type 0 where
+  pub datagram : Recorded
   pub kind : Kind
   pub why : Option Why
   pub measured : Option Measured
@@ -228,6 +223,7 @@ master_said w line time (Err refusal) l = false
 -- what comes of a datagram that a port hears in this state, but for what is measured
 abbrev pub fate_in : Watched → Recorded → Listening → Fate
 fate_in w d l = record {
+  datagram = d;
   kind = kind_said d.said;
   why = why_said w d.line d.time d.said l;
   measured = None;
@@ -248,6 +244,7 @@ fates w (row ∷ earlier) = fate_at w earlier row ∷ fates w earlier
 -- what comes of a datagram that isn't heard, since it came too early
 abbrev pub early_fate : Recorded → Fate
 early_fate d = record {
+  datagram = d;
   kind = kind_said d.said;
   why = Some (why_early d.said);
   measured = None;
@@ -278,6 +275,16 @@ abbrev pub capture_fates : Wanted → InterfaceOf → List InterfaceRow → List
 capture_fates w interface rows = option_map_or (λ watched. fates watched (heard_at w rows)) (capture_watched w rows) []
     ++ early_at w (drop (length (heard_at w rows)) (rows_at interface rows))
 
+-- ---- what the numbers are worth
+-- what is noted of it
+abbrev pub noted_of : Fate → Noted
+noted_of fate = record {
+  line = fate.datagram.line;
+  time = fate.datagram.time;
+  refusal = result_err fate.datagram.said;
+  reported = option_map (λ m. record { by = m.by; report = m.report }) fate.measured;
+}
+
 -- ---- how many there are
 -- so many, as far as is counted
 abbrev pub at_most : ℕ → ℕ
@@ -291,40 +298,21 @@ count_at counts kind why = slice_index counts.unreported (place_of kind why)
 abbrev pub is_so : Kind → Why → Fate → Bool
 is_so kind why fate = option_map_or (λ own. place_of fate.kind own == place_of kind why) fate.why false
 
--- how many of these there are of each
+-- how many of these there are of each, and what they are worth
 pub record IsCounts (all : List Fate) (counts : Counts) : Type 0 where
   pub reports : counts.reports ≡ at_most (count_by (λ fate. is_some fate.measured) all)
   pub slave_anew : counts.slave_anew ≡ at_most (count_by (λ fate. fate.slave_anew) all)
   pub master_anew : counts.master_anew ≡ at_most (count_by (λ fate. fate.master_anew) all)
   pub unreported : (kind : Kind) (why : Why) → count_at counts kind why ≡ at_most (count_by (is_so kind why) all)
   pub places : length counts.unreported ≡ 140
+  pub quality : IsQuality (map noted_of all) counts.quality
 
 -- counts are there, and are these
 abbrev pub AreCounted : List Fate → Option Counts → Type 0
 AreCounted all None = ⊥
 AreCounted all (Some counts) = IsCounts all counts
 
--- where these octets are a whole recording of lines, this is counted of them
-abbrev pub CountsLines : Form → Wanted → List ℕ → Option Counts → Type 0
-CountsLines form w octets counts =
-    (read : lines.Recording) × (text : List ℕ) × TakesLines lines.measure_rules 1 (lines_of octets) (lines.begun form w) read text
-    × AreCounted (fates_in w read.rows) counts
-
 -- what is counted of a capture, at the interface that is measured, once that is known
 abbrev pub AreCaptured : Wanted → (measured : Option InterfaceOf) → List InterfaceRow → Option Counts → Type 0
 AreCaptured w None rows counts = counts ≡ None
 AreCaptured w (Some interface) rows counts = AreCounted (capture_fates w interface rows) counts
-
--- and where these octets are a whole capture
-abbrev pub CountsPackets : Form → Wanted → List ℕ → Option Counts → Type 0
-CountsPackets form w octets counts =
-    (parts : List Part) × (read : captures.Capture) × (text : List ℕ)
-    × packets.HasTaken captures.capture_rules (captures.capture_begun form w) octets parts [] read text
-    × AreCaptured w (chosen w read.rows) read.rows counts
-
--- what is counted of an input that was measured to its end
-abbrev pub CountsInput : Form → Wanted → List ℕ → Outcome → Option Counts → Type 0
-CountsInput form w octets (Lines (Ok count)) counts = CountsLines form w octets counts
-CountsInput form w octets (Lines (Err stop)) counts = ⊤
-CountsInput form w octets (Capture (Ok count)) counts = CountsPackets form w octets counts
-CountsInput form w octets (Capture (Err stop)) counts = ⊤

@@ -7,5 +7,5 @@ pub mod Measuring
 pub mod Recordings
 pub mod Capturing
 pub mod Outcomes
-pub mod Ended
+pub mod Stages
 pub mod Counting

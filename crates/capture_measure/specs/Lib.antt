@@ -11,4 +11,6 @@ pub mod AsLines
 pub mod Input
 pub mod Summary
 pub mod Counts
+pub mod Told
+pub mod Once
 pub mod Inner

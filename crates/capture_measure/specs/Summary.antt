@@ -1,18 +1,10 @@
--- What is told at the end of whom an input is of, and which of its lines or packets told that. Lists of datagrams have the newest
--- in front.
-use Rattle.std.specs.Prelude.{◌≡◌, ℕ, ⊤, Bool, List, [], Option, Some, None, option_map, option_and_then, Ok, Err}
+-- Whom an input is of, and which of its lines or packets told that. Lists of datagrams have the newest in front.
+use Rattle.std.specs.Prelude.{ℕ, Bool, List, Option, Some, None, option_map, option_and_then}
 use Rattle.std.specs.Option.{option_or}
 use Rattle.event_codec.specs.declared.message.Body.{Body}
 use Rattle.event_codec.specs.declared.port.PortIdentity.{PortIdentity}
-use Rattle.text_lines.specs.Lines.{lines_of}
-use Rattle.text_lines.specs.Task.{TakesLines}
-use Rattle.capture_file.specs.Parts.{Part}
-use Rattle.capture_file.specs.Task as packets
 use Rattle.capture_model.specs.Recorded.{Recorded}
 use Rattle.capture_model.specs.Told.{is_sync}
-use Rattle.capture_measure.specs.declared.input.Outcome.{Outcome}
-use Rattle.capture_measure.specs.declared.input.Outcome.TheVariants.{Lines, Capture}
-use Rattle.capture_measure.specs.declared.measuring.Form.{Form}
 use Rattle.capture_measure.specs.declared.watch.Known.{Known}
 use Rattle.capture_measure.specs.declared.watch.Wanted.{Wanted}
 use Rattle.capture_measure.specs.declared.watch.Whom.{Whom}
@@ -20,8 +12,6 @@ use Rattle.capture_measure.specs.Watch.{is_request, first_told, source_told, dom
 use Rattle.capture_measure.specs.Row.{datagrams}
 use Rattle.capture_measure.specs.Interfaces.{InterfaceRow, rows_at}
 use Rattle.capture_measure.specs.Chosen.{chosen}
-use Rattle.capture_measure.specs.Measure as lines
-use Rattle.capture_measure.specs.Capture as captures
 
 -- what a line told, if it did
 abbrev pub known_at : {T : Type 0} → (line : ℕ) → Option T → Option (Known T)
@@ -56,23 +46,3 @@ whom_in w ds = record {
 -- the same of a capture, at the interface that is measured
 abbrev pub capture_whom : Wanted → List InterfaceRow → Option Whom
 capture_whom w rows = option_map (λ interface. whom_in w (datagrams (rows_at interface rows))) (chosen w rows)
-
--- where these octets are a whole recording of lines, this is told of whom it is of
-abbrev pub TellsOfLines : Form → Wanted → List ℕ → Option Whom → Type 0
-TellsOfLines form w octets whom =
-    (read : lines.Recording) × (text : List ℕ) × TakesLines lines.measure_rules 1 (lines_of octets) (lines.begun form w) read text
-    × (whom ≡ Some (whom_in w (datagrams read.rows)))
-
--- and where they are a whole capture
-abbrev pub TellsOfCapture : Form → Wanted → List ℕ → Option Whom → Type 0
-TellsOfCapture form w octets whom =
-    (parts : List Part) × (read : captures.Capture) × (text : List ℕ)
-    × packets.HasTaken captures.capture_rules (captures.capture_begun form w) octets parts [] read text
-    × (whom ≡ capture_whom w read.rows)
-
--- what is told of whom an input is of that was measured to its end
-abbrev pub TellsWhom : Form → Wanted → List ℕ → Outcome → Option Whom → Type 0
-TellsWhom form w octets (Lines (Ok count)) whom = TellsOfLines form w octets whom
-TellsWhom form w octets (Lines (Err stop)) whom = ⊤
-TellsWhom form w octets (Capture (Ok count)) whom = TellsOfCapture form w octets whom
-TellsWhom form w octets (Capture (Err stop)) whom = ⊤

@@ -1,24 +1,24 @@
 //! An input that is measured: a recording of lines, or a capture.
 
-ghost use Rattle.std.specs.Prelude.{◌≡◌, ◌≢◌, ◌≤◌, ◌<◌, ◌++◌, length, Err, IsTrue, IsFalse};
+ghost use Rattle.std.specs.Prelude.{◌≡◌, ◌≢◌, ◌≤◌, ◌<◌, ◌++◌, length, option_map, Err, IsTrue, IsFalse};
 ghost use Rattle.std.specs.List.{All};
 ghost use Rattle.std.specs.Option.{ForSome};
 ghost use Rattle.text_lines.specs.Counted.{device_of};
 ghost use Rattle.text_lines.specs.Lines.{line_limit, lfs_in};
-ghost use Rattle.capture_measure.specs.Measure.{Recording};
-ghost use Rattle.capture_measure.specs.Capture.{Capture};
+ghost use Rattle.capture_file.specs.Packet.{interface_of};
+ghost use Rattle.capture_measure.specs.Measure.{Recording, begun};
+ghost use Rattle.capture_measure.specs.Capture.{Capture, capture_begun};
 ghost use Rattle.capture_measure.specs.Input.{MeasuresInput, OutcomeFailed};
-ghost use Rattle.capture_measure.specs.Summary.{TellsWhom};
-ghost use Rattle.capture_measure.specs.Counts.{CountsInput};
+ghost use Rattle.capture_measure.specs.Told.{told_whom, told_counts, told_interface, IsLinesSummary, IsCaptureSummary, TellsInput};
 ghost use Rattle.capture_measure.specs.Inner.Capturing.{IsCapturing};
 ghost use Rattle.capture_measure.specs.Inner.Measuring.{IsMeasuring};
-ghost use Rattle.capture_measure.specs.Inner.Outcomes.{LinesAnswer, PacketsAnswer, LinesTell, LinesCount, PacketsTell, PacketsCount};
+ghost use Rattle.capture_measure.specs.Inner.Outcomes.{LinesAnswer, PacketsAnswer, LinesTell, PacketsTell};
 
 use crate::measuring::{Form, Measuring, write_head};
 use crate::packets::CaptureMeasuring;
 use crate::tally::Counts;
 use crate::watch::{Wanted, Whom};
-use capture_file::{Beginning, CaptureStop, answer_packets_behind};
+use capture_file::{Beginning, CaptureStop, Interface, answer_packets_behind};
 use std::alloc::Global;
 use std::io::{Read, Write};
 use text_lines::{Cause, Counted, LineFault, ReadingFault, Stopped, answer_lines_behind};
@@ -35,10 +35,8 @@ pub enum Outcome {
 /// What is told of an input beside its reports.
 #[derive(Drop)]
 pub struct Summary {
-    /// Whom the lines are of, as far as that is known; of a capture, whom the packets are of that are measured, once that is known.
-    pub whom: Option<Whom>,
-    /// What was counted of the lines; of a capture, of the packets that are measured, once it is known which these are.
-    pub counts: Option<Counts>,
+    whom: Option<Whom>,
+    counts: Option<Counts>,
     of: Measured,
 }
 
@@ -50,6 +48,31 @@ enum Measured {
 }
 
 impl Summary {
+    /// Whom the lines are of, as far as that is known; of a capture, whom the packets are of that are measured, once it is known
+    /// which these are.
+    pub fn whom(&self) -> Option<Whom>
+        ensures { result ≡ told_whom self.now }
+    {
+        self.whom
+    }
+
+    /// What was counted of the lines; of a capture, of the packets that are measured, once it is known which these are.
+    pub fn counts(&self) -> Option<Counts>
+        ensures { result ≡ told_counts self.now }
+    {
+        self.counts
+    }
+
+    /// The interface of a capture that is measured, once that is known.
+    pub fn interface(&self) -> Option<Interface<'_>>
+        ensures { option_map interface_of result ≡ told_interface self.now }
+    {
+        match &self.of {
+            Measured::Lines(_) => None,
+            Measured::Capture(capture) => capture.interface(),
+        }
+    }
+
     /// Tells it, in lines. What can't be written is lost.
     pub fn tell<E: Write>(&self, errors: &mut E) {
         match &self.of {
@@ -74,10 +97,8 @@ pub fn measure<R: Read, W: Write>(
 ) -> (Outcome, Summary)
     ensures measured { MeasuresInput form wanted.now R.remaining W.contents result.0
         input.old input.new output.old output.new }
-    ensures whom { ForSome (R.remaining (device_of input.old)) (λ octets.
-        TellsWhom form wanted.now octets result.0 result.1.whom) }
-    ensures counts { ForSome (R.remaining (device_of input.old)) (λ octets.
-        CountsInput form wanted.now octets result.0 result.1.counts) }
+    ensures summary { ForSome (R.remaining (device_of input.old)) (λ octets.
+        TellsInput form wanted.now octets result.0 result.1) }
     ensures failures { OutcomeFailed result.0 input.old input.new output.old output.new }
 {
     let lines = Measuring::new(alloc, wanted, form);
@@ -108,15 +129,35 @@ fn has_lf(octets: &[u8]) -> bool
 
 /// What came of lines where one stops them early.
 fn stopped(lines: Measuring, line: u64, what: Cause<LineFault>) -> (Outcome, Summary)
-    ensures { result.0 ≡ Outcome.Lines (Err (record { line = line; what = what })) }
+    ensures outcome { result.0 ≡ Outcome.Lines (Err (record { line = line; what = what })) }
+    ensures summary { (r : Recording) → IsMeasuring lines r → IsLinesSummary r.wanted result.1 r.rows }
+{
+    of_lines(Err(Stopped { line, what }), lines)
+}
+
+/// What came of lines, and what is told of them.
+fn of_lines(answer: Result<u64, Stopped<Cause<LineFault>>>, lines: Measuring) -> (Outcome, Summary)
+    ensures outcome { result.0 ≡ Outcome.Lines answer }
+    ensures summary { (r : Recording) → IsMeasuring lines r → IsLinesSummary r.wanted result.1 r.rows }
 {
     let whom = Some(lines.whom());
     let counts = Some(lines.counts());
     let of = Measured::Lines(lines);
-    (
-        Outcome::Lines(Err(Stopped { line, what })),
-        Summary { whom, counts, of },
-    )
+    (Outcome::Lines(answer), Summary { whom, counts, of })
+}
+
+/// What came of a capture, and what is told of it.
+fn of_capture(
+    answer: Result<u64, CaptureStop<LineFault>>,
+    capture: CaptureMeasuring,
+) -> (Outcome, Summary)
+    ensures outcome { result.0 ≡ Outcome.Capture answer }
+    ensures summary { (c : Capture) → IsCapturing capture c → IsCaptureSummary c.wanted result.1 c.rows }
+{
+    let whom = capture.whom();
+    let counts = capture.counts();
+    let of = Measured::Capture(capture);
+    (Outcome::Capture(answer), Summary { whom, counts, of })
 }
 
 /// Measures lines, of which these octets were read.
@@ -132,29 +173,12 @@ fn measure_lines<R: Read, W: Write>(
     ensures answered { (r : Recording) → IsMeasuring lines r → ForSome (R.remaining (device_of input.old)) (λ octets.
         LinesAnswer r (start.now ++ octets) (R.remaining (device_of input.new))
         (W.contents (device_of output.old)) (W.contents (device_of output.new)) result.0) }
-    ensures whom { (r : Recording) → IsMeasuring lines r → ForSome (R.remaining (device_of input.old)) (λ octets.
-        LinesTell r (start.now ++ octets) result.0 result.1.whom) }
-    ensures counts { (r : Recording) → IsMeasuring lines r → ForSome (R.remaining (device_of input.old)) (λ octets.
-        LinesCount r (start.now ++ octets) result.0 result.1.counts) }
+    ensures summary { (form : Form) (w : Wanted) → IsMeasuring lines (begun form w)
+        → ForSome (R.remaining (device_of input.old)) (λ octets. LinesTell form w (start.now ++ octets) result.0 result.1) }
     ensures failures { OutcomeFailed result.0 input.old input.new output.old output.new }
 {
-    match answer_lines_behind(start, &mut lines, input, output) {
-        Ok(ended) => {
-            let whom = Some(ended.whom);
-            let counts = Some(ended.counts);
-            let of = Measured::Lines(lines);
-            (
-                Outcome::Lines(Ok(ended.lines)),
-                Summary { whom, counts, of },
-            )
-        }
-        Err(stop) => {
-            let whom = Some(lines.whom());
-            let counts = Some(lines.counts());
-            let of = Measured::Lines(lines);
-            (Outcome::Lines(Err(stop)), Summary { whom, counts, of })
-        }
-    }
+    let answer = answer_lines_behind(start, &mut lines, input, output);
+    of_lines(answer, lines)
 }
 
 /// Measures a capture, of which these octets were read.
@@ -170,27 +194,10 @@ fn measure_packets<R: Read, W: Write>(
     ensures answered { (c : Capture) → IsCapturing capture c → ForSome (R.remaining (device_of input.old)) (λ octets.
         PacketsAnswer c (start.now ++ octets) (R.remaining (device_of input.new))
         (W.contents (device_of output.old)) (W.contents (device_of output.new)) result.0) }
-    ensures whom { (c : Capture) → IsCapturing capture c → ForSome (R.remaining (device_of input.old)) (λ octets.
-        PacketsTell c (start.now ++ octets) result.0 result.1.whom) }
-    ensures counts { (c : Capture) → IsCapturing capture c → ForSome (R.remaining (device_of input.old)) (λ octets.
-        PacketsCount c (start.now ++ octets) result.0 result.1.counts) }
+    ensures summary { (form : Form) (w : Wanted) → IsCapturing capture (capture_begun form w)
+        → ForSome (R.remaining (device_of input.old)) (λ octets. PacketsTell form w (start.now ++ octets) result.0 result.1) }
     ensures failures { OutcomeFailed result.0 input.old input.new output.old output.new }
 {
-    match answer_packets_behind(alloc, start, &mut capture, input, output) {
-        Ok(ended) => {
-            let whom = ended.whom;
-            let counts = ended.counts;
-            let of = Measured::Capture(capture);
-            (
-                Outcome::Capture(Ok(ended.packets)),
-                Summary { whom, counts, of },
-            )
-        }
-        Err(stop) => {
-            let whom = capture.whom();
-            let counts = capture.counts();
-            let of = Measured::Capture(capture);
-            (Outcome::Capture(Err(stop)), Summary { whom, counts, of })
-        }
-    }
+    let answer = answer_packets_behind(alloc, start, &mut capture, input, output);
+    of_capture(answer, capture)
 }

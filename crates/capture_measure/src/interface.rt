@@ -3,7 +3,8 @@
 ghost use Rattle.std.specs.Prelude.{◌≡◌, IfOk};
 ghost use Rattle.capture_file.specs.Packet.{interface_of};
 ghost use Rattle.capture_measure.specs.Interfaces.{is_same_interface, is_same_name};
-ghost use Rattle.capture_measure.specs.Inner.Recordings.{place_of, name_in};
+ghost use Rattle.capture_measure.specs.Inner.Recordings.{name_in};
+ghost use Rattle.capture_measure.specs.Told.{place_of};
 
 use capture_file::Interface;
 use std::alloc::{AllocError, Global};
@@ -41,6 +42,16 @@ impl Place {
             number: interface.place,
             name,
         })
+    }
+
+    /// The interface.
+    pub(crate) fn interface(&self) -> Interface<'_>
+        ensures { interface_of result ≡ place_of self.now }
+    {
+        Interface {
+            place: self.number,
+            name: self.name.as_deref(),
+        }
     }
 
     /// Whether it is that of an interface.

@@ -3,6 +3,7 @@
 ghost use Rattle.capture_measure.specs.AsLines.{OneInterfaceIsMeasuredAsLines};
 ghost use Rattle.capture_measure.specs.Exact.{EachMeasurementIsExact};
 ghost use Rattle.capture_measure.specs.ExactCapture.{EachMeasurementOfACaptureIsExact};
+ghost use Rattle.capture_measure.specs.Once.{EachDatagramIsCountedOnce};
 
 use capture_model::laws::each_report_is_exact;
 
@@ -30,4 +31,11 @@ pub fn each_measurement_of_a_capture_is_exact()
 /// the times and datagrams of its packets, numbered as these are.
 pub fn one_interface_is_measured_as_lines()
     ensures { OneInterfaceIsMeasuredAsLines }
+{}
+
+/// Each datagram is counted once, whatever is recorded: one that is heard, of lines or of a capture, has a reason why it gave no
+/// report exactly where it gave none, and of lines, where these are fewer than 2^64, the number of reports and all counts of
+/// [`Counts`](crate::Counts) are together the number of lines.
+pub fn each_datagram_is_counted_once()
+    ensures { EachDatagramIsCountedOnce }
 {}

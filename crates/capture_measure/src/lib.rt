@@ -1,6 +1,7 @@
 //! Offsets and delays from a recording at a slave: a slave port hears the datagrams of each line.
 #![tactic(auto)]
 
+mod beware;
 mod input;
 mod interface;
 mod interface_counts;
@@ -10,6 +11,7 @@ mod measuring;
 mod packets;
 mod recording;
 mod reports;
+mod rounded;
 mod tally;
 mod watch;
 

@@ -1,7 +1,7 @@
 //! A recording that is measured line by line.
 
 ghost use Rattle.std.specs.Prelude.{◌≡◌, ◌≤◌, ◌+◌, List, [], ◌∷◌, ◌++◌, length, map, MatchResult, MatchOption, OnOk};
-ghost use Rattle.std.specs.Prelude.{Some, None, ⊤, option_to_list};
+ghost use Rattle.std.specs.Prelude.{Some, None, Err, ⊤, option_to_list};
 ghost use Rattle.std.specs.List.{All};
 ghost use Rattle.text_lines.specs.Counted.{device_of, HasFailed, HasNotFailed, HasFailedIf};
 ghost use Rattle.std.specs.Io.KnownBytes.{Appends};
@@ -12,15 +12,14 @@ ghost use Rattle.capture_lines.specs.Measurement.{measured_of};
 ghost use Rattle.capture_measure.specs.Watch.{watched_in};
 ghost use Rattle.capture_measure.specs.Row.{Row, datagrams, IsRow};
 ghost use Rattle.capture_measure.specs.Measured.{measured_at, measurements};
-ghost use Rattle.capture_measure.specs.Measure.{Recording, begun, head_text};
+ghost use Rattle.capture_measure.specs.Measure.{Recording, begun, head_text, measure_rules};
 ghost use Rattle.capture_measure.specs.Inner.Listener.{IsListener};
 ghost use Rattle.capture_measure.specs.Inner.Watching.{IsWatch};
 ghost use Rattle.capture_measure.specs.Inner.Hearing.{recorded_of, measured_by, IsOfOutput, Goes};
 ghost use Rattle.capture_measure.specs.Inner.Measuring.{IsLine, NoRow, HasRow, IsUnread, IsRead, IsRowOf};
 ghost use Rattle.capture_measure.specs.Inner.Measuring.{StopsAt, AreRows, AreWithin, AreKept};
-ghost use Rattle.capture_measure.specs.Inner.Measuring.{IsHearing, IsStage, IsMeasuring};
+ghost use Rattle.capture_measure.specs.Inner.Measuring.{IsHearing, IsStage, IsMeasuring, IsLeft};
 ghost use Rattle.capture_measure.specs.Inner.Watching.{whom_of};
-ghost use Rattle.capture_measure.specs.Inner.Ended.{ended_rules};
 ghost use Rattle.capture_measure.specs.Counts.{Fate, fate_at, fates, early_fate, IsCounts};
 ghost use Rattle.capture_measure.specs.Inner.Counting.{stays};
 
@@ -80,17 +79,6 @@ pub(crate) struct Measuring {
     stage: Stage,
     reports: Reports,
     lines: u64,
-}
-
-/// What the end of a recording answers.
-#[derive(Clone, Copy)]
-pub(crate) struct Ended {
-    /// How many lines there were.
-    pub(crate) lines: u64,
-    /// Whom they are of.
-    pub(crate) whom: Whom,
-    /// What was counted of them.
-    pub(crate) counts: Counts,
 }
 
 /// A line that was read.
@@ -189,7 +177,7 @@ impl Reports {
             (λ fault. HasFailedIf (is_write fault) output.old output.new) }
     {
         match self.listen(listener, &read.datagram) {
-            Some(completed) => self.write(&read.measured(completed), output),
+            Some(completed) => self.write(read.datagram.time, &read.measured(completed), output),
             None => Ok(()),
         }
     }
@@ -215,6 +203,7 @@ impl Reports {
             (λ number. (number ≡ earlier + 1) × HasRow (earlier + 1) line.now)
             (λ fault. StopsAt fault (earlier + 1) line.now
             (W.contents (device_of output.old)) (W.contents (device_of output.new))) }
+        ensures unread { result ≡ Err LineFault.Field → (self.new ≡ self.old) × (listener.new ≡ listener.old) }
         ensures form { self.new.form ≡ self.old.form }
         ensures failures { MatchResult result
             (λ _. HasNotFailed output.old output.new)
@@ -292,15 +281,19 @@ impl Reports {
 }
 
 impl LineTask for Measuring {
-    type Answer = Ended;
+    type Answer = u64;
 
     type Fault = LineFault;
 
     ghost State = { Recording };
 
-    ghost rules = { ended_rules };
+    ghost rules = { measure_rules };
 
     ghost is_at = { IsMeasuring };
+
+    ghost is_left = { IsLeft };
+
+    ghost is_ended = { λ old new. new ≡ old };
 
     fn lines_limit() -> u64 {
         u64::MAX - 1
@@ -324,19 +317,9 @@ impl LineTask for Measuring {
         }
     }
 
-    /// How many lines there were, whom they are of, and what was counted of them.
-    fn finish<W: Write>(
-        &mut self,
-        lines: u64,
-        _output: &mut Counted<W>,
-    ) -> Result<Ended, LineFault> {
-        let whom = self.whom();
-        let counts = self.counts();
-        Ok(Ended {
-            lines,
-            whom,
-            counts,
-        })
+    /// How many lines there were.
+    fn finish<W: Write>(&mut self, lines: u64, _output: &mut Counted<W>) -> Result<u64, LineFault> {
+        Ok(lines)
     }
 }
 
@@ -366,9 +349,8 @@ impl Measuring {
             whom.tell("line", errors);
         }
         if let Some(counts) = counts {
-            counts.tell(errors);
+            counts.tell("line", errors);
         }
-        self.reports.tally.tell_times(errors);
     }
 
     /// No line came yet.

@@ -1,23 +1,24 @@
 //! A capture that is measured packet by packet.
 
-ghost use Rattle.std.specs.Prelude.{◌≡◌, ◌∷◌, ◌++◌, ◌<◌, ℕ, List, [], length, get_or, MatchResult, OnOk, ⊤, option_to_list, if◌then◌else◌};
+ghost use Rattle.std.specs.Prelude.{◌≡◌, ◌∷◌, ◌++◌, ◌<◌, ℕ, List, [], length, get_or, MatchResult, OnOk, ⊤, option_map, option_to_list, if◌then◌else◌};
 ghost use Rattle.std.specs.String.{string_bytes};
 ghost use Rattle.std.specs.Io.KnownBytes.{Appends};
 ghost use Rattle.datagram_text.specs.Shown.{stamp_text};
 ghost use Rattle.text_lines.specs.Counted.{device_of, HasNotFailed, HasFailedIf};
 ghost use Rattle.text_lines.specs.Fault.{is_write};
 ghost use Rattle.text_lines.specs.Task.{WentOut};
-ghost use Rattle.capture_file.specs.Packet.{packet_of};
+ghost use Rattle.capture_file.specs.Packet.{packet_of, interface_of};
 ghost use Rattle.capture_model.specs.Listening.{after_all};
 ghost use Rattle.capture_measure.specs.Row.{Row, datagrams};
 ghost use Rattle.capture_measure.specs.Measured.{measured_at, measurements};
-ghost use Rattle.capture_measure.specs.Capture.{Capture, capture_begun, IsDatagramRow, TakesPacket, StopsAtPacket};
+ghost use Rattle.capture_measure.specs.Capture.{Capture, capture_begun, capture_rules, IsDatagramRow, TakesPacket, StopsAtPacket};
 ghost use Rattle.capture_measure.specs.Counts.{Fate, fate_at, fates, IsCounts};
 ghost use Rattle.capture_measure.specs.Inner.Counting.{counts_at};
 ghost use Rattle.capture_measure.specs.Inner.Hearing.{IsOfOutput, Goes};
 ghost use Rattle.capture_measure.specs.Inner.Listener.{IsListener};
 ghost use Rattle.capture_measure.specs.Inner.Recordings.{row_at, AreKeptRows, BeginsWith};
-ghost use Rattle.capture_measure.specs.Inner.Ended.{capture_ended_rules, whom_at};
+ghost use Rattle.capture_measure.specs.Inner.Stages.{whom_at};
+ghost use Rattle.capture_measure.specs.Told.{interface_at};
 ghost use Rattle.capture_measure.specs.Inner.Capturing.{IsCapturing, IsLooking, IsHearingAt, AddsRow, row_of_packet};
 
 use crate::interface_counts::InterfaceCounts;
@@ -28,7 +29,7 @@ use crate::reports::{Datagram, Reports};
 use crate::tally::Counts;
 use crate::watch::{Wanted, Whom};
 use capture_extract::Summary as PacketCounts;
-use capture_file::{Captured, Packet, PacketTask, is_asked};
+use capture_file::{Captured, Interface, Packet, PacketTask, is_asked};
 use capture_frame::{Found, find_datagram};
 use capture_model::Watched;
 use ptp_units::Timestamp;
@@ -93,8 +94,11 @@ impl PacketReports {
             return Ok(());
         };
         write_time(&mut self.time, time)?;
-        self.reports
-            .write(&completed.at(datagram.number, self.time.as_str()), output)
+        self.reports.write(
+            datagram.time,
+            &completed.at(datagram.number, self.time.as_str()),
+            output,
+        )
     }
 
     /// A port hears all datagrams that were kept.
@@ -126,17 +130,6 @@ impl PacketReports {
     }
 }
 
-/// What the end of a capture answers.
-#[derive(Clone, Copy)]
-pub(crate) struct CaptureEnded {
-    /// How many packets there were.
-    pub(crate) packets: u64,
-    /// Whom those at the interface that is measured are of; None where that isn't known.
-    pub(crate) whom: Option<Whom>,
-    /// What was counted of them.
-    pub(crate) counts: Option<Counts>,
-}
-
 /// Measures each packet of a capture.
 #[derive(Drop)]
 pub(crate) struct CaptureMeasuring {
@@ -150,15 +143,17 @@ pub(crate) struct CaptureMeasuring {
 }
 
 impl PacketTask for CaptureMeasuring {
-    type Answer = CaptureEnded;
+    type Answer = u64;
 
     type Fault = LineFault;
 
     ghost State = { Capture };
 
-    ghost rules = { capture_ended_rules };
+    ghost rules = { capture_rules };
 
     ghost is_at = { IsCapturing };
+
+    ghost is_ended = { λ old new. new ≡ old };
 
     fn take<W: Write>(
         &mut self,
@@ -179,19 +174,13 @@ impl PacketTask for CaptureMeasuring {
         }
     }
 
-    /// How many packets there were, whom those are of that are measured, and what was counted of these.
+    /// How many packets there were.
     fn finish<W: Write>(
         &mut self,
         packets: u64,
         _output: &mut Counted<W>,
-    ) -> Result<CaptureEnded, LineFault> {
-        let whom = self.whom();
-        let counts = self.counts();
-        Ok(CaptureEnded {
-            packets,
-            whom,
-            counts,
-        })
+    ) -> Result<u64, LineFault> {
+        Ok(packets)
     }
 }
 
@@ -378,6 +367,16 @@ impl CaptureMeasuring {
         }
     }
 
+    /// The interface that is measured, where that is known.
+    pub(crate) fn interface(&self) -> Option<Interface<'_>>
+        ensures { option_map interface_of result ≡ interface_at self.now.stage self.now.recordings.recordings.items }
+    {
+        match &self.stage {
+            Stage::Looking(_) => None,
+            Stage::Hearing(place, _) => self.recordings.interface(*place),
+        }
+    }
+
     /// Tells what is told of a capture beside its reports, in lines. What can't be written is lost.
     pub(crate) fn tell<E: Write>(
         &self,
@@ -411,9 +410,8 @@ impl CaptureMeasuring {
             whom.tell("packet", errors);
         }
         if let Some(counts) = counts {
-            counts.tell(errors);
+            counts.tell("packet", errors);
         }
-        self.reports.reports.tally.tell_times(errors);
         for (place, other) in recordings.iter().enumerate() {
             if place != measured {
                 let count = self.interfaces.at(place);
@@ -435,7 +433,7 @@ impl CaptureMeasuring {
                 let _ = writeln!(errors, "ptpx: at {}:", recording.place);
             }
             recording.watch.whom().tell("packet", errors);
-            recording.early.tell(errors);
+            recording.early.counts.tell("packet", errors);
         }
         self.tell_others(errors);
     }

@@ -11,7 +11,8 @@ ghost use Rattle.capture_measure.specs.Chosen.{watched_at};
 ghost use Rattle.capture_measure.specs.Capture.{IsDatagramRow};
 ghost use Rattle.capture_measure.specs.Counts.{Fate, early_with, IsCounts};
 ghost use Rattle.capture_measure.specs.Inner.Hearing.{recorded_of};
-ghost use Rattle.capture_measure.specs.Inner.Recordings.{interface_in, row_at, IsMet, IsNoticed, IsFresh, AreRecordings};
+ghost use Rattle.capture_measure.specs.Inner.Recordings.{row_at, IsMet, IsNoticed, IsFresh, AreRecordings};
+ghost use Rattle.capture_measure.specs.Told.{interface_in};
 ghost use Rattle.capture_measure.specs.Inner.Recordings.{IsFoundAt, HasAdded, KeepsMore};
 ghost use Rattle.capture_measure.specs.Inner.Watching.{whom_of};
 
@@ -279,6 +280,16 @@ impl Recordings {
     {
         match self.recordings.get(place) {
             Some(recording) => Some(recording.watch.whom()),
+            None => None,
+        }
+    }
+
+    /// The interface of this place, where there is one.
+    pub(crate) fn interface(&self, place: usize) -> Option<Interface<'_>>
+        ensures { option_map interface_of result ≡ option_map interface_in (slice_get self.now.recordings.items place) }
+    {
+        match self.recordings.get(place) {
+            Some(recording) => Some(recording.place.interface()),
             None => None,
         }
     }

@@ -127,7 +127,7 @@ impl Reports {
             → IsCounts (fate_in watched (recorded_of datagram.now) (after_all watched earlier) ∷ all) self.new.tally.counts }
         ensures form { self.new.form ≡ self.old.form }
     {
-        self.tally.count_time(datagram.time);
+        self.tally.note(datagram);
         let message = match &datagram.said {
             Ok(message) => message,
             Err(refusal) => {
@@ -143,15 +143,17 @@ impl Reports {
         })
     }
 
-    /// Writes a report, in one write.
+    /// Writes the report of the last datagram, which is of this time, in one write.
     pub(crate) fn write<W: Write>(
         &mut self,
+        time: ScaledTime,
         measured: &Measurement<'_>,
         output: &mut Counted<W>,
     ) -> Result<(), LineFault>
         ensures written { GoesAtOnce result (text_as self.old.form (measured_of measured.now))
             (W.contents (device_of output.old)) (W.contents (device_of output.new)) }
-        ensures counted { (fate : Fate) (all : List Fate) → fate.measured ≡ None → IsCounts (fate ∷ all) self.old.tally.counts
+        ensures counted { (fate : Fate) (all : List Fate) → fate.measured ≡ None → fate.datagram.line ≡ measured.now.line
+            → fate.datagram.time ≡ time → IsCounts (fate ∷ all) self.old.tally.counts
             → OnOk result (IsCounts (record fate { measured = Some (measured_of measured.now) } ∷ all) self.new.tally.counts) }
         ensures form { self.new.form ≡ self.old.form }
         ensures failures { MatchResult result
@@ -164,7 +166,7 @@ impl Reports {
             Form::Table => push_row(&mut self.text, measured)?,
         }
         write_text::<W, LineFault>(self.text.as_str(), output)?;
-        self.tally.count_report();
+        self.tally.count_report(time, measured);
         Ok(())
     }
 }

@@ -1,15 +1,20 @@
 //! How many datagrams gave no report, by what they are and by why they gave none.
 
-ghost use Rattle.std.specs.Prelude.{◌≡◌, ◌<◌, List, [], ◌∷◌};
+ghost use Rattle.std.specs.Prelude.{◌≡◌, ◌<◌, List, [], ◌∷◌, map, Some, None};
 ghost use Rattle.capture_measure.specs.Counts.{kind_number, why_number, kind_of, kind_of_refused, why_answered, why_refused, place_of};
-ghost use Rattle.capture_measure.specs.Counts.{count_at, Fate, early_fate, IsCounts};
+ghost use Rattle.capture_lines.specs.Measurement.{measured_of};
+ghost use Rattle.std.specs.Result.{result_err};
+ghost use Rattle.recording_quality.specs.Quality.{IsQuality};
+ghost use Rattle.capture_measure.specs.Counts.{count_at, Fate, early_fate, noted_of, IsCounts};
 ghost use Rattle.capture_measure.specs.Inner.Counting.{why_by, with_one, with_unreported, with_why, with_anew};
-ghost use Rattle.capture_measure.specs.Inner.Hearing.{recorded_of};
+ghost use Rattle.capture_measure.specs.Inner.Hearing.{reading_of, recorded_of};
 
 use crate::listener::Became;
 use crate::reports::Datagram;
+use capture_lines::Measurement;
 use event_codec::{Body, DecodeRefusal, Header, Message};
 use ptp_units::ScaledTime;
+use recording_quality::Quality;
 use slave_port::{Heard, Reason};
 use std::fmt;
 use std::fmt::{Display, Formatter};
@@ -20,9 +25,6 @@ const KINDS: usize = 10;
 
 /// How many kinds and reasons there are together.
 const PLACES: usize = KINDS * REASONS;
-
-/// A microsecond, in units of 2^-16 ns.
-const MICROSECOND: u128 = 65_536_000;
 
 /// How many reasons there are.
 const REASONS: usize = 14;
@@ -235,11 +237,12 @@ impl Why {
         }
     }
 
-    /// What the summary says after the name of one or of several datagrams.
-    fn words(self) -> &'static str {
+    /// What the summary says after the name of one or of several datagrams of this kind.
+    fn words(self, kind: Kind) -> &'static str {
         match self {
             Why::Held => " that waited for the other half of the Sync",
-            Why::Alone => " that completed while the other half of a report wasn't there",
+            Why::Alone if kind == Kind::DelayResp => " that came while no Sync was complete",
+            Why::Alone => " that came while no path delay was known",
             Why::OfSlave => " of the slave",
             Why::Again => " of the slave, with the number of the last one",
             Why::Before => " with a number that came before",
@@ -271,7 +274,7 @@ impl Display for Counted {
         } else {
             self.kind.names()
         };
-        write!(f, "{} {name}{}", self.count, self.why.words())
+        write!(f, "{} {name}{}", self.count, self.why.words(self.kind))
     }
 }
 
@@ -287,6 +290,8 @@ pub struct Counts {
     /// How many datagrams of each kind gave no report, for each reason: for a kind those of all reasons in order, and so kind by
     /// kind.
     pub unreported: [u64; PLACES],
+    /// What the numbers of the reports are worth.
+    pub quality: Quality,
 }
 
 /// Where the count of a kind and a reason stands.
@@ -314,6 +319,7 @@ impl Counts {
             slave_anew: 0,
             master_anew: 0,
             unreported: [0; PLACES],
+            quality: Quality::new(),
         }
     }
 
@@ -343,8 +349,9 @@ impl Counts {
         }
     }
 
-    /// Tells them, in lines. What can't be written is lost.
-    pub(crate) fn tell<E: Write>(&self, errors: &mut E) {
+    /// Tells them, in lines, behind what speaks against the numbers. What can't be written is lost.
+    pub(crate) fn tell<E: Write>(&self, unit: &'static str, errors: &mut E) {
+        self.tell_doubts(unit, errors);
         let _ = match self.reports {
             0 => writeln!(errors, "ptpx: no report"),
             1 => writeln!(errors, "ptpx: 1 report"),
@@ -368,6 +375,7 @@ impl Counts {
                 "ptpx: the master began its numbers anew {count} times"
             ),
         };
+        self.tell_statistics(unit, errors);
     }
 
     /// Tells how many of this kind gave no report for this reason, if any.
@@ -379,12 +387,20 @@ impl Counts {
     }
 }
 
-/// What is counted of datagrams, and of their times.
+/// What is counted of datagrams.
 #[derive(Clone, Copy, Debug)]
 pub(crate) struct Tally {
     pub(crate) counts: Counts,
-    /// Whether all times are of whole microseconds; None where none came.
-    whole: Option<bool>,
+}
+
+/// Why a datagram is none of the four messages, if it isn't.
+fn refusal_in(datagram: &Datagram<'_>) -> Option<DecodeRefusal>
+    ensures { result ≡ result_err (reading_of datagram.now.said) }
+{
+    match &datagram.said {
+        Ok(_) => None,
+        Err(refusal) => Some(*refusal),
+    }
 }
 
 impl Tally {
@@ -394,22 +410,30 @@ impl Tally {
     {
         Tally {
             counts: Counts::new(),
-            whole: None,
         }
     }
 
-    /// Takes the time of a line.
-    pub(crate) fn count_time(&mut self, time: ScaledTime)
-        ensures { self.new.counts ≡ self.old.counts }
+    /// Notes the time of a datagram, and what it is.
+    pub(crate) fn note(&mut self, datagram: &Datagram<'_>)
+        ensures quality { (fate : Fate) (all : List Fate) → fate.datagram ≡ recorded_of datagram.now → fate.measured ≡ None
+            → IsQuality (map noted_of all) self.old.counts.quality → IsQuality (map noted_of (fate ∷ all)) self.new.counts.quality }
+        ensures others { self.new.counts ≡ record self.old.counts { quality = self.new.counts.quality } }
     {
-        self.whole = Some(self.whole.unwrap_or(true) && time.value() % MICROSECOND == 0);
+        self.counts
+            .quality
+            .note(datagram.time, refusal_in(datagram));
     }
 
-    /// Counts a report that was written.
-    pub(crate) fn count_report(&mut self)
-        ensures { self.new.counts ≡ record self.old.counts { reports = with_one self.old.counts.reports } }
+    /// Counts a report that was written, of the last datagram, which is of this time.
+    pub(crate) fn count_report(&mut self, time: ScaledTime, measured: &Measurement<'_>)
+        ensures { (fate : Fate) (all : List Fate) → fate.measured ≡ None → fate.datagram.line ≡ measured.now.line
+            → fate.datagram.time ≡ time → IsCounts (fate ∷ all) self.old.counts
+            → IsCounts (record fate { measured = Some (measured_of measured.now) } ∷ all) self.new.counts }
     {
         count_one(&mut self.counts.reports);
+        self.counts
+            .quality
+            .report(measured.line, time, measured.by, &measured.report);
     }
 
     /// Counts a message that is heard by a port of this domain.
@@ -428,7 +452,7 @@ impl Tally {
         ensures { (fates : List Fate) → IsCounts fates self.old.counts
             → IsCounts (early_fate (recorded_of datagram.now) ∷ fates) self.new.counts }
     {
-        self.count_time(datagram.time);
+        self.note(datagram);
         match &datagram.said {
             Ok(message) => self.counts.count(Kind::of(&message.body), Why::TooEarly),
             Err(refusal) => self.count_refused(*refusal),
@@ -442,18 +466,5 @@ impl Tally {
     {
         let kind = Kind::of_refused(refusal);
         self.counts.count(kind, Why::of_refused(kind));
-    }
-
-    /// Tells it, in lines. What can't be written is lost.
-    pub(crate) fn tell<E: Write>(&self, errors: &mut E) {
-        self.counts.tell(errors);
-        self.tell_times(errors);
-    }
-
-    /// Tells what all times are, where that is worth telling. What can't be written is lost.
-    pub(crate) fn tell_times<E: Write>(&self, errors: &mut E) {
-        if self.whole == Some(true) {
-            let _ = writeln!(errors, "ptpx: all times are of whole microseconds");
-        }
     }
 }

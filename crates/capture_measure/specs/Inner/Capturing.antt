@@ -18,11 +18,12 @@ use Rattle.capture_measure.specs.Chosen.{chosen, heard_at, capture_watched}
 use Rattle.capture_measure.specs.Capture.{Capture, measured_so_far, with_packet}
 use Rattle.capture_measure.specs.Summary.{capture_whom}
 use Rattle.capture_measure.specs.Counts.{IsCounts}
+use Rattle.capture_measure.specs.Told.{interface_in}
 use Rattle.capture_measure.specs.Inner.Counting.{CountsSoFar}
-use Rattle.capture_measure.specs.Inner.Ended.{whom_at}
+use Rattle.capture_measure.specs.Inner.Stages.{whom_at}
 use Rattle.capture_measure.specs.Inner.Hearing.{Goes}
 use Rattle.capture_measure.specs.Inner.Listener.{IsListener}
-use Rattle.capture_measure.specs.Inner.Recordings.{interface_in, row_at, AreRecordings}
+use Rattle.capture_measure.specs.Inner.Recordings.{row_at, AreRecordings}
 
 -- a port heard these rows of an interface
 abbrev pub IsHearingAt : Watched → (place : ℕ) → List Row → Stage → Type 0

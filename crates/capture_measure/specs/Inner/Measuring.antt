@@ -112,3 +112,9 @@ pub record IsMeasuring (task : Measuring) (r : Recording) : Type 0 where
   pub whom : whom_of task.watch ≡ whom_in r.wanted (datagrams r.rows)
   pub stage : IsStage r.wanted r.rows task.stage
   pub counts : IsCounts (fates_in r.wanted r.rows) task.reports.tally.counts
+
+-- what is left of it at a fault of a line: what it was, at one that is none of a recording
+abbrev pub IsLeft : Measuring → Measuring → LineFault → Type 0
+IsLeft old new Field = new ≡ old
+IsLeft old new Write = ⊤
+IsLeft old new Memory = ⊤

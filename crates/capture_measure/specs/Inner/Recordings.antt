@@ -8,7 +8,6 @@ use Rattle.ptp_units.specs.Moment.{Stamp}
 use Rattle.datagram_text.specs.Shown.{stamp_text}
 use Rattle.capture_file.specs.Packet.{InterfaceOf}
 use Rattle.capture_model.specs.Recorded.{Recorded}
-use Rattle.capture_measure.specs.declared.interface.Place.{Place}
 use Rattle.capture_measure.specs.declared.recording.Kept.{Kept}
 use Rattle.capture_measure.specs.declared.recording.Met.{Met}
 use Rattle.capture_measure.specs.declared.recording.Recording.{Recording}
@@ -19,16 +18,13 @@ use Rattle.capture_measure.specs.Interfaces.{InterfaceRow, rows_at, is_among, wi
 use Rattle.capture_measure.specs.Chosen.{is_domain_met, is_port_met}
 use Rattle.capture_measure.specs.Capture.{IsDatagramRow}
 use Rattle.capture_measure.specs.Counts.{early_at, IsCounts}
+use Rattle.capture_measure.specs.Told.{interface_in}
 use Rattle.capture_measure.specs.Inner.Hearing.{recorded_of}
 use Rattle.capture_measure.specs.Inner.Watching.{IsWatch}
 
 -- a name without where it lies in memory
 abbrev pub name_in : Option (Bor (List ℕ)) → Option (List ℕ)
 name_in name = option_map (λ n. n.now) name
-
--- the interface of a place
-abbrev pub place_of : Place → InterfaceOf
-place_of place = record { place = place.number; name = option_map (λ name. name.items) place.name }
 
 -- the row of a datagram whose packet has this time
 abbrev pub row_at : Stamp → Datagram → Row
@@ -44,10 +40,6 @@ pub record IsMet (w : Wanted) (ds : List Recorded) (met : Met) : Type 0 where
 pub record IsNoticed (w : Wanted) (ds : List Recorded) (recording : Recording) : Type 0 where
   pub watch : IsWatch w ds recording.watch
   pub met : IsMet w ds recording.met
-
--- the interface of a recording
-abbrev pub interface_in : Recording → InterfaceOf
-interface_in recording = place_of recording.place
 
 -- before the first datagram of an interface
 pub record IsFresh (w : Wanted) (interface : InterfaceOf) (recording : Recording) : Type 0 where

@@ -1,14 +1,17 @@
 use Rattle.std.proofs.Common.{inr, refl}
 use Rattle.capture_file.specs.Beginning.{first_octets}
+use Rattle.text_lines.specs.declared.fault.Cause.TheVariants.{Reading, Task}
+use Rattle.text_lines.specs.declared.fault.ReadingFault.TheVariants.{Read}
+use Rattle.text_lines.specs.declared.line_fault.LineFault.TheVariants.{Field}
 use Rattle.capture_measure.specs.Capture.{capture_begun}
 use Rattle.capture_measure.specs.Measure.{begun}
-use Rattle.capture_measure.proofs.Inputs.{captured, lined, short, failed_ahead, lined_whom, captured_whom, lined_counts, captured_counts}
+use Rattle.capture_measure.proofs.Inputs.{captured, lined, short, failed_ahead, lined_told, captured_told, none_told}
 use Rattle.capture_measure.proofs.input.measure.Goals as goal
 
 pub returns-in_default-read-clause-measured : goal.returns-in_default-read-clause-measured
 returns-in_default-read-clause-measured g c =
     let (seen, read, few) = c.in_default-read.ensures.read in
-    rw c.stopped-in_default-read.ensures
+    rw c.stopped-in_default-read.ensures.outcome
     (inr (failed_ahead c.args.form c.args.wanted.now _ _ _ _ seen read few c.in_default.ensures.written))
 
 pub returns-then-is_capture-clause-measured : goal.returns-then-is_capture-clause-measured
@@ -21,7 +24,7 @@ returns-then-is_capture-clause-measured g c =
 pub returns-then-has_lf-clause-measured : goal.returns-then-has_lf-clause-measured
 returns-then-has_lf-clause-measured g c =
     let (read, first) = c.in-Ok.ensures.read in
-    rw c.stopped-then-has_lf.ensures (inr (short c.args.form c.args.wanted.now _ _ _ _ (first_octets c.in-Ok.beginning) read first
+    rw c.stopped-then-has_lf.ensures.outcome (inr (short c.args.form c.args.wanted.now _ _ _ _ (first_octets c.in-Ok.beginning) read first
     (c.if-is_capture.ensures.none.0 refl) (rw c.octets-start.ensures.octets at (c.if-has_lf.ensures.some refl))
     c.in_default.ensures.written))
 
@@ -32,30 +35,26 @@ returns-clause-measured g c =
     inr (lined c.args.form c.args.wanted.now _ _ _ _ _ _ (first_octets c.in-Ok.beginning) c.measure_lines.result.0 read first
     (c.if-is_capture.ensures.none.0 refl) c.in_default.ensures.written (rw c.octets-start.ensures.octets at told))
 
-pub returns-then-is_capture-clause-whom : goal.returns-then-is_capture-clause-whom
-returns-then-is_capture-clause-whom g c =
+pub returns-then-is_capture-clause-summary : goal.returns-then-is_capture-clause-summary
+returns-then-is_capture-clause-summary g c =
     let (read, first) = c.in-Ok.ensures.read in
-    let told = c.measure_packets.ensures.whom (capture_begun c.args.form c.args.wanted.now) c.new-capture.ensures in
-    captured_whom c.args.form c.args.wanted.now _ _ (first_octets c.in-Ok.beginning) c.measure_packets.result.0 c.measure_packets.result.1.whom
+    let told = c.measure_packets.ensures.summary c.args.form c.args.wanted.now c.new-capture.ensures in
+    captured_told c.args.form c.args.wanted.now _ _ (first_octets c.in-Ok.beginning) c.measure_packets.result.0 c.measure_packets.result.1
     read first (rw c.octets-start.ensures.octets at told)
 
-pub returns-clause-whom : goal.returns-clause-whom
-returns-clause-whom g c =
+pub returns-clause-summary : goal.returns-clause-summary
+returns-clause-summary g c =
     let (read, first) = c.in-Ok.ensures.read in
-    let told = c.measure_lines.ensures.whom (begun c.args.form c.args.wanted.now) c.new-lines.ensures in
-    lined_whom c.args.form c.args.wanted.now _ _ (first_octets c.in-Ok.beginning) c.measure_lines.result.0 c.measure_lines.result.1.whom
+    let told = c.measure_lines.ensures.summary c.args.form c.args.wanted.now c.new-lines.ensures in
+    lined_told c.args.form c.args.wanted.now _ _ (first_octets c.in-Ok.beginning) c.measure_lines.result.0 c.measure_lines.result.1
     read first (rw c.octets-start.ensures.octets at told)
 
-pub returns-then-is_capture-clause-counts : goal.returns-then-is_capture-clause-counts
-returns-then-is_capture-clause-counts g c =
-    let (read, first) = c.in-Ok.ensures.read in
-    let told = c.measure_packets.ensures.counts (capture_begun c.args.form c.args.wanted.now) c.new-capture.ensures in
-    captured_counts c.args.form c.args.wanted.now _ _ (first_octets c.in-Ok.beginning) c.measure_packets.result.0
-    c.measure_packets.result.1.counts read first (rw c.octets-start.ensures.octets at told)
+pub returns-in_default-read-clause-summary : goal.returns-in_default-read-clause-summary
+returns-in_default-read-clause-summary g c = λ octets known.
+    none_told c.args.form c.args.wanted.now octets (Reading Read) _ _ c.stopped-in_default-read.ensures.outcome
+    (c.stopped-in_default-read.ensures.summary (begun c.args.form c.args.wanted.now) c.new-lines.ensures)
 
-pub returns-clause-counts : goal.returns-clause-counts
-returns-clause-counts g c =
-    let (read, first) = c.in-Ok.ensures.read in
-    let told = c.measure_lines.ensures.counts (begun c.args.form c.args.wanted.now) c.new-lines.ensures in
-    lined_counts c.args.form c.args.wanted.now _ _ (first_octets c.in-Ok.beginning) c.measure_lines.result.0
-    c.measure_lines.result.1.counts read first (rw c.octets-start.ensures.octets at told)
+pub returns-then-has_lf-clause-summary : goal.returns-then-has_lf-clause-summary
+returns-then-has_lf-clause-summary g c = λ octets known.
+    none_told c.args.form c.args.wanted.now octets (Task Field) _ _ c.stopped-then-has_lf.ensures.outcome
+    (c.stopped-then-has_lf.ensures.summary (begun c.args.form c.args.wanted.now) c.new-lines.ensures)

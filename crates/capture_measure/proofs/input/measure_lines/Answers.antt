@@ -1,18 +1,13 @@
-use Rattle.capture_measure.proofs.Ended.{lines_ended, lines_stopped, lines_tell, lines_count}
+use Rattle.std.proofs.Common.{◌++◌}
+use Rattle.capture_measure.specs.Measure.{begun}
+use Rattle.capture_measure.proofs.Summaries.{lines_left}
 use Rattle.capture_measure.proofs.input.measure_lines.Goals as goal
 
-pub returns-in-Ok-clause-answered : goal.returns-in-Ok-clause-answered
-returns-in-Ok-clause-answered g c = λ r at octets known.
-    lines_ended r _ _ _ _ c.in-Ok.ended (c.in-Ok.ensures.answered r at octets known)
+pub returns-clause-answered : goal.returns-clause-answered
+returns-clause-answered g c = λ r at octets known.
+    rw c.of_lines.ensures.outcome (c.answer_lines_behind-answer.ensures.answered r at octets known)
 
-pub returns-in-Ok-clause-whom : goal.returns-in-Ok-clause-whom
-returns-in-Ok-clause-whom g c = λ r at octets known.
-    lines_tell r _ _ _ _ c.in-Ok.ended (c.in-Ok.ensures.answered r at octets known)
-
-pub returns-in-Ok-clause-counts : goal.returns-in-Ok-clause-counts
-returns-in-Ok-clause-counts g c = λ r at octets known.
-    lines_count r _ _ _ _ c.in-Ok.ended (c.in-Ok.ensures.answered r at octets known)
-
-pub returns-in-Err-clause-answered : goal.returns-in-Err-clause-answered
-returns-in-Err-clause-answered g c = λ r at octets known.
-    lines_stopped r _ _ _ _ _ _ (c.in-Err.ensures.answered r at octets known)
+pub returns-clause-summary : goal.returns-clause-summary
+returns-clause-summary g c = λ form w at octets known.
+    rw c.of_lines.ensures.outcome (lines_left form w (c.args.start.now ++ octets) _ _ c.of_lines.ensures.summary _
+    (c.answer_lines_behind-answer.ensures.left (begun form w) at octets known))

@@ -1,18 +1,14 @@
-use Rattle.capture_measure.proofs.Ended.{capture_ended, capture_stopped, capture_tells, capture_counts}
+use Rattle.std.proofs.Common.{◌++◌}
+use Rattle.std.specs.Prelude.{⊤}
+use Rattle.capture_measure.specs.Capture.{capture_begun}
+use Rattle.capture_measure.proofs.Summaries.{packets_left}
 use Rattle.capture_measure.proofs.input.measure_packets.Goals as goal
 
-pub returns-in-Ok-clause-answered : goal.returns-in-Ok-clause-answered
-returns-in-Ok-clause-answered g c = λ r at octets known.
-    capture_ended r _ _ _ _ c.in-Ok.ended (c.in-Ok.ensures.answered r at octets known)
+pub returns-clause-answered : goal.returns-clause-answered
+returns-clause-answered g c = λ r at octets known.
+    rw c.of_capture.ensures.outcome (c.answer_packets_behind-answer.ensures.answered r at octets known)
 
-pub returns-in-Ok-clause-whom : goal.returns-in-Ok-clause-whom
-returns-in-Ok-clause-whom g c = λ r at octets known.
-    capture_tells r _ _ _ _ c.in-Ok.ended (c.in-Ok.ensures.answered r at octets known)
-
-pub returns-in-Ok-clause-counts : goal.returns-in-Ok-clause-counts
-returns-in-Ok-clause-counts g c = λ r at octets known.
-    capture_counts r _ _ _ _ c.in-Ok.ended (c.in-Ok.ensures.answered r at octets known)
-
-pub returns-in-Err-clause-answered : goal.returns-in-Err-clause-answered
-returns-in-Err-clause-answered g c = λ r at octets known.
-    capture_stopped r _ _ _ _ _ (c.in-Err.ensures.answered r at octets known)
+pub returns-clause-summary : goal.returns-clause-summary
+returns-clause-summary g c = λ form w at octets known.
+    rw c.of_capture.ensures.outcome (packets_left (λ old new fault. ⊤) form w (c.args.start.now ++ octets) _ _ c.of_capture.ensures.summary _
+    (c.answer_packets_behind-answer.ensures.left (capture_begun form w) at octets known))

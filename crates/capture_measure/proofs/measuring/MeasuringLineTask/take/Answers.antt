@@ -1,4 +1,4 @@
-use Rattle.std.proofs.Common.{◌∙◌, ◌+◌, ℕ, List, [], ◌∷◌, refl, sym, ap, subst, arith}
+use Rattle.std.proofs.Common.{◌∙◌, ◌+◌, ℕ, List, [], ◌∷◌, Err, refl, sym, ap, subst, arith}
 use Rattle.std.specs.Prelude.{option_to_list}
 use Rattle.std.proofs.lemmas.Result.{err_from_is_err_and}
 use Rattle.text_lines.specs.Counted.{device_of}
@@ -17,6 +17,7 @@ use Rattle.capture_measure.specs.Counts.{Fate, early_fate, fates_in, IsCounts}
 use Rattle.capture_measure.proofs.Fates.{fates-more, fates-first, fates-still}
 use Rattle.capture_measure.proofs.Taken.{on_ok_then, on_ok_both, nothing_goes, nothing_fails, are_within, not_unknown, not_known}
 use Rattle.capture_measure.proofs.Taken.{heard_before, measured-first, stage_heard, measured-still}
+use Rattle.capture_measure.proofs.Taken.{same_fault, goes_field, memory_field, left_by}
 use Rattle.capture_measure.proofs.Told.{watched-stays}
 use Rattle.capture_measure.proofs.Watches.{whom_known, whom_stays}
 use Rattle.capture_measure.specs.Inner.Watching.{whom_of}
@@ -105,6 +106,19 @@ returns-in-Some g c = record {
       (subst (λ (f : Form). Goes f c.begin.result (measurements c.in-Some.watched (row ∷ earlier))
       (g.W.Write.contents (device_of c.args.output.now)) (g.W.Write.contents (device_of c.begin.new.output))) at.form
       begun.1);
+  left = λ what is.
+      let (r, at) = c.requires.stands in
+      let row : Row = c.in-Ok.ensures.row in
+      let of = c.in-Ok.ensures.only row c.in-Ok.ensures.is_row in
+      let still = not_known r.wanted r.rows c.args.self.now.stage at.stage c.in_default.not-Hearing in
+      let watch = c.notice.ensures r.wanted r.rows row of (at.watch still) in
+      let known = sym (c.watched.ensures r.wanted (datagrams (row ∷ r.rows)) watch) ∙ c.in-Some.is in
+      let (earlier, kept, first, unknown, those) =
+      heard_before r.wanted r.rows row c.in-Some.watched c.args.self.now.stage at.stage c.in_default.not-Hearing
+      known in
+      let begun = c.begin.ensures.begun earlier row of kept in
+      left_by c.args.self.now c.begin.new.self what
+      (λ field. absurd (goes_field _ c.begin.result (measurements c.in-Some.watched (row ∷ earlier)) _ _ begun.1 what is field));
   failures = c.begin.ensures.failures;
 }
 
@@ -131,5 +145,18 @@ returns-in-None g c = record {
             ∙ sym (fates-still r.wanted r.rows row unknown)) (c.keep.ensures.counted (fates_in r.wanted r.rows) at.counts);
       }) (c.keep.ensures.kept r.wanted r.rows row next unknown numbered at.stage))
       (nothing_goes r.form c.keep.result _ c.keep.ensures.memory);
+  left = λ what is.
+      left_by c.args.self.now c.keep.new.self what (λ field. absurd (memory_field c.keep.result c.keep.ensures.memory what is field));
   failures = nothing_fails c.keep.result _ c.keep.ensures.memory;
 }
+
+pub returns-in_err-self-clause-left : goal.returns-in_err-self-clause-left
+returns-in_err-self-clause-left g c = λ what is.
+    let e = err_from_is_err_and c.from_residual.result c.from_residual.ensures.1 in
+    left_by c.args.self.now _ what (λ field.
+    let fault = sym e.2 ∙ same_fault c.from_residual.result e.0 what e.1 is ∙ field in
+    let same = c.in_err-self.ensures.unread (ap Err fault) in
+    λ i. record c.args.self.now { reports = same.0 i; stage = (ap Hearing same.1 ∙ sym c.in-Hearing.is) i })
+
+pub returns-in-Err-clause-left : goal.returns-in-Err-clause-left
+returns-in-Err-clause-left g c = λ what is. left_by c.args.self.now c.args.self.now what (λ field. refl)

@@ -19,7 +19,7 @@ use Rattle.capture_measure.proofs.KeptRows.{one_there}
 use Rattle.capture_measure.proofs.Looking.{still_looking, adds_all, unlooked_still, unknown_still, noticed_there, begins_with, chosen_now, not_found}
 use Rattle.capture_measure.proofs.Looking.{heard_now, began, whom_began}
 use Rattle.capture_measure.specs.Summary.{capture_whom}
-use Rattle.capture_measure.specs.Inner.Ended.{whom_at}
+use Rattle.capture_measure.specs.Inner.Stages.{whom_at}
 use Rattle.capture_measure.specs.Counts.{Fate, early_at, IsCounts}
 use Rattle.capture_measure.proofs.CaptureFates.{so_far, first-fates}
 use Rattle.capture_measure.proofs.Interfaces.{same_interface}

@@ -10,12 +10,12 @@ use Rattle.capture_measure.specs.Measured.{measured_at}
 use Rattle.capture_measure.specs.Chosen.{heard_at}
 use Rattle.capture_measure.specs.Inner.Capturing.{IsCaptureStage, row_of_packet}
 use Rattle.capture_measure.specs.Inner.Hearing.{Goes}
-use Rattle.capture_measure.specs.Inner.Recordings.{interface_in}
+use Rattle.capture_measure.specs.Told.{interface_in}
 use Rattle.capture_measure.proofs.Looking.{few_by, hears_more, hears_other, measures_more, measures_nothing, capture_whom_stays}
 use Rattle.capture_measure.proofs.KeptRows.{one_there}
 use Rattle.capture_measure.specs.declared.packets.Stage.{Stage}
 use Rattle.capture_measure.specs.Summary.{capture_whom}
-use Rattle.capture_measure.specs.Inner.Ended.{whom_at}
+use Rattle.capture_measure.specs.Inner.Stages.{whom_at}
 use Rattle.capture_measure.specs.Counts.{Fate, capture_fates, IsCounts}
 use Rattle.capture_measure.proofs.CaptureFates.{so_far, so_far_known, none_known, more-fates, other-fates}
 use Rattle.capture_measure.proofs.Chosen.{chosen-stays}

@@ -1,4 +1,4 @@
-use Rattle.std.proofs.Common.{◌∷◌, List, Some, None, refl, sym, subst}
+use Rattle.std.proofs.Common.{◌∷◌, List, Some, None, refl, sym, ap, subst}
 use Rattle.std.specs.Prelude.{OnOk}
 use Rattle.std.proofs.KnownBytes.{Appends-nil}
 use Rattle.std.proofs.lemmas.Result.{err_from_is_err_and}
@@ -69,4 +69,5 @@ returns-clause-counted g c = λ watched earlier all listens so.
     subst (λ (f : Fate). OnOk c.write.result (IsCounts (f ∷ all) c.write.new.self.tally.counts))
     (fate-measured watched earlier row d (Some m) refl is)
     ((rw (c.at.ensures, c.as_str.ensures.value, c.in_ok-write_time.ensures) at c.write.ensures.counted) fate all refl
+    (sym (ap (λ (x : Measured). x.line) c.at.ensures)) refl
     (c.listen.ensures.counted watched (datagrams earlier) all listens so))

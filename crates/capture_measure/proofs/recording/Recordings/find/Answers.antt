@@ -3,7 +3,7 @@ use Rattle.std.proofs.lemmas.List.{get_or_default}
 use Rattle.capture_file.specs.Packet.{interface_of}
 use Rattle.capture_measure.specs.declared.recording.Recording.{Recording}
 use Rattle.capture_measure.specs.Interfaces.{is_same_interface}
-use Rattle.capture_measure.specs.Inner.Recordings.{interface_in}
+use Rattle.capture_measure.specs.Told.{interface_in}
 use Rattle.capture_measure.proofs.Interfaces.{same_interface}
 use Rattle.capture_measure.proofs.Recordings.{none_among, among_recordings}
 use Rattle.capture_measure.proofs.recording.Recordings.find.Goals as goal

@@ -3,7 +3,7 @@ use Rattle.std.proofs.Common.{◌≡◌, ℕ, ◌<◌, false, get_or}
 use Rattle.capture_file.specs.Packet.{interface_of}
 use Rattle.capture_measure.specs.declared.recording.Recording.{Recording}
 use Rattle.capture_measure.specs.Interfaces.{is_same_interface}
-use Rattle.capture_measure.specs.Inner.Recordings.{interface_in}
+use Rattle.capture_measure.specs.Told.{interface_in}
 use Rattle.capture_measure.proofs.recording.Recordings.find.Given as goal
 
 abbrev pub invariant-loop-place : goal.invariant-loop-place

@@ -8,7 +8,8 @@ use Rattle.capture_measure.specs.Counts.{early_with, early_at, IsCounts}
 use Rattle.capture_measure.specs.declared.tally.Tally.{Tally}
 use Rattle.capture_measure.specs.Capture.{IsDatagramRow}
 use Rattle.capture_measure.specs.declared.recording.Recording.{Recording}
-use Rattle.capture_measure.specs.Inner.Recordings.{interface_in, place_of, HasAdded, IsMet, IsNoticed}
+use Rattle.capture_measure.specs.Inner.Recordings.{HasAdded, IsMet, IsNoticed}
+use Rattle.capture_measure.specs.Told.{interface_in, place_of}
 use Rattle.capture_measure.specs.Inner.Hearing.{recorded_of}
 use Rattle.capture_measure.specs.Inner.Watching.{IsWatch}
 use Rattle.capture_measure.proofs.Recordings.{added_taken, added_nowhere, keeps_row}

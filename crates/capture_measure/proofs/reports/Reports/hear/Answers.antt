@@ -1,6 +1,9 @@
-use Rattle.std.proofs.Common.{◌+◌}
+use Rattle.std.proofs.Common.{◌+◌, sym, subst}
 use Rattle.std.proofs.lemmas.Result.{err_from_is_err_and}
+use Rattle.text_lines.specs.declared.line_fault.LineFault.TheVariants.{Field}
+use Rattle.capture_measure.specs.Inner.Hearing.{IsOfOutput}
 use Rattle.capture_measure.proofs.Goes.{unread_until, stops_unread, stops_read}
+use Rattle.capture_measure.proofs.Taken.{same_fault, not_field}
 use Rattle.capture_measure.proofs.reports.Reports.hear.Goals as goal
 
 pub returns-in-Err-clause-heard : goal.returns-in-Err-clause-heard
@@ -32,3 +35,9 @@ returns-clause-answered g c = (c.in-Ok.ensures.numbered, (_, c.in-Ok.ensures.is_
 pub returns-clause-counted : goal.returns-clause-counted
 returns-clause-counted g c = λ watched before row all is listens so.
     c.in_ok-hear_line.ensures.counted watched before row all (c.in-Ok.ensures.only row is) listens so
+
+pub returns-in_err-hear_line-clause-unread : goal.returns-in_err-hear_line-clause-unread
+returns-in_err-hear_line-clause-unread g c = λ is.
+    let e = err_from_is_err_and c.from_residual.result c.from_residual.ensures.1 in
+    absurd (not_field e.0 (subst IsOfOutput (sym e.2) c.in_err-hear_line.ensures.of_output)
+    (same_fault c.from_residual.result e.0 Field e.1 is))

@@ -54,7 +54,8 @@ returns-in-Some-clause-counted g c = λ watched earlier row all of listens so.
     subst (λ (f : Fate). OnOk c.write.result (IsCounts (f ∷ all) c.write.new.self.tally.counts))
     (ap (λ (x : Measured). record fate { measured = Some x }) c.measured.ensures
     ∙ fate-measured watched earlier row d (Some m) of.datagram is)
-    (c.write.ensures.counted fate all refl (c.listen.ensures.counted watched (datagrams earlier) all listens so))
+    (c.write.ensures.counted fate all refl (sym (ap (λ (x : Measured). x.line) c.measured.ensures)) refl
+    (c.listen.ensures.counted watched (datagrams earlier) all listens so))
 
 pub returns-in-None-clause-counted : goal.returns-in-None-clause-counted
 returns-in-None-clause-counted g c = λ watched earlier row all of listens so.

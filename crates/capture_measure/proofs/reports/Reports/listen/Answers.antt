@@ -1,4 +1,4 @@
-use Rattle.std.proofs.Common.{◌∙◌, ◌∷◌, ℕ, sym, ap, subst}
+use Rattle.std.proofs.Common.{◌∙◌, ◌∷◌, ℕ, refl, sym, ap, subst}
 use Rattle.event_codec.specs.Packet.{Contents, contents}
 use Rattle.capture_model.specs.declared.watched.Watched.{Watched}
 use Rattle.capture_model.specs.Listening.{Listening, after_all}
@@ -8,7 +8,7 @@ use Rattle.capture_measure.specs.declared.tally.Counts.{Counts}
 use Rattle.capture_measure.specs.Counts.{kind_of, fate_in, IsCounts}
 use Rattle.capture_measure.specs.Inner.Counting.{with_why, with_anew, why_by}
 use Rattle.capture_measure.specs.Inner.Hearing.{reading_of, recorded_of}
-use Rattle.capture_measure.proofs.Counting.{heard_counts, refused_counts}
+use Rattle.capture_measure.proofs.Counting.{heard_counts, refused_counts, noted_counts}
 use Rattle.capture_measure.proofs.reports.Reports.listen.Goals as goal
 
 pub returns-in-Err-clause-counted : goal.returns-in-Err-clause-counted
@@ -16,8 +16,9 @@ returns-in-Err-clause-counted c = λ watched earlier all listens so.
     let d : Recorded = recorded_of c.args.datagram.now in
     let l : Listening = after_all watched earlier in
     subst (IsCounts (fate_in watched d l ∷ all)) (sym c.count_refused.ensures)
-    (refused_counts watched d c.in-Err.refusal l all c.count_time.new.self.counts (ap reading_of c.in-Err.is)
-    (subst (IsCounts all) (sym c.count_time.ensures) so))
+    (refused_counts watched d c.in-Err.refusal l all c.note.new.self.counts (ap reading_of c.in-Err.is)
+    (noted_counts (fate_in watched d l) all c.args.self.now.tally.counts c.note.new.self.counts so c.note.ensures.others
+    (c.note.ensures.quality (fate_in watched d l) all refl refl so.quality)))
 
 pub returns-in_err-report_in-clause-counted : goal.returns-in_err-report_in-clause-counted
 returns-in_err-report_in-clause-counted c = λ watched earlier all listens so.
@@ -27,12 +28,13 @@ returns-in_err-report_in-clause-counted c = λ watched earlier all listens so.
     let now = c.hear-became.ensures.listens watched l listens in
     let domain = c.domain.ensures ∙ ap (λ (v : Watched). v.domain) now.watched in
     let became : Became = c.hear-became.result in
-    let counts : Counts = c.count_time.new.self.counts in
+    let counts : Counts = c.note.new.self.counts in
     let is = c.count_heard.ensures
     ∙ ap (λ (n : ℕ). with_why (kind_of m.body) (why_by n m.header became) (with_anew became counts)) domain in
     subst (IsCounts (fate_in watched d l ∷ all)) (sym is)
     (heard_counts watched d m l became all counts (ap reading_of c.in-Ok.is) (c.hear-became.ensures.became watched l listens)
-    (subst (IsCounts all) (sym c.count_time.ensures) so))
+    (noted_counts (fate_in watched d l) all c.args.self.now.tally.counts c.note.new.self.counts so c.note.ensures.others
+    (c.note.ensures.quality (fate_in watched d l) all refl refl so.quality)))
 
 pub returns-clause-counted : goal.returns-clause-counted
 returns-clause-counted c = λ watched earlier all listens so.
@@ -42,9 +44,10 @@ returns-clause-counted c = λ watched earlier all listens so.
     let now = c.hear-became.ensures.listens watched l listens in
     let domain = c.domain.ensures ∙ ap (λ (v : Watched). v.domain) now.watched in
     let became : Became = c.hear-became.result in
-    let counts : Counts = c.count_time.new.self.counts in
+    let counts : Counts = c.note.new.self.counts in
     let is = c.count_heard.ensures
     ∙ ap (λ (n : ℕ). with_why (kind_of m.body) (why_by n m.header became) (with_anew became counts)) domain in
     subst (IsCounts (fate_in watched d l ∷ all)) (sym is)
     (heard_counts watched d m l became all counts (ap reading_of c.in-Ok.is) (c.hear-became.ensures.became watched l listens)
-    (subst (IsCounts all) (sym c.count_time.ensures) so))
+    (noted_counts (fate_in watched d l) all c.args.self.now.tally.counts c.note.new.self.counts so c.note.ensures.others
+    (c.note.ensures.quality (fate_in watched d l) all refl refl so.quality)))

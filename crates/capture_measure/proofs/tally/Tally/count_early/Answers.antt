@@ -1,4 +1,4 @@
-use Rattle.std.proofs.Common.{◌∙◌, ◌∷◌, sym, ap, subst}
+use Rattle.std.proofs.Common.{◌∙◌, ◌∷◌, refl, sym, ap, subst}
 use Rattle.event_codec.specs.Packet.{contents}
 use Rattle.capture_model.specs.Recorded.{Recorded}
 use Rattle.capture_measure.specs.declared.tally.Kind.{Kind}
@@ -6,20 +6,22 @@ use Rattle.capture_measure.specs.declared.tally.Why.TheVariants.{TooEarly}
 use Rattle.capture_measure.specs.Counts.{early_fate, IsCounts}
 use Rattle.capture_measure.specs.Inner.Counting.{with_unreported}
 use Rattle.capture_measure.specs.Inner.Hearing.{reading_of, recorded_of}
-use Rattle.capture_measure.proofs.Counting.{early_counts, early_refused_counts}
+use Rattle.capture_measure.proofs.Counting.{early_counts, early_refused_counts, noted_counts}
 use Rattle.capture_measure.proofs.tally.Tally.count_early.Goals as goal
 
 pub returns-in-Ok : goal.returns-in-Ok
 returns-in-Ok c = λ all so.
     let d : Recorded = recorded_of c.args.datagram.now in
     subst (IsCounts (early_fate d ∷ all))
-    (sym (c.count.ensures ∙ ap (λ (k : Kind). with_unreported k TooEarly c.count_time.new.self.counts) c.of.ensures))
-    (early_counts d (contents c.in-Ok.message) all c.count_time.new.self.counts (ap reading_of c.in-Ok.is)
-    (subst (IsCounts all) (sym c.count_time.ensures) so))
+    (sym (c.count.ensures ∙ ap (λ (k : Kind). with_unreported k TooEarly c.note.new.self.counts) c.of.ensures))
+    (early_counts d (contents c.in-Ok.message) all c.note.new.self.counts (ap reading_of c.in-Ok.is)
+    (noted_counts (early_fate d) all c.args.self.now.counts c.note.new.self.counts so c.note.ensures.others
+    (c.note.ensures.quality (early_fate d) all refl refl so.quality)))
 
 pub returns-in-Err : goal.returns-in-Err
 returns-in-Err c = λ all so.
     let d : Recorded = recorded_of c.args.datagram.now in
     subst (IsCounts (early_fate d ∷ all)) (sym c.count_refused.ensures)
-    (early_refused_counts d c.in-Err.refusal all c.count_time.new.self.counts (ap reading_of c.in-Err.is)
-    (subst (IsCounts all) (sym c.count_time.ensures) so))
+    (early_refused_counts d c.in-Err.refusal all c.note.new.self.counts (ap reading_of c.in-Err.is)
+    (noted_counts (early_fate d) all c.args.self.now.counts c.note.new.self.counts so c.note.ensures.others
+    (c.note.ensures.quality (early_fate d) all refl refl so.quality)))

@@ -1,0 +1,259 @@
+//! What is told of the numbers of reports, and of what they are worth.
+
+use crate::rounded::{Signed, deviation, mean, slope};
+use crate::tally::{Counts, Kind, Why};
+use ptp_units::{Nanoseconds, ScaledTime};
+use recording_quality::{Point, Series, Statistics, Times};
+use std::fmt;
+use std::fmt::{Display, Formatter};
+use std::io::Write;
+
+/// A second, in units of 2^-17 ns.
+const SECOND: u128 = 131_072_000_000_000;
+
+/// A tenth of a second, in units of 2^-16 ns.
+const TENTH: u128 = 6_553_600_000_000;
+
+/// After how many tenths of a second without reports this is told, at least.
+const SILENCE: u128 = 100;
+
+/// From how many offsets on it is told that they run away.
+const OFFSETS: u64 = 16;
+
+/// From how many thousand-millionths on it is told that offsets run away.
+const SLOPE: u128 = 1000;
+
+/// A number of thousandths, with its sign.
+#[derive(Clone, Copy)]
+struct Thousandths(Signed);
+
+impl Display for Thousandths {
+    fn fmt<W: fmt::Write>(&self, f: &mut Formatter<W>) -> fmt::Result {
+        let Signed { is_negative, size } = self.0;
+        let sign = if is_negative && size > 0 { "-" } else { "" };
+        write!(f, "{sign}{}.{:03}", size / 1000, size % 1000)
+    }
+}
+
+/// A value that was measured, and the line or packet of which it is.
+#[derive(Clone, Copy)]
+struct At {
+    point: Point,
+    unit: &'static str,
+}
+
+impl Display for At {
+    fn fmt<W: fmt::Write>(&self, f: &mut Formatter<W>) -> fmt::Result {
+        let Point { value, line, .. } = self.point;
+        write!(f, "{} ns at {} {line}", Nanoseconds(value), self.unit)
+    }
+}
+
+/// How much later a time is, in units of 2^-16 ns.
+fn later(time: ScaledTime, than: ScaledTime) -> u128 {
+    time.value().saturating_sub(than.value())
+}
+
+/// The whole number of seconds next to a value in 2^-17 ns.
+fn whole_seconds(value: i128) -> Signed {
+    Signed {
+        is_negative: value < 0,
+        size: value.unsigned_abs() / SECOND + (value.unsigned_abs() % SECOND) / (SECOND / 2),
+    }
+}
+
+/// Tells of a series, where it isn't empty.
+fn tell_series<E: Write>(name: &str, series: &Series, unit: &'static str, errors: &mut E) {
+    let (Some(least), Some(greatest)) = (series.least, series.greatest) else {
+        return;
+    };
+    let _ = write!(errors, "ptpx: {name}: {}", series.count);
+    if let Some(mean) = mean(series) {
+        let _ = write!(errors, ", mean {} ns", Thousandths(mean));
+    }
+    if let Some(size) = deviation(series) {
+        let is_negative = false;
+        let deviation = Thousandths(Signed { is_negative, size });
+        let _ = write!(errors, ", standard deviation {deviation} ns");
+    }
+    let _ = writeln!(
+        errors,
+        " (rounded), least {}, greatest {}",
+        At { point: least, unit },
+        At {
+            point: greatest,
+            unit
+        }
+    );
+}
+
+/// Tells what speaks against path delays, of those of 0 only where no master's own port explains them. What can't be written is lost.
+fn doubt_paths<E: Write>(paths: &Series, is_of_slave: bool, unit: &'static str, errors: &mut E) {
+    let count = paths.count;
+    if let Some(point) = paths.least
+        && paths.negatives > 0
+    {
+        let _ = writeln!(
+            errors,
+            "ptpx: beware: {} of {count} path delays are below 0, the least {}: no message arrives before it leaves, so the times \
+             aren't those at which the slave's port sent and received, or a clock was set meanwhile",
+            paths.negatives,
+            At { point, unit }
+        );
+    }
+    if is_of_slave && paths.zeros > count / 2 {
+        let _ = writeln!(
+            errors,
+            "ptpx: beware: {} of {count} path delays are 0 exactly: the times are too coarse for this path, or made up",
+            paths.zeros
+        );
+    }
+}
+
+/// Tells what speaks against offsets. What can't be written is lost.
+fn doubt_offsets<E: Write>(statistics: &Statistics, errors: &mut E) {
+    let offsets = &statistics.offsets;
+    if let (Some(least), Some(greatest)) = (offsets.least, offsets.greatest) {
+        let seconds = whole_seconds(least.value);
+        let others = whole_seconds(greatest.value);
+        let is_one = seconds.size == others.size && seconds.is_negative == others.is_negative;
+        if is_one && seconds.size > 0 {
+            let (sign, mend) = if seconds.is_negative {
+                ("-", "")
+            } else {
+                ("", "-")
+            };
+            let size = seconds.size;
+            let _ = writeln!(
+                errors,
+                "ptpx: beware: all offsets are next to {sign}{size} s: one clock keeps UTC and the other TAI, which is 37 s ahead \
+                 since 2017, or one isn't set; editcap -t {mend}{size} mends a capture"
+            );
+        }
+    }
+    if offsets.count >= OFFSETS
+        && let Some(slope) = slope(offsets, &statistics.trend)
+        && slope.size >= SLOPE
+    {
+        let _ = writeln!(
+            errors,
+            "ptpx: beware: the offset runs away by {} ppm (rounded): the times are of a clock that doesn't follow this master, as \
+             that of a tap or of another host",
+            Thousandths(slope)
+        );
+    }
+}
+
+/// Tells where all reports look as those at a master's own port, and whether they do. What can't be written is lost.
+fn doubt_port<E: Write>(statistics: &Statistics, errors: &mut E) -> bool {
+    let Statistics { offsets, paths, .. } = statistics;
+    let requests = paths.count > 1 && statistics.requests_at_once == paths.count;
+    let syncs = offsets.count > 1 && statistics.syncs_at_once == offsets.count;
+    if requests || syncs {
+        let (name, count) = if requests {
+            ("requests", paths.count)
+        } else {
+            ("Syncs", offsets.count)
+        };
+        let _ = writeln!(
+            errors,
+            "ptpx: beware: all {count} {name} arrive at the time at which they leave: this was recorded at the master's own port; \
+             record at the slave's"
+        );
+    }
+    requests || syncs
+}
+
+/// Tells where reports end long before the recording does. What can't be written is lost.
+fn doubt_end<E: Write>(reports: u64, statistics: &Statistics, times: &Times, errors: &mut E) {
+    let (Some(first), Some(last), Some(end)) = (times.first, statistics.last, times.last) else {
+        return;
+    };
+    let silence = later(end, last);
+    let often = later(last, first) / u128::from(reports.max(1));
+    if silence >= SILENCE * TENTH && silence / 10 >= often {
+        let seconds = silence / TENTH;
+        let _ = writeln!(
+            errors,
+            "ptpx: beware: no report is of the last {}.{} s: the master or the slave went away, or the slave follows another \
+             master, whom --master picks",
+            seconds / 10,
+            seconds % 10
+        );
+    }
+}
+
+/// Tells what speaks against times. What can't be written is lost.
+fn doubt_times<E: Write>(times: &Times, unit: &'static str, errors: &mut E) {
+    if times.falls > 0 {
+        let _ = writeln!(
+            errors,
+            "ptpx: beware: times that are before that of the {unit} before: {}; a clock was set, or the {unit}s aren't in order",
+            times.falls
+        );
+    }
+}
+
+impl Counts {
+    /// Tells what speaks against the numbers, in lines. What can't be written is lost.
+    pub(crate) fn tell_doubts<E: Write>(&self, unit: &'static str, errors: &mut E) {
+        let quality = &self.quality;
+        let is_of_slave = !doubt_port(&quality.statistics, errors);
+        doubt_paths(&quality.statistics.paths, is_of_slave, unit, errors);
+        doubt_offsets(&quality.statistics, errors);
+        doubt_end(self.reports, &quality.statistics, &quality.times, errors);
+        self.doubt_datagrams(errors);
+        if self.reports > 0 {
+            doubt_times(&quality.times, unit, errors);
+        }
+    }
+
+    /// Tells what speaks against the datagrams. What can't be written is lost.
+    fn doubt_datagrams<E: Write>(&self, errors: &mut E) {
+        let repeats = [Kind::Sync, Kind::FollowUp, Kind::DelayResp]
+            .iter()
+            .fold(self.at(Kind::DelayReq, Why::Again), |sum, kind| {
+                sum.saturating_add(self.at(*kind, Why::Before))
+            });
+        if repeats > 0 {
+            let _ = writeln!(
+                errors,
+                "ptpx: beware: messages with a number that came before: {repeats}; a mirror of both directions writes each twice, and \
+                 the first of each was used"
+            );
+        }
+        if self.quality.cut > 0 {
+            let _ = writeln!(
+                errors,
+                "ptpx: beware: datagrams that are cut short (205): {}; a snap length does that, so record whole packets",
+                self.quality.cut
+            );
+        }
+        let masters = self.at(Kind::Sync, Why::OtherMaster);
+        if masters > 0 {
+            let _ = writeln!(
+                errors,
+                "ptpx: beware: Syncs of other masters of the domain: {masters}; --master picks one"
+            );
+        }
+        let slaves = self.at(Kind::DelayReq, Why::OtherSlave);
+        if slaves > 0 {
+            let _ = writeln!(
+                errors,
+                "ptpx: beware: Delay_Reqs of other slaves of the domain: {slaves}; --slave picks one"
+            );
+        }
+    }
+
+    /// Tells what all times are, where that is worth telling, and the statistics of the reports, in lines. What can't be written is
+    /// lost.
+    pub(crate) fn tell_statistics<E: Write>(&self, unit: &'static str, errors: &mut E) {
+        let Times { finer, last, .. } = self.quality.times;
+        if last.is_some() && finer == 0 {
+            let _ = writeln!(errors, "ptpx: all times are of whole microseconds");
+        }
+        let Statistics { offsets, paths, .. } = &self.quality.statistics;
+        tell_series("offsets at a Sync", offsets, unit, errors);
+        tell_series("path delays at a response", paths, unit, errors);
+    }
+}
