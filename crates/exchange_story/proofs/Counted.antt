@@ -1,18 +1,18 @@
 -- Counts of reports, after one more, and what is told of them, piece by piece.
-use Rattle.std.proofs.Common.{◌≡◌, ◌≢◌, ◌∙◌, ℕ, ◌+◌, ◌==◌, ◌<◌, ◌≤◌, ◌||◌, Bool, true, false, List, [], ◌∷◌, ◌++◌, length, get_or, drop, map, Result, Ok, Err}
+use Rattle.std.proofs.Common.{◌≡◌, ◌≢◌, ◌∙◌, ℕ, ◌+◌, ◌<◌, ◌≤◌, ◌||◌, Bool, true, false, List, [], ◌∷◌, ◌++◌, length, get_or, drop, map, Result, Ok, Err}
 use Rattle.std.proofs.Common.{refl, sym, ap, subst, append_assoc, append-nil, arith, if◌then◌else◌}
 use Rattle.std.specs.Prelude.{cond, count_by, codes, is_ok, OnOk}
 use Rattle.std.specs.Fmt.{decimal}
 use Rattle.std.specs.List.{list_any}
 use Rattle.std.proofs.lemmas.List.{drop_more, drop_all}
 use Rattle.std.proofs.lemmas.List.Sums.{sum_by-cons}
-use Rattle.std.proofs.lemmas.Bool.{ne_eqb, eq-eqb}
+use Rattle.std.proofs.lemmas.Bool.{ne_eqb, eq-eqb, le-ltb, lt-ltb}
 use Rattle.trace_model.specs.declared.verdict.Why.{Why}
 use Rattle.trace_model.specs.declared.verdict.Why.TheVariants.{NoSuchLine, OtherNumber, OtherMaster, BrokenJourney}
 use Rattle.trace_model.specs.declared.verdict.Why.TheVariants.{WrongReading, WrongValue, TooBig, Bytes}
-use Rattle.trace_model.specs.Refusal.{code_of}
-use Rattle.exchange_story.specs.Counts.{Counts, against, counted, is_sound, is_octets_alone, stands, counts_of, failing_text}
-use Rattle.exchange_story.specs.Counts.{has_octets, noun_text, reports_text, aside_text, TellsFailing, TellsReports, TellsMessages}
+use Rattle.trace_model.specs.Refusal.{code_of, words_of}
+use Rattle.exchange_story.specs.Counts.{Counts, against, counted, is_sound, is_octets_alone, stands, counts_of, counts_text, failing_lines, failing_text}
+use Rattle.exchange_story.specs.Counts.{has_octets, noun_text, messages_text, aside_text, read_text, TellsMessages}
 use Rattle.exchange_story.specs.Counts.{TellsCounts, told_reasons}
 use Rattle.exchange_story.specs.declared.tally.Failing.{Failing}
 use Rattle.exchange_story.specs.declared.tally.Tally.{Tally}
@@ -134,127 +134,99 @@ counts_none failing none = λ i. record {
   failing = map (λ (why : Why). none why i) told_reasons;
 }
 
--- ---- the lines of reasons
+-- ---- what is told
 
-failing_line : (failing : Why → ℕ) (told words : List ℕ) (all whys : List Why) (i : ℕ) (d : Why) → i < length whys
-    → ((behind : List ℕ) → TellsFailing failing (drop i whys) behind → TellsFailing failing all (told ++ behind))
-    → (behind : List ℕ) → TellsFailing failing (drop (i + 1) whys) behind
-    → TellsFailing failing all
-    ((told ++ failing_text (get_or whys i d) (failing (get_or whys i d)) words) ++ behind)
-failing_line failing told words all whys i d more tells behind others =
-    let line : List ℕ = failing_text (get_or whys i d) (failing (get_or whys i d)) words in
-    let one : TellsFailing failing (get_or whys i d ∷ drop (i + 1) whys) (line ++ behind) = (words, behind, others, refl) in
-    let here = subst (λ (ws : List Why). TellsFailing failing ws (line ++ behind)) (sym (drop_more whys i d more)) one in
-    subst (λ (t : List ℕ). TellsFailing failing all t) (sym (append_assoc told line behind)) (tells (line ++ behind) here)
+-- after one reason more the lines of those that are left end in the same
+pub lines_left : (failing : Why → ℕ) (whys : List Why) (i : ℕ) (d : Why) (text after all : List ℕ) → i < length whys
+    → after ≡ text ++ failing_text (get_or whys i d) (failing (get_or whys i d))
+    → text ++ failing_lines failing (drop i whys) ≡ all → after ++ failing_lines failing (drop (i + 1) whys) ≡ all
+lines_left failing whys i d text after all more is so_far =
+    let line : List ℕ = failing_text (get_or whys i d) (failing (get_or whys i d)) in
+    ap (λ (t : List ℕ). t ++ failing_lines failing (drop (i + 1) whys)) is
+    ∙ append_assoc text line (failing_lines failing (drop (i + 1) whys))
+    ∙ ap (λ (ws : List Why). text ++ failing_lines failing ws) (sym (drop_more whys i d more)) ∙ so_far
 
--- what was told of the reasons before one, so that what is told of the others goes behind it
-pub record AreTold (failing : Why → ℕ) (whys : List Why) (next : ℕ) (before after : List ℕ) : Type 0 where
-  pub told : List ℕ
-  pub text : after ≡ before ++ told
-  pub tells : (behind : List ℕ) → TellsFailing failing (drop next whys) behind
-      → TellsFailing failing whys (told ++ behind)
-
-pub told_none : (failing : Why → ℕ) (whys : List Why) (text : List ℕ) → AreTold failing whys 0 text text
-told_none failing whys text = record {
-  told = [];
-  text = sym (append-nil text);
-  tells = λ behind others. others;
-}
-
-pub told_one : (failing : Why → ℕ) (whys : List Why) (i : ℕ) (d : Why) (before text after words : List ℕ) → i < length whys
-    → AreTold failing whys i before text
-    → after ≡ text ++ failing_text (get_or whys i d) (failing (get_or whys i d)) words
-    → AreTold failing whys (i + 1) before after
-told_one failing whys i d before text after words more so_far is =
-    let line : List ℕ = failing_text (get_or whys i d) (failing (get_or whys i d)) words in
-    record {
-      told = so_far.told ++ line;
-      text = is ∙ ap (λ (t : List ℕ). t ++ line) so_far.text ∙ append_assoc before so_far.told line;
-      tells = failing_line failing so_far.told words whys whys i d more so_far.tells;
-    }
-
-pub told_all : (failing : Why → ℕ) (whys : List Why) (i : ℕ) (before text : List ℕ) → length whys ≤ i
-    → (so_far : AreTold failing whys i before text) → TellsFailing failing whys so_far.told
-told_all failing whys i before text none so_far =
-    let here = subst (λ (ws : List Why). TellsFailing failing ws []) (sym (drop_all i whys none)) refl in
-    subst (λ (t : List ℕ). TellsFailing failing whys t) (append-nil so_far.told) (so_far.tells [] here)
-
--- ---- all that is told
-
-pub tells_none : (counts : Counts) (text : List ℕ) → counts.reports ≡ 0
-    → text ≡ codes "there is no report, so nothing was judged\n" → TellsReports (counts.reports == 0) counts text
-tells_none counts text none is =
-    subst (λ (b : Bool). TellsReports b counts text) (sym (eq-eqb counts.reports 0 none)) is
-
-pub tells_some : (counts : Counts) (failing text : List ℕ) → counts.reports ≢ 0
-    → TellsFailing (against counts) told_reasons failing
-    → text ≡ reports_text counts ++ (failing ++ aside_text counts) → TellsReports (counts.reports == 0) counts text
-tells_some counts failing text some tells is =
-    subst (λ (b : Bool). TellsReports b counts text) (sym (ne_eqb counts.reports 0 some)) (failing, tells, is)
-
--- three texts, one behind the other
-pub three : (start first second third a b c : List ℕ) → first ≡ start ++ a → second ≡ first ++ b → third ≡ second ++ c
-    → third ≡ start ++ (a ++ (b ++ c))
-three start first second third a b c is_a is_b is_c = rw (is_c, is_b, is_a) (simp append_assoc)
-
--- what is told at the end, by whether octets stand against a report
-pub tells_counts : (counts : Counts) (octets : Bool) (start first second reports messages : List ℕ)
-    → has_octets counts ≡ octets → TellsReports (counts.reports == 0) counts reports → TellsMessages octets messages
-    → first ≡ start ++ reports → second ≡ first ++ messages
-    → (told : List ℕ) × TellsCounts counts told × (second ≡ start ++ told)
-tells_counts counts octets start first second reports messages is tells more a b = (
-  reports ++ messages,
-  (reports, messages, tells, subst (λ (o : Bool). TellsMessages o messages) (sym is) more, refl),
-  b ∙ ap (λ (t : List ℕ). t ++ messages) a ∙ append_assoc start reports messages,
-)
+pub lines_done : (failing : Why → ℕ) (whys : List Why) (i : ℕ) (text all : List ℕ) → length whys ≤ i
+    → text ++ failing_lines failing (drop i whys) ≡ all → text ≡ all
+lines_done failing whys i text all none so_far =
+    sym (ap (λ (ws : List Why). text ++ failing_lines failing ws) (drop_all i whys none) ∙ append-nil text) ∙ so_far
 
 -- the line of a reason that stands against a report
-pub line_told : {E : Type 0} (r : Result (Unit {0}) E) (why : Why) (count code : ℕ) (words old new : List ℕ) → count ≢ 0
+pub line_told : {E : Type 0} (r : Result (Unit {0}) E) (why : Why) (count code : ℕ) (old new : List ℕ) → count ≢ 0
     → code ≡ code_of why
-    → OnOk r (new ≡ old ++ (codes "  " ++ (decimal code ++ (codes " stands against " ++ (decimal count ++ (codes ": " ++ (words ++ codes "\n")))))))
-    → OnOk r ((x : List ℕ) × (new ≡ old ++ failing_text why count x))
-line_told (Ok x) why count code words old new some code_is is = (
-  words,
-  is
-      ∙ (λ i. old ++ (codes "  " ++ (decimal (code_is i) ++ (codes " stands against " ++ (decimal count ++ (codes ": " ++ (words ++ codes "\n")))))))
-      ∙ rw (ne_eqb count 0 some) (simp append_assoc),
-)
-line_told (Err e) why count code words old new some code_is is = tt
+    → OnOk r (new ≡ old ++ (codes "  " ++ (decimal code ++ (codes " stands against " ++ (decimal count ++ (codes ": " ++ (words_of why ++ codes "\n")))))))
+    → OnOk r (new ≡ old ++ failing_text why count)
+line_told (Ok x) why count code old new some code_is is =
+    is
+    ∙ (λ i. old ++ (codes "  " ++ (decimal (code_is i) ++ (codes " stands against " ++ (decimal count ++ (codes ": " ++ (words_of why ++ codes "\n")))))))
+    ∙ rw (ne_eqb count 0 some) (simp append_assoc)
+line_told (Err e) why count code old new some code_is is = tt
 
-pub aside_told : {E : Type 0} (r : Result (Unit {0}) E) (counts : Counts) (sum : ℕ) (noun old new : List ℕ) → has_octets counts ≡ true
-    → sum ≡ counted (counts.sound + counts.octets_alone) → noun ≡ noun_text counts.reports
+pub aside_told : {E : Type 0} (r : Result (Unit {0}) E) (counts : Counts) (messages sum : ℕ) (noun old new : List ℕ) → has_octets counts ≡ true
+    → messages ≤ 0 → sum ≡ counted (counts.sound + counts.octets_alone) → noun ≡ noun_text counts.reports
     → OnOk r (new ≡ old ++ (codes "were octets left aside (708), " ++ (decimal sum ++ (codes " of " ++ (decimal counts.reports
     ++ (codes " " ++ (noun ++ codes " would be sound\n")))))))
-    → OnOk r (new ≡ old ++ aside_text counts)
-aside_told (Ok x) counts sum noun old new octets sum_is noun_is is =
+    → OnOk r (new ≡ old ++ aside_text counts messages)
+aside_told (Ok x) counts messages sum noun old new octets none sum_is noun_is is =
     is
     ∙ (λ i. old ++ (codes "were octets left aside (708), " ++ (decimal (sum_is i) ++ (codes " of " ++ (decimal counts.reports
     ++ (codes " " ++ (noun_is i ++ codes " would be sound\n")))))))
-    ∙ rw octets (simp append_assoc)
-aside_told (Err e) counts sum noun old new octets sum_is noun_is is = tt
+    ∙ rw (octets, le-ltb 0 messages none) (simp append_assoc)
+aside_told (Err e) counts messages sum noun old new octets none sum_is noun_is is = tt
 
-pub reports_told : {E : Type 0} (r : Result (Unit {0}) E) (counts : Counts) (noun old first second third failing : List ℕ)
+-- the line that says that octets can't be left aside
+pub read_line_told : {E : Type 0} (r : Result (Unit {0}) E) (messages : ℕ) (noun old new : List ℕ) → noun ≡ messages_text messages
+    → OnOk r (new ≡ old ++ (codes "octets can't be left aside (708): a field that a slave or a master reads differs in "
+    ++ (decimal messages ++ (codes " " ++ (noun ++ codes "\n")))))
+    → OnOk r (new ≡ old ++ read_text messages)
+read_line_told (Ok x) messages noun old new noun_is is =
+    is
+    ∙ (λ i. old ++ (codes "octets can't be left aside (708): a field that a slave or a master reads differs in "
+    ++ (decimal messages ++ (codes " " ++ (noun_is i ++ codes "\n")))))
+    ∙ simp append_assoc
+read_line_told (Err e) messages noun old new noun_is is = tt
+
+-- or that they can't be left aside
+pub read_told : {E : Type 0} (r : Result (Unit {0}) E) (counts : Counts) (messages : ℕ) (old new : List ℕ) → has_octets counts ≡ true
+    → 0 < messages → OnOk r (new ≡ old ++ read_text messages) → OnOk r (new ≡ old ++ aside_text counts messages)
+read_told (Ok x) counts messages old new octets some is = is ∙ rw (octets, lt-ltb 0 messages some) refl
+read_told (Err e) counts messages old new octets some is = tt
+
+none_told : (counts : Counts) (messages : ℕ) → counts.reports ≡ 0
+    → codes "there is no report, so nothing was judged\n" ≡ counts_text counts messages
+none_told counts messages none = rw (eq-eqb counts.reports 0 none) refl
+
+pub no_report_told : {E : Type 0} (r : Result (Unit {0}) E) (counts : Counts) (messages : ℕ) (old new : List ℕ) → counts.reports ≡ 0
+    → new ≡ (if is_ok r then old ++ codes "there is no report, so nothing was judged\n" else old)
+    → OnOk r (new ≡ old ++ counts_text counts messages)
+no_report_told (Ok x) counts messages old new none is = is ∙ ap (λ (t : List ℕ). old ++ t) (none_told counts messages none)
+no_report_told (Err e) counts messages old new none is = tt
+
+pub reports_told : {E : Type 0} (r : Result (Unit {0}) E) (counts : Counts) (messages : ℕ) (noun old first second third : List ℕ)
     → counts.reports ≢ 0 → noun ≡ noun_text counts.reports
     → first ≡ old ++ (decimal counts.reports ++ (codes " " ++ (noun ++ (codes ": " ++ (decimal counts.sound ++ codes " sound\n")))))
-    → TellsFailing (against counts) told_reasons failing → second ≡ first ++ failing
-    → OnOk r (third ≡ second ++ aside_text counts)
-    → OnOk r ((x : List ℕ) × TellsReports (counts.reports == 0) counts x × (third ≡ old ++ x))
-reports_told (Ok x) counts noun old first second third failing some noun_is first_is tells second_is third_is =
-    let line : first ≡ old ++ reports_text counts =
-    first_is
-    ∙ (λ i. old ++ (decimal counts.reports ++ (codes " " ++ (noun_is i ++ (codes ": " ++ (decimal counts.sound ++ codes " sound\n"))))))
-    ∙ (simp append_assoc) in (
-      reports_text counts ++ (failing ++ aside_text counts),
-      tells_some counts failing _ some tells refl,
-      three old first second third _ _ _ line second_is third_is,
-    )
-reports_told (Err e) counts noun old first second third failing some noun_is first_is tells second_is third_is = tt
+    → second ≡ first ++ failing_lines (against counts) told_reasons → OnOk r (third ≡ second ++ aside_text counts messages)
+    → OnOk r (third ≡ old ++ counts_text counts messages)
+reports_told (Ok x) counts messages noun old first second third some noun_is first_is second_is third_is =
+    third_is ∙ rw (second_is, first_is, noun_is, ne_eqb counts.reports 0 some) (simp append_assoc)
+reports_told (Err e) counts messages noun old first second third some noun_is first_is second_is third_is = tt
 
 -- behind that any lines, where octets stand against a report
-pub counts_told : {E : Type 0} (r : Result (Unit {0}) E) (counts : Counts) (old first new reports messages : List ℕ)
-    → has_octets counts ≡ true → TellsReports (counts.reports == 0) counts reports → first ≡ old ++ reports
-    → new ≡ (if is_ok r then first ++ messages else first)
+pub counts_told : {E : Type 0} (r : Result (Unit {0}) E) (counts : Counts) (differ : ℕ) (old first new messages : List ℕ)
+    → has_octets counts ≡ true → first ≡ old ++ counts_text counts differ → new ≡ (if is_ok r then first ++ messages else first)
     → OnOk r ((told : List ℕ) × TellsCounts counts told × (new ≡ old ++ told))
-counts_told (Ok x) counts old first new reports messages octets tells first_is is =
-    tells_counts counts true old first new reports messages octets tells tt first_is is
-counts_told (Err e) counts old first new reports messages octets tells first_is is = tt
+counts_told (Ok x) counts differ old first new messages octets first_is is = (
+  counts_text counts differ ++ messages,
+  (differ, messages, subst (λ (o : Bool). TellsMessages o messages) (sym octets) tt, refl),
+  is ∙ ap (λ (t : List ℕ). t ++ messages) first_is ∙ append_assoc old (counts_text counts differ) messages,
+)
+counts_told (Err e) counts differ old first new messages octets first_is is = tt
+
+-- and none where they don't
+pub counts_alone_told : (counts : Counts) (differ : ℕ) (old new : List ℕ) → has_octets counts ≡ false
+    → new ≡ old ++ counts_text counts differ → (told : List ℕ) × TellsCounts counts told × (new ≡ old ++ told)
+counts_alone_told counts differ old new octets is = (
+  counts_text counts differ,
+  (differ, [], subst (λ (o : Bool). TellsMessages o []) (sym octets) refl, sym (append-nil (counts_text counts differ))),
+  is,
+)

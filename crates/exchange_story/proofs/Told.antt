@@ -1,23 +1,29 @@
 -- What is told of a report, piece by piece.
-use Rattle.std.proofs.Common.{◌≡◌, ◌∙◌, ℕ, ◌+◌, ◌<◌, ◌≤◌, true, false, List, [], ◌∷◌, ◌++◌, length, get_or, drop, Result, Ok, Err}
+use Rattle.std.proofs.Common.{◌≡◌, ◌≢◌, ◌∙◌, ℕ, ◌+◌, ◌<◌, ◌≤◌, ℤ, ◌-ℤ◌, int_lt, unsigned_abs, Bool, true, false, Option, Some, List, [], ◌∷◌, ◌++◌, length, get_or, drop, Result, Ok, Err}
 use Rattle.std.proofs.Common.{refl, sym, ap, subst, append_assoc, append-nil, if◌then◌else◌}
 use Rattle.std.specs.Prelude.{codes, is_ok, OnOk}
+use Rattle.std.specs.Fmt.{decimal, signed_decimal}
+use Rattle.std.proofs.lemmas.Bool.{ne_eqb}
 use Rattle.std.proofs.lemmas.List.{drop_more, drop_all}
+use Rattle.slave_port.specs.declared.heard.Report.{Report}
+use Rattle.trace_model.specs.declared.judgement.Results.{Results}
 use Rattle.trace_model.specs.declared.verdict.Why.{Why}
 use Rattle.exchange_story.specs.declared.report.Reported.{Reported}
-use Rattle.exchange_story.specs.Report.{begin_text, reason_text, TellsJudged, TellsReasons}
+use Rattle.exchange_story.specs.Lines.{are_lines}
+use Rattle.exchange_story.specs.Report.{begin_text, difference_text, noun_of_units, reason_text, row_text, rows_text}
+use Rattle.exchange_story.specs.Report.{side_text, units_text, TellsJudged, TellsReasons}
 use Rattle.exchange_story.specs.Counts.{is_sound}
 
 -- ---- reasons
 
 -- one reason more was told, with what it met
-reason_more : (lead told met : List ℕ) (whys : List Why) (i : ℕ) (d : Why) → i < length whys
+reason_more : (lead told met : List ℕ) (whys : List Why) (i : ℕ) (d : Why) → i < length whys → are_lines (codes "    ") met ≡ true
     → ((behind : List ℕ) → TellsReasons lead (drop i whys) behind → TellsReasons (codes "refused, ") whys (told ++ behind))
     → (behind : List ℕ) → TellsReasons (codes "  and ") (drop (i + 1) whys) behind
     → TellsReasons (codes "refused, ") whys ((told ++ (reason_text lead (get_or whys i d) ++ met)) ++ behind)
-reason_more lead told met whys i d more tells behind others =
+reason_more lead told met whys i d more below tells behind others =
     let text : List ℕ = reason_text lead (get_or whys i d) ++ (met ++ behind) in
-    let one : TellsReasons lead (get_or whys i d ∷ drop (i + 1) whys) text = (met, behind, others, refl) in
+    let one : TellsReasons lead (get_or whys i d ∷ drop (i + 1) whys) text = (met, behind, below, others, refl) in
     let here = subst (λ (ws : List Why). TellsReasons lead ws text) (sym (drop_more whys i d more)) one in
     let joined : told ++ text ≡ (told ++ (reason_text lead (get_or whys i d) ++ met)) ++ behind = simp append_assoc in
     subst (λ (t : List ℕ). TellsReasons (codes "refused, ") whys t) joined (tells text here)
@@ -29,15 +35,15 @@ pub record IsTold (whys : List Why) (next : ℕ) (before after : List ℕ) : Typ
   pub tells : (behind : List ℕ) → TellsReasons (codes "  and ") (drop next whys) behind → TellsReasons (codes "refused, ") whys (told ++ behind)
 
 pub told_more : (lead told met before text numbered after : List ℕ) (whys : List Why) (i : ℕ) (d : Why) → i < length whys
-    → text ≡ before ++ told → numbered ≡ text ++ reason_text lead (get_or whys i d) → after ≡ numbered ++ met
+    → are_lines (codes "    ") met ≡ true → text ≡ before ++ told → numbered ≡ text ++ reason_text lead (get_or whys i d) → after ≡ numbered ++ met
     → ((behind : List ℕ) → TellsReasons lead (drop i whys) behind → TellsReasons (codes "refused, ") whys (told ++ behind))
     → IsTold whys (i + 1) before after
-told_more lead told met before text numbered after whys i d more is is_numbered is_after tells = record {
+told_more lead told met before text numbered after whys i d more below is is_numbered is_after tells = record {
   told = told ++ (reason_text lead (get_or whys i d) ++ met);
   text = is_after ∙ ap (λ (t : List ℕ). t ++ met) (is_numbered ∙ ap (λ (t : List ℕ). t ++ reason_text lead (get_or whys i d)) is)
       ∙ append_assoc (before ++ told) (reason_text lead (get_or whys i d)) met
       ∙ append_assoc before told (reason_text lead (get_or whys i d) ++ met);
-  tells = reason_more lead told met whys i d more tells;
+  tells = reason_more lead told met whys i d more below tells;
 }
 
 -- all reasons were told
@@ -48,22 +54,64 @@ reasons_all lead told whys i none tells =
     let here = subst (λ (ws : List Why). TellsReasons lead ws []) (sym (drop_all i whys none)) refl in
     subst (λ (t : List ℕ). TellsReasons (codes "refused, ") whys t) (append-nil told) (tells [] here)
 
+-- ---- the two results
+
+units_told : (units : ℕ) (too_much : Bool) (old : List ℕ) → units ≢ 0
+    → old ++ (codes "  " ++ (decimal units ++ (codes " " ++ (noun_of_units units ++ (codes " of 2^-16 ns too " ++ side_text too_much)))))
+    ≡ old ++ units_text units too_much
+units_told units too_much old some = rw (ne_eqb units 0 some) (simp append_assoc)
+
+pub difference_told : {E : Type 0} (r : Result (Unit {0}) E) (reported by_readings : ℤ) (units : ℕ) (noun side old new : List ℕ)
+    → units ≢ 0 → units ≡ unsigned_abs (reported -ℤ by_readings) → noun ≡ noun_of_units units
+    → side ≡ side_text (int_lt by_readings reported)
+    → OnOk r (new ≡ old ++ (codes "  " ++ (decimal units ++ (codes " " ++ (noun ++ (codes " of 2^-16 ns too " ++ side))))))
+    → OnOk r (new ≡ old ++ difference_text reported by_readings)
+difference_told (Ok x) reported by_readings units noun side old new some units_is noun_is side_is is =
+    is
+    ∙ (λ i. old ++ (codes "  " ++ (decimal units ++ (codes " " ++ (noun_is i ++ (codes " of 2^-16 ns too " ++ side_is i))))))
+    ∙ units_told units (int_lt by_readings reported) old some ∙ (λ i. old ++ units_text (units_is i) (int_lt by_readings reported))
+difference_told (Err e) reported by_readings units noun side old new some units_is noun_is side_is is = tt
+
+row_joined : (name one other difference old first second : List ℕ)
+    → first ≡ old ++ (codes "  " ++ (name ++ (codes "  reported " ++ (one ++ (codes "  by the readings " ++ other)))))
+    → second ≡ first ++ difference
+    → second ++ codes "\n"
+    ≡ old ++ (codes "  " ++ name ++ codes "  reported " ++ one ++ codes "  by the readings " ++ other ++ difference ++ codes "\n")
+row_joined name one other difference old first second first_is second_is = rw (second_is, first_is) (simp append_assoc)
+
+pub row_told : {E : Type 0} (r : Result (Unit {0}) E) (name : List ℕ) (reported by_readings : ℤ) (old first second new : List ℕ)
+    → first ≡ old ++ (codes "  " ++ (name ++ (codes "  reported " ++ (signed_decimal reported ++ (codes "  by the readings " ++ signed_decimal by_readings)))))
+    → second ≡ first ++ difference_text reported by_readings → new ≡ (if is_ok r then second ++ codes "\n" else second)
+    → OnOk r (new ≡ old ++ row_text name reported by_readings)
+row_told (Ok x) name reported by_readings old first second new first_is second_is is =
+    is
+    ∙ row_joined name (signed_decimal reported) (signed_decimal by_readings) (difference_text reported by_readings) old first second first_is second_is
+row_told (Err e) name reported by_readings old first second new first_is second_is is = tt
+
+pub rows_told : {E : Type 0} (r : Result (Unit {0}) E) (report : Report) (by_readings : Option Results) (results : Results)
+    → (old first new : List ℕ) → by_readings ≡ Some results
+    → first ≡ old ++ row_text (codes "offset2") report.offset2 results.offset2
+    → OnOk r (new ≡ first ++ row_text (codes "path2  ") report.path2 results.path2)
+    → OnOk r (new ≡ old ++ rows_text report by_readings)
+rows_told (Ok x) report by_readings results old first new some first_is is =
+    let offset : List ℕ = row_text (codes "offset2") report.offset2 results.offset2 in
+    let path : List ℕ = row_text (codes "path2  ") report.path2 results.path2 in
+    is ∙ ap (λ (t : List ℕ). t ++ path) first_is ∙ append_assoc old offset path
+    ∙ ap (λ (found : Option Results). old ++ rows_text report found) (sym some)
+rows_told (Err e) report by_readings results old first new some first_is is = tt
+
 -- ---- a report
 
-pub pushed : {E : Type 0} (r : Result (Unit {0}) E) (old text new : List ℕ)
-    → new ≡ (if is_ok r then old ++ text else old) → OnOk r ((more : List ℕ) × (new ≡ old ++ more))
-pushed (Ok x) old text new is = (text, is)
-pushed (Err e) old text new is = tt
-
--- what is told of a report that is refused, after its beginning and its reasons
-pub case_told : {E : Type 0} (r : Result (Unit {0}) E) (whys : List Why) (start begun reasoned ended begin reasons : List ℕ)
-    → begun ≡ start ++ begin → reasoned ≡ begun ++ reasons → OnOk r ((lines : List ℕ) × (ended ≡ reasoned ++ lines))
-    → TellsReasons (codes "refused, ") whys reasons
+-- what is told of a report that is refused, after its beginning, its reasons and its moments
+pub case_told : {E : Type 0} (r : Result (Unit {0}) E) (whys : List Why)
+    → (start begun reasoned placed ended begin reasons lines rows : List ℕ)
+    → begun ≡ start ++ begin → reasoned ≡ begun ++ reasons → placed ≡ reasoned ++ lines → OnOk r (ended ≡ placed ++ rows)
+    → TellsReasons (codes "refused, ") whys reasons → are_lines (codes "  t") lines ≡ true
     → OnOk r ((reasons : List ℕ) × (lines : List ℕ) × TellsReasons (codes "refused, ") whys reasons
-    × (ended ≡ start ++ (begin ++ (reasons ++ lines))))
-case_told (Ok x) whys start begun reasoned ended begin reasons a b (lines, c) tells =
-    (reasons, lines, tells, c ∙ rw (b, a) (simp append_assoc))
-case_told (Err e) whys start begun reasoned ended begin reasons a b c tells = tt
+    × (are_lines (codes "  t") lines ≡ true) × (ended ≡ start ++ (begin ++ (reasons ++ (lines ++ rows)))))
+case_told (Ok x) whys start begun reasoned placed ended begin reasons lines rows a b c d tells below =
+    (reasons, lines, tells, below, d ∙ rw (c, b, a) (simp append_assoc))
+case_told (Err e) whys start begun reasoned placed ended begin reasons lines rows a b c d tells below = tt
 
 pub sound_told : {E : Type 0} (r : Result (Unit {0}) E) (reported : Reported) (whys : List Why) (old new : List ℕ) → is_sound whys ≡ true
     → OnOk r (new ≡ old ++ (begin_text reported ++ codes "sound\n"))
@@ -74,9 +122,13 @@ sound_told (Err e) reported whys old new sound is = tt
 
 pub refused_told : {E : Type 0} (r : Result (Unit {0}) E) (reported : Reported) (whys : List Why) (old new : List ℕ) → is_sound whys ≡ false
     → OnOk r ((reasons : List ℕ) × (lines : List ℕ) × TellsReasons (codes "refused, ") whys reasons
-    × (new ≡ old ++ (begin_text reported ++ (reasons ++ lines))))
+    × (are_lines (codes "  t") lines ≡ true)
+    × (new ≡ old ++ (begin_text reported ++ (reasons ++ (lines ++ rows_text reported.report reported.judgement.by_readings)))))
     → OnOk r ((told : List ℕ) × TellsJudged reported whys told × (new ≡ old ++ told))
 refused_told (Ok x) reported [] old new refused told = absurd cc
-refused_told (Ok x) reported (why ∷ others) old new refused (reasons, lines, tells, is) =
-    (begin_text reported ++ (reasons ++ lines), (reasons, lines, tells, refl), is)
+refused_told (Ok x) reported (why ∷ others) old new refused (reasons, lines, tells, below, is) = (
+  begin_text reported ++ (reasons ++ (lines ++ rows_text reported.report reported.judgement.by_readings)),
+  (reasons, lines, tells, below, refl),
+  is,
+)
 refused_told (Err e) reported whys old new refused told = tt

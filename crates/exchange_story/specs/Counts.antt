@@ -6,7 +6,7 @@ use Rattle.std.specs.Fmt.{decimal}
 use Rattle.trace_model.specs.declared.verdict.Why.{Why}
 use Rattle.trace_model.specs.declared.verdict.Why.TheVariants.{NoSuchLine, OtherNumber, OtherMaster, BrokenJourney}
 use Rattle.trace_model.specs.declared.verdict.Why.TheVariants.{WrongReading, WrongValue, TooBig, Bytes}
-use Rattle.trace_model.specs.Refusal.{code_of}
+use Rattle.trace_model.specs.Refusal.{code_of, words_of}
 
 -- all reasons, in the order in which they are told
 abbrev pub told_reasons : List Why
@@ -72,40 +72,49 @@ reports_text counts =
     decimal counts.reports ++ codes " " ++ noun_text counts.reports ++ codes ": " ++ decimal counts.sound
     ++ codes " sound\n"
 
--- the line of a reason that stands against so many reports, with these words for it; none where it stands against none
-abbrev pub failing_text : Why → ℕ → List ℕ → List ℕ
-failing_text why count words = if count == 0 then [] else
-    (codes "  " ++ decimal (code_of why) ++ codes " stands against " ++ decimal count ++ codes ": " ++ words
+-- the line of a reason that stands against so many reports; none where it stands against none
+abbrev pub failing_text : Why → ℕ → List ℕ
+failing_text why count = if count == 0 then [] else
+    (codes "  " ++ decimal (code_of why) ++ codes " stands against " ++ decimal count ++ codes ": " ++ words_of why
     ++ codes "\n")
 
 -- the lines of these reasons, by against how many reports each stands
-abbrev pub TellsFailing : (Why → ℕ) → List Why → List ℕ → Type 0
-TellsFailing failing [] text = text ≡ []
-TellsFailing failing (why ∷ others) text =
-    (words : List ℕ) × (behind : List ℕ) × TellsFailing failing others behind
-    × (text ≡ failing_text why (failing why) words ++ behind)
+abbrev pub failing_lines : (Why → ℕ) → List Why → List ℕ
+failing_lines failing [] = []
+failing_lines failing (why ∷ others) = failing_text why (failing why) ++ failing_lines failing others
 
--- where octets stand against a report, the line that says how many reports would be sound were they left aside
-abbrev pub aside_text : Counts → List ℕ
-aside_text counts = if has_octets counts then
+-- the word for so many messages
+abbrev pub messages_text : ℕ → List ℕ
+messages_text messages = if messages == 1 then codes "message" else codes "messages"
+
+-- the line that says that octets can't be left aside, since a field that is read differs in so many messages
+abbrev pub read_text : ℕ → List ℕ
+read_text messages =
+    codes "octets can't be left aside (708): a field that a slave or a master reads differs in " ++ decimal messages
+    ++ codes " " ++ messages_text messages ++ codes "\n"
+
+-- where octets stand against a report, the line that says how many reports would be sound were they left aside; or where a
+-- field that is read differs in so many messages, that they can't be
+abbrev pub aside_text : Counts → (messages : ℕ) → List ℕ
+aside_text counts messages = if has_octets counts then
+    (if nat_lt 0 messages then read_text messages else
     (codes "were octets left aside (708), " ++ decimal (counted (counts.sound + counts.octets_alone)) ++ codes " of "
-    ++ decimal counts.reports ++ codes " " ++ noun_text counts.reports ++ codes " would be sound\n")
+    ++ decimal counts.reports ++ codes " " ++ noun_text counts.reports ++ codes " would be sound\n"))
     else []
 
--- what is told of reports, by whether there is none
-abbrev pub TellsReports : Bool → Counts → List ℕ → Type 0
-TellsReports true counts text = text ≡ codes "there is no report, so nothing was judged\n"
-TellsReports false counts text =
-    (failing : List ℕ) × TellsFailing (against counts) told_reasons failing
-    × (text ≡ reports_text counts ++ (failing ++ aside_text counts))
+-- what is told of reports, where a field that is read differs in so many messages
+abbrev pub counts_text : Counts → (messages : ℕ) → List ℕ
+counts_text counts messages =
+    if counts.reports == 0 then codes "there is no report, so nothing was judged\n"
+    else (reports_text counts ++ (failing_lines (against counts) told_reasons ++ aside_text counts messages))
 
 -- lines on the messages that have other octets, by whether octets stand against a report: none where they don't
 abbrev pub TellsMessages : Bool → List ℕ → Type 0
 TellsMessages true text = ⊤
 TellsMessages false text = text ≡ []
 
--- what is told of counts
+-- what is told of counts, with in how many messages a field that is read is said to differ
 abbrev pub TellsCounts : Counts → List ℕ → Type 0
 TellsCounts counts text =
-    (reports : List ℕ) × (messages : List ℕ) × TellsReports (counts.reports == 0) counts reports
-    × TellsMessages (has_octets counts) messages × (text ≡ reports ++ messages)
+    (differ : ℕ) × (messages : List ℕ) × TellsMessages (has_octets counts) messages
+    × (text ≡ counts_text counts differ ++ messages)

@@ -1,9 +1,11 @@
 //! A report that is refused, with what each reason against it met.
-ghost use Rattle.std.specs.Prelude.{◌≡◌, ◌++◌, List, ℕ, OnOk, codes};
+ghost use Rattle.std.specs.Prelude.{◌≡◌, ◌++◌, List, ℕ, OnOk, codes, true};
 ghost use Rattle.std.specs.String.{string_bytes};
-ghost use Rattle.exchange_story.specs.Report.{begin_text, TellsReasons};
+ghost use Rattle.exchange_story.specs.Lines.{are_lines};
+ghost use Rattle.exchange_story.specs.Report.{begin_text, rows_text, TellsReasons};
 
 use crate::exchange::push_exchange;
+use crate::lines::push_lines;
 use crate::record::Record;
 use crate::report::{Reported, push_begin, push_reason, push_results};
 use exchange_check::{Checker, Exchange, Why};
@@ -25,11 +27,14 @@ impl Case<'_> {
     pub(crate) fn push(&self, text: &mut String) -> Result<(), AllocError>
         ensures { OnOk result ((reasons : List ℕ) × (lines : List ℕ)
             × TellsReasons (codes "refused, ") self.now.reported.now.judgement.reasons reasons
-            × (string_bytes text.new ≡ string_bytes text.old ++ (begin_text self.now.reported.now ++ (reasons ++ lines)))) }
+            × (are_lines (codes "  t") lines ≡ true)
+            × (string_bytes text.new ≡ string_bytes text.old ++ (begin_text self.now.reported.now ++ (reasons
+            ++ (lines ++ rows_text self.now.reported.now.report self.now.reported.now.judgement.by_readings))))) }
     {
         push_begin(text, self.reported)?;
         self.push_reasons(text)?;
-        self.push_lines(text)
+        self.push_moments(text)?;
+        push_results(text, self.reported)
     }
 
     /// Appends the reasons, each with what it met.
@@ -45,23 +50,23 @@ impl Case<'_> {
             push_reason(text, lead, *why)?;
             lead = "  and ";
             met.clear();
-            write!(met, "{why}\n")?;
             self.push_met(&mut met, *why)?;
-            text.push_str(met.as_str())?;
+            push_lines(text, "    ", met.as_str())?;
         }
         Ok(())
     }
 
-    /// Appends the lines of the report's exchange, where there is one, and its results.
-    fn push_lines(&self, text: &mut String) -> Result<(), AllocError>
-        ensures { OnOk result ((lines : List ℕ) × (string_bytes text.new ≡ string_bytes text.old ++ lines)) }
+    /// Appends the moments and the stays of the report's exchange, where there is one.
+    fn push_moments(&self, text: &mut String) -> Result<(), AllocError>
+        ensures { OnOk result ((lines : List ℕ) × (are_lines (codes "  t") lines ≡ true)
+            × (string_bytes text.new ≡ string_bytes text.old ++ lines)) }
     {
+        let Some(exchange) = self.exchange else {
+            return Ok(());
+        };
         let mut lines = String::new(self.alloc);
-        if let Some(exchange) = self.exchange {
-            push_exchange(&mut lines, self.record.nodes().len() as u64, exchange)?;
-        }
-        push_results(&mut lines, self.reported)?;
-        text.push_str(lines.as_str())
+        push_exchange(&mut lines, self.record.nodes().len() as u64, exchange)?;
+        push_lines(text, "  t", lines.as_str())
     }
 
     /// Appends what a reason met.

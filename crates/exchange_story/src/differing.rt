@@ -1,15 +1,32 @@
 //! How many messages of a transcript have other octets than ports and clocks write.
 
 use crate::field::{FIELDS, field_at};
-use crate::octets::Compared;
+use crate::moments::Length;
+use crate::octets::{Compared, Difference};
+use crate::tally::messages_noun;
+use crate::wrong_field::{READ_FIELDS, WrongField};
 use std::alloc::AllocError;
+
+/// How many messages differ in a field that is read.
+#[derive(Clone, Copy, Debug)]
+struct FieldCount {
+    messages: u64,
+    /// By how much at the most, in units of 2^-16 ns, where that can be said of each.
+    most: Option<i128>,
+}
 
 /// How many messages differ, and where. Counts stay at 2^64 - 1.
 #[derive(Clone, Copy, Debug)]
 pub(crate) struct Differing {
     messages: u64,
     differ: u64,
-    /// In minorVersionPTP alone, which is 0.
+    /// In a field that is read, or so that nobody can read them.
+    read: u64,
+    /// So that nobody can read them.
+    unreadable: u64,
+    /// In each field that is read.
+    read_fields: [FieldCount; 10],
+    /// In no field that is read: in minorVersionPTP alone, which is 0.
     minor_version: u64,
     /// From each field on, where it isn't that alone.
     from_field: [u64; 14],
@@ -17,12 +34,30 @@ pub(crate) struct Differing {
     other: u64,
 }
 
+impl FieldCount {
+    /// One more message, in which the field is wrong so.
+    fn count(&mut self, wrong: &WrongField) {
+        self.messages = self.messages.saturating_add(1);
+        self.most = match (self.most, wrong.excess()) {
+            (Some(most), Some(excess)) => Some(most.max(excess.saturating_abs())),
+            _ => None,
+        };
+    }
+}
+
 impl Differing {
     /// There is no message yet.
     pub(crate) fn new() -> Differing {
+        let none = FieldCount {
+            messages: 0,
+            most: Some(0),
+        };
         Differing {
             messages: 0,
             differ: 0,
+            read: 0,
+            unreadable: 0,
+            read_fields: [none; 10],
             minor_version: 0,
             from_field: [0; 14],
             other: 0,
@@ -31,25 +66,42 @@ impl Differing {
 
     /// One more event, whose message differs so, where it makes one.
     pub(crate) fn count(&mut self, found: Option<Compared>) {
-        let Some(Compared { difference, .. }) = found else {
+        let Some(compared) = found else {
             return;
         };
         self.messages = self.messages.saturating_add(1);
-        let Some(difference) = difference else {
+        if compared.is_right() {
             return;
-        };
+        }
         self.differ = self.differ.saturating_add(1);
-        let count = if difference.is_minor_version() {
-            &mut self.minor_version
-        } else {
-            self.count_from(difference.first_place())
-        };
-        *count = count.saturating_add(1);
+        if compared.is_read_otherwise() {
+            self.count_read(&compared);
+        } else if let Some(rest) = compared.rest {
+            let count = self.count_of(rest);
+            *count = count.saturating_add(1);
+        }
     }
 
-    /// The count of those that differ from this octet on.
-    fn count_from(&mut self, place: Option<usize>) -> &mut u64 {
-        match place
+    /// One more message that is read otherwise.
+    fn count_read(&mut self, compared: &Compared) {
+        self.read = self.read.saturating_add(1);
+        if compared.refusal().is_some() {
+            self.unreadable = self.unreadable.saturating_add(1);
+        }
+        for (count, field) in self.read_fields.iter_mut().zip(READ_FIELDS) {
+            if let Some(wrong) = compared.wrong(field) {
+                count.count(&wrong);
+            }
+        }
+    }
+
+    /// The count of those that differ so, in no field that is read.
+    fn count_of(&mut self, difference: Difference) -> &mut u64 {
+        if difference.is_minor_version() {
+            return &mut self.minor_version;
+        }
+        match difference
+            .first_place()
             .and_then(field_at)
             .and_then(|index| self.from_field.get_mut(index))
         {
@@ -58,8 +110,15 @@ impl Differing {
         }
     }
 
-    /// Appends how many messages differ, and how many of them from which field on.
+    /// How many messages differ in a field that is read.
+    pub(crate) fn read(&self) -> u64 {
+        self.read
+    }
+
+    /// Appends how many messages differ in which field that is read, then how many messages differ at all, and where those
+    /// that don't differ in such a field do.
     pub(crate) fn push(&self, text: &mut String) -> Result<(), AllocError> {
+        self.push_read(text)?;
         write!(
             text,
             "other octets than a port or a clock writes: {} of {} messages\n",
@@ -80,6 +139,31 @@ impl Differing {
         }
         if self.other > 0 {
             write!(text, "  in the suffix or in length alone: {}\n", self.other)?;
+        }
+        Ok(())
+    }
+
+    /// Appends how many messages differ in which field that is read, and by how much at the most.
+    fn push_read(&self, text: &mut String) -> Result<(), AllocError> {
+        if self.unreadable > 0 {
+            write!(
+                text,
+                "  {} {} that nobody can read\n",
+                self.unreadable,
+                messages_noun(self.unreadable)
+            )?;
+        }
+        for (count, field) in self.read_fields.iter().zip(READ_FIELDS) {
+            match (count.messages, count.most) {
+                (0, _) => {}
+                (messages, None) => write!(text, "  {} in {messages}\n", field.name())?,
+                (messages, Some(most)) => write!(
+                    text,
+                    "  {} in {messages}, by {} at the most\n",
+                    field.name(),
+                    Length(most)
+                )?,
+            }
         }
         Ok(())
     }

@@ -41,10 +41,10 @@ pub(crate) struct Stay {
 }
 
 /// Where a journey ends, followed back.
-#[derive(Clone, Copy)]
+#[derive(Clone, Copy, PartialEq, Eq)]
 pub(crate) enum End {
-    /// It was sent there.
-    Sent,
+    /// It was sent by this event.
+    Sent(u64),
     /// This event names one that isn't before it.
     NotBefore {
         by: u64,
@@ -159,7 +159,7 @@ fn step(record: &Record, message: Message, by: u64, copy: u64) -> Back {
     };
     match recorded.line.event.named_transit() {
         Some(transit) => stay_before(record, copy, transit, recorded),
-        None if message.is_sent_by(&recorded.line.event) => Back::End(End::Sent),
+        None if message.is_sent_by(&recorded.line.event) => Back::End(End::Sent(copy)),
         None => Back::End(End::NotSending { by, named: copy }),
     }
 }
@@ -191,16 +191,15 @@ pub(crate) fn journey_to(
     })
 }
 
-/// Appends where a journey ends, unless it was sent there.
+/// Appends where the journey of the message of this name ends, unless it was sent there.
 pub(crate) fn push_stop(
     text: &mut String,
     record: &Record,
-    message: Message,
+    name: &str,
     end: End,
 ) -> Result<(), AllocError> {
-    let name = message.name();
     match end {
-        End::Sent => Ok(()),
+        End::Sent(_) => Ok(()),
         End::NotBefore { by, named } => write!(
             text,
             "    the journey of the {name} stops at {}, which names event {named}; wanted is one before it\n",
@@ -252,7 +251,7 @@ pub(crate) fn push_stop(
 fn push_named(
     text: &mut String,
     record: &Record,
-    name: &'static str,
+    name: &str,
     by: u64,
     named: u64,
     wrong: &'static str,

@@ -7,6 +7,7 @@ mod exchange;
 mod field;
 mod happening;
 mod journey;
+mod lines;
 mod moments;
 mod naming;
 mod numbering;
@@ -17,6 +18,7 @@ mod refusal;
 mod report;
 mod story;
 mod tally;
+mod wrong_field;
 
 pub use refusal::{Before, push_clash, push_refused};
 pub use report::Reported;

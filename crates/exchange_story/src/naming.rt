@@ -1,10 +1,12 @@
 //! What the tags of a report name, where 701 stands against it, and where its messages came from, where 704 does.
 
 use crate::case::Case;
-use crate::journey::{Message, journey_to, push_event, push_stop};
+use crate::journey::{End, Message, journey_to, push_event, push_stop};
 use crate::record::Recorded;
 use network_model::Event;
 use std::alloc::AllocError;
+use std::fmt;
+use std::fmt::{Display, Formatter};
 use trace_model::TraceOut;
 
 /// A message that a report names by the tag of an event at the slave.
@@ -70,6 +72,59 @@ impl Tagged {
     }
 }
 
+/// The message that an event at a slave heard: its name, and the number of the Sync or of the Delay_Req that it is of.
+#[derive(Clone, Copy)]
+struct Heard {
+    message: Tagged,
+    number: u16,
+}
+
+impl Heard {
+    /// The message that was sent first: a Sync or a Delay_Req.
+    fn origin(self) -> Origin {
+        let message = match self.message {
+            Tagged::Sync | Tagged::FollowUp => Message::Sync,
+            Tagged::Request | Tagged::Response => Message::Request,
+        };
+        Origin {
+            message,
+            number: self.number,
+        }
+    }
+}
+
+impl Display for Heard {
+    fn fmt<W: fmt::Write>(&self, f: &mut Formatter<W>) -> fmt::Result {
+        f.write_str(match self.message {
+            Tagged::FollowUp => "the Follow_Up of ",
+            Tagged::Response => "the Delay_Resp to ",
+            Tagged::Sync | Tagged::Request => "",
+        })?;
+        write!(f, "{}", self.origin())
+    }
+}
+
+/// A Sync or a Delay_Req, by its number.
+#[derive(Clone, Copy)]
+struct Origin {
+    message: Message,
+    number: u16,
+}
+
+impl Display for Origin {
+    fn fmt<W: fmt::Write>(&self, f: &mut Formatter<W>) -> fmt::Result {
+        write!(f, "{} {}", self.message.name(), self.number)
+    }
+}
+
+/// The message of this number, where there is one.
+fn heard_by(message: Tagged, number: Option<u16>) -> Option<Heard> {
+    Some(Heard {
+        message,
+        number: number?,
+    })
+}
+
 /// Whether a message completed a pair.
 fn completes(out: &TraceOut) -> bool {
     matches!(out, TraceOut::Completed | TraceOut::Report(_))
@@ -101,10 +156,57 @@ impl Case<'_> {
         Some((number, arrival.line.event.heard_copy()?))
     }
 
-    /// Appends which tag names what in place of what.
+    /// The number of the message that arrives by an event, as a copy of this one.
+    fn number_of(
+        &self,
+        message: Message,
+        arrival: u64,
+        copy: u64,
+    ) -> Result<Option<u16>, AllocError> {
+        let journey = journey_to(self.alloc, self.record, message, arrival, copy)?;
+        Ok(match journey.end {
+            End::Sent(origin) => self.record.at(origin).map(|recorded| recorded.number.0),
+            _ => None,
+        })
+    }
+
+    /// The message that an event heard, where it can be followed back.
+    fn heard_at(&self, number: u64) -> Result<Option<Heard>, AllocError> {
+        let Some(recorded) = self.record.counting(number) else {
+            return Ok(None);
+        };
+        let Some(copy) = recorded.line.event.heard_copy() else {
+            return Ok(None);
+        };
+        if recorded.line.event.is_arrival() {
+            let sync = self.number_of(Message::Sync, number, copy)?;
+            return Ok(heard_by(Tagged::Sync, sync));
+        }
+        match self.sender(number) {
+            Some((_, sender)) if Tagged::FollowUp.is_sender(sender) => {
+                let sync = sender.sync.and_then(|sync| self.record.at(sync));
+                Ok(heard_by(Tagged::FollowUp, sync.map(|recorded| recorded.number.0)))
+            }
+            Some((arrival, sender)) if Tagged::Response.is_sender(sender) => {
+                let Some(copy) = sender.line.event.heard_copy() else {
+                    return Ok(None);
+                };
+                let request = self.number_of(Message::Request, arrival, copy)?;
+                Ok(heard_by(Tagged::Response, request))
+            }
+            _ => Ok(None),
+        }
+    }
+
+    /// Appends which tag names what in place of what. Where a tag is wrong, what follows from it isn't told.
     pub(crate) fn push_tags(&self, text: &mut String) -> Result<(), AllocError> {
         let report = &self.reported.report;
-        self.push_reporting(text)?;
+        let number = self.reported.event;
+        if self.record.counting(number).is_none() {
+            text.push_str("    ")?;
+            push_event(text, self.record, number)?;
+            return text.push_str(", can't report; wanted is an arrive or a hear at a slave\n");
+        }
         self.push_sync(text)?;
         if let Some(hearing) = report.follow_tag {
             self.push_sender(text, Tagged::FollowUp, hearing)?;
@@ -113,6 +215,13 @@ impl Case<'_> {
             self.push_tag(text, Tagged::Request, report.request_tag)?;
         }
         self.push_response(text)?;
+        if !text.is_empty() {
+            return Ok(());
+        }
+        self.push_reporting(text)?;
+        if !text.is_empty() {
+            return Ok(());
+        }
         self.push_stamp(text)
     }
 
@@ -130,6 +239,9 @@ impl Case<'_> {
         {
             text.push_str(", which came to nothing")?;
         }
+        if let Some(heard) = self.heard_at(tag)? {
+            write!(text, ", which is {heard}")?;
+        }
         write!(
             text,
             "; wanted is {} at {}\n",
@@ -138,15 +250,10 @@ impl Case<'_> {
         )
     }
 
-    /// Appends whether the event itself can report, and is of the report.
+    /// Appends that no tag is of the event that reports, and which message that is.
     fn push_reporting(&self, text: &mut String) -> Result<(), AllocError> {
         let number = self.reported.event;
         let report = &self.reported.report;
-        if self.record.counting(number).is_none() {
-            text.push_str("    ")?;
-            push_event(text, self.record, number)?;
-            text.push_str(", can't report; wanted is an arrive or a hear at a slave\n")?;
-        }
         if report.sync_tag == number
             || report.follow_tag == Some(number)
             || report.response_tag == number
@@ -157,7 +264,22 @@ impl Case<'_> {
             text,
             "    none of \"tags\" is {number}; wanted is that the Sync (1st), the Follow_Up (2nd) or the Delay_Resp (4th) \
              came by the event that reports\n"
-        )
+        )?;
+        let Some(heard) = self.heard_at(number)? else {
+            return Ok(());
+        };
+        let of = match heard.message {
+            Tagged::Sync | Tagged::FollowUp => self.heard_at(report.sync_tag)?,
+            Tagged::Request | Tagged::Response => self.heard_at(report.response_tag)?,
+        };
+        match of {
+            Some(of) if of.number != heard.number => write!(
+                text,
+                "    {number} is {heard}; the report is of {}\n",
+                of.origin()
+            ),
+            _ => write!(text, "    {number} is {heard}\n"),
+        }
     }
 
     /// Appends what the tag of the Sync names, where that is something else.
@@ -195,6 +317,9 @@ impl Case<'_> {
             self.record,
             hearing.line.event.heard_copy().unwrap_or(tag),
         )?;
+        if let Some(heard) = self.heard_at(tag)? {
+            write!(text, ", which is {heard}")?;
+        }
         write!(text, "; wanted is {} before it\n", message.sent_by())
     }
 
@@ -240,13 +365,31 @@ impl Case<'_> {
             .record
             .at(sync)
             .and_then(|arrival| arrival.line.event.heard_copy());
-        if let Some(copy) = copy {
-            self.push_way(text, Message::Sync, sync, copy)?;
+        let one = self.end_of(Message::Sync, copy.map(|copy| (sync, copy)))?;
+        let other = self.end_of(Message::Request, self.request_arrival())?;
+        match (one, other) {
+            // One cause is told once.
+            (Some(twice @ End::LeftTwice { .. }), Some(other)) if twice == other => {
+                push_stop(text, self.record, "Sync and the Delay_Req", twice)
+            }
+            _ => {
+                self.push_way(text, Message::Sync, one)?;
+                self.push_way(text, Message::Request, other)
+            }
         }
-        match self.request_arrival() {
-            Some((arrival, copy)) => self.push_way(text, Message::Request, arrival, copy),
-            None => Ok(()),
-        }
+    }
+
+    /// Where the journey of a message ends that arrives by an event as a copy.
+    fn end_of(
+        &self,
+        message: Message,
+        arrival: Option<(u64, u64)>,
+    ) -> Result<Option<End>, AllocError> {
+        let Some((arrival, copy)) = arrival else {
+            return Ok(None);
+        };
+        let journey = journey_to(self.alloc, self.record, message, arrival, copy)?;
+        Ok(Some(journey.end))
     }
 
     /// Appends where the journey of a message stops.
@@ -254,10 +397,11 @@ impl Case<'_> {
         &self,
         text: &mut String,
         message: Message,
-        arrival: u64,
-        copy: u64,
+        end: Option<End>,
     ) -> Result<(), AllocError> {
-        let journey = journey_to(self.alloc, self.record, message, arrival, copy)?;
-        push_stop(text, self.record, message, journey.end)
+        match end {
+            Some(end) => push_stop(text, self.record, message.name(), end),
+            None => Ok(()),
+        }
     }
 }

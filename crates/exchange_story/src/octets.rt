@@ -1,11 +1,12 @@
-//! The octets of messages that no port and no clock writes.
+//! The octets of messages that no port and no clock writes, and what they say in fields that are read.
 
 use crate::case::Case;
 use crate::field::{VERSION, field_name};
 use crate::journey::{Message, push_event};
 use crate::readings::Told;
 use crate::record::{Record, Recorded};
-use event_codec::{Body, PortMessage, encode};
+use crate::wrong_field::{Fields, READ_FIELDS, ReadField, WrongField};
+use event_codec::{Body, DecodeRefusal, decode, encode};
 use exchange_check::{Checker, Exchange};
 use std::alloc::AllocError;
 use std::fmt;
@@ -87,16 +88,26 @@ impl Difference {
 struct Differs<'a> {
     difference: Difference,
     body: &'a Body,
+    /// Whether this is beside fields that are read and differ.
+    is_rest: bool,
 }
 
 impl Display for Differs<'_> {
     fn fmt<W: fmt::Write>(&self, f: &mut Formatter<W>) -> fmt::Result {
         let difference = self.difference;
+        if self.is_rest {
+            f.write_str("of what isn't read, ")?;
+        }
         if difference.is_minor_version() {
-            return f.write_str(
+            f.write_str(
                 "minorVersionPTP, the high half of octet 1 from 0, is 0 (IEEE 1588-2008); wanted is 1 (IEEE \
-                 1588-2019); all other octets are right",
-            );
+                 1588-2019)",
+            )?;
+            return if self.is_rest {
+                Ok(())
+            } else {
+                f.write_str("; all other octets are right")
+            };
         }
         if let Some(octet) = difference.first {
             write!(
@@ -132,24 +143,66 @@ fn octets_made(recorded: &Recorded) -> Option<&[u8]> {
     }
 }
 
-/// A message, and how the octets that an event made differ from it.
+/// The message that an event is to make, and how the octets that it made differ.
 #[derive(Clone, Copy)]
 pub(crate) struct Compared {
-    message: PortMessage,
-    pub(crate) difference: Option<Difference>,
+    wanted: Fields,
+    /// What these octets say, or why nobody can read them.
+    found: Result<Fields, DecodeRefusal>,
+    /// How they differ, but for fields that are read.
+    pub(crate) rest: Option<Difference>,
+}
+
+impl Compared {
+    /// Why nobody can read the octets, where that is so.
+    pub(crate) fn refusal(&self) -> Option<DecodeRefusal> {
+        match &self.found {
+            Ok(_) => None,
+            Err(refusal) => Some(*refusal),
+        }
+    }
+
+    /// What is wrong in this field, which is read.
+    pub(crate) fn wrong(&self, field: ReadField) -> Option<WrongField> {
+        match &self.found {
+            Ok(found) => field.wrong_in(found, &self.wanted),
+            Err(_) => None,
+        }
+    }
+
+    /// Whether a field that is read differs, or nobody can read the octets.
+    pub(crate) fn is_read_otherwise(&self) -> bool {
+        self.found.is_err() || READ_FIELDS.iter().any(|field| self.wrong(*field).is_some())
+    }
+
+    /// Whether all octets are right.
+    pub(crate) fn is_right(&self) -> bool {
+        self.rest.is_none() && !self.is_read_otherwise()
+    }
 }
 
 /// How the octets that an event made differ from those of the message that is written; none where it makes none.
 pub(crate) fn difference_at(checker: &Checker, record: &Record, number: u64) -> Option<Compared> {
-    let found = octets_made(record.at(number)?)?;
+    let octets = octets_made(record.at(number)?)?;
     let message = checker.message_at(number)?;
+    let wanted = Fields::of(&message);
+    let found = match decode(octets) {
+        Ok((said, _)) => Ok(Fields {
+            header: said.header,
+            body: said.body,
+        }),
+        Err(refusal) => Err(refusal),
+    };
+    let but_for_read = match &found {
+        Ok(found) => wanted.with_read_of(found),
+        Err(_) => message,
+    };
     let mut room = [0; 54];
-    let length = encode(&message.message(), &mut room).ok()?;
-    let wanted = room.get(..length)?;
-    let difference = Difference::of(found, wanted);
+    let length = encode(&but_for_read.message(), &mut room).ok()?;
     Some(Compared {
-        message,
-        difference,
+        wanted,
+        found,
+        rest: Difference::of(octets, room.get(..length)?),
     })
 }
 
@@ -189,19 +242,48 @@ impl Case<'_> {
         let Some(compared) = difference_at(self.checker, self.record, number) else {
             return self.push_unsent(text, told, number);
         };
-        let Some(difference) = compared.difference else {
-            return Ok(());
-        };
-        if !told.has_room() {
+        if compared.is_right() || !told.has_room() {
             return Ok(());
         }
+        self.push_read(text, number, &compared)?;
+        let Some(difference) = compared.rest else {
+            return Ok(());
+        };
         text.push_str("    ")?;
         push_event(text, self.record, number)?;
         let differs = Differs {
             difference,
-            body: &compared.message.body,
+            body: &compared.wanted.body,
+            is_rest: compared.refusal().is_none() && compared.is_read_otherwise(),
         };
         write!(text, ": {differs}\n")
+    }
+
+    /// Appends what a message says in fields that are read, where that is something else, or why nobody can read it.
+    fn push_read(
+        &self,
+        text: &mut String,
+        number: u64,
+        compared: &Compared,
+    ) -> Result<(), AllocError> {
+        if let Some(refusal) = compared.refusal() {
+            text.push_str("    ")?;
+            push_event(text, self.record, number)?;
+            write!(
+                text,
+                ": nobody can read it, {}: {refusal}\n",
+                refusal.code()
+            )?;
+        }
+        for field in READ_FIELDS {
+            let Some(wrong) = compared.wrong(field) else {
+                continue;
+            };
+            text.push_str("    ")?;
+            push_event(text, self.record, number)?;
+            write!(text, ": {wrong}\n")?;
+        }
+        Ok(())
     }
 
     /// Appends that a Follow_Up is of no Sync, so that no port writes it.

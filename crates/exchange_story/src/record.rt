@@ -267,6 +267,11 @@ impl Record {
         }
     }
 
+    /// How many messages differ in a field that is read.
+    pub(crate) fn messages_read_otherwise(&self) -> u64 {
+        self.differing.read()
+    }
+
     /// The nodes, in their order.
     pub(crate) fn nodes(&self) -> &[NodeSpec] {
         self.nodes.as_slice()

@@ -1,14 +1,13 @@
 //! What a report is judged to be, for a person.
-ghost use Rattle.std.specs.Prelude.{◌≡◌, ◌++◌, OnOk, codes};
+ghost use Rattle.std.specs.Prelude.{◌≡◌, ◌++◌, int_lt, OnOk, codes};
 ghost use Rattle.std.specs.String.{string_bytes};
-ghost use Rattle.exchange_story.specs.Report.{begin_text, reason_text};
+ghost use Rattle.exchange_story.specs.Report.{begin_text, difference_text, noun_of_units, reason_text};
+ghost use Rattle.exchange_story.specs.Report.{row_text, rows_text, side_text};
 ghost use Rattle.exchange_story.specs.Counts.{is_sound};
 
 use exchange_check::{Judgement, Why};
 use network_model::{Name, Report};
 use std::alloc::AllocError;
-use std::fmt;
-use std::fmt::{Display, Formatter};
 
 /// A report of a transcript, and what it is judged to be.
 #[derive(Debug, Drop)]
@@ -23,36 +22,6 @@ pub struct Reported {
     pub report: Report,
     /// What the report is judged to be.
     pub judgement: Judgement,
-}
-
-/// By how much a reported number differs from the one by the readings.
-#[derive(Clone, Copy)]
-struct Difference {
-    reported: i128,
-    by_readings: i128,
-}
-
-impl Difference {
-    /// How many units.
-    fn units(self) -> u128 {
-        self.reported.wrapping_sub(self.by_readings).unsigned_abs()
-    }
-}
-
-impl Display for Difference {
-    fn fmt<W: fmt::Write>(&self, f: &mut Formatter<W>) -> fmt::Result {
-        let units = self.units();
-        let noun = if units == 1 { "unit" } else { "units" };
-        let side = if self.reported > self.by_readings {
-            "much"
-        } else {
-            "little"
-        };
-        match units {
-            0 => Ok(()),
-            _ => write!(f, "  {units} {noun} of 2^-16 ns too {side}"),
-        }
-    }
 }
 
 /// Whether no reason stands against a report.
@@ -83,31 +52,73 @@ pub(crate) fn push_sound(text: &mut String, reported: &Reported) -> Result<(), A
     text.push_str("sound\n")
 }
 
-/// Appends the number of a reason, after what leads to it in its line.
+/// Appends the line of a reason, with what leads to it in front.
 pub(crate) fn push_reason(text: &mut String, lead: &str, why: Why) -> Result<(), AllocError>
     ensures { OnOk result (string_bytes text.new ≡ string_bytes text.old ++ reason_text lead.now why) }
 {
-    write!(text, "{lead}{}: ", why.code())
+    write!(text, "{lead}{}: {why}\n", why.code())
+}
+
+/// The word for so many units.
+fn units_noun(units: u128) -> &'static str
+    ensures { result.now ≡ noun_of_units units }
+{
+    if units == 1 { "unit" } else { "units" }
+}
+
+/// Whether a result is too much or too little, where it is wrong.
+fn side(reported: i128, by_readings: i128) -> &'static str
+    ensures { result.now ≡ side_text (int_lt by_readings reported) }
+{
+    if reported > by_readings {
+        "much"
+    } else {
+        "little"
+    }
+}
+
+/// Appends by how many units a result is wrong, and which way; nothing where it is right.
+fn push_difference(text: &mut String, reported: i128, by_readings: i128) -> Result<(), AllocError>
+    ensures { OnOk result (string_bytes text.new ≡ string_bytes text.old ++ difference_text reported by_readings) }
+{
+    let units = reported.abs_diff(by_readings);
+    if units == 0 {
+        return Ok(());
+    }
+    write!(
+        text,
+        "  {units} {} of 2^-16 ns too {}",
+        units_noun(units),
+        side(reported, by_readings)
+    )
+}
+
+/// Appends the row of a result, as it is reported and by the readings.
+fn push_row(
+    text: &mut String,
+    name: &str,
+    reported: i128,
+    by_readings: i128,
+) -> Result<(), AllocError>
+    ensures { OnOk result (string_bytes text.new ≡ string_bytes text.old ++ row_text name.now reported by_readings) }
+{
+    write!(
+        text,
+        "  {name}  reported {reported}  by the readings {by_readings}"
+    )?;
+    push_difference(text, reported, by_readings)?;
+    text.push_str("\n")
 }
 
 /// Appends the two results, as they are reported and by the readings; nothing where no readings are found.
-pub(crate) fn push_results(text: &mut String, reported: &Reported) -> Result<(), AllocError> {
+pub(crate) fn push_results(text: &mut String, reported: &Reported) -> Result<(), AllocError>
+    ensures { OnOk result (string_bytes text.new ≡ string_bytes text.old
+        ++ rows_text reported.now.report reported.now.judgement.by_readings) }
+{
     let Some(results) = reported.judgement.by_readings else {
         return Ok(());
     };
-    let rows = [
-        ("offset2", reported.report.offset2, results.offset2),
-        ("path2  ", reported.report.path2, results.path2),
-    ];
-    for (name, reported, by_readings) in rows {
-        write!(
-            text,
-            "  {name}  reported {reported}  by the readings {by_readings}{}\n",
-            Difference {
-                reported,
-                by_readings
-            }
-        )?;
-    }
-    Ok(())
+    let report = &reported.report;
+    push_row(text, "offset2", report.offset2, results.offset2)?;
+    push_row(text, "path2  ", report.path2, results.path2)
 }

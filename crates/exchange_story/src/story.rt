@@ -94,13 +94,15 @@ impl Story {
         case.push(text)
     }
 
-    /// Appends how many reports there are, how many fail which conditions, and where octets stand against one, how
-    /// many messages have other ones.
+    /// Appends how many reports there are, how many fail which conditions, and where octets stand against one, how many
+    /// reports would be sound without that, or in how many messages a field differs that a slave or a master reads, and
+    /// how many messages have other octets.
     pub fn push_tally(&self, text: &mut String) -> Result<(), AllocError>
         ensures { OnOk result ((told : List ℕ) × TellsCounts self.now told
             × (string_bytes text.new ≡ string_bytes text.old ++ told)) }
     {
-        self.tally.push(self.alloc, text)?;
+        self.tally
+            .push(text, self.record.messages_read_otherwise())?;
         if !self.tally.has_octets() {
             return Ok(());
         }

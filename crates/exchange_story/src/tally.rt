@@ -2,13 +2,12 @@
 ghost use Rattle.std.specs.Prelude.{◌≡◌, ◌+◌, ◌==◌, [], ◌∷◌, ◌++◌, List, ℕ, OnOk, if◌then◌else◌};
 ghost use Rattle.std.specs.String.{string_bytes};
 ghost use Rattle.trace_model.specs.declared.verdict.Why.{Why};
-ghost use Rattle.exchange_story.specs.Counts.{aside_text, counted, counts_of, failing_text, has_octets, is_octets_alone};
-ghost use Rattle.exchange_story.specs.Counts.{is_sound, noun_text, stands};
-ghost use Rattle.exchange_story.specs.Counts.{TellsFailing, TellsReports, told_reasons};
+ghost use Rattle.exchange_story.specs.Counts.{aside_text, counted, counts_of, counts_text, failing_lines, failing_text, messages_text, read_text};
+ghost use Rattle.exchange_story.specs.Counts.{has_octets, is_octets_alone, is_sound, noun_text, stands, told_reasons};
 ghost use Rattle.exchange_story.specs.Inner.Tally.{counts_in, failing_in};
 
 use exchange_check::{Reasons, Why};
-use std::alloc::{AllocError, Global};
+use std::alloc::AllocError;
 
 /// All reasons, in the order in which they are told.
 const REASONS: [Why; 8] = [
@@ -128,10 +127,11 @@ impl Tally {
         self.failing.bytes > 0
     }
 
-    /// Appends how many reports there are, and how many fail which conditions.
-    pub(crate) fn push(&self, alloc: Global, text: &mut String) -> Result<(), AllocError>
-        ensures { OnOk result ((told : List ℕ) × TellsReports (self.now.reports == 0) (counts_in self.now) told
-            × (string_bytes text.new ≡ string_bytes text.old ++ told)) }
+    /// Appends how many reports there are, and how many fail which conditions, where so many messages differ in a field
+    /// that is read.
+    pub(crate) fn push(&self, text: &mut String, messages: u64) -> Result<(), AllocError>
+        ensures { OnOk result (string_bytes text.new ≡ string_bytes text.old
+            ++ counts_text (counts_in self.now) messages) }
     {
         if self.reports == 0 {
             return text.push_str("there is no report, so nothing was judged\n");
@@ -143,27 +143,32 @@ impl Tally {
             noun(self.reports),
             self.sound
         )?;
-        self.push_failing(alloc, text)?;
-        self.push_aside(text)
+        self.push_failing(text)?;
+        self.push_aside(text, messages)
     }
 
     /// Appends a line for each reason that stands against a report.
-    fn push_failing(&self, alloc: Global, text: &mut String) -> Result<(), AllocError>
-        ensures { OnOk result ((told : List ℕ) × TellsFailing (failing_in self.now.failing) told_reasons told
-            × (string_bytes text.new ≡ string_bytes text.old ++ told)) }
+    fn push_failing(&self, text: &mut String) -> Result<(), AllocError>
+        ensures { OnOk result (string_bytes text.new ≡ string_bytes text.old
+            ++ failing_lines (failing_in self.now.failing) told_reasons) }
     {
         for why in REASONS {
-            push_reason(alloc, text, why, self.failing.of(why))?;
+            push_reason(text, why, self.failing.of(why))?;
         }
         Ok(())
     }
 
-    /// Appends how many reports would be sound were octets left aside, where these stand against one.
-    fn push_aside(&self, text: &mut String) -> Result<(), AllocError>
-        ensures { OnOk result (string_bytes text.new ≡ string_bytes text.old ++ aside_text (counts_in self.now)) }
+    /// Appends how many reports would be sound were octets left aside, where these stand against one; where so many
+    /// messages differ in a field that is read, that octets can't be left aside.
+    fn push_aside(&self, text: &mut String, messages: u64) -> Result<(), AllocError>
+        ensures { OnOk result (string_bytes text.new ≡ string_bytes text.old
+            ++ aside_text (counts_in self.now) messages) }
     {
         if !self.has_octets() {
             return Ok(());
+        }
+        if messages > 0 {
+            return push_read(text, messages);
         }
         write!(
             text,
@@ -212,6 +217,24 @@ fn more(count: u64, counts: bool) -> u64
     }
 }
 
+/// Appends that octets can't be left aside, since so many messages differ in a field that is read.
+fn push_read(text: &mut String, messages: u64) -> Result<(), AllocError>
+    ensures { OnOk result (string_bytes text.new ≡ string_bytes text.old ++ read_text messages) }
+{
+    write!(
+        text,
+        "octets can't be left aside (708): a field that a slave or a master reads differs in {messages} {}\n",
+        messages_noun(messages)
+    )
+}
+
+/// The word for so many messages.
+pub(crate) fn messages_noun(messages: u64) -> &'static str
+    ensures { result.now ≡ messages_text messages }
+{
+    if messages == 1 { "message" } else { "messages" }
+}
+
 /// The word for so many reports.
 fn noun(reports: u64) -> &'static str
     ensures { result.now ≡ noun_text reports }
@@ -220,19 +243,11 @@ fn noun(reports: u64) -> &'static str
 }
 
 /// Appends the line of a reason that stands against so many reports; nothing where it stands against none.
-fn push_reason(alloc: Global, text: &mut String, why: Why, count: u64) -> Result<(), AllocError>
-    ensures { OnOk result ((words : List ℕ)
-        × (string_bytes text.new ≡ string_bytes text.old ++ failing_text why count words)) }
+fn push_reason(text: &mut String, why: Why, count: u64) -> Result<(), AllocError>
+    ensures { OnOk result (string_bytes text.new ≡ string_bytes text.old ++ failing_text why count) }
 {
     if count == 0 {
         return Ok(());
     }
-    let mut words = String::new(alloc);
-    write!(words, "{why}")?;
-    write!(
-        text,
-        "  {} stands against {count}: {}\n",
-        why.code(),
-        words.as_str()
-    )
+    write!(text, "  {} stands against {count}: {why}\n", why.code())
 }

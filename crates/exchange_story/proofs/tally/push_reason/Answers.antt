@@ -2,6 +2,4 @@ use Rattle.exchange_story.proofs.Counted.{line_told}
 use Rattle.exchange_story.proofs.tally.push_reason.Goals as goal
 
 pub returns : goal.returns
-returns c =
-    line_told c.write-2.result c.args.why c.args.count c.code.result c.as_str.result.now _ _ c.if-count-eq0.false c.code.ensures
-    c.write-2.ensures.bytes
+returns c = line_told c.write.result c.args.why c.args.count c.code.result _ _ c.if-count-eq0.false c.code.ensures c.write.ensures.bytes

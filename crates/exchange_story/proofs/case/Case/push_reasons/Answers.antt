@@ -8,8 +8,9 @@ use Rattle.exchange_story.proofs.case.Case.push_reasons.Goals as goal
 pub loop-why-preserved : goal.loop-why-preserved
 loop-why-preserved c =
     let so_far = c.loop-why.invariant in
-    let more = told_more c.loop-why.lead.now so_far.told c.as_str.result.now _ _ _ _ c.as_slice-reasons.result.now c.loop-why.why-index _ (omega arith) so_far.text
-    c.in_ok-push_reason.ensures c.in_ok-push_str.ensures.bytes so_far.tells in
+    let (met, below, is) = c.in_ok-push_lines.ensures in
+    let more = told_more c.loop-why.lead.now so_far.told met _ _ _ _ c.as_slice-reasons.result.now c.loop-why.why-index _ (omega arith)
+    below so_far.text c.in_ok-push_reason.ensures is so_far.tells in
     record { lead = search rules; told = more.told; text = more.text; tells = more.tells }
 
 pub returns : goal.returns

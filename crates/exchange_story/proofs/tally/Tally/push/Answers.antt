@@ -1,9 +1,11 @@
 use Rattle.exchange_story.specs.Inner.Tally.{counts_in}
-use Rattle.exchange_story.proofs.Counted.{reports_told}
+use Rattle.exchange_story.proofs.Counted.{no_report_told, reports_told}
 use Rattle.exchange_story.proofs.tally.Tally.push.Goals as goal
+
+pub returns-then-self-eq0 : goal.returns-then-self-eq0
+returns-then-self-eq0 c = no_report_told c.push_str.result (counts_in c.args.self.now) c.args.messages _ _ c.if-self-eq0.true c.push_str.ensures.bytes
 
 pub returns : goal.returns
 returns c =
-    let (failing, tells, is) = c.in_ok-push_failing.ensures in
-    reports_told c.push_aside.result (counts_in c.args.self.now) c.noun.result.now _ _ _ _ failing c.if-self-eq0.false c.noun.ensures
-    c.in_ok-write.ensures.bytes tells is c.push_aside.ensures
+    reports_told c.push_aside.result (counts_in c.args.self.now) c.args.messages c.noun.result.now _ _ _ _ c.if-self-eq0.false c.noun.ensures
+    c.in_ok-write.ensures.bytes c.in_ok-push_failing.ensures c.push_aside.ensures
