@@ -7,7 +7,6 @@ use Rattle.network_model.specs.declared.refusal.WorldRefusal.TheVariants.{NoCopy
 use Rattle.network_model.specs.declared.refusal.WorldRefusal.TheVariants.{NothingWaiting, Memory}
 use Rattle.network_model.specs.Network.{Network}
 use Rattle.network_model.specs.Clash.{first_clash}
-use Rattle.network_model.specs.Outcome.{outcome_of}
 use Rattle.world_model.specs.State.{State, new_state, IsRefused}
 use Rattle.schedule_reading.specs.Fault.{fault_of}
 use Rattle.schedule_reading.specs.Schedule.{refusal_of}

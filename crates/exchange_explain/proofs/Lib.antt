@@ -4,3 +4,9 @@ pub mod Faults
 pub mod Untold
 pub mod Seen
 pub mod Reports
+pub mod OneRead
+pub mod Read
+pub mod AsRead
+pub mod Answered
+pub mod Looked
+pub mod Worked

@@ -1,7 +1,7 @@
 -- What is told of a line's report, and what is kept of it.
 use Rattle.std.proofs.Common.{◌≡◌, ◌≢◌, ◌∙◌, ◌++◌, ℕ, ◌+◌, Bool, true, false, List, [], ◌∷◌, Option, Some, None, Result, Ok, Err}
 use Rattle.std.proofs.Common.{refl, sym, ap, subst}
-use Rattle.std.specs.Prelude.{MatchResult, OnOk, option_map, codes, string_bytes, ⊤}
+use Rattle.std.specs.Prelude.{MatchResult, OnOk, option_map}
 use Rattle.trace_model.specs.declared.verdict.Verdict.{Verdict}
 use Rattle.trace_model.specs.declared.verdict.Why.{Why}
 use Rattle.schedule_lines.specs.declared.reading.transcript.TranscriptLine.TheVariants as recorded
@@ -9,18 +9,16 @@ use Rattle.schedule_reading.specs.declared.fault.TaskFault.{TaskFault}
 use Rattle.schedule_reading.specs.declared.fault.TaskFault.TheVariants.{Memory}
 use Rattle.schedule_reading.specs.declared.transcript.Judged.{Judged}
 use Rattle.schedule_reading.specs.Transcript.{Recorded}
-use Rattle.schedule_reading.specs.Verdict.{verdict_text}
 use Rattle.exchange_story.specs.declared.report.Reported.{Reported}
 use Rattle.exchange_story.specs.Counts.{Counts, counts_of, TellsCounts}
 use Rattle.exchange_story.specs.Report.{TellsReport}
 use Rattle.exchange_explain.specs.declared.explaining.Explaining.{Explaining}
-use Rattle.exchange_explain.specs.declared.input.Found.{Found}
 use Rattle.exchange_explain.specs.declared.input.Found.TheVariants as found
 use Rattle.exchange_explain.specs.declared.input.Input.{Input}
 use Rattle.exchange_explain.specs.declared.input.Input.TheVariants.{Transcript, Schedule}
 use Rattle.exchange_explain.specs.Input.{lines_in, Takes, Faults}
 use Rattle.exchange_explain.specs.Explained.{Seen, Sees, TellsFound, TellsIf, TellsLine, found_text, with_report}
-use Rattle.exchange_explain.specs.Inner.Explaining.{IsExplaining, IsSeenAlike, HasEvent, HasEventFor, fault_kept}
+use Rattle.exchange_explain.specs.Inner.Explaining.{IsExplaining, IsSeenAlike, HasEventFor, fault_kept}
 
 -- where a line has a report, the input is a transcript that has an event
 pub has_event : (line : List ℕ) (input later : Input) (judged : Option Judged) → Takes line input later judged
@@ -77,15 +75,15 @@ line_taken task later input' seen line judged told is no_fault takes alike count
 
 -- the first fault, of which anything may be told
 pub fault_taken : (r : Result (Unit {0}) TaskFault) (task later : Explaining) (seen : Seen) (line : List ℕ) (input' : Input) (fault : TaskFault) (told : List ℕ)
-    → IsExplaining task seen → (input' ≡ task.input) × Faults fault task.input line
+    → IsExplaining task seen → (input' ≡ task.input) × Faults fault task.input line → fault ≢ Memory
     → MatchResult r (λ _. IsExplaining later (record seen { fault = Some (lines_in seen.input + 1, fault) })) (λ stop. stop ≡ Memory)
     → MatchResult r (λ _. (x : Seen) × IsExplaining later x × Sees line None seen x told) (λ stop. stop ≡ Memory)
-fault_taken (Ok x) task later seen line input' fault told is (same, faults) kept = (
+fault_taken (Ok x) task later seen line input' fault told is (same, faults) other kept = (
   record seen { fault = Some (lines_in seen.input + 1, fault) },
   kept,
-  (refl, (refl, subst (λ (i : Input). Faults fault i line) (sym is.input) faults, refl, refl)),
+  (refl, (refl, other, subst (λ (i : Input). Faults fault i line) (sym is.input) faults, refl, refl)),
 )
-fault_taken (Err stop) task later seen line input' fault told is faulted stopped = stopped
+fault_taken (Err stop) task later seen line input' fault told is faulted other stopped = stopped
 
 -- a line behind the first fault, of which anything may be told
 pub looked_on : (task later : Explaining) (seen : Seen) (line : List ℕ) (at : ℕ × TaskFault) (told : List ℕ)

@@ -1,8 +1,9 @@
 -- What `explain` answers and writes, by the input that it reads. Of the text that it writes is said what it tells of the
 -- reports of a transcript, and what it tells at the end of an input without a fault.
-use Rattle.std.specs.Prelude.{◌≡◌, ◌⊎◌, ℕ, ◌+◌, ◌==◌, Bool, true, false, List, [], ◌∷◌, ◌++◌, codes, if◌then◌else◌}
+use Rattle.std.specs.Prelude.{◌≡◌, ◌≢◌, ◌⊎◌, ℕ, ◌+◌, ◌==◌, Bool, true, false, List, [], ◌∷◌, ◌++◌, codes, if◌then◌else◌}
 use Rattle.std.specs.Prelude.{Option, Some, None, Result, MatchResult, ⊤}
 use Rattle.std.specs.Fmt.{decimal}
+use Rattle.std.specs.Io.KnownBytes.{Appends}
 use Rattle.std.specs.Option.{ForSome}
 use Rattle.network_model.specs.declared.refusal.WorldRefusal.{WorldRefusal}
 use Rattle.trace_model.specs.declared.verdict.Why.{Why}
@@ -10,7 +11,7 @@ use Rattle.text_lines.specs.declared.counted.Counted.{Counted}
 use Rattle.text_lines.specs.declared.fault.Cause.{Cause}
 use Rattle.text_lines.specs.declared.fault.Stopped.{Stopped}
 use Rattle.text_lines.specs.declared.fault.Cause.TheVariants.{Reading, Task}
-use Rattle.text_lines.specs.Counted.{device_of, HasNotFailed, HasFailedIf}
+use Rattle.text_lines.specs.Counted.{device_of, failures_of, one_more, HasNotFailed, HasFailed, HasFailedIf}
 use Rattle.text_lines.specs.Lines.{lines_limit, IsFromReading}
 use Rattle.text_lines.specs.Task.{Rules, AnswersAll, AnswersUntil}
 use Rattle.schedule_reading.specs.declared.fault.TaskFault.{TaskFault}
@@ -62,14 +63,15 @@ abbrev pub TellsLine : Bool → Input → Option Judged → List ℕ → Type 0
 TellsLine first later None told = told ≡ []
 TellsLine first later (Some judged) told = TellsIf (is_told first judged.event later) (reported_of judged) told
 
--- a line that is taken, or the first one that isn't, of which anything may be told
+-- A line that is taken, or the first one that isn't, of which anything may be told. Want of memory is no fault of a line:
+-- it stops the looking at lines.
 abbrev pub SeesFirst : List ℕ → (seen later : Seen) → Option (ℕ × TaskFault) → List ℕ → Type 0
 SeesFirst line seen later None told =
     (judged : Option Judged) × Takes line seen.input later.input judged
     × (later.reports ≡ with_report judged seen.reports) × TellsLine seen.first later.input judged told
 SeesFirst line seen later (Some (number, fault)) told =
-    (number ≡ lines_in seen.input + 1) × Faults fault seen.input line × (later.input ≡ seen.input)
-    × (later.reports ≡ seen.reports)
+    (number ≡ lines_in seen.input + 1) × (fault ≢ Memory) × Faults fault seen.input line
+    × (later.input ≡ seen.input) × (later.reports ≡ seen.reports)
 
 -- what one more line does: after the first fault nothing, and anything may be told of it
 abbrev pub Sees : List ℕ → Option (ℕ × TaskFault) → (seen later : Seen) → List ℕ → Type 0
@@ -127,14 +129,28 @@ explain_rules = record {
 abbrev pub unseen : Bool → Seen
 unseen first = record { first = first; input = nothing; reports = []; fault = None }
 
--- What an answer over these octets says, of what is left of them, and where there is one of what was written. Where it
--- stopped, a text may stand behind what was told of the lines.
-abbrev pub Explains : Bool → List ℕ → (left before after : Option (List ℕ))
+-- a text went out behind what was told, or the writer failed at it, by how many calls of it failed
+abbrev pub WritesMore : (told after : Option (List ℕ)) → (failures failures' : ℕ) → Type 0
+WritesMore told after failures failures' =
+    ((failures' ≡ failures) × (text : List ℕ) × Appends told after text) ⊎ (failures' ≡ one_more failures)
+
+-- Where this stopped it, what is told of the lines before went out, and nothing else; but where a line can't be read, a
+-- text on that behind it.
+abbrev pub ExplainsUntil : Bool → List ℕ → (left before after : Option (List ℕ)) → (failures failures' : ℕ) → ℕ
+    → Cause TaskFault → Type 0
+ExplainsUntil first octets left before after failures failures' line (Reading fault) =
+    (told : Option (List ℕ)) × AnswersUntil explain_rules (unseen first) octets left before told line (Reading fault)
+    × WritesMore told after failures failures'
+ExplainsUntil first octets left before after failures failures' line (Task fault) =
+    AnswersUntil explain_rules (unseen first) octets left before after line (Task fault)
+
+-- what an answer over these octets says, of what is left of them, and of what was written by how many calls of the
+-- writer failed
+abbrev pub Explains : Bool → List ℕ → (left before after : Option (List ℕ)) → (failures failures' : ℕ)
     → Result Explained (Stopped (Cause TaskFault)) → Type 0
-Explains first octets left before after answer = MatchResult answer
+Explains first octets left before after failures failures' answer = MatchResult answer
     (AnswersAll explain_rules (unseen first) octets left before after)
-    (λ stop. (told : Option (List ℕ))
-    × AnswersUntil explain_rules (unseen first) octets left before told stop.line stop.what)
+    (λ stop. ExplainsUntil first octets left before after failures failures' stop.line stop.what)
 
 -- what an answer says where the reader tells its octets, and where the writer does
 abbrev pub ExplainsAnswer : {R W : Type 0} → Bool → (R → Option (List ℕ)) → (W → Option (List ℕ))
@@ -143,12 +159,13 @@ abbrev pub ExplainsAnswer : {R W : Type 0} → Bool → (R → Option (List ℕ)
 ExplainsAnswer first remaining contents answer input input' output output' =
     ForSome (remaining (device_of input)) (λ octets.
     Explains first octets (remaining (device_of input')) (contents (device_of output)) (contents (device_of output'))
-    answer)
+    (failures_of output) (failures_of output') answer)
 
 -- Which of the two devices failed where this stopped it. After a fault of reading a text is written, which may fail.
 abbrev pub HasFailedAt : {R W : Type 0} → Cause TaskFault
     → (input input' : Counted R) (output output' : Counted W) → Type 0
-HasFailedAt (Reading fault) input input' output output' = IsFromReading fault input input'
+HasFailedAt (Reading fault) input input' output output' =
+    IsFromReading fault input input' × (HasNotFailed output output' ⊎ HasFailed output output')
 HasFailedAt (Task fault) input input' output output' =
     HasNotFailed input input' × HasFailedIf (is_write fault) output output'
 

@@ -1,11 +1,14 @@
 -- What the lines of an input are: a transcript or a schedule. Nodes alone are a transcript; from the first event on that
 -- has no record of what came of it the input is a schedule.
-use Rattle.std.specs.Prelude.{◌≡◌, ◌⊎◌, ℕ, ◌+◌, List, [], length, Option, None, Ok, IsOk, ⊤}
+use Rattle.std.specs.Prelude.{◌≡◌, ◌⊎◌, ℕ, ◌+◌, Bool, true, false, List, [], ◌∷◌, length, Option, None, Result, Ok, Err}
+use Rattle.std.specs.Prelude.{IsOk, ⊤}
 use Rattle.network_model.specs.declared.event.Event.{Event}
 use Rattle.network_model.specs.Clash.{first_clash}
 use Rattle.network_model.specs.Outcome.{outcome_of}
 use Rattle.world_model.specs.State.{State, new_state, after}
 use Rattle.trace_model.specs.Verdict.{verdict}
+use Rattle.text_lines.specs.Lines.{without_cr}
+use Rattle.schedule_lines.specs.declared.reading.schedule.Line.{Line}
 use Rattle.schedule_lines.specs.declared.reading.schedule.Line.TheVariants as entries
 use Rattle.schedule_reading.specs.declared.fault.TaskFault.{TaskFault}
 use Rattle.schedule_reading.specs.declared.fault.TaskFault.TheVariants.{Write, Memory}
@@ -17,6 +20,17 @@ use Rattle.exchange_explain.specs.declared.input.Found.{Found}
 use Rattle.exchange_explain.specs.declared.input.Found.TheVariants as found
 use Rattle.exchange_explain.specs.declared.input.Input.{Input}
 use Rattle.exchange_explain.specs.declared.input.Input.TheVariants.{Transcript, Schedule}
+
+-- the same of this entry and lines behind it
+abbrev pub is_schedule_from : Result Line TaskFault → Bool → Bool
+is_schedule_from (Ok (entries.Node node)) behind = behind
+is_schedule_from (Ok (entries.Event event)) behind = true
+is_schedule_from (Err fault) behind = false
+
+-- whether lines are a schedule: the first that isn't a node is an event that has no record of what came of it
+abbrev pub is_schedule : List (List ℕ) → Bool
+is_schedule [] = false
+is_schedule (line ∷ lines) = is_schedule_from (entry_in (without_cr line)) (is_schedule lines)
 
 -- no line was read
 abbrev pub nothing : Input

@@ -7,11 +7,11 @@ ghost use Rattle.schedule_reading.specs.Fault.{is_write};
 ghost use Rattle.exchange_story.specs.Counts.{counts_of};
 ghost use Rattle.exchange_story.specs.Report.{TellsReport};
 ghost use Rattle.exchange_explain.specs.declared.explaining.Explained.TheVariants.{Flawed};
-ghost use Rattle.text_lines.specs.Counted.{device_of, HasFailedIf, HasNotFailed};
+ghost use Rattle.text_lines.specs.Counted.{device_of, failures_of, HasFailedIf, HasNotFailed};
 ghost use Rattle.text_lines.specs.Lines.{input_limit, lines_limit, GivesWithin};
 ghost use Rattle.exchange_explain.specs.Explained.{Seen, Sees, EndsIn, TellsEnd, TellsFound, TellsIf, TellsLine};
 ghost use Rattle.exchange_explain.specs.Explained.{explain_rules, reported_of, with_report};
-ghost use Rattle.exchange_explain.specs.Explained.{ExplainsAnswer, ExplainFailedWith};
+ghost use Rattle.exchange_explain.specs.Explained.{ExplainsAnswer, ExplainFailedWith, WritesMore};
 ghost use Rattle.exchange_explain.specs.Input.{lines_in};
 ghost use Rattle.exchange_explain.specs.Judgements.{is_told};
 ghost use Rattle.exchange_explain.specs.Inner.Explaining.{IsExplaining, IsKeptAlike, IsSeenAlike, HasEvent, HasEventFor};
@@ -291,7 +291,10 @@ impl Explaining {
     }
 
     /// Writes why a line can't be read. What can't be written is lost.
-    fn tell_unread<W: Write>(&mut self, line: u64, what: ReadingFault, output: &mut Counted<W>) {
+    fn tell_unread<W: Write>(&mut self, line: u64, what: ReadingFault, output: &mut Counted<W>)
+        ensures { WritesMore (W.contents (device_of output.old)) (W.contents (device_of output.new))
+            (failures_of output.old) (failures_of output.new) }
+    {
         self.text.clear();
         let _ = self.push_unread(line, what);
         let _ = self.write(output);
@@ -368,16 +371,14 @@ pub fn explain<R: Read, W: Write>(
         text: String::new(alloc),
         begins: None,
     };
-    let answer = answer_lines(&mut task, input, output);
-    let Err(
-        Stopped {
-            line,
-            what: Cause::Reading(what),
+    match answer_lines(&mut task, input, output) {
+        Ok(answer) => Ok(answer),
+        Err(stop) => match stop.what {
+            Cause::Reading(what) => {
+                task.tell_unread(stop.line, what, output);
+                Err(stop)
+            }
+            Cause::Task(_) => Err(stop),
         },
-    ) = answer
-    else {
-        return answer;
-    };
-    task.tell_unread(line, what, output);
-    answer
+    }
 }
