@@ -1,11 +1,37 @@
--- A worked judgement: its JSON, and that it is within its range.
-use Rattle.std.proofs.Common.{◌≡◌, [], ◌∷◌, codes, pos, Some, refl, arith}
+-- A worked judgement: its JSON, and that it is within its range; and two worked inputs.
+use Rattle.std.proofs.Common.{◌≡◌, inl, List, ℕ, [], ◌∷◌, codes, false, pos, Option, Some, None, Result, Ok, Err, refl, arith}
 use Rattle.std.specs.Fmt.{digits}
+use Rattle.std.specs.Str.{is_utf8, chars}
+use Rattle.serde_json.proofs.OnLiterals.{serde_json_on_literals}
+use Rattle.network_model.specs.declared.event.Event.TheVariants as events
+use Rattle.network_model.specs.declared.refusal.WorldRefusal.TheVariants.{WrongKind}
+use Rattle.text_lines.specs.declared.fault.Cause.{Cause}
+use Rattle.text_lines.specs.declared.fault.Cause.TheVariants.{Task}
+use Rattle.text_lines.specs.declared.fault.Stopped.{Stopped}
+use Rattle.text_lines.specs.Lines.{lines_of}
+use Rattle.schedule_lines.specs.declared.reading.schedule.Line.TheVariants as entries
+use Rattle.schedule_lines.specs.declared.reading.transcript.TranscriptLine.TheVariants as recorded
+use Rattle.schedule_reading.specs.declared.fault.TaskFault.{TaskFault}
+use Rattle.schedule_reading.specs.declared.fault.TaskFault.TheVariants.{Json, World}
 use Rattle.trace_model.specs.declared.verdict.Why.TheVariants.{WrongValue, Bytes}
 use Rattle.schedule_lines.proofs.Names.{IsName-from_test}
 use Rattle.schedule_reading.specs.declared.transcript.Judged.{Judged}
 use Rattle.exchange_explain.specs.Judged.{judged_text}
+use Rattle.exchange_explain.specs.declared.explaining.Explained.TheVariants.{Flawed}
+use Rattle.exchange_explain.specs.declared.input.Found.{Found}
+use Rattle.exchange_explain.specs.declared.input.Found.TheVariants.{Transcript, Schedule}
+use Rattle.exchange_explain.specs.Input.{is_schedule}
+use Rattle.exchange_explain.specs.Judgements.{Judges}
+use Rattle.exchange_explain.proofs.Worked.{clock, clock_recorded, clock_scheduled, no_json, x_recorded, no_json_is, no_json_judged, no_json_explained}
+use Rattle.exchange_explain.proofs.Worked.{clock_ticks, tick_scheduled, tick_refused, clock_ticks_is, clock_ticks_judged}
+use Rattle.transcript_text.specs.declared.fault.FaultKind.TheVariants as kinds
+use Rattle.transcript_text.specs.CheckText.{Checks}
+use Rattle.transcript_text.specs.Fault.{task_kind}
+use Rattle.transcript_text.specs.OneAnswer.{IsOfInput}
+use Rattle.transcript_text.specs.Replay.{nodes_text, Replays}
+use Rattle.explain_laws.specs.AsChecked.{IsSame, IsBeside}
 use Rattle.explain_laws.specs.ReadBack.{IsWithinRange}
+use Rattle.explain_laws.proofs.AsChecked.{judgements_one, judges_as_checked, explains_as_checked}
 
 -- an offset that is one unit too much, and other octets
 abbrev judged : Judged
@@ -41,3 +67,83 @@ is_within = record {
   path2 = omega arith;
   by_readings = (omega arith, omega arith);
 }
+
+-- ---- two inputs of a clock and one more line: `check_text` and `replay` have the fault of `write_judgements` and of
+-- `explain`, by the laws, and so it is computed
+
+no_json_checked : Checks no_json (Some []) None None (Err (record { line = 2; what = kinds.Json }))
+no_json_checked = (
+  Task Json,
+  refl,
+  record {
+    earlier = 1;
+    number = refl;
+    state = record { nodes = clock ∷ []; lines = [] };
+    text = [];
+    taken = (
+      record { nodes = clock ∷ []; lines = [] },
+      [],
+      [],
+      refl,
+      (recorded.Node clock, clock_recorded, (refl, refl), refl),
+      (refl, refl),
+      refl,
+    );
+    last = [];
+    stops = inl (codes "x", omega arith, refl, refl, (x_recorded, refl), refl);
+    output = tt;
+  },
+)
+
+no_json_same : IsSame Transcript (Err (record { line = 2; what = Task Json })) (Err (record { line = 2; what = kinds.Json }))
+no_json_same = (judges_as_checked.transcript false no_json (Some []) None None (Some []) None None (Err (record { line = 2; what = Task Json }))
+    (Err (record { line = 2; what = kinds.Json })) no_json_is no_json_judged no_json_checked (λ device. device) (λ device. device)).0
+
+no_json_beside : IsBeside Transcript (Ok (Flawed 2 Json)) (Err (record { line = 2; what = kinds.Json }))
+no_json_beside = explains_as_checked.transcript false no_json (Some []) None None (Some []) None None 0 0 (Ok (Flawed 2 Json))
+    (Err (record { line = 2; what = kinds.Json })) no_json_is no_json_explained no_json_checked tt (λ device. device)
+
+no_json_one : (left after : Option (List ℕ)) (answer : Result Found (Stopped (Cause TaskFault))) → Judges false no_json left (Some []) after answer → IsOfInput task_kind answer
+    → answer ≡ Err (record { line = 2; what = Task Json })
+no_json_one left after answer says sure =
+    (judgements_one false no_json (Some []) None None left (Some []) after (Err (record { line = 2; what = Task Json })) answer no_json_judged says (λ device. device) sure).0
+
+clock_ticks_replayed : Replays clock_ticks (Some []) None None (Err (record { line = 2; what = kinds.World WrongKind }))
+clock_ticks_replayed = (
+  Task (World WrongKind),
+  refl,
+  record {
+    earlier = 1;
+    number = refl;
+    state = record { network = clock ∷ []; run = [] };
+    text = [];
+    taken = (
+      record { network = clock ∷ []; run = [] },
+      [],
+      [],
+      refl,
+      (entries.Node clock, clock_scheduled, (refl, refl, refl)),
+      (refl, refl),
+      refl,
+    );
+    last = nodes_text (clock ∷ []);
+    stops = inl (
+      codes "{\"ev\":\"tick\",\"node\":\"T\"}",
+      omega arith,
+      refl,
+      refl,
+      ((events.Tick (codes "T"), tick_scheduled, tick_refused), refl),
+      refl,
+    );
+    output = tt;
+  },
+)
+
+clock_ticks_same : IsSame Schedule (Err (record { line = 2; what = Task (World WrongKind) })) (Err (record { line = 2; what = kinds.World WrongKind }))
+clock_ticks_same = (judges_as_checked.schedule false clock_ticks (Some []) None None (Some []) None None (Err (record { line = 2; what = Task (World WrongKind) }))
+    (Err (record { line = 2; what = kinds.World WrongKind })) clock_ticks_is clock_ticks_judged clock_ticks_replayed (λ device. device) (λ device. device)).0
+
+-- a recorded event makes no schedule
+recorded_is : is_schedule (lines_of (codes "{\"kind\":\"clock\",\"node\":\"T\"}\n{\"ev\":\"tick\",\"n\":0,\"node\":\"T\",\"out\":\"done\"}\n")) ≡ false
+unfolding serde_json_on_literals is_utf8 chars
+recorded_is = refl

@@ -1,5 +1,6 @@
 //! Laws of what `explain` writes: contracts of functions that do nothing.
 
+ghost use Rattle.explain_laws.specs.AsChecked.{ExplainsAsChecked, JudgementsHaveOneAnswer, JudgesAsChecked};
 ghost use Rattle.explain_laws.specs.ReadBack.{EachJudgementIsJson};
 
 /// What `explain --json` writes of a report is one line of printed octets, which is read as an object of seven members:
@@ -7,4 +8,24 @@ ghost use Rattle.explain_laws.specs.ReadBack.{EachJudgementIsJson};
 /// of all numbers of 64 bits, of results of 128 bits, and of any name that a node may have.
 pub fn judgements_are_json()
     ensures { EachJudgementIsJson }
+{}
+
+/// Octets have one answer of `write_judgements`: two answers over the same octets, of which neither is a fault of a device or
+/// of memory, are the same verdict or number of events, or the same fault at the same line; they leave the same octets, and
+/// one text was written by both, whatever the writers held before.
+pub fn judgements_have_one_answer()
+    ensures { JudgementsHaveOneAnswer }
+{}
+
+/// `write_judgements` answers over a transcript what `check_text` answers over the same octets, the verdict or the fault at
+/// its line, and over a schedule what `replay` does, the number of events or the fault; and both leave the same octets. Left
+/// out are faults of a device and want of memory.
+pub fn judges_as_checked()
+    ensures { JudgesAsChecked }
+{}
+
+/// So does `explain`, with its first fault. Where a line can't be read, `check_text` and `replay` have that fault, or one of a
+/// line before it: `explain` reads on behind its first fault.
+pub fn explains_as_checked()
+    ensures { ExplainsAsChecked }
 {}
