@@ -1,0 +1,10 @@
+pub mod Along
+pub mod Times
+pub mod Resting
+pub mod Lines
+pub mod Asymmetry
+pub mod Journeys
+pub mod Worked
+pub mod WorkedApart
+pub mod WorkedAsymmetry
+pub mod WorkedTaps
