@@ -1,0 +1,4 @@
+pub mod TapName
+pub mod Sides
+pub mod Known
+pub mod Inner
