@@ -1,0 +1,3 @@
+mod Reversed
+mod Courses
+mod Worked

@@ -1,0 +1,125 @@
+//! Messages that are followed, and what is told of them.
+ghost use Rattle.std.specs.Prelude.{◌≡◌, ◌∷◌, ◌++◌, List, [], OnOk};
+ghost use Rattle.std.specs.String.{string_bytes};
+ghost use Rattle.datagram_text.specs.Shown.{stamp_text};
+ghost use Rattle.tap_crossing.specs.Crossing.{IsWithin};
+ghost use Rattle.tap_following.specs.Followed.{watched_in};
+ghost use Rattle.tap_following.specs.Written.{text_as, text_at, told_of};
+ghost use Rattle.tap_following.specs.Held.{IsFollowing};
+ghost use Rattle.tap_following.specs.Inner.Learned.{learned};
+
+use crate::followed::{Followed, message_of, requester, tap_at};
+use pairing::RingTable;
+use ptp_units::Timestamp;
+use std::alloc::{AllocError, Global};
+use std::fmt::Write;
+use std::marker::Model;
+use tap_choice::Met;
+use tap_crossing::{Crossing, Outcome, Record, Taps};
+use tap_lines::{Crossed, push_json, push_row};
+
+/// How many records of a kind count.
+const RECORDS_MOST: usize = 256;
+
+/// How crossings are written.
+#[derive(Clone, Copy, Debug, PartialEq, Eq)]
+pub enum Form {
+    /// JSON, one object a line.
+    Json,
+    /// Rows of a table, with commas between the columns.
+    Table,
+}
+
+/// The messages that are followed.
+#[derive(Drop)]
+pub(crate) struct Following {
+    form: Form,
+    /// Whose messages; the slave is told by the first Delay_Req at `to`, where it isn't known before.
+    followed: Followed,
+    taps: Taps<RingTable<Record, RECORDS_MOST>>,
+    /// The time of the last crossing, in the one text that all share.
+    time: String,
+}
+
+impl Model for Following {
+    ghost use Rattle.tap_following.specs.Held.{Held};
+
+    ghost Value = { Held };
+
+    ghost view = { λ f. record { form = f.form; followed = f.followed; tables = f.taps } };
+}
+
+/// Puts the text of a time in place of what `text` holds: seconds, a point, and nine decimals.
+fn write_time(text: &mut String, time: Timestamp) -> Result<(), AllocError>
+    ensures { OnOk result (string_bytes text.new ≡ stamp_text time) }
+{
+    text.clear();
+    write!(text, "{}.{:09}", time.seconds(), time.nanos())
+}
+
+impl Following {
+    /// Nothing was met.
+    pub(crate) fn new(alloc: Global, form: Form, followed: &Followed) -> Following
+        ensures { IsFollowing form followed.now [] result }
+    {
+        Following {
+            form,
+            followed: *followed,
+            taps: Taps::new(),
+            time: String::new(alloc),
+        }
+    }
+
+    /// Takes who the slave is, where that isn't known and the message tells it.
+    fn learn(&mut self, met: &Met)
+        ensures { self.new ≡ record self.old { followed = learned self.old.followed met.now } }
+    {
+        let Followed { watched, from, .. } = self.followed;
+        if watched.slave.is_none() {
+            self.followed.watched.slave = requester(watched.domain, from, met);
+        }
+    }
+
+    /// Appends a crossing.
+    fn push(&mut self, crossing: &Crossing, text: &mut String) -> Result<(), AllocError>
+        requires { IsWithin crossing.now }
+        ensures written { OnOk result (string_bytes text.new ≡ string_bytes text.old
+            ++ text_as self.old.form (told_of self.old.followed crossing.now)) }
+        ensures kept { self.new ≡ self.old }
+    {
+        let (time, _) = crossing.time.split();
+        write_time(&mut self.time, time)?;
+        let crossed = Crossed {
+            crossing: *crossing,
+            time: self.time.as_str(),
+            from: self.followed.from_name.text(),
+            to: self.followed.to_name.text(),
+        };
+        match self.form {
+            Form::Json => push_json(text, &crossed),
+            Form::Table => push_row(text, &crossed),
+        }
+    }
+
+    /// Takes a message, and appends the crossing that it completes.
+    pub(crate) fn follow(&mut self, met: &Met, text: &mut String) -> Result<(), AllocError>
+        ensures { (form : Form) (f : Followed) (earlier : List Met) → IsFollowing form f earlier self.old →
+            OnOk result (IsFollowing form f (met.now ∷ earlier) self.new
+            × (string_bytes text.new ≡ string_bytes text.old ++ text_at form f met.now earlier)) }
+    {
+        self.learn(met);
+        let tap = tap_at(self.followed.from, met.side);
+        let message = message_of(met);
+        let Some(placed) = self
+            .followed
+            .watched
+            .placed(tap, met.line, met.time, &message)
+        else {
+            return Ok(());
+        };
+        match self.taps.meet(placed) {
+            Outcome::Crossed(crossing) => self.push(&crossing, text),
+            Outcome::Waits | Outcome::Spoils | Outcome::IsSpoiled | Outcome::Closed(_) => Ok(()),
+        }
+    }
+}
