@@ -161,5 +161,5 @@ def summary(told, early, heard):
         it.heard_by(measurer)
     counts = measurer.counts
     counts.update(f'{it.said.kind} too early' if it.is_message() else it.said for it in early)
-    for sentence in measured.summary(told, counts, {it.time % 1000 == 0 for it in [*early, *heard]}):
-        yield sentence.replace('told by line', 'told by packet')
+    reads = [(it.time * 2**16, it.said) for it in [*early, *heard]]
+    yield from measured.summary(told, counts, reads, measurer.reports, 'packet')

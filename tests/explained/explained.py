@@ -189,10 +189,13 @@ MET = [
      '1 report: 0 sound\n'),
     (16, '[5,7,8,13]', '[5,7,8,7]',
      refused(13, 17, 701) +
-     '    none of "tags" is 13; wanted is that the Sync (1st), the Follow_Up (2nd) or the Delay_Resp (4th) came '
-     'by the event that reports\n'
-     '    the Delay_Resp of event 7, line 11 is of event 6, line 10, a follow at M; wanted is an arrive at a master before it\n'
-     '    event 12, line 16 tells when the Delay_Req left; wanted is that before the Delay_Resp, event 7\n'
+     '    the Delay_Resp of event 7, line 11 is of event 6, line 10, a follow at M, which is the Follow_Up of Sync 0; '
+     'wanted is an arrive at a master before it\n'
+     '1 report: 0 sound\n'),
+    (16, '[5,7,8,13]', '[7,7,8,13]',
+     refused(13, 17, 701) +
+     '    the 1st of "tags", of the Sync, names event 7, line 11, a hear at S, which is the Follow_Up of Sync 0; '
+     'wanted is an arrive at S\n'
      '1 report: 0 sound\n'),
     (15, '"S"', '"M"',
      refused(13, 17, 701) +
@@ -205,7 +208,6 @@ MET = [
     (16, '"copy":11,"ev":"hear"', '"ev":"tick"',
      refused(13, 17, 701) +
      "    event 13, line 17, a tick at S, can't report; wanted is an arrive or a hear at a slave\n"
-     '    the 4th of "tags", of the Delay_Resp, names event 13, line 17, a tick at S, which came to nothing; wanted is a hear at S\n'
      '1 report: 0 sound\n'),
     (8, '"copy":4', '"copy":1',
      refused(13, 17, 704) +
@@ -225,8 +227,7 @@ MET = [
      '1 report: 0 sound\n'),
     (13, '"transit":9', '"transit":3',
      refused(13, 17, 704) +
-     '    the Sync entered a clock by event 3, line 7, and left it twice: by event 4, line 8 and by event 10, line 14\n'
-     '    the Delay_Req entered a clock by event 3, line 7, and left it twice: by event 4, line 8 and by event 10, line 14\n'
+     '    the Sync and the Delay_Req entered a clock by event 3, line 7, and left it twice: by event 4, line 8 and by event 10, line 14\n'
      '1 report: 0 sound\n'),
     (5, '"sync"', '"syncone"',
      refused(13, 17, 702) +
@@ -271,7 +272,7 @@ MET = [
      '  and 706: '),
     (7, '07d00000', '07d10000',
      refused(13, 17, 708) +
-     '    event 4, line 8, a leave at T: octet 13 from 0, in correctionField, is d1; wanted is d0\n'
+     '    event 4, line 8, a leave at T: correctionField is 2001 ns; wanted is 2000 ns, 1 ns less\n'
      '  t1  event  2  '),
     (5, '000000000000"', '0000000000001122"',
      refused(13, 17, 708) +
@@ -279,7 +280,7 @@ MET = [
      '  t1  event  2  '),
     (9, '0100000000', '0200000001',
      refused(13, 17, 708) +
-     '    event 6, line 10, a follow at M: octet 39 from 0, in preciseOriginTimestamp, is 02; wanted is 01, and 1 more differ\n'
+     '    event 6, line 10, a follow at M: preciseOriginTimestamp is 2.000000001; wanted is 1.000000000, 1000000001 ns less\n'
      '  t1  event  2  '),
 ]
 
@@ -302,9 +303,9 @@ CHANGED = [
     # A Delay_Resp that completed nothing, and one that is taken for a Follow_Up.
     (TRANSCRIPT, [('"n":7,"node":"S","out":"completed"', '"n":7,"node":"S","out":"held"'), ('[5,7,8,13]', '[5,13,8,7]')],
      refused(13, 17, 701) +
-     '    the Follow_Up of event 13, line 17 is of event 11, line 15, an arrive at M; wanted is a follow before it\n'
+     '    the Follow_Up of event 13, line 17 is of event 11, line 15, an arrive at M, which is the Delay_Resp to Delay_Req 0; '
+     'wanted is a follow before it\n'
      '    the Delay_Resp of event 7, line 11 completed nothing\n'
-     '    event 12, line 16 tells when the Delay_Req left; wanted is that before the Delay_Resp, event 7\n'
      '1 report: 0 sound\n'),
     # A two-step Sync without a Follow_Up.
     (TRANSCRIPT, [('"n":5,"node":"S","out":"held"', '"n":5,"node":"S","out":"completed"'), ('[5,7,8,13]', '[5,null,8,13]')],
@@ -353,11 +354,70 @@ TOLD_AGAIN = [
     '{"copy":11,"ev":"hear","n":14,"node":"S","offset2":"131072000","out":"report","path2":"131072000","tags":[5,7,8,14]}\n',
 ]
 
+# A report that comes by the Follow_Up of another Sync, and is of what came before.
+OF_ANOTHER_EVENT = [
+    '{"copy":11,"ev":"hear","n":13,"node":"S","out":"completed"}\n',
+    '{"at":[3,0,0],"ev":"sync","hex":"0012002c00000200000000000000000000000000001122fffe33445500010001000000000000000000000000",'
+    '"n":14,"node":"M","out":"made","reading":[3,0,0]}\n',
+    '{"at":[3,1000,0],"copy":14,"ev":"arrive","n":15,"node":"S","out":"held","reading":[3,2000,0]}\n',
+    '{"ev":"follow","hex":"0812002c00000000000000000000000000000000001122fffe33445500010001020000000000000300000000",'
+    '"n":16,"node":"M","out":"made"}\n',
+    '{"copy":16,"ev":"hear","n":17,"node":"S","offset2":"131072000","out":"report","path2":"131072000","tags":[5,7,8,13]}\n',
+]
+
+# The place of a line, what is replaced in it by what, and what is said of this message then, and of how many differ in which field:
+# fields that a slave or a master reads.
+READ = [
+    (5, '"hex":"00', '"hex":"01', 'messageType is Delay_Req; wanted is Sync', 'messageType in 1'),
+    (5, '0012002c00', '0012002c07', 'domainNumber is 7; wanted is 0', 'domainNumber in 1'),
+    (5, '002c00000200', '002c00000000', 'twoStepFlag is 0; wanted is 1', 'twoStepFlag in 1'),
+    (5, '00020000000000000000', '00020000000000000100', 'correctionField is 1 ns; wanted is 0 ns, 1 ns less',
+     'correctionField in 1, by 1 ns at the most'),
+    (7, '07d00000', '07c00000', 'correctionField is 1984 ns; wanted is 2000 ns, 16 ns more', 'correctionField in 1, by 16 ns at the most'),
+    (7, '000000000007d00000', '007fffffffffffffff', 'correctionField is too big; wanted is 2000 ns', 'correctionField in 1'),
+    (9, '334455', '334456', 'sourcePortIdentity is 001122fffe334456/1; wanted is 001122fffe334455/1', 'sourcePortIdentity in 1'),
+    (11, 'ccddee00010000', 'ccddee00010007', 'sequenceId is 7; wanted is 0', 'sequenceId in 1'),
+    (9, '0100000000"', '010000c350"', 'preciseOriginTimestamp is 1.000050000; wanted is 1.000000000, 50000 ns less',
+     'preciseOriginTimestamp in 1, by 50000 ns at the most'),
+    (14, '000000020000119400', '000000020000119300', 'receiveTimestamp is 2.000004499; wanted is 2.000004500, 1 ns more',
+     'receiveTimestamp in 1, by 1 ns at the most'),
+    (14, 'ccddee0001', 'ccddee0002', 'requestingPortIdentity is 00aabbfffeccddee/2; wanted is 00aabbfffeccddee/1',
+     'requestingPortIdentity in 1'),
+    (9, '"hex":"0812', '"hex":"0811', "nobody can read it, 202: versionPTP isn't 2", '1 message that nobody can read'),
+    (11, '000000000000000000"', '00000000003b9aca00"', 'nobody can read it, 206: the nanoseconds of the timestamp are 10^9 or more',
+     '1 message that nobody can read'),
+]
+
+# The same of fields that nobody here reads: a place, and what is replaced in it by what.
+UNREAD = [
+    (5, '"hex":"0012', '"hex":"1012', 'octet 0 from 0, in majorSdoId and messageType, is 10; wanted is 00'),
+    (5, '002c0000', '002c0001', 'octet 5 from 0, in minorSdoId, is 01; wanted is 00'),
+    (9, '002c00000000', '002c00000200', 'octet 6 from 0, in flagField, is 02; wanted is 00'),
+    (5, '00000000001122fffe', '00000001001122fffe', 'octet 19 from 0, in messageTypeSpecific, is 01; wanted is 00'),
+    (9, '00010000020000', '00010000030000', 'octet 32 from 0, in controlField, is 03; wanted is 02'),
+    (11, '017f00', '017e00', 'octet 33 from 0, in logMessageInterval, is 7e; wanted is 7f'),
+    (11, '00000000"', '0000c350"', 'octet 42 from 0, in originTimestamp, is c3; wanted is 00, and 1 more differ'),
+]
+
 # The octets of the messages of an exchange without residence.
 SYNC = '0012002c00000200000000000000000000000000001122fffe33445500010000000000000000000000000000'
 FOLLOW_UP = '0812002c00000000000000000000000000000000001122fffe33445500010000020000000000000100000000'
 DELAY_REQ = '0112002c0000000000000000000000000000000000aabbfffeccddee00010000017f00000000000000000000'
 DELAY_RESP = '0912003600000000000000000000000000000000001122fffe3344550001000003000000000000020000000000aabbfffeccddee0001'
+
+
+# An exchange with a one-step Sync, in no time.
+ONE_STEP = [
+    *TRANSCRIPT[:3],
+    '{"ev":"setmaster","master":"M","n":0,"node":"S","out":"done"}\n',
+    '{"at":[1,0,0],"ev":"syncone","hex":"0012002c00000000000000000000000000000000001122fffe33445500010000000000000000000100000000",'
+    '"n":1,"node":"M","out":"made","reading":[1,0,0]}\n',
+    '{"at":[1,0,0],"copy":1,"ev":"arrive","n":2,"node":"S","out":"completed","reading":[1,0,0]}\n',
+    f'{{"at":[2,0,0],"ev":"request","hex":"{DELAY_REQ}","n":3,"node":"S","out":"made","reading":[2,0,0]}}\n',
+    '{"ev":"stamped","n":4,"node":"S","out":"done"}\n',
+    f'{{"at":[2,0,0],"copy":3,"ev":"arrive","hex":"{DELAY_RESP}","n":5,"node":"M","out":"made","reading":[2,0,0]}}\n',
+    '{"copy":5,"ev":"hear","n":6,"node":"S","offset2":"0","out":"report","path2":"0","tags":[2,null,3,6]}\n',
+]
 
 
 def staying(stays, copy):
@@ -433,6 +493,7 @@ no report was judged from line 4 on
     def test_tells_of_input_that_has_no_report(self):
         for lines, said in [
             ([], 'there is no report, so nothing was judged\nverdict: accepted 0\n'),
+            (TRANSCRIPT[:16], 'there is no report, so nothing was judged\nverdict: accepted 0\n'),
             (SCHEDULE, "a schedule of 14 events, which all happen; 'ptpx replay' makes a transcript of it, which 'ptpx check' judges\n"),
         ]:
             with self.subTest(said=said):
@@ -530,15 +591,79 @@ verdict: refused event 13: 708
 """)
 
     def test_tells_from_which_field_on_messages_differ(self):
-        # The correctionField of the Sync as it was sent.
-        correction = '000002000000000000000000000000', '000002000000000000000100000000'
+        # The controlField of the Sync as it was sent.
+        control = '33445500010000000000000000000000000000","n":2', '33445500010000050000000000000000000000","n":2'
         # An octet behind the Delay_Req as it was sent.
         suffix = '017f00000000000000000000","n":8', '017f0000000000000000000000","n":8'
-        self.ends(explain(changed(TRANSCRIPT, correction, suffix)).output, """\
+        self.ends(explain(changed(TRANSCRIPT, control, suffix)).output, """\
 other octets than a port or a clock writes: 2 of 6 messages
-  from correctionField on: 1
+  from controlField on: 1
   in the suffix or in length alone: 1
 verdict: refused event 13: 708
+""")
+
+    def test_tells_by_how_much_fields_that_are_read_differ(self):
+        for place, old, new, said, counted in READ:
+            with self.subTest(old=old, new=new):
+                text = changed(TRANSCRIPT, (old, new), place=place)
+                ended = explain(text)
+                self.assertIn(f': {said}\n', ended.output)
+                self.assertIn(f"""
+octets can't be left aside (708): a field that a slave or a master reads differs in 1 message
+  {counted}
+other octets than a port or a clock writes: 1 of 6 messages
+""", ended.output)
+                self.assertNotIn('would be sound', ended.output)
+                self.assertEqual(ended.status, 1)
+
+    def test_tells_that_fields_that_nobody_reads_can_be_left_aside(self):
+        for place, old, new, said in UNREAD:
+            with self.subTest(old=old, new=new):
+                output = explain(changed(TRANSCRIPT, (old, new), place=place)).output
+                self.assertIn(f': {said}\n', output)
+                self.assertIn('\nwere octets left aside (708), 1 of 1 report would be sound\n', output)
+
+    def test_tells_of_a_wrong_time_beside_a_nibble(self):
+        output = explain(changed(TRANSCRIPT, *VERSIONS, ('00000000000100000000"', '0000000000010000c350"'))).output
+        self.assertIn("""\
+    event 6, line 10, a follow at M: preciseOriginTimestamp is 1.000050000; wanted is 1.000000000, 50000 ns less
+    event 6, line 10, a follow at M: of what isn't read, minorVersionPTP, the high half of octet 1 from 0, is 0 (IEEE 1588-2008); \
+wanted is 1 (IEEE 1588-2019)
+""", output)
+        self.ends(output, """\
+octets can't be left aside (708): a field that a slave or a master reads differs in 1 message
+  preciseOriginTimestamp in 1, by 50000 ns at the most
+other octets than a port or a clock writes: 6 of 6 messages
+  in one nibble alone: 5; minorVersionPTP is 0, as real devices of IEEE 1588-2008 write it, where IEEE 1588-2019 has 1
+verdict: refused event 13: 708
+""")
+
+    def test_tells_no_amount_where_a_correction_is_too_big_to_say(self):
+        # The correctionField of the Sync as it was sent, and as it left the clock.
+        sent = '00020000000000000000000000000000', '00020000000000000100000000000000'
+        left = '000000000007d00000', '007fffffffffffffff'
+        output = explain(changed(TRANSCRIPT, sent, left)).output
+        self.assertIn('correctionField is 1 ns; wanted is 0 ns, 1 ns less\n', output)
+        self.assertIn('correctionField is too big; wanted is 2000 ns\n', output)
+        self.assertIn('\n  correctionField in 2\n', output)
+
+    def test_tells_the_time_of_a_one_step_sync(self):
+        output = explain(changed(ONE_STEP, ('00000000000100000000"', '0000000000010000c350"'))).output
+        self.assertIn('    event 1, line 5, a syncone at M: originTimestamp is 1.000050000; wanted is 1.000000000, 50000 ns less\n', output)
+        self.assertIn('\n  originTimestamp in 1, by 50000 ns at the most\n', output)
+
+    def test_tells_the_time_of_a_sync_that_says_that_no_follow_up_comes(self):
+        flag = '002c00000200', '002c00000000'
+        origin = '00000000000000000000","n":2', '0000000000010000c350","n":2'
+        output = explain(changed(TRANSCRIPT, flag, origin, place=5)).output
+        self.assertIn(' twoStepFlag is 0; wanted is 1\n', output)
+        self.assertIn(' originTimestamp is 1.000050000; wanted is 0.000000000, 1000050000 ns less\n', output)
+
+    def test_tells_which_message_brought_a_report_of_another(self):
+        self.begins(explain(''.join(TRANSCRIPT[:16] + OF_ANOTHER_EVENT)).output, refused(17, 21, 701) + """\
+    none of "tags" is 17; wanted is that the Sync (1st), the Follow_Up (2nd) or the Delay_Resp (4th) came by the event that reports
+    17 is the Follow_Up of Sync 1; the report is of Sync 0
+1 report: 0 sound
 """)
 
     def test_tells_what_came_before_the_master_was_told(self):

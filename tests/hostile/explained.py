@@ -11,6 +11,8 @@ FURTHER = re.compile(r'  and (70[1-8]): .*')
 COUNT = re.compile(r'([0-9]+) reports?: ([0-9]+) sound')
 AGAINST = re.compile(r'  (70[1-8]) stands against ([0-9]+): .*')
 ASIDE = re.compile(r'were octets left aside \(708\), ([0-9]+) of ([0-9]+) reports? would be sound')
+# In place of that, where a field that is read differs in so many messages.
+READ = re.compile(r"octets can't be left aside \(708\): a field that a slave or a master reads differs in [1-9][0-9]* messages?")
 KEYS = ['by_readings', 'event', 'line', 'node', 'offset2', 'path2', 'reasons']
 ALONE = [701, 704]
 TOGETHER = [702, 703, 705, 707, 706, 708]
@@ -74,19 +76,20 @@ def stories(text):
 
 
 def counts(text):
-    """How many reports a text says there are, how many sound, how many each reason stands against, and how many were sound without 708."""
+    """How many reports a text says there are, how many sound, how many each reason stands against, and how many were sound without 708, or that a field that is read differs."""
     against = {int(found[1]): int(found[2]) for found in map(AGAINST.fullmatch, text.splitlines()) if found}
     first = [tuple(map(int, found.groups())) for found in map(COUNT.fullmatch, text.splitlines()) if found]
     aside = [tuple(map(int, found.groups())) for found in map(ASIDE.fullmatch, text.splitlines()) if found]
-    return first, against, aside
+    read = [line for line in text.splitlines() if READ.fullmatch(line)]
+    return first, against, aside + [None] * len(read)
 
 
-def counts_owed(found):
-    """The same of these judgements, of which there is one at least."""
+def counts_owed(found, is_read):
+    """The same of these judgements, of which there is one at least, and of messages in which a field that is read differs or not."""
     reasons = [judged['reasons'] for judged in found]
     sound = reasons.count([])
     against = {why: count for why in [*ALONE, *TOGETHER] if (count := sum(why in each for each in reasons))}
-    aside = [(sound + reasons.count([708]), len(found))] if 708 in against else []
+    aside = [None if is_read else (sound + reasons.count([708]), len(found))] if 708 in against else []
     return [(len(found), sound)], against, aside
 
 
@@ -119,8 +122,10 @@ def misexplained(text, checked, replayed, start):
         yield from mistold(found, start('explain', text, '--first')[1].decode(), True)
     if checked[2] or status not in (0, 1):
         return
-    if found and counts(told.decode()) != counts_owed(found):
-        yield f'{counts(told.decode())} is counted, and {counts_owed(found)} is judged'
+    counted = counts(told.decode())
+    owed = counts_owed(found, None in counted[2])
+    if found and counted != owed:
+        yield f'{counted} is counted, and {owed} is judged'
     if not told.endswith(b'verdict: ' + checked[1]):
         yield f'the story ends in {told[-80:]!r}, and the verdict is {checked[1]!r}'
     verdict = VERDICT.fullmatch(checked[1])

@@ -7,6 +7,7 @@ import re
 import typing
 
 import shown
+import worth
 
 # How many lines wait until it is known whom to watch, how many of each kind of message a port holds, and of how many of the master's
 # the numbers are known.
@@ -59,7 +60,7 @@ KINDS = {kind: (kind, kind + 's') for kind in ('Sync', 'Follow_Up', 'Delay_Req',
 # Why they gave no report, in the order in which that is told.
 REASONS = {
     'held': ' that waited for the other half of the Sync',
-    'completed': " that completed while the other half of a report wasn't there",
+    'completed': ' that came while no path delay was known',
     'departed': ' of the slave', 'anew': ' of the slave',
     'repeated': ' of the slave, with the number of the last one',
     'before': ' with a number that came before',
@@ -277,7 +278,7 @@ class Measurer:
         self.port, self.last = Port(watched), None
         self.life, self.responses = Life(), collections.deque(maxlen=KNOWN)
         self.syncs = 0
-        self.counts = collections.Counter()
+        self.counts, self.reports = collections.Counter(), []
 
     def hear(self, read):
         """What is written for a line."""
@@ -356,6 +357,7 @@ class Measurer:
 
     def report(self, read, offset2, path2, tags):
         by = 'response' if read.said.kind == 'Delay_Resp' else 'sync'
+        self.reports.append(worth.Report(read.place, read.units, by, offset2, path2))
         if self.csv:
             return f'{read.time},{decimal(offset2)},{decimal(path2)},{by},{read.place}\n'
         tags = ','.join('null' if tag is None else str(tag) for tag in tags)
@@ -394,11 +396,13 @@ def datagrams(counts):
         told[list(KINDS).index(kind), REASONS[reason]] += count
     order = list(REASONS.values())
     for (place, words), count in sorted(told.items(), key=lambda one: (one[0][0], order.index(one[0][1]))):
+        if words == REASONS['completed'] and list(KINDS)[place] == 'Delay_Resp':
+            words = ' that came while no Sync was complete'
         yield f'{count} {list(KINDS.values())[place][count != 1]}{words}'
 
 
-def summary(watch, counts, times):
-    """What is told at the end, where times are all units, or where all are of whole microseconds."""
+def summary(watch, counts, reads, written, unit='line'):
+    """What is told at the end: of reads the times, in order, and what was said; of reports what they are of."""
     domain, slave, master = watch.told()
     tellers = ['Sync of the master' if watch.given.master else 'Sync',
                'Sync' if watch.given.domain is None else 'Sync of the domain', 'Delay_Req of the domain']
@@ -407,20 +411,23 @@ def summary(watch, counts, times):
             yield f'no {teller} tells the {name}'
         else:
             printed = value if name == 'domain' else f'{value[:8].hex()}/{int.from_bytes(value[8:], "big")}'
-            yield f'{name} {printed}, ' + (f'told by line {line}' if line else 'as asked for')
+            yield f'{name} {printed}, ' + (f'told by {unit} {line}' if line else 'as asked for')
+    for sentence in worth.beware(unit, counts, reads, written):
+        yield f'beware: {sentence}'
     reports, master_anew = counts.pop('reports', 0), counts.pop('master anew', 0)
     yield f'{reports or "no"} report{"s" if reports > 1 else ""}'
     yield from datagrams(counts)
     for what, times_anew in (('slave began', counts['Delay_Req anew']), ('master began its numbers', master_anew)):
         if times_anew:
             yield f'the {what} anew ' + ('once' if times_anew == 1 else f'{times_anew} times')
-    if times and all(times):
+    if reads and all(units % (1000 * 2**16) == 0 for units, _ in reads):
         yield 'all times are of whole microseconds'
+    yield from worth.statistics(unit, written)
 
 
 def measured(text, given=Options()):
     """What `measure` owes for this input with these options."""
-    watch, kept, written, fault, times = Watch(given), [], [], None, set()
+    watch, kept, written, fault, reads = Watch(given), [], [], None, []
     measurer = watch.known() and Measurer(watch.known(), given.csv)
     early = []
     for place, line in enumerate(shown.lines_of(text), 1):
@@ -428,7 +435,7 @@ def measured(text, given=Options()):
         if number:
             fault = number, place
             break
-        times.add(told.units % (1000 * 2**16) == 0)
+        reads.append((told.units, told.said))
         kept.append(told)
         if not measurer:
             watch.look(told)
@@ -442,5 +449,6 @@ def measured(text, given=Options()):
     counts = measurer.counts if measurer else collections.Counter()
     counts.update(one.said if isinstance(one.said, str) else f'{one.said.kind} too early' for one in early + kept)
     head = ['time,offset_ns,path_ns,by,line\n'] if given.csv else []
-    told = ''.join(f'ptpx: {sentence}\n' for sentence in summary(watch, counts.copy(), times))
+    reports = measurer.reports if measurer else []
+    told = ''.join(f'ptpx: {sentence}\n' for sentence in summary(watch, counts.copy(), reads, reports))
     return Measured(''.join(itertools.chain(head, written)).encode(), fault, counts, told.encode())

@@ -321,6 +321,11 @@ def try_copies():
         output, _ = written(lines, [*RESULTS, result(len(LINES) + 2)])
         if judged(output)[-1]['by_readings'] != {'offset2': offset2, 'path2': path2}:
             fail(f'a Sync with the number of one that came {later} ns before is taken for a copy')
+    # A unicast one in between doesn't hide which multicast one was met before.
+    moments = [f'{it // 10**9}.{it % 10**9:09}' for it in (time_of(sync) // NANOSECOND + later for later in (4_000_000, 5_000_000))]
+    unicast, copy = [f"{it} {sync.split(' ')[1]}" for it in moments]
+    is_refused([*LINES, bent(unicast, (6, bytes([6, 0]))), copy], [result(len(LINES) + 2)],
+               f'no report can come at line {len(LINES) + 2} of slave: there stands a Sync that is a copy of the one at {NEXT_SYNC}')
 
 
 def try_long():
