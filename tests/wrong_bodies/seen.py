@@ -1,6 +1,7 @@
-"""What of a file the prover reads in a crate above it: of code all but comments, bodies and functions that aren't public; of
-definitions all but comments. A body that meets its contract there, or doesn't, goes on to do so where nothing else of the file changes."""
+"""What the prover sees of a file from elsewhere, in parts: of code types, constants, traits and functions, these without bodies; of definitions each one.
+Comments and attributes are left out. A part says what it is called, and which words stand in it, so that one can ask which parts a text rests upon."""
 import re
+from dataclasses import dataclass
 
 # What a text in code is made of. A lifetime is told from a character by the mark that ends that.
 CODE = re.compile(r'''
@@ -13,10 +14,24 @@ CODE = re.compile(r'''
 
 DEFINITION = re.compile(r'"(?:\\.|[^"\\])*"|--[^\n]*|\s+|[^"\s-]+|.', re.DOTALL)
 
+# What stands between the words of definitions.
+BETWEEN = re.compile(r'[\s(){}\[\];,.:]+')
+
 OPENS, CLOSES = '([{', ')]}'
 
 # What may stand between the word of a clause and its brace: nothing, or its name.
 CLAUSES = ('requires', 'ensures')
+
+# Words before the name of a definition.
+BEFORE = ('pub', 'abbrev', 'record', 'data')
+
+
+@dataclass(frozen=True)
+class Part:
+    """A part of a file: a text names it where all of these names stand in it."""
+    names: tuple
+    text: str
+    words: frozenset
 
 
 def pieces(text):
@@ -56,79 +71,174 @@ def function_end(all_pieces, at):
         place = group_end(all_pieces, place) if piece in OPENS else place + 1
 
 
-def head_start(kept):
-    """Where the item begins whose last pieces these are: behind the one before it, with its attributes."""
-    start = len(kept)
-    while start and kept[start - 1] not in (';', '{', '}'):
-        start -= 1
-    return start
+def after_generics(head):
+    """What stands behind the parameters in angles that begin here, if any do."""
+    depth = 0
+    for place, piece in enumerate(head):
+        depth += (piece == '<') - (piece == '>' and head[place - 1] != '-')
+        if depth == 0 and piece != '<':
+            return head[place + (piece == '>'):]
+    return []
 
 
-def is_seen(head, is_of_trait):
-    """Whether crates above can call a function with this head."""
-    return is_of_trait or any(one == 'pub' and other != '(' for one, other in zip(head, [*head[1:], 'fn']))
+def first_word(some):
+    """The last word of the path that stands first."""
+    found = ''
+    for piece in some:
+        if re.match(r'\w', piece):
+            if found and found[-1] != ':':
+                break
+            found = piece
+        elif piece == ':':
+            found += piece
+        elif found or piece not in ('&', '(', '['):
+            break
+    return found.rstrip(':')
 
 
-def items(all_pieces, is_of_trait=False):
-    """Items, those that can be seen, without bodies."""
+def owners(head):
+    """The names in an `impl`: of its type, and of its trait."""
+    behind = after_generics(head[head.index('impl') + 1:])
+    if 'for' in behind:
+        return first_word(behind[behind.index('for') + 1:]), first_word(behind)
+    return (first_word(behind),)
+
+
+def unbodied(all_pieces):
+    """Pieces without the bodies of functions, but for constants, whose value may be that of the body."""
     kept, place = [], 0
     while place < len(all_pieces):
-        piece = all_pieces[place]
-        if piece == 'fn' and all_pieces[place + 1] != '(':
+        if all_pieces[place] == 'fn' and all_pieces[place + 1] != '(':
             body, end = function_end(all_pieces, place)
-            start = head_start(kept)
-            head = kept[start:]
-            del kept[start:]
-            if 'const' in head or is_seen(head, is_of_trait):
-                # the value of a constant may be that of its body
-                kept += head + all_pieces[place:end if 'const' in head else body or end]
-        elif piece == '{' and {'impl', 'trait', 'mod'} & set(head := kept[head_start(kept):]):
-            end = group_end(all_pieces, place)
-            is_trait = 'trait' in head or 'impl' in head and 'for' in head
-            kept += ['{', *items(all_pieces[place + 1:end - 1], is_trait), '}']
+            kept += all_pieces[place:end if 'const' in kept[-3:] else body or end]
             place = end
-            continue
-        elif piece in OPENS:
-            end = group_end(all_pieces, place)
-            kept += all_pieces[place:end]
         else:
-            kept.append(piece)
-            end = place + 1
-        place = end
+            kept.append(all_pieces[place])
+            place += 1
     return kept
 
 
-def of_code(text):
-    r"""What is seen of code, in one line.
+def unattributed(all_pieces):
+    """Pieces without attributes, which say what is derived and in which words errors are told, and nothing of what a body has to do."""
+    kept, place = [], 0
+    while place < len(all_pieces):
+        if all_pieces[place:place + 2] == ['#', '[']:
+            place = group_end(all_pieces, place + 1)
+        else:
+            kept.append(all_pieces[place])
+            place += 1
+    return kept
 
-    >>> of_code('/// Doubles.\npub fn twice(a: u8) -> u8\n    requires { a ≤ 127 }\n    ensures is { result ≡ 2 * a }\n{\n    once(a) * 2 // {\n}')
-    'pub fn twice ( a : u8 ) - > u8 requires { a ≤ 127 } ensures is { result ≡ 2 * a }'
-    >>> of_code("fn once(a: u8) -> u8 { a } pub(crate) fn other() {} pub struct Pair<'a> { one: &'a u8 }")
-    "pub struct Pair < 'a > { one : & 'a u8 }"
-    >>> of_code("impl Pair { #[inline] fn one() { '}' } pub fn other() { \"}\" } } impl Copy for Pair { fn one() { 1 } }")
-    'impl Pair { pub fn other ( ) } impl Copy for Pair { fn one ( ) }'
-    >>> of_code('trait Table { fn size(&self) -> u8; } pub const LIMIT: u8 = size(); const fn size() -> u8 { 9 }')
-    'trait Table { fn size ( & self ) - > u8 ; } pub const LIMIT : u8 = size ( ) ; const fn size ( ) - > u8 { 9 }'
+
+def is_public(head):
+    """Whether crates above can name what has this head."""
+    return any(one == 'pub' and other != '(' for one, other in zip(head, [*head[1:], 'fn']))
+
+
+def code_parts(all_pieces, from_above, others):
+    """The parts of code, as one crate sees another, or itself; `others` are names that it is asked for besides its own."""
+    head, place = [], 0
+    while place < len(all_pieces):
+        piece = all_pieces[place]
+        end = group_end(all_pieces, place) if piece in OPENS else place + 1
+        if piece == '#' and all_pieces[place + 1] == '[':
+            end = group_end(all_pieces, place + 1)
+        elif piece == 'fn' and all_pieces[place + 1] != '(':
+            body, end = function_end(all_pieces, place)
+            told = head + all_pieces[place:end if 'const' in head else body or end]
+            if 'const' in head or is_public(head) or not from_above:
+                yield (*others, all_pieces[place + 1]), told
+            head = []
+        elif piece == '{' and 'mod' in head:
+            yield from code_parts(all_pieces[place + 1:end - 1], from_above, others)
+            head = []
+        elif piece == '{' and 'impl' in head:
+            inner, names = all_pieces[place + 1:end - 1], owners(head)
+            if len(names) == 2:
+                yield names, head + unattributed(unbodied(inner))
+            else:
+                yield names, head
+                yield from code_parts(inner, from_above, names)
+            head = []
+        elif piece == '{' and 'trait' in head:
+            yield (head[head.index('trait') + 1],), head + unattributed(unbodied(all_pieces[place + 1:end - 1]))
+            head = []
+        elif piece == ';' or piece == '{' and {'struct', 'enum', 'macro_rules'} & set(head):
+            told = head + unattributed(all_pieces[place:end])
+            kind = next((it for it in head if it in ('struct', 'enum', 'macro_rules', 'const', 'static', 'type')), None)
+            if kind and 'use' not in head:
+                yield (*others, next(it for it in head[head.index(kind) + 1:] if re.match(r'\w', it))), told
+            head = []
+        else:
+            head += all_pieces[place:end]
+        place = end
+
+
+def aliases(text):
+    """What names stand for that `use` gives: the words of what is renamed."""
+    found = {}
+    for use in re.findall(r'\buse ([^\n;]*)', text):
+        for path, name in re.findall(r'([^\s{},]+) as ([\w◌-]+)', use):
+            found.setdefault(name, set()).update(BETWEEN.split(use.partition('{')[0] if '{' in use else path), BETWEEN.split(path))
+    return found
+
+
+def with_aliases(words, known):
+    return frozenset(words).union(*(known[it] for it in known.keys() & words))
+
+
+def of_code(text, from_above=True):
+    r"""The parts of code.
+
+    >>> [(' '.join(it.names), it.text) for it in of_code('/// Doubles.\npub fn twice(a: u8) -> u8\n    ensures is { result ≡ 2 * a }\n{\n    once(a) * 2 // {\n}')]
+    [('twice', 'pub fn twice ( a : u8 ) - > u8 ensures is { result ≡ 2 * a }')]
+    >>> [it.text for it in of_code("fn once(a: u8) -> u8 { a } pub(crate) fn other() {} pub struct Pair<'a> { one: &'a u8 }")]
+    ["pub struct Pair < 'a > { one : & 'a u8 }"]
+    >>> [(it.names, it.text) for it in of_code("impl<T> Pair<T> { #[inline] fn one() { '}' } pub fn other() { \"}\" } } impl Copy for Pair { fn one() { 1 } }")]
+    [(('Pair',), 'impl < T > Pair < T >'), (('Pair', 'other'), 'pub fn other ( )'), (('Pair', 'Copy'), 'impl Copy for Pair fn one ( )')]
+    >>> [(it.names, it.text) for it in of_code('use std::io; trait Table { fn size(&self) -> u8; } pub const LIMIT: u8 = size(); const fn size() -> u8 { 9 }')]
+    [(('Table',), 'trait Table fn size ( & self ) - > u8 ;'), (('LIMIT',), 'pub const LIMIT : u8 = size ( ) ;'), (('size',), 'const fn size ( ) - > u8 { 9 }')]
+    >>> [it.names for it in of_code('impl Four for [u8; 4] { fn four(&self) -> u8 { self[3] } } fn once() {}', False)]
+    [('u8', 'Four'), ('once',)]
+    >>> sorted(of_code('use one::Two as Three; pub fn four(it: Three) {}')[0].words & {'Two', 'one'})
+    ['Two', 'one']
     """
-    return ' '.join(items(pieces(text)))
+    known = aliases(text)
+    return [Part(names, ' '.join(told), with_aliases({it for it in told if re.match(r'\w', it)}, known))
+            for names, told in code_parts(pieces(text), from_above, ())]
 
 
-def of_definitions(text):
-    r"""What is seen of definitions and of proofs, in one line.
+def without_comments(text):
+    return ''.join(it for it in DEFINITION.findall(text) if not it.startswith('--'))
 
-    >>> of_definitions('-- the sum\nabbrev pub sum : ℕ\nsum = a-b + "--"  -- of two')
-    'abbrev pub sum : ℕ sum = a - b + "--"'
+
+def of_definitions(text, module):
+    r"""The parts of definitions: each with all of its clauses. Who names one names its module, too.
+
+    >>> [(it.names, it.text) for it in of_definitions('use A.{b as c}\n-- the sum\nabbrev pub sum : ℕ\nsum = a-c\n    + "--"  -- of two\npub record Both : Type 0 where\n  pub one : ℕ', 'Sums')]
+    [(('sum', 'Sums'), 'abbrev pub sum : ℕ sum = a-c + "--"'), (('Both', 'Sums'), 'pub record Both : Type 0 where pub one : ℕ')]
     """
-    return ' '.join(it for it in DEFINITION.findall(text) if not it.startswith('--') and not it.isspace())
+    known, found = aliases(text), {}
+    for clause in re.split(r'\n(?=\S)', without_comments(text)):
+        words = clause.split()
+        name = next((it for it in words if it not in BEFORE), None)
+        if name not in (None, 'use', 'mod'):
+            found.setdefault(name, []).extend(words)
+    return [Part((name, module), ' '.join(words), with_aliases(set(BETWEEN.split(' '.join(words))), known)) for name, words in found.items()]
 
 
 def whole(path):
     """A file without comments, blanks folded."""
     text = path.read_text()
-    return ' '.join(pieces(text)) if path.suffix == '.rt' else of_definitions(text)
+    return ' '.join(pieces(text) if path.suffix == '.rt' else without_comments(text).split())
 
 
-def from_above(path):
-    """What of a file is seen in a crate above it."""
+def words_of(text):
+    """The words of a text of code."""
+    return {it for it in pieces(text) if re.match(r'\w', it)}
+
+
+def parts(path, from_above):
+    """The parts of a file, as a crate above it sees it, or its own."""
     text = path.read_text()
-    return of_code(text) if path.suffix == '.rt' else of_definitions(text)
+    return of_code(text, from_above) if path.suffix == '.rt' else of_definitions(text, path.stem)
