@@ -425,16 +425,19 @@ def summary(watch, counts, reads, written, unit='line'):
     yield from worth.statistics(unit, written)
 
 
-def measured(text, given=Options()):
-    """What `measure` owes for this input with these options."""
-    watch, kept, written, fault, reads = Watch(given), [], [], None, []
+class Reckoned(typing.NamedTuple):
+    """What is owed for lines that were read: the reports in order as they are written, what became of each line, and what is told at the end."""
+    written: list
+    counts: collections.Counter
+    told: list
+
+
+def reckoned(lines, given=Options(), unit='line'):
+    """What is owed for these lines with these options."""
+    watch, kept, written, reads = Watch(given), [], [], []
     measurer = watch.known() and Measurer(watch.known(), given.csv)
     early = []
-    for place, line in enumerate(shown.lines_of(text), 1):
-        told, number = read(place, line)
-        if number:
-            fault = number, place
-            break
+    for count, told in enumerate(lines, 1):
         reads.append((told.units, told.said))
         kept.append(told)
         if not measurer:
@@ -442,13 +445,26 @@ def measured(text, given=Options()):
             if not watch.known():
                 continue
             measurer = Measurer(watch.known(), given.csv)
-            if place > KEPT:
+            if count > KEPT:
                 early, kept = kept[:-1], kept[-1:]
         written += [measurer.hear(one) for one in kept]
         kept = []
     counts = measurer.counts if measurer else collections.Counter()
     counts.update(one.said if isinstance(one.said, str) else f'{one.said.kind} too early' for one in early + kept)
-    head = ['time,offset_ns,path_ns,by,line\n'] if given.csv else []
     reports = measurer.reports if measurer else []
-    told = ''.join(f'ptpx: {sentence}\n' for sentence in summary(watch, counts.copy(), reads, reports))
-    return Measured(''.join(itertools.chain(head, written)).encode(), fault, counts, told.encode())
+    return Reckoned(written, counts, list(summary(watch, counts.copy(), reads, reports, unit)))
+
+
+def measured(text, given=Options()):
+    """What `measure` owes for this input with these options."""
+    lines, fault = [], None
+    for place, line in enumerate(shown.lines_of(text), 1):
+        told, number = read(place, line)
+        if number:
+            fault = number, place
+            break
+        lines.append(told)
+    head = ['time,offset_ns,path_ns,by,line\n'] if given.csv else []
+    owed = reckoned(lines, given)
+    told = ''.join(f'ptpx: {sentence}\n' for sentence in owed.told)
+    return Measured(''.join(itertools.chain(head, owed.written)).encode(), fault, owed.counts, told.encode())

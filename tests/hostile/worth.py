@@ -82,20 +82,20 @@ def beware(unit, counts, reads, reports):
     if below:
         least = min(responses, key=lambda it: it.path2)
         yield (f"{below} of {len(paths)} path delays are below 0, the least {nanoseconds(least.path2)} ns at {unit} {least.place}: no message arrives "
-               "before it leaves, so the times aren't those at which the slave's port sent and received, or a clock was set meanwhile")
+               "before it leaves, so the times of the slave's or of the master's port are wrong, a clock was set or runs away, or a correction is too big")
     if is_of_slave and zero > len(paths) // 2:
         yield f'{zero} of {len(paths)} path delays are 0 exactly: the times are too coarse for this path, or made up'
     seconds = {whole(it.offset2) for it in syncs}
     if len(seconds) == 1 and seconds != {0}:
         second = seconds.pop()
         yield (f"all offsets are next to {second} s: one clock keeps UTC and the other TAI, which is 37 s ahead since 2017, or one isn't set; "
-               f'editcap -t {-second} mends a capture')
+               f"where the slave's own clock is right, editcap -t {-second} mends a capture")
     if len(syncs) >= 16:
         by, explains = slope([(it.units, it.offset2) for it in syncs])
         size = math.floor(abs(by) * 10**9 + Fraction(1, 2))
         if explains and size >= 1000:
             yield (f'the offset runs away by {"-" if by < 0 else ""}{size // 1000}.{size % 1000:03} ppm (rounded): the times are of a clock that '
-                   "doesn't follow this master, as that of a tap or of another host")
+                   "doesn't follow this master, as that of a tap or of another host, or that was set or was still settling")
     times = [units for units, _ in reads]
     if reports and times:
         silence, often = max(times[-1] - reports[-1].units, 0), max(reports[-1].units - times[0], 0) // len(reports)

@@ -95,8 +95,8 @@ fn doubt_paths<E: Write>(paths: &Series, is_of_slave: bool, unit: &'static str, 
     {
         let _ = writeln!(
             errors,
-            "ptpx: beware: {} of {count} path delays are below 0, the least {}: no message arrives before it leaves, so the times \
-             aren't those at which the slave's port sent and received, or a clock was set meanwhile",
+            "ptpx: beware: {} of {count} path delays are below 0, the least {}: no message arrives before it leaves, so the times of \
+             the slave's or of the master's port are wrong, a clock was set or runs away, or a correction is too big",
             paths.negatives,
             At { point, unit }
         );
@@ -127,7 +127,7 @@ fn doubt_offsets<E: Write>(statistics: &Statistics, errors: &mut E) {
             let _ = writeln!(
                 errors,
                 "ptpx: beware: all offsets are next to {sign}{size} s: one clock keeps UTC and the other TAI, which is 37 s ahead \
-                 since 2017, or one isn't set; editcap -t {mend}{size} mends a capture"
+                 since 2017, or one isn't set; where the slave's own clock is right, editcap -t {mend}{size} mends a capture"
             );
         }
     }
@@ -138,7 +138,7 @@ fn doubt_offsets<E: Write>(statistics: &Statistics, errors: &mut E) {
         let _ = writeln!(
             errors,
             "ptpx: beware: the offset runs away by {} ppm (rounded): the times are of a clock that doesn't follow this master, as \
-             that of a tap or of another host",
+             that of a tap or of another host, or that was set or was still settling",
             Thousandths(slope)
         );
     }
