@@ -1,6 +1,6 @@
 -- What became of a message says why it gave no report, and who began anew by it.
-use Rattle.std.proofs.Common.{◌≡◌, ℕ, Bool, true, false, Option, Some, None, Ok, refl}
-use Rattle.std.specs.Prelude.{if◌then◌else◌, ◌&&◌, not, ◌==◌}
+use Rattle.std.proofs.Common.{◌≡◌, ℕ, Bool, true, false, Option, Some, None, Ok, refl, ap}
+use Rattle.std.specs.Prelude.{if◌then◌else◌, ◌&&◌, not, ◌==◌, option_map, option_and_then}
 use Rattle.std.specs.Option.{option_map_or}
 use Rattle.event_codec.specs.declared.message.Header.{Header}
 use Rattle.event_codec.specs.declared.message.Body.{Body}
@@ -10,46 +10,57 @@ use Rattle.sync_watch.specs.declared.judgement.Judgement.{Judgement}
 use Rattle.sync_watch.specs.declared.judgement.Judgement.TheVariants.{Newer, Repeated, BeganAnew}
 use Rattle.sync_watch.specs.Told.{Arrival}
 use Rattle.sync_watch.specs.Judged.{judged_sync}
-use Rattle.slave_port.specs.declared.heard.Heard.{Heard}
-use Rattle.slave_port.specs.History.{Call, Event}
+use Rattle.slave_port.specs.History.{Call, Event, General}
 use Rattle.capture_model.specs.declared.watched.Watched.{Watched}
 use Rattle.capture_model.specs.Listening.{Listening, table_capacity, is_of, arrival_of, answered}
-use Rattle.capture_model.specs.Listening.{ready_judged}
+use Rattle.capture_model.specs.Listening.{ready_judged, answer_in}
 use Rattle.capture_measure.specs.declared.listener.Became.{Became}
 use Rattle.capture_measure.specs.declared.listener.Became.TheVariants as became
+use Rattle.capture_measure.specs.declared.listener.Reply.{Reply}
 use Rattle.capture_measure.specs.declared.tally.Why.TheVariants as whys
 use Rattle.capture_measure.specs.Counts.{why_answered, why_heard, is_next, is_last, slave_begins, master_begins, begins_judged}
 use Rattle.capture_measure.specs.Counts.{sync_begins}
 use Rattle.capture_measure.specs.Inner.Counting.{why_by, is_slave_anew, is_master_anew}
-use Rattle.capture_measure.specs.Inner.Listener.{heard_by, became_by, became_called, became_of}
+use Rattle.capture_measure.specs.Exchanged.{exchange_after, exchanged}
+use Rattle.capture_measure.specs.Inner.Listener.{reply_by, heard_by, exchange_by, became_by, became_called, became_of}
 
 -- ---- what became of a message that a port hears, or not
-heard_called : (begins : Bool) (heard : Option Heard) → heard_by (became_by begins heard) ≡ heard
-heard_called true None = refl
-heard_called false None = refl
-heard_called true (Some heard) = refl
-heard_called false (Some heard) = refl
+module _ (w : Watched) (call : Call) where
+  heard_called : (begins : Bool) (ready : Option Listening)
+      → heard_by (became_called begins call w ready) ≡ option_map (λ l. answer_in w l call) ready
+  heard_called true None = refl
+  heard_called false None = refl
+  heard_called true (Some l) = refl
+  heard_called false (Some l) = refl
 
-why_called : (domain : ℕ) (header : Header) (begins : Bool) (heard : Option Heard)
-    → why_by domain header (became_by begins heard) ≡ option_map_or why_answered heard (Some whys.Before)
-why_called domain header true None = refl
-why_called domain header false None = refl
-why_called domain header true (Some heard) = refl
-why_called domain header false (Some heard) = refl
+  exchange_called : (begins : Bool) (ready : Option Listening)
+      → exchange_by (became_called begins call w ready) ≡ option_and_then (exchange_after w call) ready
+  exchange_called true None = refl
+  exchange_called false None = refl
+  exchange_called true (Some l) = refl
+  exchange_called false (Some l) = refl
 
-slave_called : (begins : Bool) (heard : Option Heard) → is_slave_anew (became_by begins heard) ≡ false
+  why_called : (domain : ℕ) (header : Header) (begins : Bool) (ready : Option Listening)
+      → why_by domain header (became_called begins call w ready)
+      ≡ option_map_or why_answered (option_map (λ l. answer_in w l call) ready) (Some whys.Before)
+  why_called domain header true None = refl
+  why_called domain header false None = refl
+  why_called domain header true (Some l) = refl
+  why_called domain header false (Some l) = refl
+
+slave_called : (begins : Bool) (reply : Option Reply) → is_slave_anew (became_by begins reply) ≡ false
 slave_called true None = refl
 slave_called false None = refl
-slave_called true (Some heard) = refl
-slave_called false (Some heard) = refl
+slave_called true (Some reply) = refl
+slave_called false (Some reply) = refl
 
-master_called : (begins : Bool) (heard : Heard) → is_master_anew (became_by begins (Some heard)) ≡ begins
-master_called true heard = refl
-master_called false heard = refl
+master_called : (begins : Bool) (reply : Reply) → is_master_anew (became_by begins (Some reply)) ≡ begins
+master_called true reply = refl
+master_called false reply = refl
 
-master_called_not : (heard : Option Heard) → is_master_anew (became_by false heard) ≡ false
+master_called_not : (reply : Option Reply) → is_master_anew (became_by false reply) ≡ false
 master_called_not None = refl
-master_called_not (Some heard) = refl
+master_called_not (Some reply) = refl
 
 -- by what the number of a Sync says
 master_judged : (of : Bool) (j : Judgement) (w : Watched) (line : ℕ) (call : Call) (a : Arrival) (l : Listening)
@@ -64,7 +75,7 @@ master_judged true BeganAnew w line call a l = refl
 abbrev own : (next last : Bool) → Became
 own next last = if next then became.Asked else if last then became.Repeated else became.Anew
 
-own_unheard : (next last : Bool) → heard_by (own next last) ≡ None
+own_unheard : (next last : Bool) → reply_by (own next last) ≡ None
 own_unheard true last = refl
 own_unheard false true = refl
 own_unheard false false = refl
@@ -88,7 +99,7 @@ own_master false false = refl
 abbrev asked : (of next last : Bool) → Became
 asked of next last = if of then own next last else became.Foreign
 
-asked_unheard : (of next last : Bool) → heard_by (asked of next last) ≡ None
+asked_unheard : (of next last : Bool) → reply_by (asked of next last) ≡ None
 asked_unheard true next last = own_unheard next last
 asked_unheard false next last = refl
 
@@ -110,19 +121,27 @@ asked_master false next last = refl
 -- ---- any message
 module _ (w : Watched) (line time : ℕ) (m : Contents) where
   pub heard-became : (body : Body) (l : Listening) → heard_by (became_of w line time m body l) ≡ answered w line time m body l
-  heard-became (Sync origin) l = heard_called (sync_begins w line time m l) _
-  heard-became (DelayReq origin) l =
-      asked_unheard (is_of w w.slave m.header) (is_next w l m.header.sequence.0) (is_last w l m.header.sequence.0)
-  heard-became (FollowUp precise) l = heard_called false _
-  heard-became (DelayResp receive requesting) l = heard_called false _
+  heard-became (Sync origin) l = heard_called w (Event (Ok m) time line) (sync_begins w line time m l) _
+  heard-became (DelayReq origin) l = ap (option_map (λ (r : Reply). r.heard))
+      (asked_unheard (is_of w w.slave m.header) (is_next w l m.header.sequence.0) (is_last w l m.header.sequence.0))
+  heard-became (FollowUp precise) l = heard_called w (General (Ok m) line) false _
+  heard-became (DelayResp receive requesting) l = heard_called w (General (Ok m) line) false _
+
+  pub exchange-became : (body : Body) (l : Listening)
+      → exchange_by (became_of w line time m body l) ≡ exchanged w line time m body l
+  exchange-became (Sync origin) l = exchange_called w (Event (Ok m) time line) (sync_begins w line time m l) _
+  exchange-became (DelayReq origin) l = ap (option_and_then (λ (r : Reply). r.exchange))
+      (asked_unheard (is_of w w.slave m.header) (is_next w l m.header.sequence.0) (is_last w l m.header.sequence.0))
+  exchange-became (FollowUp precise) l = exchange_called w (General (Ok m) line) false _
+  exchange-became (DelayResp receive requesting) l = exchange_called w (General (Ok m) line) false _
 
   pub why-became : (body : Body) (l : Listening)
       → why_by w.domain m.header (became_of w line time m body l) ≡ why_heard w line time m body l
-  why-became (Sync origin) l = why_called w.domain m.header (sync_begins w line time m l) _
+  why-became (Sync origin) l = why_called w (Event (Ok m) time line) w.domain m.header (sync_begins w line time m l) _
   why-became (DelayReq origin) l = asked_why w.domain m.header (is_of w w.slave m.header) (is_next w l m.header.sequence.0)
       (is_last w l m.header.sequence.0) (m.header.domain == w.domain) refl
-  why-became (FollowUp precise) l = why_called w.domain m.header false _
-  why-became (DelayResp receive requesting) l = why_called w.domain m.header false _
+  why-became (FollowUp precise) l = why_called w (General (Ok m) line) w.domain m.header false _
+  why-became (DelayResp receive requesting) l = why_called w (General (Ok m) line) w.domain m.header false _
 
   pub slave-became : (body : Body) (l : Listening) → is_slave_anew (became_of w line time m body l) ≡ slave_begins w m body l
   slave-became (Sync origin) l = slave_called (sync_begins w line time m l) _

@@ -8,7 +8,7 @@ use Rattle.event_codec.specs.declared.port.PortIdentity.{PortIdentity}
 use Rattle.capture_file.specs.Packet.{InterfaceOf}
 use Rattle.capture_model.specs.declared.watched.Watched.{Watched}
 use Rattle.capture_model.specs.Recorded.{Recorded}
-use Rattle.capture_lines.specs.Measurement.{Measured}
+use Rattle.capture_measure.specs.Made.{Measured}
 use Rattle.capture_measure.specs.declared.watch.Wanted.{Wanted}
 use Rattle.capture_measure.specs.Watch.{watched_in}
 use Rattle.capture_measure.specs.Row.{Row, datagrams, kept_most}

@@ -12,7 +12,7 @@ use Rattle.event_codec.specs.Reading.{Reading}
 use Rattle.capture_model.specs.declared.watched.Watched.{Watched}
 use Rattle.capture_model.specs.Listening.{Listening}
 use Rattle.capture_model.specs.Recorded.{Recorded}
-use Rattle.capture_lines.specs.Measurement.{Measured}
+use Rattle.capture_measure.specs.Made.{Measured}
 use Rattle.recording_quality.specs.declared.quality.Quality.{Quality}
 use Rattle.recording_quality.specs.Noted.{Noted, Reported}
 use Rattle.recording_quality.specs.Quality.{IsQuality}

@@ -7,15 +7,17 @@ use Rattle.event_codec.specs.declared.message.Message.{Message}
 use Rattle.event_codec.specs.declared.refusal.DecodeRefusal.{DecodeRefusal}
 use Rattle.event_codec.specs.Packet.{contents}
 use Rattle.event_codec.specs.Reading.{Reading, Answers}
+use Rattle.slave_port.specs.declared.exchange.Exchange.{Exchange}
 use Rattle.slave_port.specs.declared.heard.Report.{Report}
 use Rattle.capture_model.specs.declared.watched.Watched.{Watched}
 use Rattle.capture_model.specs.Listening.{report_at}
 use Rattle.capture_model.specs.Recorded.{Recorded}
 use Rattle.capture_lines.specs.declared.measurement.Half.{Half}
 use Rattle.capture_lines.specs.declared.measurement.Half.TheVariants as halves
-use Rattle.capture_lines.specs.Measurement.{Measured}
+use Rattle.capture_measure.specs.Made.{Measured}
 use Rattle.capture_measure.specs.declared.reports.Completed.{Completed}
 use Rattle.capture_measure.specs.Row.{Row, datagrams}
+use Rattle.capture_measure.specs.Exchanged.{exchange_at}
 use Rattle.capture_measure.specs.Measured.{half_of, measured_at}
 use Rattle.capture_measure.specs.Inner.Hearing.{completion, measured_by}
 
@@ -34,28 +36,28 @@ pub said_err : (refusal : DecodeRefusal) (said : Reading) → Answers (Err refus
 said_err refusal (Ok m) answers = absurd answers
 said_err refusal (Err first) answers = ap Err (sym answers)
 
--- what is measured at a row by its report
-abbrev pub measured_with : Half → (line : ℕ) → (time : List ℕ) → Option Report → List Measured
-measured_with by line time report =
-    option_to_list (option_map (λ r. record { by = by; line = line; time = time; report = r }) report)
+-- what is measured at a row by its report, and by the exchange that it was made of
+abbrev pub measured_with : Half → (line : ℕ) → (time : List ℕ) → Option Exchange → Option Report → List Measured
+measured_with by line time exchange report = option_to_list
+    (option_map (λ r. record { by = by; line = line; time = time; report = r; exchange = exchange }) report)
 
 -- which half a datagram completes
 abbrev half_said : Recorded → Half
 half_said d = option_map_or (λ m. half_of m.body) (result_ok d.said) halves.Sync
 
-abbrev completed_by : Half → Report → Completed
-completed_by by report = record { by = by; report = report }
+abbrev completed_by : Half → Option Exchange → Report → Completed
+completed_by by exchange report = record { by = by; report = report; exchange = exchange }
 
-none_completed : (by : Half) (report : Option Report) → option_map (λ r. completed_by by r) report ≡ None
-    → report ≡ None
-none_completed by None none = refl
-none_completed by (Some report) none = absurd cc
+none_completed : (by : Half) (exchange : Option Exchange) (report : Option Report)
+    → option_map (λ r. completed_by by exchange r) report ≡ None → report ≡ None
+none_completed by exchange None none = refl
+none_completed by exchange (Some report) none = absurd cc
 
-one_completed : (by : Half) (line : ℕ) (time : List ℕ) (report : Option Report) (completed : Completed)
-    → option_map (λ r. record { by = by; report = r }) report ≡ Some completed
-    → measured_with by line time report ≡ measured_by completed time line ∷ []
-one_completed by line time None completed is = absurd cc
-one_completed by line time (Some report) completed is =
+one_completed : (by : Half) (line : ℕ) (time : List ℕ) (exchange : Option Exchange) (report : Option Report) (completed : Completed)
+    → option_map (λ r. completed_by by exchange r) report ≡ Some completed
+    → measured_with by line time exchange report ≡ measured_by completed time line ∷ []
+one_completed by line time exchange None completed is = absurd cc
+one_completed by line time exchange (Some report) completed is =
     ap (λ o. option_to_list (option_map (λ (c : Completed). measured_by c time line) o)) is
 
 module _ (watched : Watched) (earlier : List Row) (row : Row) (d : Recorded) (same : row.datagram ≡ d) where
@@ -63,15 +65,19 @@ module _ (watched : Watched) (earlier : List Row) (row : Row) (d : Recorded) (sa
   pub nothing_said : (result : Option Completed) → result ≡ completion watched (datagrams earlier) d → result ≡ None
       → option_to_list (measured_at watched earlier row) ≡ []
   nothing_said result is none =
-      ap (λ (d : Recorded). measured_with (half_said d) d.line row.time (report_at watched (datagrams earlier) d)) same
-      ∙ ap (measured_with (half_said d) d.line row.time)
-      (none_completed (half_said d) (report_at watched (datagrams earlier) d) (sym is ∙ none))
+      ap (λ (d : Recorded). measured_with (half_said d) d.line row.time (exchange_at watched (datagrams earlier) d)
+      (report_at watched (datagrams earlier) d)) same
+      ∙ ap (measured_with (half_said d) d.line row.time (exchange_at watched (datagrams earlier) d))
+      (none_completed (half_said d) (exchange_at watched (datagrams earlier) d) (report_at watched (datagrams earlier) d) (sym is ∙ none))
 
   -- one that completes a report
   pub said_at : (result : Option Completed) (completed : Completed) (time : List ℕ)
       → result ≡ completion watched (datagrams earlier) d → result ≡ Some completed → row.time ≡ time
       → option_to_list (measured_at watched earlier row) ≡ measured_by completed time d.line ∷ []
   said_at result completed time is some spelled =
-      ap (λ (d : Recorded). measured_with (half_said d) d.line row.time (report_at watched (datagrams earlier) d)) same
-      ∙ ap (λ (t : List ℕ). measured_with (half_said d) d.line t (report_at watched (datagrams earlier) d)) spelled
-      ∙ one_completed (half_said d) d.line time (report_at watched (datagrams earlier) d) completed (sym is ∙ some)
+      ap (λ (d : Recorded). measured_with (half_said d) d.line row.time (exchange_at watched (datagrams earlier) d)
+      (report_at watched (datagrams earlier) d)) same
+      ∙ ap (λ (t : List ℕ). measured_with (half_said d) d.line t (exchange_at watched (datagrams earlier) d)
+      (report_at watched (datagrams earlier) d)) spelled
+      ∙ one_completed (half_said d) d.line time (exchange_at watched (datagrams earlier) d) (report_at watched (datagrams earlier) d)
+      completed (sym is ∙ some)

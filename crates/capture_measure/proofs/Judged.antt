@@ -16,7 +16,7 @@ use Rattle.capture_model.specs.Listening.{Listening, table_capacity, is_of, is_s
 use Rattle.capture_model.specs.Listening.{with_master_anew, ready_refused, ready_newer, ready_judged, ready_sync}
 use Rattle.capture_model.specs.Listening.{ready_followed, ready_follow_up, ready_response, hears_ready}
 use Rattle.capture_measure.specs.Counts.{is_beginning, begins_newer, begins_judged, sync_begins}
-use Rattle.capture_measure.specs.Inner.Listener.{with_sync, with_follow_up, with_refused, with_response, told_again}
+use Rattle.capture_measure.specs.Inner.Listener.{reply_in, with_sync, with_follow_up, with_refused, with_response, told_again}
 
 -- what a number says that came before, or that didn't
 pub says-newer : (again : Bool) (j : Judgement) → j ≡ (if again then Repeated else Newer) → j ≡ Newer → again ≡ false
@@ -57,12 +57,12 @@ module _ (w : Watched) (line : ℕ) (call : Call) (a : Arrival) (l : Listening) 
   told-refused BeganAnew (inl is) = cc
   told-refused BeganAnew (inr is) = cc
 
-  answer-refused : (j : Judgement) → IsNoBeginning j
-      → answer_in w (ready_refused j w line call a l) call ≡ answer_in w l call
-  answer-refused Newer started = refl
-  answer-refused Repeated started = refl
-  answer-refused BeganAnew (inl is) = cc
-  answer-refused BeganAnew (inr is) = cc
+  reply-refused : (j : Judgement) → IsNoBeginning j
+      → reply_in w (ready_refused j w line call a l) call ≡ reply_in w l call
+  reply-refused Newer started = refl
+  reply-refused Repeated started = refl
+  reply-refused BeganAnew (inl is) = cc
+  reply-refused BeganAnew (inr is) = cc
 
   -- one that is refused, and no beginning
   pub refused-told : is_stale (answer_in w l call) ≡ true → IsNoBeginning (judged_refused a table_capacity l.heard)
@@ -71,11 +71,11 @@ module _ (w : Watched) (line : ℕ) (call : Call) (a : Arrival) (l : Listening) 
       sym (told-refused (judged_refused a table_capacity l.heard) started)
       ∙ ap (told call) (sym (newer-refused (judged_refused a table_capacity l.heard) stale refl))
 
-  pub refused-answer : is_stale (answer_in w l call) ≡ true → IsNoBeginning (judged_refused a table_capacity l.heard)
-      → answer_in w l call ≡ answer_in w (ready_newer w line call a l) call
-  refused-answer stale started =
-      sym (answer-refused (judged_refused a table_capacity l.heard) started)
-      ∙ ap (λ (k : Listening). answer_in w k call)
+  pub refused-reply : is_stale (answer_in w l call) ≡ true → IsNoBeginning (judged_refused a table_capacity l.heard)
+      → reply_in w l call ≡ reply_in w (ready_newer w line call a l) call
+  refused-reply stale started =
+      sym (reply-refused (judged_refused a table_capacity l.heard) started)
+      ∙ ap (λ (k : Listening). reply_in w k call)
       (sym (newer-refused (judged_refused a table_capacity l.heard) stale refl))
 
   -- the third, by which the master began anew
@@ -113,9 +113,9 @@ module _ (w : Watched) (line time : ℕ) (m : Contents) (l : Listening) where
   sync-other other = ap (λ (b : Bool). hears_ready b call_of
       (if b then ready_judged (judged_sync a_of table_capacity l.heard) w line call_of a_of l else Some l) l) other
 
-  pub sync-other-answer : is_of w w.master m.header ≡ false
-      → option_map (λ l. answer_in w l call_of) (ready_sync w line time m l) ≡ Some (answer_in w l call_of)
-  sync-other-answer other = ap (λ (b : Bool). option_map (λ l. answer_in w l call_of)
+  pub sync-other-reply : is_of w w.master m.header ≡ false
+      → option_map (λ l. reply_in w l call_of) (ready_sync w line time m l) ≡ Some (reply_in w l call_of)
+  sync-other-reply other = ap (λ (b : Bool). option_map (λ l. reply_in w l call_of)
       (if b then ready_judged (judged_sync a_of table_capacity l.heard) w line call_of a_of l else Some l)) other
 
   pub sync-judged : (j : Judgement) → is_of w w.master m.header ≡ true → judged_sync a_of table_capacity l.heard ≡ j
@@ -124,11 +124,11 @@ module _ (w : Watched) (line time : ℕ) (m : Contents) (l : Listening) where
   sync-judged j of is =
       λ i. hears_ready (of i) call_of (if of i then ready_judged (is i) w line call_of a_of l else Some l) l
 
-  pub sync-judged-answer : (j : Judgement) → is_of w w.master m.header ≡ true
+  pub sync-judged-reply : (j : Judgement) → is_of w w.master m.header ≡ true
       → judged_sync a_of table_capacity l.heard ≡ j
-      → option_map (λ l. answer_in w l call_of) (ready_sync w line time m l)
-      ≡ option_map (λ l. answer_in w l call_of) (ready_judged j w line call_of a_of l)
-  sync-judged-answer j of is = λ i. option_map (λ l. answer_in w l call_of)
+      → option_map (λ l. reply_in w l call_of) (ready_sync w line time m l)
+      ≡ option_map (λ l. reply_in w l call_of) (ready_judged j w line call_of a_of l)
+  sync-judged-reply j of is = λ i. option_map (λ l. reply_in w l call_of)
       (if of i then ready_judged (is i) w line call_of a_of l else Some l)
 
   pub sync-begins-not : is_of w w.master m.header ≡ false → sync_begins w line time m l ≡ false

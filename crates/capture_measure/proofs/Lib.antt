@@ -5,6 +5,7 @@ pub mod Counting
 pub mod Summaries
 pub mod Exact
 pub mod ExactCapture
+pub mod Exchanged
 pub mod Fates
 pub mod Goes
 pub mod Heard

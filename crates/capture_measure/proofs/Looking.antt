@@ -10,7 +10,7 @@ use Rattle.text_lines.specs.declared.line_fault.LineFault.TheVariants.{Write, Fi
 use Rattle.text_lines.specs.Fault.{is_write}
 use Rattle.text_lines.specs.Task.{WentOut}
 use Rattle.capture_file.specs.Packet.{InterfaceOf, PacketOf}
-use Rattle.capture_lines.specs.Measurement.{Measured}
+use Rattle.capture_measure.specs.Made.{Measured}
 use Rattle.capture_model.specs.declared.watched.Watched.{Watched}
 use Rattle.capture_model.specs.Listening.{after_all}
 use Rattle.capture_measure.specs.declared.listener.Listener.{Listener}

@@ -11,7 +11,7 @@ use Rattle.event_codec.specs.Reading.{Reading, IsReading}
 use Rattle.capture_lines.specs.Timed.{parts_of}
 use Rattle.capture_lines.specs.declared.timed.Timed.{Timed}
 use Rattle.capture_model.specs.declared.watched.Watched.{Watched}
-use Rattle.capture_lines.specs.Measurement.{Measured}
+use Rattle.capture_measure.specs.Made.{Measured}
 use Rattle.capture_measure.specs.declared.watch.Wanted.{Wanted}
 use Rattle.capture_measure.specs.Watch.{watched_in}
 use Rattle.capture_measure.specs.Row.{Row, datagrams, is_known, heard, kept_most, IsRow}

@@ -4,7 +4,7 @@ use Rattle.std.proofs.Common.{refl, sym, ap, subst}
 use Rattle.std.specs.Prelude.{⊤, MatchResult, OnOk, is_some}
 use Rattle.std.proofs.KnownBytes.{Appends-nil}
 use Rattle.std.proofs.lemmas.List.{append-nil}
-use Rattle.capture_lines.specs.Measurement.{Measured}
+use Rattle.capture_measure.specs.Made.{Measured}
 use Rattle.text_lines.specs.declared.counted.Counted.{Counted}
 use Rattle.text_lines.specs.Counted.{HasNotFailed, HasFailedIf}
 use Rattle.capture_model.specs.declared.watched.Watched.{Watched}

@@ -11,7 +11,7 @@ use Rattle.capture_file.specs.Name.{is_asked}
 use Rattle.capture_file.specs.Packet.{PacketOf, Captured, Timeless, Simple}
 use Rattle.capture_file.specs.Task.{PacketRules}
 use Rattle.capture_frame.specs.Found.{Datagram, IsFound}
-use Rattle.capture_lines.specs.Measurement.{Measured}
+use Rattle.capture_measure.specs.Made.{Measured}
 use Rattle.capture_measure.specs.declared.measuring.Form.{Form}
 use Rattle.capture_measure.specs.declared.watch.Wanted.{Wanted}
 use Rattle.capture_measure.specs.Row.{Row}

@@ -28,7 +28,7 @@ use Rattle.capture_model.specs.declared.watched.Watched.{Watched}
 use Rattle.capture_model.specs.Recorded.{Recorded}
 use Rattle.capture_model.specs.Listening.{Listening, setup_in, table_capacity, is_of, is_stale, answer_in, arrival_of, answered}
 use Rattle.capture_model.specs.Listening.{after_all}
-use Rattle.capture_lines.specs.Measurement.{Measured}
+use Rattle.capture_measure.specs.Made.{Measured}
 use Rattle.recording_quality.specs.Noted.{Noted}
 use Rattle.recording_quality.specs.Quality.{IsQuality}
 use Rattle.capture_measure.specs.declared.tally.Counts.{Counts}

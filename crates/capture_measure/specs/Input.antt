@@ -20,9 +20,8 @@ use Rattle.capture_file.specs.Wrong.{HasMagic, HasNoMagic}
 use Rattle.capture_measure.specs.declared.input.Outcome.{Outcome}
 use Rattle.capture_measure.specs.declared.input.Outcome.TheVariants.{Lines, Capture}
 use Rattle.capture_measure.specs.declared.measuring.Form.{Form}
-use Rattle.capture_measure.specs.declared.measuring.Form.TheVariants.{Table}
 use Rattle.capture_measure.specs.declared.watch.Wanted.{Wanted}
-use Rattle.capture_measure.specs.Measure.{head_text, Measures, measure_rules}
+use Rattle.capture_measure.specs.Measure.{head_text, HasHead, Measures, measure_rules}
 use Rattle.capture_measure.specs.Capture.{capture_begun, capture_rules}
 
 -- what an answer over the octets of a capture says: the head went out, and then what the packets bring
@@ -64,7 +63,7 @@ IsOutcome form w octets left before after (Capture answer) =
 -- the head of a table couldn't be written, and nothing was read
 pub record HasNoHead {R W : Type 0} (form : Form) (outcome : Outcome) (input input' : Counted R) (output output' : Counted W)
     : Type 0 where
-  pub table : form ≡ Table
+  pub table : HasHead form
   pub stopped : outcome ≡ Lines (Err (record { line = 0; what = Task Write }))
   pub unread : input' ≡ input
   pub failed : HasFailed output output'

@@ -1,5 +1,7 @@
 pub mod Watch
 pub mod Row
+pub mod Made
+pub mod Exchanged
 pub mod Measured
 pub mod Measure
 pub mod Exact
@@ -13,4 +15,5 @@ pub mod Summary
 pub mod Counts
 pub mod Told
 pub mod Once
+pub mod EachExchange
 pub mod Inner

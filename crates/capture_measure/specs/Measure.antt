@@ -1,13 +1,15 @@
 -- What `measure` makes of the lines that it reads.
-use Rattle.std.specs.Prelude.{◌≡◌, ◌≢◌, ℕ, ◌+◌, ◌-◌, ◌^◌, List, [], ◌∷◌, ◌++◌, length, Option, Result}
+use Rattle.std.specs.Prelude.{◌≡◌, ◌≢◌, ⊤, ℕ, ◌+◌, ◌-◌, ◌^◌, List, [], ◌∷◌, ◌++◌, length, Option, Result}
 use Rattle.std.specs.Io.KnownBytes.{Appends}
 use Rattle.text_lines.specs.declared.fault.Cause.{Cause}
 use Rattle.text_lines.specs.declared.fault.Stopped.{Stopped}
 use Rattle.text_lines.specs.Fault.{is_write}
 use Rattle.text_lines.specs.Task.{Rules, Answers}
-use Rattle.capture_lines.specs.Measurement.{Measured, table_head}
+use Rattle.capture_lines.specs.Measurement.{table_head}
+use Rattle.exchange_lines.specs.Exchange as full
+use Rattle.capture_measure.specs.Made.{Measured}
 use Rattle.capture_measure.specs.declared.measuring.Form.{Form}
-use Rattle.capture_measure.specs.declared.measuring.Form.TheVariants.{Json, Table}
+use Rattle.capture_measure.specs.declared.measuring.Form.TheVariants.{Json, Table, FullJson, FullTable}
 use Rattle.text_lines.specs.declared.line_fault.LineFault.{LineFault}
 use Rattle.text_lines.specs.declared.line_fault.LineFault.TheVariants.{Write, Field, Memory}
 use Rattle.capture_measure.specs.declared.watch.Wanted.{Wanted}
@@ -70,6 +72,15 @@ measure_rules = record {
 abbrev pub head_text : Form → List ℕ
 head_text Json = []
 head_text Table = table_head
+head_text FullJson = []
+head_text FullTable = full.table_head
+
+-- whether that is anything
+abbrev pub HasHead : Form → Type 0
+HasHead Json = ⊥
+HasHead Table = ⊤
+HasHead FullJson = ⊥
+HasHead FullTable = ⊤
 
 -- what an answer of `measure` over these octets says: the head went out, and then what the lines bring
 abbrev pub Measures : Form → Wanted → List ℕ → (left before after : Option (List ℕ))

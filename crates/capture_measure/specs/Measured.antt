@@ -9,12 +9,15 @@ use Rattle.capture_model.specs.declared.watched.Watched.{Watched}
 use Rattle.capture_model.specs.Listening.{report_at}
 use Rattle.capture_lines.specs.declared.measurement.Half.{Half}
 use Rattle.capture_lines.specs.declared.measurement.Half.TheVariants as halves
-use Rattle.capture_lines.specs.Measurement.{Measured, json_text, row_text}
+use Rattle.capture_lines.specs.Measurement.{json_text, row_text}
+use Rattle.exchange_lines.specs.Exchange as full
 use Rattle.capture_measure.specs.declared.measuring.Form.{Form}
-use Rattle.capture_measure.specs.declared.measuring.Form.TheVariants.{Json, Table}
+use Rattle.capture_measure.specs.declared.measuring.Form.TheVariants.{Json, Table, FullJson, FullTable}
 use Rattle.capture_measure.specs.declared.watch.Wanted.{Wanted}
 use Rattle.capture_measure.specs.Watch.{watched_in}
 use Rattle.capture_measure.specs.Row.{Row, datagrams, heard}
+use Rattle.capture_measure.specs.Made.{Measured, plain}
+use Rattle.capture_measure.specs.Exchanged.{exchange_at}
 
 -- which half of a report a message completes
 abbrev pub half_of : Body → Half
@@ -23,10 +26,12 @@ half_of (DelayReq origin) = halves.Sync
 half_of (FollowUp precise) = halves.Sync
 half_of (DelayResp receive requesting) = halves.Response
 
--- a measurement as it is asked for
+-- a measurement as it is asked for; in full with its exchange, which is there (`laws::each_report_is_of_its_exchange`)
 abbrev pub text_as : Form → Measured → List ℕ
-text_as Json m = json_text m
-text_as Table m = row_text m
+text_as Json m = json_text (plain m)
+text_as Table m = row_text (plain m)
+text_as FullJson m = option_map_or (full.json_text (plain m)) m.exchange []
+text_as FullTable m = option_map_or (full.row_text (plain m)) m.exchange []
 
 -- the texts of measurements, in order
 abbrev pub texts_as : Form → List Measured → List ℕ
@@ -41,6 +46,7 @@ measured_at watched earlier row = option_map
       line = row.datagram.line;
       time = row.time;
       report = report;
+      exchange = exchange_at watched (datagrams earlier) row.datagram;
     })
     (report_at watched (datagrams earlier) row.datagram)
 

@@ -3,6 +3,7 @@
 ghost use Rattle.capture_measure.specs.AsLines.{OneInterfaceIsMeasuredAsLines};
 ghost use Rattle.capture_measure.specs.Exact.{EachMeasurementIsExact};
 ghost use Rattle.capture_measure.specs.ExactCapture.{EachMeasurementOfACaptureIsExact};
+ghost use Rattle.capture_measure.specs.EachExchange.{EachReportIsOfItsExchange};
 ghost use Rattle.capture_measure.specs.Once.{EachDatagramIsCountedOnce};
 
 use capture_model::laws::each_report_is_exact;
@@ -38,4 +39,11 @@ pub fn one_interface_is_measured_as_lines()
 /// [`Counts`](crate::Counts) are together the number of lines.
 pub fn each_datagram_is_counted_once()
     ensures { EachDatagramIsCountedOnce }
+{}
+
+/// Each report that is written has the exchange that it was made of, and its two results are those of the four times and the
+/// corrections of that: with [`Form::FullJson`](crate::Form) and [`Form::FullTable`](crate::Form) nothing is left out, and
+/// [`each_offset_is_of_its_times`](exchange_lines::laws::each_offset_is_of_its_times) holds in each line.
+pub fn each_report_is_of_its_exchange()
+    ensures { EachReportIsOfItsExchange }
 {}

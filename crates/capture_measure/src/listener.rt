@@ -10,12 +10,12 @@ ghost use Rattle.slave_port.specs.StandsFor.{StandsFor};
 ghost use Rattle.capture_model.specs.declared.watched.Watched.{Watched};
 ghost use Rattle.capture_model.specs.Listening.{Listening, setup_with, table_capacity, start, told, draws, is_of};
 ghost use Rattle.capture_model.specs.Listening.{is_stale, is_unicast, arrival_of, with_count, ready_newer, ready_sync};
-ghost use Rattle.capture_model.specs.Listening.{ready_follow_up, ready_response, hears_ready, asks, anew, answer_in};
+ghost use Rattle.capture_model.specs.Listening.{ready_follow_up, ready_response, hears_ready, asks, anew};
 ghost use Rattle.capture_model.specs.Listening.{hears_request, hears};
-ghost use Rattle.capture_measure.specs.Inner.Listener.{IsListener, Listens, Becomes, Says, IsAnswered};
+ghost use Rattle.capture_measure.specs.Inner.Listener.{IsListener, Listens, Becomes, Replies, Says, IsAnswered, IsExchanged};
 ghost use Rattle.capture_measure.specs.Inner.Listener.{became_called, became_of};
 ghost use Rattle.capture_measure.specs.Counts.{sync_begins, begins_newer};
-ghost use Rattle.capture_measure.specs.Inner.Listener.{heard_by};
+ghost use Rattle.capture_measure.specs.Inner.Listener.{reply_by};
 ghost use Rattle.capture_measure.specs.Inner.Listener.{with_sync, with_follow_up, with_refused, with_response};
 ghost use Rattle.capture_measure.specs.Inner.Listener.{told_again, became_own_request, became_request};
 
@@ -23,7 +23,7 @@ use capture_model::Watched;
 use event_codec::{Body, Header, Message, PortConfig, PortIdentity};
 use pairing::RingTable;
 use ptp_units::{ScaledTime, Seq};
-use slave_port::{Heard, HeldFollow, HeldRequest, HeldSync, Reason, SlavePort};
+use slave_port::{Exchange, Heard, HeldFollow, HeldRequest, HeldSync, Reason, SlavePort};
 use sync_watch::{Judgement, ResponseWatch, SyncWatch};
 
 /// How many messages of a kind the port holds.
@@ -43,13 +43,20 @@ type Port = SlavePort<
 
 type Times = RingTable<ScaledTime, CAPACITY>;
 
+/// What the port answered to a message that it heard, and the exchange of its last report then.
+#[derive(Clone, Copy, Debug, PartialEq, Eq)]
+pub(crate) struct Reply {
+    pub(crate) heard: Heard,
+    pub(crate) exchange: Option<Exchange>,
+}
+
 /// What became of a message.
 #[derive(Clone, Copy, Debug, PartialEq, Eq)]
 pub(crate) enum Became {
-    /// The port heard it, and answered so.
-    Heard(Heard),
-    /// The port heard a Sync of the master, which began anew, and answered so.
-    HeardAnew(Heard),
+    /// The port heard it, and replied so.
+    Heard(Reply),
+    /// The port heard a Sync of the master, which began anew, and replied so.
+    HeardAnew(Reply),
     /// A message of the master whose number came before: the port didn't hear it.
     HeardBefore,
     /// A Delay_Req of the slave.
@@ -159,6 +166,7 @@ impl Listener {
     pub(crate) fn hear(&mut self, line: u64, time: ScaledTime, message: &Message<'_>) -> Became
         ensures listens { Listens (λ w. hears w line time (contents message.now) message.now.body) self.old self.new }
         ensures answered { IsAnswered line time (contents message.now) self.old result }
+        ensures exchanged { IsExchanged line time (contents message.now) self.old result }
         ensures became { Becomes (λ w l. became_of w line time (contents message.now) message.now.body l) self.old result }
     {
         match message.body {
@@ -182,7 +190,7 @@ impl Listener {
             Becomes (λ w l. became_called (sync_begins w line time m l) call w (ready_sync w line time m l)) self.old result }
     {
         if !self.is_of(self.watched.master, &message.header) {
-            return Became::Heard(self.port.sync_message(message, time, line));
+            return Became::Heard(self.tell_event(line, time, message));
         }
         match self.judge_sync(&message.header, time) {
             Judgement::Newer => self.hear_newer(line, time, message),
@@ -206,15 +214,15 @@ impl Listener {
             let a = arrival_of m.header time in
             Becomes (λ w l. became_called (begins_newer w call a l) call w (Some (ready_newer w line call a l))) self.old result }
     {
-        let heard = self.port.sync_message(message, time, line);
-        if !is_stale(&heard) {
+        let reply = self.tell_event(line, time, message);
+        if !is_stale(&reply.heard) {
             self.count_sync();
-            return Became::Heard(heard);
+            return Became::Heard(reply);
         }
         match self.judge_refused(&message.header, time) {
             Judgement::Newer | Judgement::Repeated => {
                 self.count_sync();
-                Became::Heard(heard)
+                Became::Heard(reply)
             }
             Judgement::BeganAnew => {
                 self.tell_master();
@@ -224,15 +232,36 @@ impl Listener {
     }
 
     /// Hears a Sync of the master, which is counted.
-    fn hear_counted(&mut self, line: u64, time: ScaledTime, message: &Message<'_>) -> Heard
+    fn hear_counted(&mut self, line: u64, time: ScaledTime, message: &Message<'_>) -> Reply
         ensures listens { let call = Event (Ok (contents message.now)) time line in
             Listens (λ w l. with_count (told call l)) self.old self.new }
-        ensures answer { let call = Event (Ok (contents message.now)) time line in
-            (w : Watched) (l : Listening) → IsListener w self.old l → result ≡ answer_in w l call }
+        ensures reply { Replies (Event (Ok (contents message.now)) time line) self.old result }
+    {
+        let reply = self.tell_event(line, time, message);
+        self.count_sync();
+        reply
+    }
+
+    /// The port is told of a Sync, whoever sent it.
+    fn tell_event(&mut self, line: u64, time: ScaledTime, message: &Message<'_>) -> Reply
+        ensures listens { let call = Event (Ok (contents message.now)) time line in
+            Listens (λ w. told call) self.old self.new }
+        ensures reply { Replies (Event (Ok (contents message.now)) time line) self.old result }
     {
         let heard = self.port.sync_message(message, time, line);
-        self.count_sync();
-        heard
+        let exchange = self.port.last_exchange();
+        Reply { heard, exchange }
+    }
+
+    /// The port is told of a Follow_Up or a Delay_Resp, whoever sent it.
+    fn tell_general(&mut self, line: u64, message: &Message<'_>) -> Reply
+        ensures listens { let call = General (Ok (contents message.now)) line in
+            Listens (λ w. told call) self.old self.new }
+        ensures reply { Replies (General (Ok (contents message.now)) line) self.old result }
+    {
+        let heard = self.port.general_message(message, line);
+        let exchange = self.port.last_exchange();
+        Reply { heard, exchange }
     }
 
     /// Hears a Follow_Up, whoever sent it, unless the master's number says that it came before.
@@ -245,10 +274,10 @@ impl Listener {
             Becomes (λ w l. became_called false call w (ready_follow_up w time m l)) self.old result }
     {
         if !self.is_of(self.watched.master, &message.header) {
-            return Became::Heard(self.port.general_message(message, line));
+            return Became::Heard(self.tell_general(line, message));
         }
         match self.judge_follow_up(&message.header, time) {
-            Judgement::Newer => Became::Heard(self.port.general_message(message, line)),
+            Judgement::Newer => Became::Heard(self.tell_general(line, message)),
             Judgement::Repeated | Judgement::BeganAnew => Became::HeardBefore,
         }
     }
@@ -269,10 +298,10 @@ impl Listener {
             Becomes (λ w l. became_called false call w (ready_response w time m requesting l)) self.old result }
     {
         if !self.is_answer(&message.header, requesting) {
-            return Became::Heard(self.port.general_message(message, line));
+            return Became::Heard(self.tell_general(line, message));
         }
         match self.judge_response(message.header.sequence, time) {
-            Judgement::Newer => Became::Heard(self.port.general_message(message, line)),
+            Judgement::Newer => Became::Heard(self.tell_general(line, message)),
             Judgement::Repeated | Judgement::BeganAnew => Became::HeardBefore,
         }
     }
@@ -327,7 +356,7 @@ impl Listener {
         ensures listens { Listens (λ w l. if is_of w w.slave header.now
             then hears_request w line time header.now.sequence.0 l else l) self.old self.new }
         ensures became { Becomes (became_request header.now) self.old result }
-        ensures unheard { heard_by result ≡ None }
+        ensures unheard { reply_by result ≡ None }
     {
         if self.is_of(self.watched.slave, header) {
             self.request(line, time, header.sequence)
@@ -359,7 +388,7 @@ impl Listener {
     fn request(&mut self, line: u64, time: ScaledTime, number: Seq) -> Became
         ensures listens { Listens (λ w. hears_request w line time number.0) self.old self.new }
         ensures became { Becomes (became_own_request number.0) self.old result }
-        ensures unheard { heard_by result ≡ None }
+        ensures unheard { reply_by result ≡ None }
     {
         let ahead = self.ahead(number);
         if !self.asked || usize::from(ahead) < CAPACITY {

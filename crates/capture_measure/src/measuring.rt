@@ -8,14 +8,13 @@ ghost use Rattle.std.specs.Io.KnownBytes.{Appends};
 ghost use Rattle.text_lines.specs.Fault.{is_write};
 ghost use Rattle.text_lines.specs.Lines.{line_limit};
 ghost use Rattle.capture_model.specs.Listening.{after_all};
-ghost use Rattle.capture_lines.specs.Measurement.{measured_of};
 ghost use Rattle.capture_measure.specs.Watch.{watched_in};
 ghost use Rattle.capture_measure.specs.Row.{Row, datagrams, IsRow};
 ghost use Rattle.capture_measure.specs.Measured.{measured_at, measurements};
-ghost use Rattle.capture_measure.specs.Measure.{Recording, begun, head_text, measure_rules};
+ghost use Rattle.capture_measure.specs.Measure.{Recording, begun, head_text, HasHead, measure_rules};
 ghost use Rattle.capture_measure.specs.Inner.Listener.{IsListener};
 ghost use Rattle.capture_measure.specs.Inner.Watching.{IsWatch};
-ghost use Rattle.capture_measure.specs.Inner.Hearing.{recorded_of, measured_by, IsOfOutput, Goes};
+ghost use Rattle.capture_measure.specs.Inner.Hearing.{recorded_of, made_of, measured_by, IsOfOutput, Goes};
 ghost use Rattle.capture_measure.specs.Inner.Measuring.{IsLine, NoRow, HasRow, IsUnread, IsRead, IsRowOf};
 ghost use Rattle.capture_measure.specs.Inner.Measuring.{StopsAt, AreRows, AreWithin, AreKept};
 ghost use Rattle.capture_measure.specs.Inner.Measuring.{IsHearing, IsStage, IsMeasuring, IsLeft};
@@ -24,10 +23,10 @@ ghost use Rattle.capture_measure.specs.Counts.{Fate, fate_at, fates, early_fate,
 ghost use Rattle.capture_measure.specs.Inner.Counting.{stays};
 
 use crate::listener::Listener;
-use crate::reports::{Completed, Datagram, Reports, message_in};
+use crate::reports::{Completed, Datagram, Made, Reports, message_in};
 use crate::tally::{Counts, Tally};
 use crate::watch::{Wanted, Watch, Whom};
-use capture_lines::{Measurement, Timed, read_timed, table_head};
+use capture_lines::{Timed, read_timed, table_head};
 use capture_model::Watched;
 use std::alloc::Global;
 use std::io::Write;
@@ -46,6 +45,10 @@ pub enum Form {
     Json,
     /// Rows of a table, below its head, with commas between the columns.
     Table,
+    /// JSON with the exchange that each was made of.
+    FullJson,
+    /// Rows of a table with the exchange that each was made of.
+    FullTable,
 }
 
 /// What is done with a line.
@@ -91,8 +94,8 @@ struct Line<'line, 'room> {
 
 impl Line<'_, '_> {
     /// What its datagram completed, with its time.
-    fn measured(&self, completed: Completed) -> Measurement<'_>
-        ensures { measured_of result ≡ measured_by completed self.now.text.now self.now.datagram.number }
+    fn measured(&self, completed: Completed) -> Made<'_>
+        ensures { made_of result ≡ measured_by completed self.now.text.now self.now.datagram.number }
     {
         completed.at(self.datagram.number, self.text)
     }
@@ -431,13 +434,14 @@ impl Measuring {
 pub(crate) fn write_head<W: Write>(form: Form, output: &mut Counted<W>) -> Result<(), LineFault>
     ensures written { MatchResult result
         (λ _. Appends (W.contents (device_of output.old)) (W.contents (device_of output.new)) (head_text form))
-        (λ fault. (form ≡ Form.Table) × (fault ≡ LineFault.Write)) }
+        (λ fault. HasHead form × (fault ≡ LineFault.Write)) }
     ensures failures { MatchResult result
         (λ _. HasNotFailed output.old output.new)
         (λ _. HasFailed output.old output.new) }
 {
     match form {
-        Form::Json => Ok(()),
+        Form::Json | Form::FullJson => Ok(()),
         Form::Table => write_text(table_head(), output),
+        Form::FullTable => write_text(exchange_lines::table_head(), output),
     }
 }

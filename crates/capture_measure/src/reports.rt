@@ -1,16 +1,16 @@
 //! Datagrams that a port hears, and what goes out of its reports.
 
-ghost use Rattle.std.specs.Prelude.{◌≡◌, [], ◌∷◌, List, MatchResult, OnOk, Some, None};
+ghost use Rattle.std.specs.Prelude.{◌≡◌, [], ◌∷◌, ◌++◌, List, MatchResult, OnOk, Some, None};
+ghost use Rattle.std.specs.String.{string_bytes};
 ghost use Rattle.text_lines.specs.Counted.{device_of, HasNotFailed, HasFailedIf};
 ghost use Rattle.text_lines.specs.Fault.{is_write};
 ghost use Rattle.event_codec.specs.Reading.{Reading, IsReading};
 ghost use Rattle.capture_model.specs.Listening.{after_all};
 ghost use Rattle.capture_model.specs.Recorded.{Recorded};
-ghost use Rattle.capture_lines.specs.Measurement.{measured_of};
 ghost use Rattle.capture_measure.specs.Measured.{half_of, text_as};
 ghost use Rattle.capture_measure.specs.Counts.{Fate, fate_in, IsCounts};
-ghost use Rattle.capture_measure.specs.Inner.Listener.{IsListener, report_by};
-ghost use Rattle.capture_measure.specs.Inner.Hearing.{reading_of, recorded_of, completion, measured_by, GoesAtOnce};
+ghost use Rattle.capture_measure.specs.Inner.Listener.{IsListener, report_by, exchange_by};
+ghost use Rattle.capture_measure.specs.Inner.Hearing.{reading_of, recorded_of, completion, made_of, measured_by, GoesAtOnce};
 
 use crate::listener::{Became, Listener};
 use crate::measuring::Form;
@@ -19,8 +19,8 @@ use capture_lines::{Half, Measurement, push_json, push_row};
 use capture_model::Watched;
 use event_codec::{Body, DecodeRefusal, Message, decode};
 use ptp_units::ScaledTime;
-use slave_port::{Heard, Report};
-use std::alloc::Global;
+use slave_port::{Exchange, Heard, Report};
+use std::alloc::{AllocError, Global};
 use std::io::Write;
 use text_lines::{Counted, LineFault, write_text};
 
@@ -36,23 +36,35 @@ pub(crate) struct Datagram<'room> {
     pub(crate) said: Result<Message<'room>, DecodeRefusal>,
 }
 
-/// A report, and which half of it a datagram completed.
+/// A measurement, and the exchange that it was made of, which is there.
+#[derive(Clone, Copy)]
+pub(crate) struct Made<'a> {
+    pub(crate) measured: Measurement<'a>,
+    pub(crate) exchange: Option<Exchange>,
+}
+
+/// A report, which half of it a datagram completed, and the exchange that it was made of.
 #[derive(Clone, Copy)]
 pub(crate) struct Completed {
     by: Half,
     report: Report,
+    exchange: Option<Exchange>,
 }
 
 impl Completed {
     /// The measurement of the datagram of this number, whose time is written so.
-    pub(crate) fn at(self, line: u64, time: &str) -> Measurement<'_>
-        ensures { measured_of result ≡ measured_by self time.now line }
+    pub(crate) fn at(self, line: u64, time: &str) -> Made<'_>
+        ensures { made_of result ≡ measured_by self time.now line }
     {
-        Measurement {
+        let measured = Measurement {
             by: self.by,
             line,
             time,
             report: self.report,
+        };
+        Made {
+            measured,
+            exchange: self.exchange,
         }
     }
 }
@@ -79,14 +91,39 @@ fn half_of(body: &Body) -> Half
 }
 
 /// The report in what became of a message.
-fn report_in(became: Became) -> Option<Report>
-    ensures { result ≡ report_by became }
+fn report_in(became: &Became) -> Option<Report>
+    ensures { result ≡ report_by became.now }
 {
     match became {
-        Became::Heard(Heard::Report(report)) | Became::HeardAnew(Heard::Report(report)) => {
-            Some(report)
-        }
+        Became::Heard(reply) | Became::HeardAnew(reply) => match reply.heard {
+            Heard::Report(report) => Some(report),
+            _ => None,
+        },
         _ => None,
+    }
+}
+
+/// The exchange of the port's last report once it heard a message, of which this became.
+fn exchange_in(became: &Became) -> Option<Exchange>
+    ensures { result ≡ exchange_by became.now }
+{
+    match became {
+        Became::Heard(reply) | Became::HeardAnew(reply) => reply.exchange,
+        _ => None,
+    }
+}
+
+/// Appends a measurement as it is asked for.
+fn push_as(form: Form, text: &mut String, made: &Made<'_>) -> Result<(), AllocError>
+    ensures { OnOk result (string_bytes text.new ≡ string_bytes text.old ++ text_as form (made_of made.now)) }
+{
+    let Made { measured, exchange } = made;
+    match (form, exchange) {
+        (Form::Json, _) => push_json(text, measured),
+        (Form::Table, _) => push_row(text, measured),
+        (Form::FullJson, Some(exchange)) => exchange_lines::push_json(text, measured, exchange),
+        (Form::FullTable, Some(exchange)) => exchange_lines::push_row(text, measured, exchange),
+        (Form::FullJson | Form::FullTable, None) => Ok(()),
     }
 }
 
@@ -136,10 +173,11 @@ impl Reports {
             }
         };
         let became = listener.hear(datagram.number, datagram.time, message);
-        self.tally.count_heard(message, listener.domain(), became);
+        self.tally.count_heard(message, listener.domain(), &became);
         Some(Completed {
             by: half_of(&message.body),
-            report: report_in(became)?,
+            report: report_in(&became)?,
+            exchange: exchange_in(&became),
         })
     }
 
@@ -147,26 +185,23 @@ impl Reports {
     pub(crate) fn write<W: Write>(
         &mut self,
         time: ScaledTime,
-        measured: &Measurement<'_>,
+        made: &Made<'_>,
         output: &mut Counted<W>,
     ) -> Result<(), LineFault>
-        ensures written { GoesAtOnce result (text_as self.old.form (measured_of measured.now))
+        ensures written { GoesAtOnce result (text_as self.old.form (made_of made.now))
             (W.contents (device_of output.old)) (W.contents (device_of output.new)) }
-        ensures counted { (fate : Fate) (all : List Fate) → fate.measured ≡ None → fate.datagram.line ≡ measured.now.line
+        ensures counted { (fate : Fate) (all : List Fate) → fate.measured ≡ None → fate.datagram.line ≡ made.now.measured.line
             → fate.datagram.time ≡ time → IsCounts (fate ∷ all) self.old.tally.counts
-            → OnOk result (IsCounts (record fate { measured = Some (measured_of measured.now) } ∷ all) self.new.tally.counts) }
+            → OnOk result (IsCounts (record fate { measured = Some (made_of made.now) } ∷ all) self.new.tally.counts) }
         ensures form { self.new.form ≡ self.old.form }
         ensures failures { MatchResult result
             (λ _. HasNotFailed output.old output.new)
             (λ fault. HasFailedIf (is_write fault) output.old output.new) }
     {
         self.text.clear();
-        match self.form {
-            Form::Json => push_json(&mut self.text, measured)?,
-            Form::Table => push_row(&mut self.text, measured)?,
-        }
+        push_as(self.form, &mut self.text, made)?;
         write_text::<W, LineFault>(self.text.as_str(), output)?;
-        self.tally.count_report(time, measured);
+        self.tally.count_report(time, made);
         Ok(())
     }
 }

@@ -2,16 +2,14 @@
 
 ghost use Rattle.std.specs.Prelude.{◌≡◌, ◌<◌, List, [], ◌∷◌, map, Some, None};
 ghost use Rattle.capture_measure.specs.Counts.{kind_number, why_number, kind_of, kind_of_refused, why_answered, why_refused, place_of};
-ghost use Rattle.capture_lines.specs.Measurement.{measured_of};
 ghost use Rattle.std.specs.Result.{result_err};
 ghost use Rattle.recording_quality.specs.Quality.{IsQuality};
 ghost use Rattle.capture_measure.specs.Counts.{count_at, Fate, early_fate, noted_of, IsCounts};
 ghost use Rattle.capture_measure.specs.Inner.Counting.{why_by, with_one, with_unreported, with_why, with_anew};
-ghost use Rattle.capture_measure.specs.Inner.Hearing.{reading_of, recorded_of};
+ghost use Rattle.capture_measure.specs.Inner.Hearing.{reading_of, recorded_of, made_of};
 
 use crate::listener::Became;
-use crate::reports::Datagram;
-use capture_lines::Measurement;
+use crate::reports::{Datagram, Made};
 use event_codec::{Body, DecodeRefusal, Header, Message};
 use ptp_units::ScaledTime;
 use recording_quality::Quality;
@@ -214,11 +212,11 @@ impl Why {
     }
 
     /// Why a message of this header gave no report, of which this became in this domain.
-    fn of_became(became: Became, header: &Header, domain: u8) -> Option<Why>
-        ensures { result ≡ why_by domain header.now became }
+    fn of_became(became: &Became, header: &Header, domain: u8) -> Option<Why>
+        ensures { result ≡ why_by domain header.now became.now }
     {
         match became {
-            Became::Heard(heard) | Became::HeardAnew(heard) => Why::of_heard(heard),
+            Became::Heard(reply) | Became::HeardAnew(reply) => Why::of_heard(reply.heard),
             Became::HeardBefore => Some(Why::Before),
             Became::Asked | Became::Anew => Some(Why::OfSlave),
             Became::Repeated => Some(Why::Again),
@@ -339,8 +337,8 @@ impl Counts {
     }
 
     /// Counts who began anew by what became of a message.
-    fn count_anew(&mut self, became: Became)
-        ensures { self.new ≡ with_anew became self.old }
+    fn count_anew(&mut self, became: &Became)
+        ensures { self.new ≡ with_anew became.now self.old }
     {
         match became {
             Became::Anew => count_one(&mut self.slave_anew),
@@ -425,21 +423,24 @@ impl Tally {
     }
 
     /// Counts a report that was written, of the last datagram, which is of this time.
-    pub(crate) fn count_report(&mut self, time: ScaledTime, measured: &Measurement<'_>)
-        ensures { (fate : Fate) (all : List Fate) → fate.measured ≡ None → fate.datagram.line ≡ measured.now.line
+    pub(crate) fn count_report(&mut self, time: ScaledTime, made: &Made<'_>)
+        ensures { (fate : Fate) (all : List Fate) → fate.measured ≡ None → fate.datagram.line ≡ made.now.measured.line
             → fate.datagram.time ≡ time → IsCounts (fate ∷ all) self.old.counts
-            → IsCounts (record fate { measured = Some (measured_of measured.now) } ∷ all) self.new.counts }
+            → IsCounts (record fate { measured = Some (made_of made.now) } ∷ all) self.new.counts }
     {
         count_one(&mut self.counts.reports);
-        self.counts
-            .quality
-            .report(measured.line, time, measured.by, &measured.report);
+        self.counts.quality.report(
+            made.measured.line,
+            time,
+            made.measured.by,
+            &made.measured.report,
+        );
     }
 
     /// Counts a message that is heard by a port of this domain.
-    pub(crate) fn count_heard(&mut self, message: &Message<'_>, domain: u8, became: Became)
-        ensures { self.new.counts ≡ with_why (kind_of message.now.body) (why_by domain message.now.header became)
-            (with_anew became self.old.counts) }
+    pub(crate) fn count_heard(&mut self, message: &Message<'_>, domain: u8, became: &Became)
+        ensures { self.new.counts ≡ with_why (kind_of message.now.body) (why_by domain message.now.header became.now)
+            (with_anew became.now self.old.counts) }
     {
         self.counts.count_anew(became);
         if let Some(why) = Why::of_became(became, &message.header, domain) {

@@ -1,6 +1,6 @@
 -- Digits, points and signs, which stand for themselves in JSON.
 use Rattle.std.proofs.Common.{◌≡◌, ◌∙◌, ℕ, zero, suc, ℤ, pos, negsuc, ◌+◌, ◌*◌, ◌/◌, ◌%◌, ◌^◌, ◌<◌, ◌==◌, Bool, true, false}
-use Rattle.std.proofs.Common.{◌&&◌, ◌||◌, nat_lt, List, [], ◌∷◌, ◌++◌, refl, arith}
+use Rattle.std.proofs.Common.{◌&&◌, ◌||◌, nat_lt, List, [], ◌∷◌, ◌++◌, ◌-◌, length, replicate, codes, refl, arith}
 use Rattle.std.specs.Char.{is_ascii_digit}
 use Rattle.std.specs.Fmt.{decimal, signed_decimal}
 use Rattle.std.specs.List.{list_all}
@@ -12,7 +12,10 @@ use Rattle.std.proofs.lemmas.List.Folds.{list_all-append}
 use Rattle.json.specs.Print.{escape_byte, escape}
 use Rattle.ptp_units.specs.Nanoseconds.{decimals, pointed, size_text, nanoseconds_text}
 use Rattle.ptp_units.proofs.LongDivision.{decimals-nothing, decimals-no_places, decimals-step}
+use Rattle.ptp_units.specs.Moment.{bound, stamp_of, fraction_of}
+use Rattle.datagram_text.specs.Shown.{nine_digits, stamp_text}
 use Rattle.capture_lines.specs.Timed.{is_time_octet}
+use Rattle.exchange_lines.specs.Moment.{moment_text}
 use Rattle.measured_json.specs.ReadBack.{IsOf128Bits, is_printed}
 
 -- a digit, a sign or a point
@@ -111,3 +114,35 @@ time_figure x time = grind (arith, nat_tests, time)
 
 pub figures_time : (s : List ℕ) → list_all is_time_octet s ≡ true → list_all is_figure s ≡ true
 figures_time s h = all_of is_time_octet is_figure time_figure s h
+
+-- ---- moments
+zeros : (count : ℕ) → list_all is_figure (replicate count 48) ≡ true
+zeros zero = refl
+zeros (suc count) = zeros count
+
+figures_nine : (n : ℕ) → n < 2 ^ 64 → list_all is_figure (nine_digits n) ≡ true
+figures_nine n small =
+    let front : list_all is_figure (replicate (9 - length (decimal n)) 48) ≡ true = zeros (9 - length (decimal n)) in
+    let digits : list_all is_figure (decimal n) ≡ true = figures_decimal n (omega (arith, small)) in
+    list_all-append is_figure (replicate (9 - length (decimal n)) 48) (decimal n) ∙ (λ i. front i && digits i)
+
+figures_decimals : (rest : ℕ) → rest < 131072 → list_all is_figure (decimals 17 rest) ≡ true
+figures_decimals rest below = all_of is_ascii_digit is_figure digit_figure (decimals 17 rest) (digits_decimals 17 rest below)
+
+figures_stamp : (seconds nanos : ℕ) → seconds < 2 ^ 64 → nanos < 2 ^ 64
+    → list_all is_figure (decimal seconds ++ codes "." ++ nine_digits nanos) ≡ true
+figures_stamp seconds nanos few small =
+    let whole : list_all is_figure (decimal seconds) ≡ true = figures_decimal seconds (omega (arith, few)) in
+    let nine : list_all is_figure (nine_digits nanos) ≡ true = figures_nine nanos small in
+    let front : list_all is_figure (decimal seconds ++ codes ".") ≡ true =
+    list_all-append is_figure (decimal seconds) (codes ".") ∙ (λ i. whole i && true) in
+    list_all-append is_figure (decimal seconds ++ codes ".") (nine_digits nanos) ∙ (λ i. front i && nine i)
+
+pub figures_moment : (time : ℕ) → time < bound → list_all is_figure (moment_text time) ≡ true
+unfolding moment_text
+figures_moment time within =
+    let stamp : list_all is_figure (stamp_text (stamp_of time)) ≡ true =
+    figures_stamp (time / 65536 / 1000000000) (time / 65536 % 1000000000) (omega (arith, within)) (omega arith) in
+    let rest : list_all is_figure (decimals 17 (2 * fraction_of time)) ≡ true =
+    figures_decimals (2 * fraction_of time) (omega arith) in
+    list_all-append is_figure (stamp_text (stamp_of time)) (decimals 17 (2 * fraction_of time)) ∙ (λ i. stamp i && rest i)

@@ -1,3 +1,4 @@
 pub mod Figures
 pub mod ReadBack
+pub mod Full
 pub mod Worked

@@ -51,7 +51,7 @@ tags_at sync request response (Some tag) s f q r offset2 path2 = record {
   shallow = omega arith;
 }
 
-tags_readable : (report : Report) → HasTags report → IsReadable (tags_data report)
+pub tags_readable : (report : Report) → HasTags report → IsReadable (tags_data report)
 tags_readable report h = tags_at report.sync_tag report.request_tag report.response_tag report.follow_tag h.sync h.follow h.request
     h.response report.offset2 report.path2
 
@@ -84,12 +84,12 @@ read_back m h =
     read_object (members_of (fields m)) (members_readable (fields m) (fields_readable m h)) (members_ascending (fields m))
 
 -- ---- which is what is written
-half_alone : (half : Half) → escape (half_text half) ≡ half_text half
+pub half_alone : (half : Half) → escape (half_text half) ≡ half_text half
 unfolding escape_byte
 half_alone Sync = refl
 half_alone Response = refl
 
-follow_is : (tag : Option ℕ) → compact_text (follow_data tag) ≡ follow_text tag
+pub follow_is : (tag : Option ℕ) → compact_text (follow_data tag) ≡ follow_text tag
 follow_is None = refl
 follow_is (Some tag) = refl
 
@@ -146,25 +146,25 @@ compact_is m h =
     (follow_text m.report.follow_tag) (decimal m.report.request_tag) (decimal m.report.response_tag) m.time
 
 -- ---- in octets that are printed
-record ArePrinted (text : List ℕ) : Type 0 where
-  all : list_all is_printed text ≡ true
+pub record ArePrinted (text : List ℕ) : Type 0 where
+  pub all : list_all is_printed text ≡ true
 
-both : {xs ys : List ℕ} → ArePrinted xs → ArePrinted ys → ArePrinted (xs ++ ys)
+pub both : {xs ys : List ℕ} → ArePrinted xs → ArePrinted ys → ArePrinted (xs ++ ys)
 both {xs} {ys} first second = record {
   all = list_all-append is_printed xs ys ∙ (λ i. first.all i && second.all i);
 }
 
-word : (text : List ℕ) → list_all is_printed text ≡ true → ArePrinted text
+pub word : (text : List ℕ) → list_all is_printed text ≡ true → ArePrinted text
 word text printed = record { all = printed }
 
-half_printed : (half : Half) → ArePrinted (half_text half)
+pub half_printed : (half : Half) → ArePrinted (half_text half)
 half_printed Sync = word (half_text Sync) refl
 half_printed Response = word (half_text Response) refl
 
-number_printed : (n : ℕ) → n < 2 ^ 64 → ArePrinted (decimal n)
+pub number_printed : (n : ℕ) → n < 2 ^ 64 → ArePrinted (decimal n)
 number_printed n small = word (decimal n) (printed_figures (decimal n) (figures_decimal n (omega (arith, small))))
 
-follow_printed : (tag : Option ℕ) → IfSome tag IsTag → ArePrinted (follow_text tag)
+pub follow_printed : (tag : Option ℕ) → IfSome tag IsTag → ArePrinted (follow_text tag)
 follow_printed None h = word (follow_text None) refl
 follow_printed (Some tag) h = number_printed tag h
 
@@ -188,12 +188,12 @@ line_printed m h = both
     (number_printed m.report.request_tag h.tags.request) (number_printed m.report.response_tag h.tags.response)
     (word _ (printed_figures m.time (figures_time m.time h.time)))) (word (codes "\"}") refl)
 
-low : (x : ℕ) → is_printed x ≡ true → x < 128
+pub low : (x : ℕ) → is_printed x ≡ true → x < 128
 low x printed =
     let parts : (nat_lt 31 x ≡ true) × (nat_lt x 127 ≡ true) = and_parts (nat_lt 31 x) (nat_lt x 127) printed in
     grind (arith, nat_tests, parts.1)
 
-ascii : (text : List ℕ) → list_all is_printed text ≡ true → IsAscii text
+pub ascii : (text : List ℕ) → list_all is_printed text ≡ true → IsAscii text
 ascii [] h = IsAscii-nil
 ascii (x ∷ xs) h =
     let parts = and_parts (is_printed x) (list_all is_printed xs) h in

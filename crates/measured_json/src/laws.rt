@@ -1,5 +1,6 @@
 //! A law of texts: the contract of a function that does nothing.
 
+ghost use Rattle.measured_json.specs.Full.{EachFullMeasurementIsJson};
 ghost use Rattle.measured_json.specs.ReadBack.{EachMeasurementIsJson};
 
 /// What `measure` writes of a report as JSON is one line of printed octets, which is read as an object of eight members: `by`, `line`,
@@ -7,4 +8,9 @@ ghost use Rattle.measured_json.specs.ReadBack.{EachMeasurementIsJson};
 /// of all numbers of 64 bits, of results of 128 bits, and of any time that is read.
 pub fn measurements_are_json()
     ensures { EachMeasurementIsJson }
+{}
+
+/// The same of a measurement with the exchange that it was made of, as [`push_json`](exchange_lines::push_json) writes it.
+pub fn full_measurements_are_json()
+    ensures { EachFullMeasurementIsJson }
 {}

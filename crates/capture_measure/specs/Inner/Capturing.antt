@@ -3,7 +3,7 @@ use Rattle.std.specs.Prelude.{◌≡◌, ℕ, ◌+◌, ◌<◌, nat_lt, Bool, mi
 use Rattle.text_lines.specs.declared.line_fault.LineFault.{LineFault}
 use Rattle.capture_file.specs.declared.packet.Captured.{Captured}
 use Rattle.capture_file.specs.Packet.{interface_of}
-use Rattle.capture_lines.specs.Measurement.{Measured}
+use Rattle.capture_measure.specs.Made.{Measured}
 use Rattle.capture_model.specs.declared.watched.Watched.{Watched}
 use Rattle.capture_model.specs.Listening.{after_all}
 use Rattle.capture_measure.specs.declared.packets.CaptureMeasuring.{CaptureMeasuring}

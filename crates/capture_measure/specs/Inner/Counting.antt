@@ -46,13 +46,13 @@ with_why kind (Some why) counts = with_unreported kind why counts
 -- the slave or the master began anew
 abbrev pub with_anew : Became → Counts → Counts
 with_anew Anew counts = record counts { slave_anew = with_one counts.slave_anew }
-with_anew (HeardAnew heard) counts = record counts { master_anew = with_one counts.master_anew }
+with_anew (HeardAnew reply) counts = record counts { master_anew = with_one counts.master_anew }
 with_anew _ counts = counts
 
 -- why a message gave no report of which this became in this domain
 abbrev pub why_by : (domain : ℕ) → Header → Became → Option Why
-why_by domain header (Heard heard) = why_answered heard
-why_by domain header (HeardAnew heard) = why_answered heard
+why_by domain header (Heard reply) = why_answered reply.heard
+why_by domain header (HeardAnew reply) = why_answered reply.heard
 why_by domain header HeardBefore = Some whys.Before
 why_by domain header Asked = Some whys.OfSlave
 why_by domain header Anew = Some whys.OfSlave
@@ -65,7 +65,7 @@ is_slave_anew Anew = true
 is_slave_anew _ = false
 
 abbrev pub is_master_anew : Became → Bool
-is_master_anew (HeardAnew heard) = true
+is_master_anew (HeardAnew reply) = true
 is_master_anew _ = false
 
 -- what stays counted of the lines before, once it is known whom to watch: nothing where these were kept, and are heard

@@ -12,13 +12,15 @@ use Rattle.text_lines.specs.declared.line_fault.LineFault.TheVariants.{Write, Fi
 use Rattle.text_lines.specs.Fault.{is_write}
 use Rattle.text_lines.specs.Task.{WentOut}
 use Rattle.capture_lines.specs.declared.measurement.Half.TheVariants as halves
-use Rattle.capture_lines.specs.Measurement.{Measured}
+use Rattle.capture_measure.specs.Made.{Measured}
 use Rattle.capture_model.specs.declared.watched.Watched.{Watched}
 use Rattle.capture_model.specs.Recorded.{Recorded}
 use Rattle.capture_model.specs.Listening.{report_at}
 use Rattle.capture_measure.specs.declared.reports.Completed.{Completed}
 use Rattle.capture_measure.specs.declared.reports.Datagram.{Datagram}
+use Rattle.capture_measure.specs.declared.reports.Made.{Made}
 use Rattle.capture_measure.specs.declared.measuring.Form.{Form}
+use Rattle.capture_measure.specs.Exchanged.{exchange_at}
 use Rattle.capture_measure.specs.Measured.{half_of, texts_as}
 
 -- what octets say, by the message or the refusal that was read of them
@@ -33,12 +35,32 @@ recorded_of d = record { line = d.number; time = d.time; said = reading_of d.sai
 -- the report that a datagram completes, after those before it
 abbrev pub completion : Watched → List Recorded → Recorded → Option Completed
 completion watched earlier d = option_map
-    (λ report. record { by = option_map_or (λ m. half_of m.body) (result_ok d.said) halves.Sync; report = report })
+    (λ report. record {
+      by = option_map_or (λ m. half_of m.body) (result_ok d.said) halves.Sync;
+      report = report;
+      exchange = exchange_at watched earlier d;
+    })
     (report_at watched earlier d)
+
+-- what was measured, without where its time lies in memory
+abbrev pub made_of : Made → Measured
+made_of m = record {
+  by = m.measured.by;
+  line = m.measured.line;
+  time = m.measured.time.now;
+  report = m.measured.report;
+  exchange = m.exchange;
+}
 
 -- the measurement of a datagram of this number and time, which completed this
 abbrev pub measured_by : Completed → (time : List ℕ) → (number : ℕ) → Measured
-measured_by completed time number = record { by = completed.by; line = number; time = time; report = completed.report }
+measured_by completed time number = record {
+  by = completed.by;
+  line = number;
+  time = time;
+  report = completed.report;
+  exchange = completed.exchange;
+}
 
 -- a fault of what is written, not of a line
 abbrev pub IsOfOutput : LineFault → Type 0

@@ -13,6 +13,8 @@ use Rattle.sync_watch.specs.Judged.{after_sync, after_follow_up, after_refused, 
 use Rattle.sync_watch.specs.StandsFor as watches
 use Rattle.slave_port.specs.declared.heard.Heard.{Heard}
 use Rattle.slave_port.specs.declared.heard.Report.{Report}
+use Rattle.slave_port.specs.declared.exchange.Exchange.{Exchange}
+use Rattle.slave_port.specs.Exchange.{last_exchange}
 use Rattle.slave_port.specs.History.{Call, SetMaster, Event, General, next_number}
 use Rattle.slave_port.specs.StandsFor.{StandsFor}
 use Rattle.capture_model.specs.declared.watched.Watched.{Watched}
@@ -22,7 +24,9 @@ use Rattle.capture_measure.specs.declared.listener.Became.{Became}
 use Rattle.capture_measure.specs.declared.listener.Became.TheVariants as fates
 use Rattle.capture_measure.specs.declared.listener.Became.TheVariants.{HeardBefore, Asked, Repeated, Anew, Foreign}
 use Rattle.capture_measure.specs.declared.listener.Listener.{Listener}
+use Rattle.capture_measure.specs.declared.listener.Reply.{Reply}
 use Rattle.capture_measure.specs.Counts.{sync_begins}
+use Rattle.capture_measure.specs.Exchanged.{exchanged}
 
 -- the listener's port stands for these calls, and its counts are those of the definition
 pub record IsListener (w : Watched) (listener : Listener) (l : Listening) : Type 0 where
@@ -77,25 +81,41 @@ with_response number time l = record l { responses = after_response table_capaci
 abbrev pub told_again : Watched → (line : ℕ) → Listening → Listening
 told_again w line l = record l { calls = SetMaster w.master ∷ l.calls; responses = []; begun = line }
 
--- the answer to a message that the port heard
+-- what a port replies to a call, by what it heard before: its answer, and the exchange of its last report then
+abbrev pub reply_in : Watched → Listening → Call → Reply
+reply_in w l call = record { heard = answer_in w l call; exchange = last_exchange (setup_in w l) (call ∷ l.calls) }
+
+-- whatever a listener stands for, this is what its port replies to a call
+abbrev pub Replies : Call → Listener → Reply → Type 0
+Replies call listener result = (w : Watched) (l : Listening) → IsListener w listener l → result ≡ reply_in w l call
+
+-- the reply to a message that the port heard
+abbrev pub reply_by : Became → Option Reply
+reply_by (fates.Heard reply) = Some reply
+reply_by (fates.HeardAnew reply) = Some reply
+reply_by _ = None
+
+-- the answer to it
 abbrev pub heard_by : Became → Option Heard
-heard_by (fates.Heard heard) = Some heard
-heard_by (fates.HeardAnew heard) = Some heard
-heard_by _ = None
+heard_by became = option_map (λ r. r.heard) (reply_by became)
+
+-- the exchange of the last report then
+abbrev pub exchange_by : Became → Option Exchange
+exchange_by became = option_and_then (λ r. r.exchange) (reply_by became)
 
 -- the report in it
 abbrev pub report_by : Became → Option Report
 report_by became = option_and_then report_in (heard_by became)
 
 -- what becomes of a message that was heard so, unless it came before, and by which the master began anew or didn't
-abbrev pub became_by : (begins : Bool) → Option Heard → Became
+abbrev pub became_by : (begins : Bool) → Option Reply → Became
 became_by begins None = HeardBefore
-became_by true (Some heard) = fates.HeardAnew heard
-became_by false (Some heard) = fates.Heard heard
+became_by true (Some reply) = fates.HeardAnew reply
+became_by false (Some reply) = fates.Heard reply
 
 -- what becomes of a call, of the port that is to hear it
 abbrev pub became_called : (begins : Bool) → Call → Watched → Option Listening → Became
-became_called begins call w ready = became_by begins (option_map (λ l. answer_in w l call) ready)
+became_called begins call w ready = became_by begins (option_map (λ l. reply_in w l call) ready)
 
 -- what becomes of a message
 abbrev pub became_of : Watched → (line time : ℕ) → Contents → Body → Listening → Became
@@ -111,3 +131,8 @@ became_of w line time m (bodies.DelayResp receive requesting) l =
 abbrev pub IsAnswered : (line time : ℕ) → Contents → Listener → Became → Type 0
 IsAnswered line time m listener result =
     (w : Watched) (l : Listening) → IsListener w listener l → heard_by result ≡ answered w line time m m.body l
+
+-- whatever a listener stands for, this is the exchange of its last report once it heard a message
+abbrev pub IsExchanged : (line time : ℕ) → Contents → Listener → Became → Type 0
+IsExchanged line time m listener result =
+    (w : Watched) (l : Listening) → IsListener w listener l → exchange_by result ≡ exchanged w line time m m.body l

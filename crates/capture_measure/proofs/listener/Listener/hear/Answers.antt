@@ -3,8 +3,9 @@ use Rattle.event_codec.specs.declared.message.Body.{Body}
 use Rattle.event_codec.specs.declared.message.Body.TheVariants.{Sync, DelayResp}
 use Rattle.event_codec.specs.Packet.{Contents, contents}
 use Rattle.capture_model.specs.Listening.{answered, hears}
-use Rattle.capture_measure.specs.Inner.Listener.{IsListener, heard_by}
-use Rattle.capture_measure.proofs.Became.{heard-became}
+use Rattle.capture_measure.specs.Exchanged.{exchanged}
+use Rattle.capture_measure.specs.Inner.Listener.{IsListener, heard_by, exchange_by}
+use Rattle.capture_measure.proofs.Became.{heard-became, exchange-became}
 use Rattle.capture_measure.proofs.listener.Listener.hear.Goals as goal
 
 pub returns-in-DelayReq-clause-listens : goal.returns-in-DelayReq-clause-listens
@@ -41,3 +42,17 @@ returns-in-DelayResp-clause-answered c = λ w l is.
     ap heard_by (c.hear_response.ensures.became w l is)
     ∙ heard-became w c.args.line c.args.time m (DelayResp c.in-DelayResp.receive c.in-DelayResp.requesting) l
     ∙ sym (ap (λ (b : Body). answered w c.args.line c.args.time m b l) c.in-DelayResp.is)
+
+pub returns-in-Sync-clause-exchanged : goal.returns-in-Sync-clause-exchanged
+returns-in-Sync-clause-exchanged c = λ w l is.
+    let m : Contents = contents c.args.message.now in
+    ap exchange_by (c.hear_sync.ensures.became w l is)
+    ∙ exchange-became w c.args.line c.args.time m (Sync c.in-Sync.origin) l
+    ∙ sym (ap (λ (b : Body). exchanged w c.args.line c.args.time m b l) c.in-Sync.is)
+
+pub returns-in-DelayResp-clause-exchanged : goal.returns-in-DelayResp-clause-exchanged
+returns-in-DelayResp-clause-exchanged c = λ w l is.
+    let m : Contents = contents c.args.message.now in
+    ap exchange_by (c.hear_response.ensures.became w l is)
+    ∙ exchange-became w c.args.line c.args.time m (DelayResp c.in-DelayResp.receive c.in-DelayResp.requesting) l
+    ∙ sym (ap (λ (b : Body). exchanged w c.args.line c.args.time m b l) c.in-DelayResp.is)

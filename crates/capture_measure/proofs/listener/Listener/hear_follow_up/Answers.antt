@@ -17,10 +17,9 @@ returns-then-not-is_of-clause-listens c = λ w l is.
     let call : Call = General (Ok m) c.args.line in
     let other : is_of w w.master m.header ≡ false =
     subst (λ (v : Watched). is_of v v.master m.header ≡ false) is.watched (sym c.is_of.ensures ∙ c.if-not-is_of.true) in
-    let stood = c.general_message.ensures.stands (setup_in w l) l.calls is.port in
-    let heard = IsListener-told w c.args.self.now l call c.general_message.new.self refl stood is in
+    let heard = c.tell_general.ensures.listens w l is in
     subst (λ (r : Option Listening).
-    IsListener w (record c.args.self.now { port = c.general_message.new.self }) (hears_ready false call r l))
+    IsListener w c.tell_general.new.self (hears_ready false call r l))
     (sym (follow_up-other w c.args.line c.args.time m l other)) heard
 
 pub returns-then-not-is_of-clause-became : goal.returns-then-not-is_of-clause-became
@@ -29,7 +28,7 @@ returns-then-not-is_of-clause-became c = λ w l is.
     let call : Call = General (Ok m) c.args.line in
     let other : is_of w w.master m.header ≡ false =
     subst (λ (v : Watched). is_of v v.master m.header ≡ false) is.watched (sym c.is_of.ensures ∙ c.if-not-is_of.true) in
-    ap (λ h. became_by false (Some h)) (c.general_message.ensures.answer (setup_in w l) l.calls is.port)
+    ap (λ h. became_by false (Some h)) (c.tell_general.ensures.reply w l is)
     ∙ ap (became_called false call w) (sym (follow_up-other w c.args.line c.args.time m l other))
 
 pub returns-in-Newer-clause-listens : goal.returns-in-Newer-clause-listens
@@ -44,10 +43,9 @@ returns-in-Newer-clause-listens c = λ w l is.
     let one = follow_up-judged w c.args.line c.args.time m l false of again in
     let k : Listening = record l { heard = FollowUp a ∷ l.heard } in
     let now = subst (IsListener w c.judge_follow_up.new.self) one.known_is (c.judge_follow_up.ensures.listens w l is) in
-    let stood = c.general_message-in-Newer.ensures.stands (setup_in w k) k.calls now.port in
-    let heard = IsListener-told w c.judge_follow_up.new.self k call c.general_message-in-Newer.new.self refl stood now in
+    let heard = c.tell_general-in-Newer.ensures.listens w k now in
     subst (λ (r : Option Listening).
-    IsListener w (record c.judge_follow_up.new.self { port = c.general_message-in-Newer.new.self }) (hears_ready false call r l))
+    IsListener w c.tell_general-in-Newer.new.self (hears_ready false call r l))
     (sym one.ready_is) heard
 
 pub returns-in-Newer-clause-became : goal.returns-in-Newer-clause-became
@@ -62,7 +60,7 @@ returns-in-Newer-clause-became c = λ w l is.
     let one = follow_up-judged w c.args.line c.args.time m l false of again in
     let k : Listening = record l { heard = FollowUp a ∷ l.heard } in
     let now = subst (IsListener w c.judge_follow_up.new.self) one.known_is (c.judge_follow_up.ensures.listens w l is) in
-    ap (λ h. became_by false (Some h)) (c.general_message-in-Newer.ensures.answer (setup_in w k) k.calls now.port)
+    ap (λ h. became_by false (Some h)) (c.tell_general-in-Newer.ensures.reply w k now)
     ∙ ap (became_called false call w) (sym one.ready_is)
 
 pub returns-in-Repeated : goal.returns-in-Repeated

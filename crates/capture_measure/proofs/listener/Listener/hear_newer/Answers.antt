@@ -5,9 +5,10 @@ use Rattle.sync_watch.specs.Judged.{judged_refused}
 use Rattle.slave_port.specs.History.{Call, Event}
 use Rattle.capture_model.specs.Listening.{Listening, setup_in, table_capacity, is_stale, arrival_of, told}
 use Rattle.capture_model.specs.Listening.{with_count, answer_in}
-use Rattle.capture_measure.specs.Inner.Listener.{IsListener, became_by}
+use Rattle.capture_measure.specs.declared.listener.Reply.{Reply}
+use Rattle.capture_measure.specs.Inner.Listener.{IsListener, became_by, reply_in}
 use Rattle.capture_measure.proofs.Listeners.{IsListener-told}
-use Rattle.capture_measure.proofs.Judged.{newer-other, refused-told, refused-answer, refused-anew, IsNoBeginning}
+use Rattle.capture_measure.proofs.Judged.{newer-other, refused-told, refused-reply, refused-anew, IsNoBeginning}
 use Rattle.capture_measure.proofs.Judged.{newer-begins-not, refused-begins, refused-begins-not}
 use Rattle.capture_measure.proofs.listener.Listener.hear_newer.Goals as goal
 
@@ -16,11 +17,10 @@ returns-then-not-is_stale-clause-listens c = λ w l is.
     let m : Contents = contents c.args.message.now in
     let call : Call = Event (Ok m) c.args.time c.args.line in
     let a : Arrival = arrival_of m.header c.args.time in
-    let stood = c.sync_message-heard.ensures.stands (setup_in w l) l.calls is.port in
-    let heard = IsListener-told w c.args.self.now l call c.sync_message-heard.new.self refl stood is in
-    let answer = c.sync_message-heard.ensures.answer (setup_in w l) l.calls is.port in
+    let heard = c.tell_event-reply.ensures.listens w l is in
+    let reply = c.tell_event-reply.ensures.reply w l is in
     let other : is_stale (answer_in w l call) ≡ false =
-    sym (ap is_stale answer) ∙ sym c.is_stale.ensures ∙ c.if-not-is_stale.true in
+    sym (ap (λ (r : Reply). is_stale r.heard) reply) ∙ sym c.is_stale.ensures ∙ c.if-not-is_stale.true in
     subst (λ (k : Listening). IsListener w c.count_sync.new.self (with_count (told call k)))
     (sym (newer-other w c.args.line call a l other)) (c.count_sync.ensures w (told call l) heard)
 
@@ -29,12 +29,11 @@ returns-then-not-is_stale-clause-became c = λ w l is.
     let m : Contents = contents c.args.message.now in
     let call : Call = Event (Ok m) c.args.time c.args.line in
     let a : Arrival = arrival_of m.header c.args.time in
-    let stood = c.sync_message-heard.ensures.stands (setup_in w l) l.calls is.port in
-    let heard = IsListener-told w c.args.self.now l call c.sync_message-heard.new.self refl stood is in
-    let answer = c.sync_message-heard.ensures.answer (setup_in w l) l.calls is.port in
+    let heard = c.tell_event-reply.ensures.listens w l is in
+    let reply = c.tell_event-reply.ensures.reply w l is in
     let other : is_stale (answer_in w l call) ≡ false =
-    sym (ap is_stale answer) ∙ sym c.is_stale.ensures ∙ c.if-not-is_stale.true in
-    let same = answer ∙ ap (λ (k : Listening). answer_in w k call) (sym (newer-other w c.args.line call a l other)) in
+    sym (ap (λ (r : Reply). is_stale r.heard) reply) ∙ sym c.is_stale.ensures ∙ c.if-not-is_stale.true in
+    let same = reply ∙ ap (λ (k : Listening). reply_in w k call) (sym (newer-other w c.args.line call a l other)) in
     let begins = newer-begins-not w c.args.line call a l other in
     λ i. became_by (sym begins i) (Some (same i))
 
@@ -43,11 +42,10 @@ returns-in-BeganAnew-clause-listens c = λ w l is.
     let m : Contents = contents c.args.message.now in
     let call : Call = Event (Ok m) c.args.time c.args.line in
     let a : Arrival = arrival_of m.header c.args.time in
-    let stood = c.sync_message-heard.ensures.stands (setup_in w l) l.calls is.port in
-    let heard = IsListener-told w c.args.self.now l call c.sync_message-heard.new.self refl stood is in
-    let answer = c.sync_message-heard.ensures.answer (setup_in w l) l.calls is.port in
+    let heard = c.tell_event-reply.ensures.listens w l is in
+    let reply = c.tell_event-reply.ensures.reply w l is in
     let stale : is_stale (answer_in w l call) ≡ true =
-    sym (ap is_stale answer) ∙ sym c.is_stale.ensures ∙ c.if-not-is_stale.false in
+    sym (ap (λ (r : Reply). is_stale r.heard) reply) ∙ sym c.is_stale.ensures ∙ c.if-not-is_stale.false in
     let anew = sym (c.judge_refused.ensures.judgement w (told call l) heard) ∙ c.in-BeganAnew.is in
     let again = c.tell_master.ensures c.args.line w _ (c.judge_refused.ensures.listens w (told call l) heard) in
     subst (λ (k : Listening). IsListener w c.hear_counted.new.self (with_count (told call k)))
@@ -58,15 +56,14 @@ returns-in-BeganAnew-clause-became c = λ w l is.
     let m : Contents = contents c.args.message.now in
     let call : Call = Event (Ok m) c.args.time c.args.line in
     let a : Arrival = arrival_of m.header c.args.time in
-    let stood = c.sync_message-heard.ensures.stands (setup_in w l) l.calls is.port in
-    let heard = IsListener-told w c.args.self.now l call c.sync_message-heard.new.self refl stood is in
-    let answer = c.sync_message-heard.ensures.answer (setup_in w l) l.calls is.port in
+    let heard = c.tell_event-reply.ensures.listens w l is in
+    let reply = c.tell_event-reply.ensures.reply w l is in
     let stale : is_stale (answer_in w l call) ≡ true =
-    sym (ap is_stale answer) ∙ sym c.is_stale.ensures ∙ c.if-not-is_stale.false in
+    sym (ap (λ (r : Reply). is_stale r.heard) reply) ∙ sym c.is_stale.ensures ∙ c.if-not-is_stale.false in
     let anew = sym (c.judge_refused.ensures.judgement w (told call l) heard) ∙ c.in-BeganAnew.is in
     let again = c.tell_master.ensures c.args.line w _ (c.judge_refused.ensures.listens w (told call l) heard) in
-    let same = c.hear_counted.ensures.answer w _ again
-    ∙ ap (λ (k : Listening). answer_in w k call) (refused-anew w c.args.line call a l stale anew) in
+    let same = c.hear_counted.ensures.reply w _ again
+    ∙ ap (λ (k : Listening). reply_in w k call) (refused-anew w c.args.line call a l stale anew) in
     let begins = refused-begins w c.args.line call a l stale anew in
     λ i. became_by (sym begins i) (Some (same i))
 
@@ -76,11 +73,10 @@ returns-in-Newer c = record {
       let m : Contents = contents c.args.message.now in
       let call : Call = Event (Ok m) c.args.time c.args.line in
       let a : Arrival = arrival_of m.header c.args.time in
-      let stood = c.sync_message-heard.ensures.stands (setup_in w l) l.calls is.port in
-      let heard = IsListener-told w c.args.self.now l call c.sync_message-heard.new.self refl stood is in
-      let answer = c.sync_message-heard.ensures.answer (setup_in w l) l.calls is.port in
+      let heard = c.tell_event-reply.ensures.listens w l is in
+      let reply = c.tell_event-reply.ensures.reply w l is in
       let stale : is_stale (answer_in w l call) ≡ true =
-      sym (ap is_stale answer) ∙ sym c.is_stale.ensures ∙ c.if-not-is_stale.false in
+      sym (ap (λ (r : Reply). is_stale r.heard) reply) ∙ sym c.is_stale.ensures ∙ c.if-not-is_stale.false in
       let judged = c.judge_refused.ensures.judgement w (told call l) heard in
       let started : IsNoBeginning (judged_refused a table_capacity l.heard) = subst IsNoBeginning judged c.in-Newer.is in
       subst (λ (k : Listening). IsListener w c.count_sync-in-Newer.new.self (with_count k))
@@ -90,14 +86,13 @@ returns-in-Newer c = record {
       let m : Contents = contents c.args.message.now in
       let call : Call = Event (Ok m) c.args.time c.args.line in
       let a : Arrival = arrival_of m.header c.args.time in
-      let stood = c.sync_message-heard.ensures.stands (setup_in w l) l.calls is.port in
-      let heard = IsListener-told w c.args.self.now l call c.sync_message-heard.new.self refl stood is in
-      let answer = c.sync_message-heard.ensures.answer (setup_in w l) l.calls is.port in
+      let heard = c.tell_event-reply.ensures.listens w l is in
+      let reply = c.tell_event-reply.ensures.reply w l is in
       let stale : is_stale (answer_in w l call) ≡ true =
-      sym (ap is_stale answer) ∙ sym c.is_stale.ensures ∙ c.if-not-is_stale.false in
+      sym (ap (λ (r : Reply). is_stale r.heard) reply) ∙ sym c.is_stale.ensures ∙ c.if-not-is_stale.false in
       let judged = c.judge_refused.ensures.judgement w (told call l) heard in
       let started : IsNoBeginning (judged_refused a table_capacity l.heard) = subst IsNoBeginning judged c.in-Newer.is in
-      let same = answer ∙ refused-answer w c.args.line call a l stale started in
+      let same = reply ∙ refused-reply w c.args.line call a l stale started in
       let begins = refused-begins-not w c.args.line call a l stale started in
       λ i. became_by (sym begins i) (Some (same i));
 }

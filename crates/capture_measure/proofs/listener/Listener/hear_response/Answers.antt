@@ -20,10 +20,9 @@ returns-then-not-is_answer-clause-listens c = λ w l is.
     let other : (is_of w w.master m.header && is_same_port c.args.requesting w.slave) ≡ false =
     subst (λ (v : Watched). (is_of v v.master m.header && is_same_port c.args.requesting v.slave) ≡ false) is.watched
     (sym c.is_answer.ensures ∙ c.if-not-is_answer.true) in
-    let stood = c.general_message.ensures.stands (setup_in w l) l.calls is.port in
-    let heard = IsListener-told w c.args.self.now l call c.general_message.new.self refl stood is in
+    let heard = c.tell_general.ensures.listens w l is in
     subst (λ (r : Option Listening).
-    IsListener w (record c.args.self.now { port = c.general_message.new.self }) (hears_ready false call r l))
+    IsListener w c.tell_general.new.self (hears_ready false call r l))
     (sym (response-other w c.args.line c.args.time m l c.args.requesting other)) heard
 
 pub returns-then-not-is_answer-clause-became : goal.returns-then-not-is_answer-clause-became
@@ -33,7 +32,7 @@ returns-then-not-is_answer-clause-became c = λ w l is.
     let other : (is_of w w.master m.header && is_same_port c.args.requesting w.slave) ≡ false =
     subst (λ (v : Watched). (is_of v v.master m.header && is_same_port c.args.requesting v.slave) ≡ false) is.watched
     (sym c.is_answer.ensures ∙ c.if-not-is_answer.true) in
-    ap (λ h. became_by false (Some h)) (c.general_message.ensures.answer (setup_in w l) l.calls is.port)
+    ap (λ h. became_by false (Some h)) (c.tell_general.ensures.reply w l is)
     ∙ ap (became_called false call w) (sym (response-other w c.args.line c.args.time m l c.args.requesting other))
 
 pub returns-in-Newer-clause-listens : goal.returns-in-Newer-clause-listens
@@ -48,10 +47,9 @@ returns-in-Newer-clause-listens c = λ w l is.
     let one = response-judged w c.args.line c.args.time m l c.args.requesting false of again in
     let k : Listening = record l { responses = entry m.header.sequence.0 c.args.time ∷ l.responses } in
     let now = subst (IsListener w c.judge_response.new.self) one.1 (c.judge_response.ensures.listens w l is) in
-    let stood = c.general_message-in-Newer.ensures.stands (setup_in w k) k.calls now.port in
-    let heard = IsListener-told w c.judge_response.new.self k call c.general_message-in-Newer.new.self refl stood now in
+    let heard = c.tell_general-in-Newer.ensures.listens w k now in
     subst (λ (r : Option Listening).
-    IsListener w (record c.judge_response.new.self { port = c.general_message-in-Newer.new.self }) (hears_ready false call r l))
+    IsListener w c.tell_general-in-Newer.new.self (hears_ready false call r l))
     (sym one.0) heard
 
 pub returns-in-Newer-clause-became : goal.returns-in-Newer-clause-became
@@ -66,7 +64,7 @@ returns-in-Newer-clause-became c = λ w l is.
     let one = response-judged w c.args.line c.args.time m l c.args.requesting false of again in
     let k : Listening = record l { responses = entry m.header.sequence.0 c.args.time ∷ l.responses } in
     let now = subst (IsListener w c.judge_response.new.self) one.1 (c.judge_response.ensures.listens w l is) in
-    ap (λ h. became_by false (Some h)) (c.general_message-in-Newer.ensures.answer (setup_in w k) k.calls now.port)
+    ap (λ h. became_by false (Some h)) (c.tell_general-in-Newer.ensures.reply w k now)
     ∙ ap (became_called false call w) (sym one.0)
 
 pub returns-in-Repeated : goal.returns-in-Repeated

@@ -6,7 +6,7 @@ use Rattle.capture_model.specs.declared.watched.Watched.{Watched}
 use Rattle.capture_model.specs.Listening.{setup_in, is_of}
 use Rattle.capture_measure.specs.Inner.Listener.{IsListener, became_by}
 use Rattle.capture_measure.proofs.Listeners.{IsListener-told}
-use Rattle.capture_measure.proofs.Judged.{sync-begins, sync-begins-not, sync-other, sync-other-answer, sync-judged, sync-judged-answer, with_sync-judged, sync-anew}
+use Rattle.capture_measure.proofs.Judged.{sync-begins, sync-begins-not, sync-other, sync-other-reply, sync-judged, sync-judged-reply, with_sync-judged, sync-anew}
 use Rattle.capture_measure.proofs.listener.Listener.hear_sync.Goals as goal
 
 pub returns-then-not-is_of-clause-listens : goal.returns-then-not-is_of-clause-listens
@@ -15,10 +15,8 @@ returns-then-not-is_of-clause-listens c = λ w l is.
     let call : Call = Event (Ok m) c.args.time c.args.line in
     let other : is_of w w.master m.header ≡ false =
     subst (λ (v : Watched). is_of v v.master m.header ≡ false) is.watched (sym c.is_of.ensures ∙ c.if-not-is_of.true) in
-    let stood = c.sync_message.ensures.stands (setup_in w l) l.calls is.port in
-    subst (IsListener w (record c.args.self.now { port = c.sync_message.new.self }))
-    (sym (sync-other w c.args.line c.args.time m l other))
-    (IsListener-told w c.args.self.now l call c.sync_message.new.self refl stood is)
+    subst (IsListener w c.tell_event.new.self)
+    (sym (sync-other w c.args.line c.args.time m l other)) (c.tell_event.ensures.listens w l is)
 
 pub returns-then-not-is_of-clause-became : goal.returns-then-not-is_of-clause-became
 returns-then-not-is_of-clause-became c = λ w l is.
@@ -26,8 +24,8 @@ returns-then-not-is_of-clause-became c = λ w l is.
     let call : Call = Event (Ok m) c.args.time c.args.line in
     let other : is_of w w.master m.header ≡ false =
     subst (λ (v : Watched). is_of v v.master m.header ≡ false) is.watched (sym c.is_of.ensures ∙ c.if-not-is_of.true) in
-    let same = ap Some (c.sync_message.ensures.answer (setup_in w l) l.calls is.port)
-    ∙ sym (sync-other-answer w c.args.line c.args.time m l other) in
+    let same = ap Some (c.tell_event.ensures.reply w l is)
+    ∙ sym (sync-other-reply w c.args.line c.args.time m l other) in
     let begins = sync-begins-not w c.args.line c.args.time m l other in
     λ i. became_by (sym begins i) (same i)
 
@@ -62,7 +60,7 @@ returns-in-Newer-clause-became c = λ w l is.
     let says = sym (c.judge_sync.ensures.judgement w l is) ∙ c.in-Newer.is in
     let known_now = subst (IsListener w c.judge_sync.new.self)
     (with_sync-judged w c.args.line c.args.time m l Newer says) (c.judge_sync.ensures.listens w l is) in
-    let same = sync-judged-answer w c.args.line c.args.time m l Newer of says in
+    let same = sync-judged-reply w c.args.line c.args.time m l Newer of says in
     let begins = sync-begins w c.args.line c.args.time m l Newer of says in
     c.hear_newer.ensures.became w _ known_now ∙ (λ i. became_by (sym begins i) (sym same i))
 
@@ -72,7 +70,7 @@ returns-in-Repeated-clause-became c = λ w l is.
     let of : is_of w w.master m.header ≡ true =
     subst (λ (v : Watched). is_of v v.master m.header ≡ true) is.watched (sym c.is_of.ensures ∙ c.if-not-is_of.false) in
     let says = sym (c.judge_sync.ensures.judgement w l is) ∙ c.in-Repeated.is in
-    let same = sync-judged-answer w c.args.line c.args.time m l Repeated of says in
+    let same = sync-judged-reply w c.args.line c.args.time m l Repeated of says in
     let begins = sync-begins w c.args.line c.args.time m l Repeated of says in
     λ i. became_by (sym begins i) (sym same i)
 
@@ -97,7 +95,7 @@ returns-in-BeganAnew-clause-became c = λ w l is.
     let says = sym (c.judge_sync.ensures.judgement w l is) ∙ c.in-BeganAnew.is in
     let known_now = subst (IsListener w c.tell_master.new.self) (sync-anew w c.args.line c.args.time m l says)
     (c.tell_master.ensures c.args.line w _ (c.judge_sync.ensures.listens w l is)) in
-    let same = ap Some (c.hear_counted.ensures.answer w _ known_now)
-    ∙ sym (sync-judged-answer w c.args.line c.args.time m l BeganAnew of says) in
+    let same = ap Some (c.hear_counted.ensures.reply w _ known_now)
+    ∙ sym (sync-judged-reply w c.args.line c.args.time m l BeganAnew of says) in
     let begins = sync-begins w c.args.line c.args.time m l BeganAnew of says in
     λ i. became_by (sym begins i) (same i)
