@@ -1,0 +1,4 @@
+pub mod Fault
+pub mod Datagram
+pub mod Rules
+pub mod Inner

@@ -1,0 +1,11 @@
+//! What happened to messages between two taps: crossings from a capture at several interfaces, or from lines.
+#![tactic(auto)]
+
+mod fault;
+mod input;
+mod lines;
+mod packets;
+mod task;
+
+pub use fault::FollowFault;
+pub use input::{Outcome, Summary, follow};

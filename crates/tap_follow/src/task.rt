@@ -1,0 +1,121 @@
+//! A datagram that was met at a tap, from a line or a packet.
+ghost use Rattle.std.specs.Prelude.{◌≡◌, ◌≢◌, ℕ, List, [], MatchResult};
+ghost use Rattle.std.specs.String.{string_bytes};
+ghost use Rattle.std.specs.Io.KnownBytes.{Appends};
+ghost use Rattle.text_lines.specs.Counted.{device_of, HasNotFailed, HasFailedIf};
+ghost use Rattle.text_lines.specs.Task.{WentOut};
+ghost use Rattle.tap_following.specs.Course.{Course, begun, ended, end_text};
+ghost use Rattle.tap_following.specs.Held.{IsFollower};
+ghost use Rattle.tap_follow.specs.Fault.{is_write};
+ghost use Rattle.tap_follow.specs.Rules.{StopsAtEnd};
+ghost use Rattle.tap_follow.specs.Inner.Taking.{datagram_of, TakesAs};
+
+use crate::fault::FollowFault;
+use event_codec::{DecodeRefusal, Message};
+use ptp_units::ScaledTime;
+use std::alloc::Global;
+use std::io::Write;
+use tap_choice::{Met, TapName, Wanted};
+use tap_following::{Arrival, Follower, Form};
+use text_lines::{Counted, write_text};
+
+/// A datagram that was met at a tap.
+#[derive(Clone, Copy)]
+pub(crate) struct Datagram<'room> {
+    pub(crate) tap: TapName,
+    /// The number of its line or packet.
+    pub(crate) line: u64,
+    pub(crate) time: ScaledTime,
+    /// What its octets say.
+    pub(crate) said: Result<Message<'room>, DecodeRefusal>,
+}
+
+/// What is done with datagrams, whatever told them.
+#[derive(Drop)]
+pub(crate) struct Taking {
+    pub(crate) follower: Follower,
+    /// What goes out of the last one, in the one text that all share.
+    text: String,
+    /// The third tap that ended it.
+    pub(crate) third: Option<TapName>,
+}
+
+impl Taking {
+    /// Nothing was met.
+    pub(crate) fn new(alloc: Global, wanted: &Wanted, form: Form) -> Taking
+        ensures { IsFollower result.follower (begun form wanted.now) }
+    {
+        Taking {
+            follower: Follower::new(alloc, form, wanted),
+            text: String::new(alloc),
+            third: None,
+        }
+    }
+
+    /// Takes a datagram, and what is told of it goes out in one write.
+    pub(crate) fn take<W: Write>(
+        &mut self,
+        datagram: &Datagram<'_>,
+        output: &mut Counted<W>,
+    ) -> Result<(), FollowFault>
+        ensures taken { (c : Course) → IsFollower self.old.follower c →
+            TakesAs result (datagram_of datagram.now) c self.new.follower
+            (W.contents (device_of output.old)) (W.contents (device_of output.new)) }
+        ensures failures { MatchResult result
+            (λ _. HasNotFailed output.old output.new)
+            (λ fault. HasFailedIf (is_write fault) output.old output.new) }
+    {
+        let side = match self.follower.arrive(datagram.tap) {
+            Arrival::At(side) => side,
+            Arrival::Elsewhere => return Ok(()),
+            Arrival::Third => {
+                self.third = Some(datagram.tap);
+                return Err(FollowFault::ThirdTap);
+            }
+        };
+        let Ok(message) = &datagram.said else {
+            return Ok(());
+        };
+        let met = Met {
+            side,
+            line: datagram.line,
+            time: datagram.time,
+            header: message.header,
+            body: message.body,
+        };
+        self.text.clear();
+        self.follower.take(&met, &mut self.text)?;
+        self.write(output)
+    }
+
+    /// What is told at the end goes out.
+    pub(crate) fn finish<W: Write>(&mut self, output: &mut Counted<W>) -> Result<(), FollowFault>
+        ensures ended { (c : Course) → IsFollower self.old.follower c → MatchResult result
+            (λ _. IsFollower self.new.follower (ended c)
+            × Appends (W.contents (device_of output.old)) (W.contents (device_of output.new)) (end_text c))
+            (λ fault. (out : List ℕ) × StopsAtEnd c fault out
+            × WentOut (is_write fault) (Appends (W.contents (device_of output.old)) (W.contents (device_of output.new)) out)) }
+        ensures failures { MatchResult result
+            (λ _. HasNotFailed output.old output.new)
+            (λ fault. HasFailedIf (is_write fault) output.old output.new) }
+    {
+        self.text.clear();
+        self.follower.finish(&mut self.text)?;
+        self.write(output)
+    }
+
+    /// Writes what is there to write, if anything is.
+    fn write<W: Write>(&self, output: &mut Counted<W>) -> Result<(), FollowFault>
+        ensures written { MatchResult result
+            (λ _. Appends (W.contents (device_of output.old)) (W.contents (device_of output.new)) (string_bytes self.now.text))
+            (λ fault. (fault ≡ FollowFault.Write) × (string_bytes self.now.text ≢ [])) }
+        ensures failures { MatchResult result
+            (λ _. HasNotFailed output.old output.new)
+            (λ fault. HasFailedIf (is_write fault) output.old output.new) }
+    {
+        if self.text.is_empty() {
+            return Ok(());
+        }
+        write_text(self.text.as_str(), output)
+    }
+}
