@@ -8,11 +8,11 @@ abbrev pub follow_number : FollowFault → ℕ
 follow_number Write = 802
 follow_number Field = 806
 follow_number Memory = 808
-follow_number ThirdTap = 809
+follow_number (ThirdTap name) = 809
 
 -- whether this fault says that the writer failed
 abbrev pub is_write : FollowFault → Bool
 is_write Write = true
 is_write Field = false
 is_write Memory = false
-is_write ThirdTap = false
+is_write (ThirdTap name) = false

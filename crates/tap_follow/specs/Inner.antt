@@ -1,1 +1,3 @@
 pub mod Taking
+pub mod LineReading
+pub mod Outcomes

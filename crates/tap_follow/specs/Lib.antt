@@ -1,4 +1,6 @@
 pub mod Fault
 pub mod Datagram
 pub mod Rules
+pub mod Input
+pub mod Told
 pub mod Inner

@@ -1,12 +1,15 @@
 -- What `follow` makes of lines and of packets.
-use Rattle.std.specs.Prelude.{◌≡◌, ◌≢◌, ◌⊎◌, ℕ, ◌+◌, ◌-◌, ◌^◌, List, [], ◌++◌, Option, Some, None}
+use Rattle.std.specs.Prelude.{◌≡◌, ◌≢◌, ◌⊎◌, ℕ, ◌+◌, ◌-◌, ◌^◌, ◌≤◌, List, [], ◌++◌, Option, Some, None}
+use Rattle.text_lines.specs.Counted.{greatest_count}
 use Rattle.text_lines.specs.Task.{Rules}
 use Rattle.capture_file.specs.Packet.{PacketOf}
 use Rattle.capture_file.specs.Task.{PacketRules}
 use Rattle.tap_choice.specs.declared.met.Met.{Met}
+use Rattle.tap_choice.specs.declared.wanted.Wanted.{Wanted}
+use Rattle.tap_following.specs.declared.following.Form.{Form}
 use Rattle.tap_following.specs.declared.follower.Arrival.{Arrival}
 use Rattle.tap_following.specs.declared.follower.Arrival.TheVariants as arrivals
-use Rattle.tap_following.specs.Course.{Course, arrival_of, with_tap, after, new_text, end_text}
+use Rattle.tap_following.specs.Course.{Course, begun, arrival_of, with_tap, after, new_text, end_text}
 use Rattle.tap_follow.specs.declared.fault.FollowFault.{FollowFault}
 use Rattle.tap_follow.specs.declared.fault.FollowFault.TheVariants.{Write, Field, Memory, ThirdTap}
 use Rattle.tap_follow.specs.Datagram.{Datagram, met_in, IsDatagramLine, IsDatagramPacket}
@@ -32,7 +35,7 @@ abbrev pub StopsAtDatagram : FollowFault → Datagram → Course → List ℕ �
 StopsAtDatagram Write d c out = (later : Course) × (new : List ℕ) × (new ≢ []) × TakesDatagram d c later new
 StopsAtDatagram Field d c out = ⊥
 StopsAtDatagram Memory d c out = (out ≡ []) × (later : Course) × (new : List ℕ) × TakesDatagram d c later new
-StopsAtDatagram ThirdTap d c out = (out ≡ []) × (arrival_of c d.tap ≡ arrivals.Third)
+StopsAtDatagram (ThirdTap name) d c out = (out ≡ []) × (name ≡ d.tap) × (arrival_of c d.tap ≡ arrivals.Third)
 
 -- how many lines were read, and the course of what they tell
 pub record LinesRead : Type 0 where
@@ -45,19 +48,26 @@ TakesLine line r later out =
     (d : Datagram) × IsDatagramLine (r.count + 1) line d × (later.count ≡ r.count + 1)
     × TakesDatagram d r.course later.course out
 
--- why a line isn't taken: it tells no datagram, or that isn't taken
+-- why a line isn't taken: it tells no datagram, or that isn't taken, or there are more lines than can be counted
 abbrev pub StopsAtLine : List ℕ → LinesRead → FollowFault → List ℕ → Type 0
 StopsAtLine line r Field out = ((d : Datagram) → IsDatagramLine (r.count + 1) line d → ⊥) × (out ≡ [])
 StopsAtLine line r Write out = (d : Datagram) × IsDatagramLine (r.count + 1) line d × StopsAtDatagram Write d r.course out
-StopsAtLine line r Memory out = (d : Datagram) × IsDatagramLine (r.count + 1) line d × StopsAtDatagram Memory d r.course out
-StopsAtLine line r ThirdTap out = (d : Datagram) × IsDatagramLine (r.count + 1) line d × StopsAtDatagram ThirdTap d r.course out
+StopsAtLine line r Memory out =
+    (d : Datagram) × IsDatagramLine (r.count + 1) line d
+    × (StopsAtDatagram Memory d r.course out ⊎ ((greatest_count ≤ r.count) × (out ≡ [])))
+StopsAtLine line r (ThirdTap name) out =
+    (d : Datagram) × IsDatagramLine (r.count + 1) line d × StopsAtDatagram (ThirdTap name) d r.course out
 
 -- why the end has no answer: what it writes, and memory or the writer failed
 abbrev pub StopsAtEnd : Course → FollowFault → List ℕ → Type 0
 StopsAtEnd c Write out = end_text c ≢ []
 StopsAtEnd c Field out = ⊥
 StopsAtEnd c Memory out = out ≡ []
-StopsAtEnd c ThirdTap out = ⊥
+StopsAtEnd c (ThirdTap name) out = ⊥
+
+-- nothing was read
+abbrev pub nothing_read : Form → Wanted → LinesRead
+nothing_read form w = record { count = 0; course = begun form w }
 
 -- the lines of an input, as many as can be counted
 abbrev pub line_rules : Rules LinesRead ℕ FollowFault

@@ -5,6 +5,7 @@ ghost use Rattle.tap_follow.specs.Fault.{follow_number};
 ghost use Rattle.tap_follow.specs.declared.fault.FollowFault.TheVariants.{Memory, Write};
 
 use std::alloc::AllocError;
+use tap_choice::TapName;
 use text_lines::{Numbered, WriteFailed};
 
 /// Why a line or a packet isn't taken.
@@ -16,8 +17,8 @@ pub enum FollowFault {
     Field,
     /// Memory was refused.
     Memory,
-    /// PTP was met at a third tap, and not both are asked for.
-    ThirdTap,
+    /// PTP was met at a third tap, which is called so, and not both taps are asked for.
+    ThirdTap(TapName),
 }
 
 impl Numbered for FollowFault {
@@ -30,7 +31,7 @@ impl Numbered for FollowFault {
             FollowFault::Write => 802,
             FollowFault::Field => 806,
             FollowFault::Memory => 808,
-            FollowFault::ThirdTap => 809,
+            FollowFault::ThirdTap(_) => 809,
         }
     }
 

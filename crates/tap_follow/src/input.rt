@@ -1,17 +1,27 @@
 //! An input that is followed: lines, or a capture.
+ghost use Rattle.std.specs.Prelude.{◌≡◌, ◌≢◌, ◌≤◌, ◌<◌, ◌++◌, length, MatchResult, Err, IsTrue, IsFalse};
+ghost use Rattle.std.specs.List.{All};
+ghost use Rattle.std.specs.Option.{ForSome};
+ghost use Rattle.std.specs.Io.KnownBytes.{Appends};
+ghost use Rattle.text_lines.specs.Counted.{device_of, HasFailed, HasNotFailed};
+ghost use Rattle.text_lines.specs.Lines.{line_limit, lfs_in};
+ghost use Rattle.tap_following.specs.Course.{begun};
+ghost use Rattle.tap_follow.specs.Rules.{nothing_read};
+ghost use Rattle.tap_follow.specs.Input.{FollowsInput, OutcomeFailed, head_text};
+ghost use Rattle.tap_follow.specs.Told.{IsSummaryOf, TellsInput};
+ghost use Rattle.tap_follow.specs.Inner.Outcomes.{LinesAnswer, PacketsAnswer, LinesTell, PacketsTell};
 
 use crate::fault::FollowFault;
 use crate::lines::Lines;
 use crate::packets::Packets;
+use crate::summary::Summary;
 use capture_file::{Beginning, CaptureStop, answer_packets_behind};
 use std::alloc::Global;
 use std::io::{Read, Write};
-use tap_choice::{TapName, Wanted};
-use tap_following::Form;
+use tap_choice::Wanted;
+use tap_following::{Follower, Form};
 use tap_lines::table_head;
-use text_lines::{
-    Cause, Counted, ReadingFault, Stopped, answer_lines_behind, write_text,
-};
+use text_lines::{Cause, Counted, ReadingFault, Stopped, answer_lines_behind, write_text};
 
 /// What came of an input that was followed.
 #[derive(Clone, Copy, Debug)]
@@ -22,57 +32,125 @@ pub enum Outcome {
     Capture(Result<u64, CaptureStop<FollowFault>>),
 }
 
-/// What is told beside the crossings.
-#[derive(Clone, Copy, Debug)]
-pub struct Summary {
-    /// A third tap, which ended it.
-    pub third: Option<TapName>,
-}
-
-/// Whether an LF is among these octets.
-fn has_lf(octets: &[u8]) -> bool {
-    octets.contains(&b'\n')
-}
-
-fn stopped(line: u64, what: Cause<FollowFault>) -> Outcome {
-    Outcome::Lines(Err(Stopped { line, what }))
-}
-
-/// Follows messages between two taps.
+/// Follows messages between two taps, and writes each crossing when its record closes. An input whose first four octets are a magic
+/// of a capture is one, and each packet that carries a datagram of PTP is one that was met at the tap that its interface is. Any
+/// other is lines, each of a tap, a time and a datagram.
+///
+/// What a packet or line brings goes out in one write before an octet behind it is read, but for a first line that is refused: where a
+/// magic begins with the first octet, four are read.
+///
+/// The faults are those of reading and of a capture, 802 (the writer failed), 806 (a line that tells no datagram), 808 (memory was
+/// refused) and 809 (a third tap). What was told before is written then.
 pub fn follow<R: Read, W: Write>(
     alloc: Global,
     wanted: &Wanted,
     form: Form,
     input: &mut Counted<R>,
     output: &mut Counted<W>,
-) -> (Outcome, Summary) {
-    let nothing = Summary {
-        third: None,
-    };
-    if form == Form::Table {
-        if let Err(fault) = write_text::<W, FollowFault>(table_head(), output) {
-            return (stopped(0, Cause::Task(fault)), nothing);
-        }
+) -> (Outcome, Summary)
+    ensures followed { FollowsInput form wanted.now R.remaining W.contents result.0
+        input.old input.new output.old output.new }
+    ensures summary { ForSome (R.remaining (device_of input.old)) (λ octets.
+        TellsInput form wanted.now octets result.0 result.1) }
+    ensures failures { OutcomeFailed result.0 input.old input.new output.old output.new }
+{
+    if let Err(fault) = write_head(form, output) {
+        return stopped(alloc, wanted, form, 0, Cause::Task(fault));
     }
     let Ok(beginning) = Beginning::read(input) else {
-        return (stopped(1, Cause::Reading(ReadingFault::Read)), nothing);
+        return stopped(alloc, wanted, form, 1, Cause::Reading(ReadingFault::Read));
     };
     let start = beginning.octets();
     if beginning.is_capture() {
-        let mut packets = Packets::new(alloc, wanted, form);
-        let answer = answer_packets_behind(alloc, start, &mut packets, input, output);
-        let summary = Summary {
-            third: packets.taking.third,
-        };
-        return (Outcome::Capture(answer), summary);
+        return follow_packets(alloc, wanted, form, start, input, output);
     }
     if has_lf(start) {
-        return (stopped(1, Cause::Task(FollowFault::Field)), nothing);
+        return stopped(alloc, wanted, form, 1, Cause::Task(FollowFault::Field));
     }
+    follow_lines(alloc, wanted, form, start, input, output)
+}
+
+/// What goes out before anything is read.
+fn write_head<W: Write>(form: Form, output: &mut Counted<W>) -> Result<(), FollowFault>
+    ensures written { MatchResult result
+        (λ _. Appends (W.contents (device_of output.old)) (W.contents (device_of output.new)) (head_text form))
+        (λ fault. (form ≡ Form.Table) × (fault ≡ FollowFault.Write)) }
+    ensures failures { MatchResult result
+        (λ _. HasNotFailed output.old output.new)
+        (λ _. HasFailed output.old output.new) }
+{
+    match form {
+        Form::Json => Ok(()),
+        Form::Table => write_text(table_head(), output),
+    }
+}
+
+/// Whether an LF is among these octets.
+fn has_lf(octets: &[u8]) -> bool
+    ensures some { IsTrue result → 0 < lfs_in octets.now }
+    ensures none { IsFalse result → All (λ x. x ≢ 10) octets.now }
+{
+    octets.contains(&b'\n')
+}
+
+/// What came of lines where one stops them early.
+fn stopped(
+    alloc: Global,
+    wanted: &Wanted,
+    form: Form,
+    line: u64,
+    what: Cause<FollowFault>,
+) -> (Outcome, Summary)
+    ensures outcome { result.0 ≡ Outcome.Lines (Err (record { line = line; what = what })) }
+    ensures summary { IsSummaryOf (begun form wanted.now) result.1 }
+{
+    let summary = Summary::new(Follower::new(alloc, form, wanted), None);
+    (Outcome::Lines(Err(Stopped { line, what })), summary)
+}
+
+/// Follows lines, of which these octets were read.
+fn follow_lines<R: Read, W: Write>(
+    alloc: Global,
+    wanted: &Wanted,
+    form: Form,
+    start: &[u8],
+    input: &mut Counted<R>,
+    output: &mut Counted<W>,
+) -> (Outcome, Summary)
+    requires unended { All (λ x. x ≢ 10) start.now }
+    requires within { length start.now ≤ line_limit }
+    ensures answered { ForSome (R.remaining (device_of input.old)) (λ octets.
+        LinesAnswer (nothing_read form wanted.now) (start.now ++ octets) (R.remaining (device_of input.new))
+        (W.contents (device_of output.old)) (W.contents (device_of output.new)) result.0) }
+    ensures summary { ForSome (R.remaining (device_of input.old)) (λ octets.
+        LinesTell form wanted.now (start.now ++ octets) result.0 result.1) }
+    ensures failures { OutcomeFailed result.0 input.old input.new output.old output.new }
+{
     let mut lines = Lines::new(alloc, wanted, form);
     let answer = answer_lines_behind(start, &mut lines, input, output);
-    let summary = Summary {
-        third: lines.taking.third,
-    };
+    let summary = Summary::new(lines.taking.follower, None);
     (Outcome::Lines(answer), summary)
+}
+
+/// Follows a capture, of which these octets were read.
+fn follow_packets<R: Read, W: Write>(
+    alloc: Global,
+    wanted: &Wanted,
+    form: Form,
+    start: &[u8],
+    input: &mut Counted<R>,
+    output: &mut Counted<W>,
+) -> (Outcome, Summary)
+    requires { length start.now ≤ 4 }
+    ensures answered { ForSome (R.remaining (device_of input.old)) (λ octets.
+        PacketsAnswer (begun form wanted.now) (start.now ++ octets) (R.remaining (device_of input.new))
+        (W.contents (device_of output.old)) (W.contents (device_of output.new)) result.0) }
+    ensures summary { ForSome (R.remaining (device_of input.old)) (λ octets.
+        PacketsTell form wanted.now (start.now ++ octets) result.0 result.1) }
+    ensures failures { OutcomeFailed result.0 input.old input.new output.old output.new }
+{
+    let mut packets = Packets::new(alloc, wanted, form);
+    let answer = answer_packets_behind(alloc, start, &mut packets, input, output);
+    let summary = Summary::new(packets.taking.follower, Some(packets.counts));
+    (Outcome::Capture(answer), summary)
 }

@@ -5,7 +5,9 @@ mod fault;
 mod input;
 mod lines;
 mod packets;
+mod summary;
 mod task;
 
 pub use fault::FollowFault;
-pub use input::{Outcome, Summary, follow};
+pub use input::{Outcome, follow};
+pub use summary::Summary;

@@ -1,19 +1,21 @@
 //! Lines, each of which tells a tap, a time and a datagram.
-ghost use Rattle.std.specs.Prelude.{◌≡◌};
-ghost use Rattle.tap_following.specs.Held.{IsFollower};
-ghost use Rattle.tap_follow.specs.Rules.{LinesRead, line_rules};
+ghost use Rattle.std.specs.Prelude.{◌≡◌, ◌≤◌, ◌+◌, ◌==◌, length, MatchOption, MatchResult};
+ghost use Rattle.std.specs.List.{position};
+ghost use Rattle.text_lines.specs.Lines.{line_limit};
+ghost use Rattle.tap_follow.specs.Datagram.{IsDatagramLine};
+ghost use Rattle.tap_follow.specs.Rules.{LinesRead, nothing_read, line_rules};
+ghost use Rattle.tap_follow.specs.Inner.LineReading.{NoDatagram, IsLine, IsUnread};
+ghost use Rattle.tap_follow.specs.Inner.Outcomes.{AreLines};
+ghost use Rattle.tap_follow.specs.Inner.Taking.{datagram_of, IsLeft, IsEnded};
 
 use crate::fault::FollowFault;
-use crate::task::{Datagram, Taking};
-use capture_lines::read_timed;
-use event_codec::{DecodeRefusal, Message, decode};
+use crate::task::{Datagram, Taking, message_in};
+use capture_lines::{Timed, read_timed};
 use std::alloc::Global;
 use std::io::Write;
 use tap_choice::{TapName, Wanted};
 use tap_following::Form;
 use text_lines::{Counted, LINE_LIMIT, LineTask};
-
-
 
 /// The most octets of a datagram, which is written in two digits each.
 const DATAGRAM_LIMIT: usize = LINE_LIMIT / 2;
@@ -25,48 +27,73 @@ pub(crate) struct Lines {
     count: u64,
 }
 
-/// The message that octets begin with.
-pub(crate) fn message_in(octets: &[u8]) -> Result<Message<'_>, DecodeRefusal> {
-    match decode(octets) {
-        Ok((message, _)) => Ok(message),
-        Err(refusal) => Err(refusal),
-    }
+/// The parts of a line.
+#[derive(Clone, Copy)]
+struct Line<'line> {
+    tap: TapName,
+    timed: Timed<'line>,
 }
 
 /// Where the first blank stands.
-fn blank_in(line: &[u8]) -> Option<usize> {
+fn blank_in(line: &[u8]) -> Option<usize>
+    ensures { result ≡ position (λ octet. octet == 32) line.now }
+{
     line.iter().position(|octet| *octet == b' ')
 }
 
-/// Reads a line: the name of a tap, a blank, a time, a blank, and octets in hexadecimal, which come to stand at the front of
-/// the room.
+/// The parts of a line: the name of a tap, a blank, a time, a blank, and octets in hexadecimal, which come to stand at the front
+/// of the room.
+fn read_parts<'line>(line: &'line [u8], room: &mut [u8; DATAGRAM_LIMIT]) -> Option<Line<'line>>
+    requires { length line.now ≤ line_limit }
+    ensures { MatchOption result (NoDatagram line.now) (λ read. IsLine line.now room.new read) }
+{
+    let Some(blank) = blank_in(line) else {
+        return None;
+    };
+    let Some(tap) = TapName::new(&line[..blank]) else {
+        return None;
+    };
+    let Some(timed) = read_timed(&line[blank + 1..]) else {
+        return None;
+    };
+    let octets = &mut room[..timed.digits.len() / 2];
+    match hex::decode_to_slice(timed.digits, octets) {
+        Ok(()) => Some(Line { tap, timed }),
+        Err(_) => None,
+    }
+}
+
+/// Reads the line after so many. More lines than can be counted are refused as want of memory.
 fn read_line<'room>(
+    earlier: u64,
     line: &[u8],
-    number: u64,
     room: &'room mut [u8; DATAGRAM_LIMIT],
-) -> Option<Datagram<'room>> {
-    let blank = blank_in(line)?;
-    let tap = TapName::new(&line[..blank])?;
-    let timed = read_timed(&line[blank + 1..])?;
-    let size = timed.digits.len() / 2;
-    if size > room.len() {
-        return None;
+) -> Result<Datagram<'room>, FollowFault>
+    requires { length line.now ≤ line_limit }
+    ensures { MatchResult result
+        (λ datagram. IsDatagramLine (earlier + 1) line.now (datagram_of datagram))
+        (λ fault. IsUnread fault (earlier + 1) line.now) }
+{
+    let Some(Line { tap, timed }) = read_parts(line, room) else {
+        return Err(FollowFault::Field);
+    };
+    let said = message_in(&room[..timed.digits.len() / 2]);
+    match earlier.checked_add(1) {
+        Some(number) => Ok(Datagram {
+            tap,
+            line: number,
+            time: timed.time,
+            said,
+        }),
+        None => Err(FollowFault::Memory),
     }
-    let octets = &mut room[..size];
-    if hex::decode_to_slice(timed.digits, octets).is_err() {
-        return None;
-    }
-    Some(Datagram {
-        tap,
-        line: number,
-        time: timed.time,
-        said: message_in(octets),
-    })
 }
 
 impl Lines {
     /// No line came yet.
-    pub(crate) fn new(alloc: Global, wanted: &Wanted, form: Form) -> Lines {
+    pub(crate) fn new(alloc: Global, wanted: &Wanted, form: Form) -> Lines
+        ensures { AreLines result (nothing_read form wanted.now) }
+    {
         Lines {
             taking: Taking::new(alloc, wanted, form),
             count: 0,
@@ -83,7 +110,11 @@ impl LineTask for Lines {
 
     ghost rules = { line_rules };
 
-    ghost is_at = { λ task r. (task.count ≡ r.count) × IsFollower task.taking.follower r.course };
+    ghost is_at = { AreLines };
+
+    ghost is_left = { λ old new what. IsLeft old.taking.follower new.taking.follower what };
+
+    ghost is_ended = { λ old new. IsEnded old.taking.follower new.taking.follower };
 
     fn lines_limit() -> u64 {
         u64::MAX - 1
@@ -94,16 +125,15 @@ impl LineTask for Lines {
         line: &[u8],
         output: &mut Counted<W>,
     ) -> Result<(), FollowFault> {
-        let Some(number) = self.count.checked_add(1) else {
-            return Err(FollowFault::Memory);
-        };
         let mut room = [0; DATAGRAM_LIMIT];
-        let Some(datagram) = read_line(line, number, &mut room) else {
-            return Err(FollowFault::Field);
-        };
-        self.taking.take(&datagram, output)?;
-        self.count = number;
-        Ok(())
+        match read_line(self.count, line, &mut room) {
+            Ok(datagram) => {
+                self.taking.take(&datagram, output)?;
+                self.count = datagram.line;
+                Ok(())
+            }
+            Err(fault) => Err(fault),
+        }
     }
 
     /// How many lines there were.

@@ -1,11 +1,18 @@
 //! A capture, each packet of which may carry a datagram.
-ghost use Rattle.tap_following.specs.Course.{Course};
+ghost use Rattle.std.specs.Prelude.{◌≡◌, Some, IsSome, IfSome, MatchResult, Err};
+ghost use Rattle.text_lines.specs.Counted.{device_of, HasNotFailed, HasFailedIf};
+ghost use Rattle.capture_file.specs.Name.{place_text};
+ghost use Rattle.capture_file.specs.Packet.{interface_of, packet_of};
+ghost use Rattle.tap_following.specs.Course.{Course, begun};
 ghost use Rattle.tap_following.specs.Held.{IsFollower};
+ghost use Rattle.tap_follow.specs.Datagram.{IsTapOf};
+ghost use Rattle.tap_follow.specs.Fault.{is_write};
 ghost use Rattle.tap_follow.specs.Rules.{packet_rules};
+ghost use Rattle.tap_follow.specs.Inner.Outcomes.{ArePackets};
+ghost use Rattle.tap_follow.specs.Inner.Taking.{PacketTakenAs, IsLeft, IsEnded};
 
 use crate::fault::FollowFault;
-use crate::lines::message_in;
-use crate::task::{Datagram, Taking};
+use crate::task::{Datagram, Taking, message_in};
 use capture_extract::Summary as PacketCounts;
 use capture_file::{Captured, Interface, Packet, PacketTask};
 use capture_frame::{Found, find_datagram};
@@ -25,20 +32,22 @@ pub(crate) struct Packets {
 }
 
 /// The tap that an interface of this place is without a name of its own.
-fn tap_at(place: u32) -> Option<TapName> {
-    let mut digits = Buffer::new();
-    let digits = digits.format(place).as_bytes();
-    let mut room = [b'i', b'f', 0, 0, 0, 0, 0, 0, 0, 0, 0, 0];
+fn tap_at(place: u32) -> Option<TapName>
+    ensures { result ≡ Some (place_text place) }
+{
+    let mut buffer = Buffer::new();
+    let digits = buffer.format(place).as_bytes();
     let size = 2 + digits.len();
-    if size > room.len() {
-        return None;
-    }
+    let mut room = *b"if\0\0\0\0\0\0\0\0\0\0";
     room[2..size].copy_from_slice(digits);
     TapName::new(&room[..size])
 }
 
 /// The tap that an interface is: that of its name where this is one, or else `if` and its place.
-fn tap_of(interface: &Interface<'_>) -> Option<TapName> {
+fn tap_of(interface: &Interface<'_>) -> Option<TapName>
+    ensures some { IsSome result }
+    ensures name { IfSome result (λ name. IsTapOf (interface_of interface.now) name) }
+{
     match interface.name {
         Some(name) => match TapName::new(name) {
             Some(tap) => Some(tap),
@@ -50,7 +59,9 @@ fn tap_of(interface: &Interface<'_>) -> Option<TapName> {
 
 impl Packets {
     /// No packet came yet.
-    pub(crate) fn new(alloc: Global, wanted: &Wanted, form: Form) -> Packets {
+    pub(crate) fn new(alloc: Global, wanted: &Wanted, form: Form) -> Packets
+        ensures { ArePackets result (begun form wanted.now) }
+    {
         Packets {
             taking: Taking::new(alloc, wanted, form),
             counts: PacketCounts::new(None),
@@ -63,7 +74,16 @@ impl Packets {
         number: u64,
         captured: &Captured<'_>,
         output: &mut Counted<W>,
-    ) -> Result<(), FollowFault> {
+    ) -> Result<(), FollowFault>
+        ensures taken { (c : Course) → IsFollower self.old.taking.follower c →
+            PacketTakenAs result number (packet_of (Packet.Captured captured.now)) c self.new.taking.follower
+            (W.contents (device_of output.old)) (W.contents (device_of output.new)) }
+        ensures left { (what : FollowFault) → result ≡ Err what
+            → IsLeft self.old.taking.follower self.new.taking.follower what }
+        ensures failures { MatchResult result
+            (λ _. HasNotFailed output.old output.new)
+            (λ fault. HasFailedIf (is_write fault) output.old output.new) }
+    {
         let found = find_datagram(captured.link, captured.octets);
         self.counts
             .count_captured(captured.time, captured.link, found);
@@ -92,7 +112,11 @@ impl PacketTask for Packets {
 
     ghost rules = { packet_rules };
 
-    ghost is_at = { λ task c. IsFollower task.taking.follower c };
+    ghost is_at = { ArePackets };
+
+    ghost is_left = { λ old new what. IsLeft old.taking.follower new.taking.follower what };
+
+    ghost is_ended = { λ old new. IsEnded old.taking.follower new.taking.follower };
 
     fn take<W: Write>(
         &mut self,

@@ -1,21 +1,21 @@
 //! A datagram that was met at a tap, from a line or a packet.
-ghost use Rattle.std.specs.Prelude.{◌≡◌, ◌≢◌, ℕ, List, [], MatchResult};
+ghost use Rattle.std.specs.Prelude.{◌≡◌, ◌≢◌, ℕ, List, [], MatchResult, Err, OnOk};
 ghost use Rattle.std.specs.String.{string_bytes};
 ghost use Rattle.std.specs.Io.KnownBytes.{Appends};
 ghost use Rattle.text_lines.specs.Counted.{device_of, HasNotFailed, HasFailedIf};
-ghost use Rattle.text_lines.specs.Task.{WentOut};
-ghost use Rattle.tap_following.specs.Course.{Course, begun, ended, end_text};
+ghost use Rattle.tap_following.specs.Course.{Course, begun, end_text};
 ghost use Rattle.tap_following.specs.Held.{IsFollower};
+ghost use Rattle.tap_follow.specs.Datagram.{met_in};
 ghost use Rattle.tap_follow.specs.Fault.{is_write};
-ghost use Rattle.tap_follow.specs.Rules.{StopsAtEnd};
-ghost use Rattle.tap_follow.specs.Inner.Taking.{datagram_of, TakesAs};
+ghost use Rattle.tap_follow.specs.Inner.Taking.{datagram_of, reading_of, ChangesAs, TakesAs, EndsAs, IsLeft, IsEnded};
+ghost use Rattle.event_codec.specs.Reading.{Reading, IsReading};
 
 use crate::fault::FollowFault;
-use event_codec::{DecodeRefusal, Message};
+use event_codec::{DecodeRefusal, Message, decode};
 use ptp_units::ScaledTime;
 use std::alloc::Global;
 use std::io::Write;
-use tap_choice::{Met, TapName, Wanted};
+use tap_choice::{Met, Side, TapName, Wanted};
 use tap_following::{Arrival, Follower, Form};
 use text_lines::{Counted, write_text};
 
@@ -36,8 +36,16 @@ pub(crate) struct Taking {
     pub(crate) follower: Follower,
     /// What goes out of the last one, in the one text that all share.
     text: String,
-    /// The third tap that ended it.
-    pub(crate) third: Option<TapName>,
+}
+
+/// The message that octets begin with.
+pub(crate) fn message_in(octets: &[u8]) -> Result<Message<'_>, DecodeRefusal>
+    ensures { IsReading octets.now (reading_of result) }
+{
+    match decode(octets) {
+        Ok((message, _)) => Ok(message),
+        Err(refusal) => Err(refusal),
+    }
 }
 
 impl Taking {
@@ -48,7 +56,6 @@ impl Taking {
         Taking {
             follower: Follower::new(alloc, form, wanted),
             text: String::new(alloc),
-            third: None,
         }
     }
 
@@ -61,18 +68,32 @@ impl Taking {
         ensures taken { (c : Course) → IsFollower self.old.follower c →
             TakesAs result (datagram_of datagram.now) c self.new.follower
             (W.contents (device_of output.old)) (W.contents (device_of output.new)) }
+        ensures left { (what : FollowFault) → result ≡ Err what → IsLeft self.old.follower self.new.follower what }
         ensures failures { MatchResult result
             (λ _. HasNotFailed output.old output.new)
             (λ fault. HasFailedIf (is_write fault) output.old output.new) }
     {
-        let side = match self.follower.arrive(datagram.tap) {
-            Arrival::At(side) => side,
-            Arrival::Elsewhere => return Ok(()),
-            Arrival::Third => {
-                self.third = Some(datagram.tap);
-                return Err(FollowFault::ThirdTap);
-            }
-        };
+        match self.follower.arrive(datagram.tap) {
+            Arrival::At(side) => self.take_at(side, datagram, output),
+            Arrival::Elsewhere => Ok(()),
+            Arrival::Third => Err(FollowFault::ThirdTap(datagram.tap)),
+        }
+    }
+
+    /// Takes a datagram that was met at one of the two taps.
+    fn take_at<W: Write>(
+        &mut self,
+        side: Side,
+        datagram: &Datagram<'_>,
+        output: &mut Counted<W>,
+    ) -> Result<(), FollowFault>
+        ensures taken { (c : Course) → IsFollower self.old.follower c →
+            ChangesAs result (met_in side (datagram_of datagram.now)) c self.new.follower
+            (W.contents (device_of output.old)) (W.contents (device_of output.new)) }
+        ensures failures { MatchResult result
+            (λ _. HasNotFailed output.old output.new)
+            (λ fault. HasFailedIf (is_write fault) output.old output.new) }
+    {
         let Ok(message) = &datagram.said else {
             return Ok(());
         };
@@ -90,11 +111,10 @@ impl Taking {
 
     /// What is told at the end goes out.
     pub(crate) fn finish<W: Write>(&mut self, output: &mut Counted<W>) -> Result<(), FollowFault>
-        ensures ended { (c : Course) → IsFollower self.old.follower c → MatchResult result
-            (λ _. IsFollower self.new.follower (ended c)
-            × Appends (W.contents (device_of output.old)) (W.contents (device_of output.new)) (end_text c))
-            (λ fault. (out : List ℕ) × StopsAtEnd c fault out
-            × WentOut (is_write fault) (Appends (W.contents (device_of output.old)) (W.contents (device_of output.new)) out)) }
+        ensures ended { (c : Course) → IsFollower self.old.follower c → EndsAs result c (end_text c)
+            (W.contents (device_of output.old)) (W.contents (device_of output.new)) }
+        ensures kept { OnOk result (IsEnded self.old.follower self.new.follower) }
+        ensures left { (what : FollowFault) → result ≡ Err what → IsLeft self.old.follower self.new.follower what }
         ensures failures { MatchResult result
             (λ _. HasNotFailed output.old output.new)
             (λ fault. HasFailedIf (is_write fault) output.old output.new) }

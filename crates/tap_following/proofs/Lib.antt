@@ -1,3 +1,4 @@
 mod Reversed
 mod Courses
+mod SoFar
 mod Worked

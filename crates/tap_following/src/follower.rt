@@ -5,6 +5,7 @@ ghost use Rattle.tap_choice.specs.Sides.{side_of, sides_after, both_named};
 ghost use Rattle.tap_following.specs.Followed.{slave_in};
 ghost use Rattle.tap_following.specs.Written.{written};
 ghost use Rattle.tap_following.specs.Course.{Course, begun, name_at, followed_by, arrival_of, with_tap, after, ended, new_text, end_text};
+ghost use Rattle.tap_following.specs.SoFar.{followed_so_far, open_so_far};
 ghost use Rattle.tap_following.specs.Held.{IsFollower, IsKept, KeepsFor};
 
 use crate::followed::{Followed, requester};
@@ -15,7 +16,7 @@ use ptp_units::ScaledTime;
 use std::alloc::{AllocError, Global};
 use std::marker::Model;
 use tap_choice::{Choice, Met, Pair, Side, Sides, TapName, Wanted};
-use tap_crossing::Watched;
+use tap_crossing::{Filled, Kind, Watched};
 
 /// How many messages are kept until it is known which are followed.
 const KEPT_MOST: u64 = 1024;
@@ -122,6 +123,34 @@ impl Follower {
         match self.chosen(true) {
             Some(followed) => self.begin(&followed, text),
             None => Ok(()),
+        }
+    }
+
+    /// The names of the two taps, as far as they are known.
+    pub fn sides(&self) -> Sides
+        ensures { (c : Course) → IsFollower self.now c → result ≡ c.sides }
+    {
+        self.sides
+    }
+
+    /// Whose messages are followed, and between which taps, once that is known; the slave as far as it is known.
+    pub fn followed(&self) -> Option<Followed>
+        ensures { (c : Course) → IsFollower self.now c → result ≡ followed_so_far c }
+    {
+        match &self.following {
+            Some(following) => Some(following.followed()),
+            None => None,
+        }
+    }
+
+    /// How many records of a kind are open in which just these places are filled, modulo 2^64, once it is known which messages
+    /// are followed. At the end these are the records that lack a message.
+    pub fn open_records(&self, kind: Kind, filled: Filled) -> Option<u64>
+        ensures { (c : Course) → IsFollower self.now c → result ≡ open_so_far kind filled c }
+    {
+        match &self.following {
+            Some(following) => Some(following.open_records(kind, filled)),
+            None => None,
         }
     }
 

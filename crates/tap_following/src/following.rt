@@ -1,8 +1,12 @@
 //! Messages that are followed, and what is told of them.
-ghost use Rattle.std.specs.Prelude.{◌≡◌, ◌∷◌, ◌++◌, List, [], OnOk};
+ghost use Rattle.std.specs.Prelude.{◌≡◌, ◌∷◌, ◌++◌, ◌%◌, ◌^◌, ℕ, List, [], OnOk};
 ghost use Rattle.std.specs.String.{string_bytes};
 ghost use Rattle.datagram_text.specs.Shown.{stamp_text};
 ghost use Rattle.tap_crossing.specs.Crossing.{IsWithin};
+ghost use Rattle.tap_crossing.specs.Open.{number_of, open_count};
+ghost use Rattle.tap_crossing.specs.Records.{records};
+ghost use Rattle.tap_crossing.specs.StandsFor.{StandsFor};
+ghost use Rattle.tap_crossing.specs.declared.sighting.Placed.{Placed};
 ghost use Rattle.tap_following.specs.Followed.{watched_in};
 ghost use Rattle.tap_following.specs.Written.{text_as, text_at, told_of};
 ghost use Rattle.tap_following.specs.Held.{IsFollowing};
@@ -15,7 +19,7 @@ use std::alloc::{AllocError, Global};
 use std::fmt::Write;
 use std::marker::Model;
 use tap_choice::Met;
-use tap_crossing::{Crossing, Outcome, Record, Taps};
+use tap_crossing::{Crossing, Filled, Kind, Outcome, Record, Taps};
 use tap_lines::{Crossed, push_json, push_row};
 
 /// How many records of a kind count.
@@ -68,6 +72,21 @@ impl Following {
             taps: Taps::new(),
             time: String::new(alloc),
         }
+    }
+
+    /// Whose messages are followed, the slave as far as it is known.
+    pub(crate) fn followed(&self) -> Followed
+        ensures { result ≡ self.now.followed }
+    {
+        self.followed
+    }
+
+    /// How many records of a kind are open in which just these places are filled, modulo 2^64.
+    pub(crate) fn open_records(&self, kind: Kind, filled: Filled) -> u64
+        ensures { (capacity : ℕ) (met : List Placed) → StandsFor capacity self.now.tables met
+            → result ≡ open_count (number_of filled) (records capacity kind met) % 2 ^ 64 }
+    {
+        self.taps.open_records(kind, filled)
     }
 
     /// Takes who the slave is, where that isn't known and the message tells it.

@@ -1,0 +1,132 @@
+//! What is told of an input beside its crossings.
+ghost use Rattle.std.specs.Prelude.{◌≡◌};
+ghost use Rattle.tap_following.specs.Course.{Course};
+ghost use Rattle.tap_following.specs.Held.{IsFollower};
+ghost use Rattle.tap_following.specs.SoFar.{followed_so_far, open_so_far};
+ghost use Rattle.tap_follow.specs.Told.{IsSummaryOf};
+
+use capture_extract::Summary as PacketCounts;
+use datagram_text::Identity;
+use std::io::Write;
+use tap_choice::{Sides, TapName};
+use tap_crossing::{Filled, Kind};
+use tap_following::{Followed, Follower};
+
+/// What is told of an input beside its crossings.
+#[derive(Drop)]
+pub struct Summary {
+    follower: Follower,
+    /// Of a capture.
+    packets: Option<PacketCounts>,
+}
+
+impl Summary {
+    /// What is left of what followed, and of a capture how many packets there were.
+    pub(crate) fn new(follower: Follower, packets: Option<PacketCounts>) -> Summary
+        ensures { (c : Course) → IsFollower follower c → IsSummaryOf c result }
+    {
+        Summary { follower, packets }
+    }
+
+    /// The names of the two taps, as far as they are known.
+    pub fn taps(&self) -> Sides
+        ensures { (c : Course) → IsSummaryOf c self.now → result ≡ c.sides }
+    {
+        self.follower.sides()
+    }
+
+    /// Whose messages were followed, and between which taps, once that was known; the slave as far as it was known.
+    pub fn followed(&self) -> Option<Followed>
+        ensures { (c : Course) → IsSummaryOf c self.now → result ≡ followed_so_far c }
+    {
+        self.follower.followed()
+    }
+
+    /// How many records of a kind are open in which just these places are filled, modulo 2^64, where it was known which messages
+    /// are followed: these lack a message.
+    pub fn open_records(&self, kind: Kind, filled: Filled) -> Option<u64>
+        ensures { (c : Course) → IsSummaryOf c self.now → result ≡ open_so_far kind filled c }
+    {
+        self.follower.open_records(kind, filled)
+    }
+
+    /// Tells it, in lines. What can't be written is lost.
+    pub fn tell<E: Write>(&self, errors: &mut E) {
+        if let Some(packets) = &self.packets {
+            packets.tell_packets(errors);
+        }
+        match self.followed() {
+            Some(followed) => self.tell_followed(&followed, errors),
+            None => self.tell_taps(errors),
+        }
+    }
+
+    /// Tells whose messages were followed, and which of them were lost.
+    fn tell_followed<E: Write>(&self, followed: &Followed, errors: &mut E) {
+        let Followed {
+            watched,
+            from_name,
+            to_name,
+            ..
+        } = followed;
+        let (from, to) = (from_name.text(), to_name.text());
+        let _ = writeln!(errors, "ptpx: from {from} to {to}");
+        let _ = writeln!(errors, "ptpx: domain {}", watched.domain);
+        let _ = writeln!(errors, "ptpx: master {}", Identity(&watched.master));
+        let _ = match &watched.slave {
+            Some(slave) => writeln!(errors, "ptpx: slave {}", Identity(slave)),
+            None => writeln!(errors, "ptpx: no Delay_Req at {to} tells the slave"),
+        };
+        self.tell_lost(Kind::Sync, from, to, errors);
+        self.tell_lost(Kind::DelayReq, to, from, errors);
+    }
+
+    /// Tells which event messages of a kind were met at one tap alone.
+    fn tell_lost<E: Write>(&self, kind: Kind, first: &str, second: &str, errors: &mut E) {
+        tell_count(kind, self.lost(kind, true), first, second, errors);
+        tell_count(kind, self.lost(kind, false), second, first, errors);
+    }
+
+    /// How many open records of a kind have the event message at one tap alone: at the first, or at the second.
+    fn lost(&self, kind: Kind, at_first: bool) -> u64 {
+        let mut count = 0_u64;
+        for (at_from, at_to) in [(false, false), (false, true), (true, false), (true, true)] {
+            let filled = Filled {
+                first: at_first,
+                second: !at_first,
+                at_from,
+                at_to,
+            };
+            count = count.wrapping_add(self.open_records(kind, filled).unwrap_or(0));
+        }
+        count
+    }
+
+    /// Tells what is known where it isn't known which messages are followed.
+    fn tell_taps<E: Write>(&self, errors: &mut E) {
+        let Sides { first, second } = self.taps();
+        let _ = match (first, second) {
+            (Some(first), Some(second)) => {
+                let (first, second) = (first.text(), second.text());
+                writeln!(errors, "ptpx: no Sync tells which way messages go between {first} and {second}")
+            }
+            (Some(tap), None) | (None, Some(tap)) => {
+                writeln!(errors, "ptpx: nothing was met at another tap than {}", tap.text())
+            }
+            (None, None) => writeln!(errors, "ptpx: nothing was met at a tap"),
+        };
+    }
+}
+
+/// Tells how many event messages of a kind were met here and not there.
+fn tell_count<E: Write>(kind: Kind, count: u64, here: &str, there: &str, errors: &mut E) {
+    let (one, more) = match kind {
+        Kind::Sync => ("Sync", "Syncs"),
+        Kind::DelayReq => ("Delay_Req", "Delay_Reqs"),
+    };
+    let _ = match count {
+        0 => Ok(()),
+        1 => writeln!(errors, "ptpx: 1 {one} was met at {here} and not at {there}"),
+        _ => writeln!(errors, "ptpx: {count} {more} were met at {here} and not at {there}"),
+    };
+}

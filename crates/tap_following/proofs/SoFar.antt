@@ -1,0 +1,43 @@
+-- What is told of a course beside its crossings, by what is kept of it.
+use Rattle.std.proofs.Common.{◌≡◌, ◌∙◌, ℕ, Option, Some, None, refl, sym, ap}
+use Rattle.std.specs.Prelude.{◌%◌, ◌^◌}
+use Rattle.tap_crossing.specs.declared.places.Filled.{Filled}
+use Rattle.tap_crossing.specs.declared.sighting.Kind.{Kind}
+use Rattle.tap_crossing.specs.Open.{number_of, open_count}
+use Rattle.tap_crossing.specs.Records.{records}
+use Rattle.tap_following.specs.declared.followed.Followed.{Followed}
+use Rattle.tap_following.specs.Followed.{watched_in}
+use Rattle.tap_following.specs.Written.{records_most, placed_in}
+use Rattle.tap_following.specs.Course.{Course}
+use Rattle.tap_following.specs.Held.{Held, Holding, IsFollower}
+use Rattle.tap_following.specs.SoFar.{followed_so_far, open_so_far}
+use Rattle.tap_following.proofs.Courses.{known_of, unknown_of}
+
+pub followed-known : (c : Course) (task : Holding) (held : Held) (result : Followed) → IsFollower task c
+    → task.following ≡ Some held → result ≡ held.followed → Some result ≡ followed_so_far c
+followed-known c task held result at is told =
+    let (f, known, follows) = known_of c.followed c task held at.stage is in
+    let same : result ≡ record f { watched = watched_in f c.met } = told ∙ (λ i. record {
+      watched = follows.watched i;
+      from = follows.from i;
+      from_name = follows.from_name i;
+      to_name = follows.to_name i;
+    }) in
+    rw known (ap Some same)
+
+pub followed-unknown : (c : Course) (task : Holding) → IsFollower task c
+    → ((held : Held) → task.following ≡ Some held → ⊥) → None ≡ followed_so_far c
+followed-unknown c task at never =
+    let (unknown, nothing, known, keeps, empty) = unknown_of c.followed c task at.stage never in
+    rw unknown refl
+
+pub open-known : (kind : Kind) (filled : Filled) (c : Course) (result : ℕ) (f : Followed) → c.followed ≡ Some f
+    → result ≡ open_count (number_of filled) (records records_most kind (placed_in f c.met)) % 2 ^ 64
+    → Some result ≡ open_so_far kind filled c
+open-known kind filled c result f known counts = rw known (ap Some counts)
+
+pub open-unknown : (kind : Kind) (filled : Filled) (c : Course) (task : Holding) → IsFollower task c
+    → ((held : Held) → task.following ≡ Some held → ⊥) → None ≡ open_so_far kind filled c
+open-unknown kind filled c task at never =
+    let (unknown, nothing, known, keeps, empty) = unknown_of c.followed c task at.stage never in
+    rw unknown refl
