@@ -1,7 +1,6 @@
 -- What is met at a tap: a datagram, by the line or the packet that tells it.
-use Rattle.std.specs.Prelude.{◌≡◌, ℕ, ◌×◌, Bool, true, false, List, [], ◌++◌, ◌∷◌, Option, Some, None, option_map}
+use Rattle.std.specs.Prelude.{◌≡◌, ℕ, List, Option, Some, Ok, option_map}
 use Rattle.std.specs.Result.{result_ok}
-use Rattle.std.specs.Option.{option_map_or}
 use Rattle.hex.specs.Hex.{decode_of}
 use Rattle.ptp_units.specs.Moment.{moment}
 use Rattle.event_codec.specs.Packet.{Contents}
@@ -36,7 +35,7 @@ pub record IsDatagramLine (number : ℕ) (line : List ℕ) (d : Datagram) : Type
   pub parts : LineParts
   pub there : timed_in rest ≡ Some parts
   pub octets : List ℕ
-  pub decoded : result_ok (decode_of parts.digits) ≡ Some octets
+  pub decoded : decode_of parts.digits ≡ Ok octets
   pub numbered : d.line ≡ number
   pub moment_is : d.time ≡ parts.time
   pub said : IsReading octets d.said

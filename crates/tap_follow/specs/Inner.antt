@@ -1,3 +1,4 @@
+pub mod Number
 pub mod Taking
 pub mod LineReading
 pub mod Outcomes

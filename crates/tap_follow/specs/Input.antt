@@ -58,8 +58,8 @@ FailsAhead form octets left before after answer =
     (seen : List ℕ) × (unread : List ℕ) × (octets ≡ seen ++ unread) × (length seen < 4)
     × StopsEarly form left before after unread (Reading Read) answer
 
--- An LF is among the four octets that tell which it is, as a magic begins with the first. Then the first line is refused, since no
--- tap is called so; of the octets behind it up to three were read.
+-- An LF is among the four octets that tell which it is, as a magic begins with the first. Then the first line is refused, since none of
+-- so few octets tells a datagram; of the octets behind it up to three were read.
 abbrev pub HasShortLine : Form → List ℕ → (left before after : Option (List ℕ)) → Result ℕ (Stopped (Cause FollowFault)) → Type 0
 HasShortLine form octets left before after answer =
     (0 < lfs_in (start_of octets))

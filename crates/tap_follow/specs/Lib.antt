@@ -3,4 +3,5 @@ pub mod Datagram
 pub mod Rules
 pub mod Input
 pub mod Told
+pub mod OneAnswer
 pub mod Inner

@@ -1,7 +1,7 @@
 //! Why a line or a packet is followed no further.
 ghost use Rattle.std.specs.Prelude.{◌≡◌};
 ghost use Rattle.text_lines.specs.Fault.{no_refusal};
-ghost use Rattle.tap_follow.specs.Fault.{follow_number};
+ghost use Rattle.tap_follow.specs.Inner.Number.{follow_number};
 ghost use Rattle.tap_follow.specs.declared.fault.FollowFault.TheVariants.{Memory, Write};
 
 use std::alloc::AllocError;

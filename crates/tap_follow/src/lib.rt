@@ -3,6 +3,7 @@
 
 mod fault;
 mod input;
+pub mod laws;
 mod lines;
 mod packets;
 mod summary;

@@ -1,0 +1,93 @@
+-- A datagram is taken as the rules have it, by what came of its message.
+use Rattle.std.proofs.Common.{◌≡◌, ◌∙◌, ℕ, Bool, true, false, List, [], Option, Some, None, Result, Ok, Err, refl, sym, ap, subst}
+use Rattle.std.specs.Prelude.{⊤, OnOk, MatchResult, is_none, if◌then◌else◌}
+use Rattle.std.specs.Io.KnownBytes.{Appends}
+use Rattle.std.specs.Result.{result_ok}
+use Rattle.text_lines.specs.Task.{WentOut}
+use Rattle.event_codec.specs.declared.message.Message.{Message}
+use Rattle.event_codec.specs.declared.refusal.DecodeRefusal.{DecodeRefusal}
+use Rattle.tap_choice.specs.declared.met.Met.{Met}
+use Rattle.tap_choice.specs.declared.met.Side.{Side}
+use Rattle.tap_choice.specs.declared.met.Side.TheVariants as taps
+use Rattle.tap_choice.specs.declared.sides.Sides.{Sides}
+use Rattle.tap_choice.specs.Sides.{is_named, side_of, sides_after, both_named}
+use Rattle.tap_following.specs.declared.follower.Arrival.{Arrival}
+use Rattle.tap_following.specs.declared.follower.Arrival.TheVariants as arrivals
+use Rattle.tap_following.specs.Course.{Course, arrival_as, arrival_of, with_tap}
+use Rattle.tap_following.specs.Held.{Holding, IsFollower}
+use Rattle.tap_follow.specs.declared.fault.FollowFault.{FollowFault}
+use Rattle.tap_follow.specs.declared.fault.FollowFault.TheVariants.{Write, Field, Memory, ThirdTap}
+use Rattle.tap_follow.specs.Datagram.{Datagram, met_in}
+use Rattle.tap_follow.specs.Fault.{is_write}
+use Rattle.tap_follow.specs.Rules.{Changes, TakesAt, TakesDatagram, StopsAtDatagram, StopsAtEnd}
+use Rattle.tap_follow.specs.Inner.Taking.{reading_of, ChangesAs, TakesAs, EndsAs, IsLeft}
+
+-- ---- a third tap changes none of the two
+third_side : (side : Option Side) (both : Bool) → arrival_as side both ≡ arrivals.Third → side ≡ None
+third_side (Some side) both is = absurd cc
+third_side None both is = refl
+
+stays_by : (a b e g : Bool) (s : Sides) (name : List ℕ)
+    → (if a then Some taps.First else if b then Some taps.Second else if e then Some taps.First else if g then Some taps.Second
+    else None) ≡ None
+    → (if a then s else if b then s else if e then record s { first = Some name } else if g then record s { second = Some name }
+    else s) ≡ s
+stays_by true b e g s name none = refl
+stays_by false true e g s name none = refl
+stays_by false false true g s name none = absurd cc
+stays_by false false false true s name none = absurd cc
+stays_by false false false false s name none = refl
+
+pub third_stays : (c : Course) (name : List ℕ) → arrival_of c name ≡ arrivals.Third → with_tap name c ≡ c
+third_stays c name is =
+    let same : sides_after c.sides name ≡ c.sides =
+    stays_by (is_named c.sides.first name) (is_named c.sides.second name) (is_none c.sides.first) (is_none c.sides.second) c.sides name
+    (third_side (side_of c.sides name) (both_named c.wanted) is) in
+    λ i. record c { sides = same i }
+
+-- ---- what came of a message
+module _ {T : Type 0} (d : Datagram) (c : Course) (new : Holding) (before after : Option (List ℕ)) where
+  -- a datagram at one of the two taps
+  pub taken_at : (r : Result T FollowFault) (side : Side) → arrival_of c d.tap ≡ arrivals.At side
+      → ChangesAs r (met_in side d) (with_tap d.tap c) new before after → TakesAs r d c new before after
+  taken_at (Ok done) side is (later, out, at, changes, went) =
+      (later, out, at, subst (λ (a : Arrival). TakesAt a d c later out) (sym is) changes, went)
+  taken_at (Err Write) side is (out, (later, text, some, changes), went) =
+      (out, (later, text, some, subst (λ (a : Arrival). TakesAt a d c later text) (sym is) changes), went)
+  taken_at (Err Memory) side is (out, (none, later, text, changes), went) =
+      (out, (none, later, text, subst (λ (a : Arrival). TakesAt a d c later text) (sym is) changes), went)
+  taken_at (Err Field) side is (out, stops, went) = absurd stops
+  taken_at (Err (ThirdTap name)) side is (out, stops, went) = absurd stops
+
+-- a fault of what is written
+abbrev pub IsOfOutput : FollowFault → Type 0
+IsOfOutput Write = ⊤
+IsOfOutput Field = ⊥
+IsOfOutput Memory = ⊤
+IsOfOutput (ThirdTap name) = ⊥
+
+pub of_output : {T : Type 0} (r : Result T FollowFault) (m : Option Met) (c : Course) (new : Holding)
+    (before after : Option (List ℕ)) (what : FollowFault) → r ≡ Err what → ChangesAs r m c new before after → IsOfOutput what
+of_output (Ok done) m c new before after what is as = absurd cc
+of_output (Err fault) m c new before after Write is as = tt
+of_output (Err fault) m c new before after Memory is as = tt
+of_output (Err Write) m c new before after Field is as = absurd cc
+of_output (Err Memory) m c new before after Field is as = absurd cc
+of_output (Err Field) m c new before after Field is (out, stops, went) = stops
+of_output (Err (ThirdTap name)) m c new before after Field is (out, stops, went) = stops
+of_output (Err Write) m c new before after (ThirdTap tap) is as = absurd cc
+of_output (Err Memory) m c new before after (ThirdTap tap) is as = absurd cc
+of_output (Err Field) m c new before after (ThirdTap tap) is (out, stops, went) = stops
+of_output (Err (ThirdTap name)) m c new before after (ThirdTap tap) is (out, stops, went) = stops
+
+pub left_of_output : (old new : Holding) (what : FollowFault) → ((c : Course) → IsFollower old c → IsOfOutput what)
+    → IsLeft old new what
+left_of_output old new Write of = tt
+left_of_output old new Memory of = tt
+left_of_output old new Field of = λ c at. absurd (of c at)
+left_of_output old new (ThirdTap name) of = λ c at. absurd (of c at)
+
+-- octets that say no message
+pub no_message : (r : Result Message DecodeRefusal) → ((m : Message) → r ≡ Ok m → ⊥) → result_ok (reading_of r) ≡ None
+no_message (Ok m) never = absurd (never m refl)
+no_message (Err refusal) never = refl
