@@ -1,6 +1,7 @@
 mod Readings
 mod Takings
 mod LineReadings
+mod LineTakings
 mod PacketTakings
 mod Inputs
 mod Summaries

@@ -1,9 +1,9 @@
 -- A datagram is taken as the rules have it, by what came of its message.
 use Rattle.std.proofs.Common.{◌≡◌, ◌∙◌, ℕ, Bool, true, false, List, [], Option, Some, None, Result, Ok, Err, refl, sym, ap, subst}
-use Rattle.std.specs.Prelude.{⊤, OnOk, MatchResult, is_none, if◌then◌else◌}
+use Rattle.std.specs.Prelude.{◌≢◌, ⊤, MatchResult, is_none, if◌then◌else◌}
 use Rattle.std.specs.Io.KnownBytes.{Appends}
+use Rattle.std.proofs.KnownBytes.{Appends-nil}
 use Rattle.std.specs.Result.{result_ok}
-use Rattle.text_lines.specs.Task.{WentOut}
 use Rattle.event_codec.specs.declared.message.Message.{Message}
 use Rattle.event_codec.specs.declared.refusal.DecodeRefusal.{DecodeRefusal}
 use Rattle.tap_choice.specs.declared.met.Met.{Met}
@@ -13,13 +13,12 @@ use Rattle.tap_choice.specs.declared.sides.Sides.{Sides}
 use Rattle.tap_choice.specs.Sides.{is_named, side_of, sides_after, both_named}
 use Rattle.tap_following.specs.declared.follower.Arrival.{Arrival}
 use Rattle.tap_following.specs.declared.follower.Arrival.TheVariants as arrivals
-use Rattle.tap_following.specs.Course.{Course, arrival_as, arrival_of, with_tap}
+use Rattle.tap_following.specs.Course.{Course, arrival_as, arrival_of, with_tap, after, new_text, end_text}
 use Rattle.tap_following.specs.Held.{Holding, IsFollower}
 use Rattle.tap_follow.specs.declared.fault.FollowFault.{FollowFault}
 use Rattle.tap_follow.specs.declared.fault.FollowFault.TheVariants.{Write, Field, Memory, ThirdTap}
 use Rattle.tap_follow.specs.Datagram.{Datagram, met_in}
-use Rattle.tap_follow.specs.Fault.{is_write}
-use Rattle.tap_follow.specs.Rules.{Changes, TakesAt, TakesDatagram, StopsAtDatagram, StopsAtEnd}
+use Rattle.tap_follow.specs.Rules.{Changes, TakesAt}
 use Rattle.tap_follow.specs.Inner.Taking.{reading_of, ChangesAs, TakesAs, EndsAs, IsLeft}
 
 -- ---- a third tap changes none of the two
@@ -91,3 +90,50 @@ left_of_output old new (ThirdTap name) of = λ c at. absurd (of c at)
 pub no_message : (r : Result Message DecodeRefusal) → ((m : Message) → r ≡ Ok m → ⊥) → result_ok (reading_of r) ≡ None
 no_message (Ok m) never = absurd (never m refl)
 no_message (Err refusal) never = refl
+
+pub no_change : (m : Option Met) (c : Course) → m ≡ None → Changes m c c []
+no_change m c none = subst (λ (o : Option Met). Changes o c c []) (sym none) (refl, refl)
+
+-- ---- what was written of a message, or at the end
+module _ {T : Type 0} (c : Course) (new : Holding) (before : Option (List ℕ)) (text : List ℕ) where
+  pub wrote : (r : Result T FollowFault) (o : Option Met) (m : Met) (went : Option (List ℕ)) → o ≡ Some m → IsFollower new (after m c)
+      → text ≡ new_text m c
+      → MatchResult r (λ done. Appends before went text) (λ fault. (fault ≡ Write) × (text ≢ [])) → ChangesAs r o c new before went
+  wrote (Ok done) o m went is at same out = (
+    after m c,
+    new_text m c,
+    at,
+    subst (λ (x : Option Met). Changes x c (after m c) (new_text m c)) (sym is) (refl, refl),
+    subst (Appends before went) same out,
+  )
+  wrote (Err Write) o m went is at same (failed, some) = (
+    [],
+    (
+      after m c,
+      new_text m c,
+      λ none. some (same ∙ none),
+      subst (λ (x : Option Met). Changes x c (after m c) (new_text m c)) (sym is) (refl, refl),
+    ),
+    tt,
+  )
+  wrote (Err Field) o m went is at same (failed, some) = absurd cc
+  wrote (Err Memory) o m went is at same (failed, some) = absurd cc
+  wrote (Err (ThirdTap name)) o m went is at same (failed, some) = absurd cc
+
+  pub ended_by : (r : Result T FollowFault) (went : Option (List ℕ)) → text ≡ end_text c
+      → MatchResult r (λ done. Appends before went text) (λ fault. (fault ≡ Write) × (text ≢ []))
+      → EndsAs r c (end_text c) before went
+  ended_by (Ok done) went same out = subst (Appends before went) same out
+  ended_by (Err Write) went same (failed, some) = ([], λ none. some (same ∙ none), tt)
+  ended_by (Err Field) went same (failed, some) = absurd cc
+  ended_by (Err Memory) went same (failed, some) = absurd cc
+  ended_by (Err (ThirdTap name)) went same (failed, some) = absurd cc
+
+-- memory was refused
+pub no_memory : {T : Type 0} (o : Option Met) (m : Met) (c : Course) (new : Holding) (before : Option (List ℕ)) → o ≡ Some m
+    → ChangesAs {T = T} (Err Memory) o c new before before
+no_memory o m c new before is = (
+  [],
+  (refl, after m c, new_text m c, subst (λ (x : Option Met). Changes x c (after m c) (new_text m c)) (sym is) (refl, refl)),
+  Appends-nil before,
+)

@@ -151,6 +151,7 @@ fn follow_packets<R: Read, W: Write>(
 {
     let mut packets = Packets::new(alloc, wanted, form);
     let answer = answer_packets_behind(alloc, start, &mut packets, input, output);
-    let summary = Summary::new(packets.taking.follower, Some(packets.counts));
+    let counts = packets.counts;
+    let summary = Summary::new(packets.taking.follower, Some(counts));
     (Outcome::Capture(answer), summary)
 }

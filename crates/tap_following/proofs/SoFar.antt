@@ -6,18 +6,17 @@ use Rattle.tap_crossing.specs.declared.sighting.Kind.{Kind}
 use Rattle.tap_crossing.specs.Open.{number_of, open_count}
 use Rattle.tap_crossing.specs.Records.{records}
 use Rattle.tap_following.specs.declared.followed.Followed.{Followed}
-use Rattle.tap_following.specs.Followed.{watched_in}
 use Rattle.tap_following.specs.Written.{records_most, placed_in}
 use Rattle.tap_following.specs.Course.{Course}
 use Rattle.tap_following.specs.Held.{Held, Holding, IsFollower}
-use Rattle.tap_following.specs.SoFar.{followed_so_far, open_so_far}
+use Rattle.tap_following.specs.SoFar.{with_slave, followed_so_far, open_so_far}
 use Rattle.tap_following.proofs.Courses.{known_of, unknown_of}
 
 pub followed-known : (c : Course) (task : Holding) (held : Held) (result : Followed) → IsFollower task c
     → task.following ≡ Some held → result ≡ held.followed → Some result ≡ followed_so_far c
 followed-known c task held result at is told =
     let (f, known, follows) = known_of c.followed c task held at.stage is in
-    let same : result ≡ record f { watched = watched_in f c.met } = told ∙ (λ i. record {
+    let same : result ≡ with_slave c.met f = told ∙ (λ i. record {
       watched = follows.watched i;
       from = follows.from i;
       from_name = follows.from_name i;

@@ -1,5 +1,6 @@
 -- What is told of a course beside its crossings.
-use Rattle.std.specs.Prelude.{ℕ, ◌%◌, ◌^◌, Option, option_map}
+use Rattle.std.specs.Prelude.{ℕ, ◌%◌, ◌^◌, List, Option, option_map}
+use Rattle.tap_choice.specs.declared.met.Met.{Met}
 use Rattle.tap_crossing.specs.declared.places.Filled.{Filled}
 use Rattle.tap_crossing.specs.declared.sighting.Kind.{Kind}
 use Rattle.tap_crossing.specs.Open.{number_of, open_count}
@@ -9,9 +10,13 @@ use Rattle.tap_following.specs.Followed.{watched_in}
 use Rattle.tap_following.specs.Written.{records_most, placed_in}
 use Rattle.tap_following.specs.Course.{Course}
 
--- whose messages are followed, once that is known, with the slave as far as it is known
+-- whose messages are followed, with the slave as far as these tell it
+abbrev pub with_slave : List Met → Followed → Followed
+with_slave met f = record f { watched = watched_in f met }
+
+-- the same of a course, once it is known which messages are followed
 abbrev pub followed_so_far : Course → Option Followed
-followed_so_far c = option_map (λ f. record f { watched = watched_in f c.met }) c.followed
+followed_so_far c = option_map (with_slave c.met) c.followed
 
 -- how many records of a kind are open in which just these places are filled
 abbrev pub open_so_far : Kind → Filled → Course → Option ℕ
