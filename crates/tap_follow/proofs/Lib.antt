@@ -1,5 +1,6 @@
 mod Readings
 mod Takings
+mod TapNames
 mod LineReadings
 mod LineTakings
 mod PacketTakings

@@ -1,16 +1,15 @@
 -- What is read of a line.
-use Rattle.std.proofs.Common.{◌≡◌, ◌∙◌, ℕ, ◌+◌, ◌/◌, List, length, take, drop, Option, Some, None, Result, Ok, Err, refl, sym, ap, subst}
+use Rattle.std.proofs.Common.{◌≡◌, ◌∙◌, ℕ, ◌+◌, ◌-◌, ◌/◌, List, length, take, drop, Option, Some, None, refl, sym, ap, subst, take_all, arith}
 use Rattle.std.specs.Prelude.{◌==◌}
+use Rattle.std.proofs.lemmas.List.{length-drop}
 use Rattle.std.specs.List.{position}
 use Rattle.std.specs.Option.{option_map_or}
-use Rattle.hex.specs.Hex.{decode_of}
 use Rattle.event_codec.specs.Reading.{Reading, IsReading}
-use Rattle.capture_lines.specs.Timed.{LineParts, parted, parts_of, timed_in}
-use Rattle.capture_lines.specs.declared.timed.Timed.{Timed}
+use Rattle.capture_lines.specs.Timed.{parted, parts_of, timed_in}
 use Rattle.tap_choice.specs.TapName.{IsTapName}
 use Rattle.tap_follow.specs.declared.lines.Line.{Line}
 use Rattle.tap_follow.specs.Datagram.{Datagram, IsDatagramLine}
-use Rattle.tap_follow.specs.Inner.LineReading.{NoDatagram, IsLine}
+use Rattle.tap_follow.specs.Inner.LineReading.{NoOctets, NoDatagram, IsLine}
 
 -- where the first blank stands
 abbrev pub blank_of : List ℕ → Option ℕ
@@ -36,19 +35,16 @@ module _ (line : List ℕ) (i : ℕ) (at : blank_of line ≡ Some i) where
   pub no_name : (IsTapName (take i line) → ⊥) → NoDatagram line
   no_name never number d is = never (subst IsTapName (tap_is number d is) is.named)
 
-  pub no_time : timed_in (drop (i + 1) line) ≡ None → NoDatagram line
-  no_time none number d is =
-      none_some (timed_in is.rest) is.parts (ap timed_in (rest_is number d is) ∙ none) is.there
-
-  pub no_octets : (timed : Timed) → timed_in (drop (i + 1) line) ≡ Some (parts_of timed)
-      → ((octets : List ℕ) → decode_of timed.digits.now ≡ Ok octets → ⊥) → NoDatagram line
-  no_octets timed there never number d is =
-      let same : is.parts ≡ parts_of timed =
-      ap (λ o. option_map_or (λ (p : LineParts). p) o is.parts) (sym is.there ∙ ap timed_in (rest_is number d is) ∙ there) in
-      never is.octets (ap (λ (p : LineParts). decode_of p.digits) (sym same) ∙ is.decoded)
+  pub no_octets : NoOctets (drop (i + 1) line) → NoDatagram line
+  no_octets never number d is =
+      never is.parts is.octets (ap timed_in (sym (rest_is number d is)) ∙ is.there) is.decoded
 
   pub split_at : parted 32 line ≡ Some (take i line, drop (i + 1) line)
   split_at = parts_at line i at
+
+-- a part up to the end is all that is left
+pub rest_whole : (n : ℕ) (line : List ℕ) → take (length line - n) (drop n line) ≡ drop n line
+rest_whole n line = take_all (length line - n) (drop n line) (omega (arith, length-drop n line))
 
 -- the datagram of a line that has these parts, and whose octets say this
 pub line_read : (number : ℕ) (line room : List ℕ) (read : Line) (said : Reading) → IsLine line room read
@@ -59,9 +55,9 @@ line_read number line room read said is reads = record {
   split = is.split;
   named = is.named;
   parts = parts_of read.timed;
-  there = is.there;
+  there = is.has.there;
   octets = take (length read.timed.digits.now / 2) room;
-  decoded = is.decoded;
+  decoded = is.has.decoded;
   numbered = refl;
   moment_is = refl;
   said = reads;

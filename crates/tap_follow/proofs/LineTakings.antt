@@ -10,8 +10,6 @@ use Rattle.tap_follow.specs.Datagram.{Datagram, IsDatagramLine}
 use Rattle.tap_follow.specs.Fault.{is_write}
 use Rattle.tap_follow.specs.Rules.{LinesRead, StopsAtDatagram, StopsAtLine}
 use Rattle.tap_follow.specs.Inner.LineReading.{IsUnread}
-use Rattle.tap_follow.specs.Inner.Taking.{IsLeft}
-use Rattle.tap_following.specs.Held.{Holding}
 
 -- a datagram that isn't taken stops its line
 pub line_stops : (fault : FollowFault) (line : List ℕ) (r : LinesRead) (d : Datagram) (out : List ℕ)
@@ -40,10 +38,3 @@ unread Memory number line r before same (d, is, many) = (
   Appends-nil before,
 )
 unread (ThirdTap name) number line r before same is = absurd is
-
--- what is left where nothing was done
-pub left_alone : (old : Holding) (what : FollowFault) → IsLeft old old what
-left_alone old Write = tt
-left_alone old Field = λ c at. at
-left_alone old Memory = tt
-left_alone old (ThirdTap name) = λ c at. at

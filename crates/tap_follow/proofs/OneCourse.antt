@@ -1,9 +1,11 @@
 -- Lines have one answer, but for faults of the writer and of memory.
 use Rattle.std.proofs.Common.{◌≡◌, ◌∙◌, ℕ, ◌+◌, List, ◌++◌, take, true, Option, Some, None, Result, Ok, Err, refl, sym, ap, subst}
 use Rattle.std.specs.Prelude.{⊤}
+use Rattle.std.specs.Option.{option_map_or}
+use Rattle.capture_lines.specs.Timed.{LineParts, timed_in}
 use Rattle.std.proofs.KnownBytes.{Appends-trans}
 use Rattle.text_lines.specs.declared.fault.Cause.{Cause}
-use Rattle.text_lines.specs.declared.fault.Cause.TheVariants.{Reading, Task}
+use Rattle.text_lines.specs.declared.fault.Cause.TheVariants as causes
 use Rattle.text_lines.specs.declared.fault.ReadingFault.TheVariants.{Read, LineTooLong, TooManyLines}
 use Rattle.text_lines.specs.declared.fault.Stopped.{Stopped}
 use Rattle.text_lines.proofs.OneAnswer as sole
@@ -42,10 +44,10 @@ one_reading octets (Err one) (Err other) h k = cc (h, k)
 one_datagram : (number : ℕ) (line : List ℕ) (one other : Datagram) → IsDatagramLine number line one → IsDatagramLine number line other
     → other ≡ one
 one_datagram number line one other h k =
-    let split : (other.tap, k.rest) ≡ (one.tap, h.rest) = cc (h.split, k.split) in
-    let tap : other.tap ≡ one.tap = ap (λ p. p.0) split in
-    let rest : k.rest ≡ h.rest = ap (λ p. p.1) split in
-    let parts : k.parts ≡ h.parts = cc (rest, h.there, k.there) in
+    let tap : other.tap ≡ one.tap = ap (λ o. option_map_or (λ p. p.0) o other.tap) (sym k.split ∙ h.split) in
+    let rest : k.rest ≡ h.rest = ap (λ o. option_map_or (λ p. p.1) o k.rest) (sym k.split ∙ h.split) in
+    let parts : k.parts ≡ h.parts =
+    ap (λ o. option_map_or (λ (p : LineParts). p) o k.parts) (sym k.there ∙ ap timed_in rest ∙ h.there) in
     let octets : k.octets ≡ h.octets = cc (parts, h.decoded, k.decoded) in
     let numbered : other.line ≡ one.line = k.numbered ∙ sym h.numbered in
     let moment : other.time ≡ one.time = k.moment_is ∙ ap (λ p. p.time) parts ∙ sym h.moment_is in
@@ -88,8 +90,8 @@ no_fault : (line : List ℕ) (r later : LinesRead) (text text' : List ℕ) (faul
     → TakesLine line r later text → StopsAtLine line r fault text' → ⊥
 no_fault line r later text text' Write sure takes stops = sure tt
 no_fault line r later text text' Memory sure takes stops = sure tt
-no_fault line r later text text' Field sure (d, is, takes) stops = stops.0 d is
-no_fault line r later text text' (ThirdTap name) sure (d, is, counted, takes) (d', is', none, named, third) =
+no_fault line r later text text' Field sure (d, is, counted, takes) stops = stops.0 d is
+no_fault line r later text text' (ThirdTap name) sure (d, is, counted, takes) (d', is', (none, named, third)) =
     let same = one_datagram (r.count + 1) line d d' is is' in
     no_third d r.course later.course text takes (ap (λ (it : Datagram). arrival_of r.course it.tap) (sym same) ∙ third)
 
@@ -104,7 +106,7 @@ one_fault line r text text' Field (ThirdTap name) sure sure' h (d, is, stops) = 
 one_fault line r text text' (ThirdTap name) Write sure sure' h k = absurd (sure' tt)
 one_fault line r text text' (ThirdTap name) Memory sure sure' h k = absurd (sure' tt)
 one_fault line r text text' (ThirdTap name) Field sure sure' (d, is, stops) k = absurd (k.0 d is)
-one_fault line r text text' (ThirdTap name) (ThirdTap name') sure sure' (d, is, none, named, third) (d', is', none', named', third') =
+one_fault line r text text' (ThirdTap name) (ThirdTap name') sure sure' (d, is, (none, named, third)) (d', is', (none', named', third')) =
     let same = one_datagram (r.count + 1) line d d' is is' in
     (ap ThirdTap (named' ∙ ap (λ (it : Datagram). it.tap) same ∙ sym named), none' ∙ sym none)
 
@@ -133,13 +135,13 @@ line_course = record {
 
 -- ---- answers
 sure_cause : (what : Cause FollowFault) → IsOfInput what → sole.IsOfDevice IsDevice what → ⊥
-sure_cause (Reading Read) sure device = sure
-sure_cause (Reading LineTooLong) sure device = device
-sure_cause (Reading TooManyLines) sure device = device
-sure_cause (Task Write) sure device = sure
-sure_cause (Task Field) sure device = device
-sure_cause (Task Memory) sure device = sure
-sure_cause (Task (ThirdTap name)) sure device = device
+sure_cause (causes.Reading Read) sure device = sure
+sure_cause (causes.Reading LineTooLong) sure device = device
+sure_cause (causes.Reading TooManyLines) sure device = device
+sure_cause (causes.Task Write) sure device = sure
+sure_cause (causes.Task Field) sure device = device
+sure_cause (causes.Task Memory) sure device = sure
+sure_cause (causes.Task (ThirdTap name)) sure device = device
 
 is_sure : (answer : Result ℕ (Stopped (Cause FollowFault))) → IsSure answer → sole.IsSure IsDevice answer
 is_sure (Ok answer) sure = tt

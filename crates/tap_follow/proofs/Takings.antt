@@ -1,5 +1,5 @@
 -- A datagram is taken as the rules have it, by what came of its message.
-use Rattle.std.proofs.Common.{◌≡◌, ◌∙◌, ℕ, Bool, true, false, List, [], Option, Some, None, Result, Ok, Err, refl, sym, ap, subst}
+use Rattle.std.proofs.Common.{◌≡◌, ◌∙◌, ℕ, Bool, true, false, List, [], ◌++◌, Option, Some, None, Result, Ok, Err, refl, sym, ap, subst}
 use Rattle.std.specs.Prelude.{◌≢◌, ⊤, MatchResult, is_none, if◌then◌else◌}
 use Rattle.std.specs.Io.KnownBytes.{Appends}
 use Rattle.std.proofs.KnownBytes.{Appends-nil}
@@ -67,15 +67,15 @@ IsOfOutput (ThirdTap name) = ⊥
 
 pub of_output : {T : Type 0} (r : Result T FollowFault) (m : Option Met) (c : Course) (new : Holding)
     (before after : Option (List ℕ)) (what : FollowFault) → r ≡ Err what → ChangesAs r m c new before after → IsOfOutput what
-of_output (Ok done) m c new before after what is as = absurd cc
-of_output (Err fault) m c new before after Write is as = tt
-of_output (Err fault) m c new before after Memory is as = tt
-of_output (Err Write) m c new before after Field is as = absurd cc
-of_output (Err Memory) m c new before after Field is as = absurd cc
+of_output (Ok done) m c new before after what is comes = absurd cc
+of_output (Err fault) m c new before after Write is comes = tt
+of_output (Err fault) m c new before after Memory is comes = tt
+of_output (Err Write) m c new before after Field is comes = absurd cc
+of_output (Err Memory) m c new before after Field is comes = absurd cc
 of_output (Err Field) m c new before after Field is (out, stops, went) = stops
 of_output (Err (ThirdTap name)) m c new before after Field is (out, stops, went) = stops
-of_output (Err Write) m c new before after (ThirdTap tap) is as = absurd cc
-of_output (Err Memory) m c new before after (ThirdTap tap) is as = absurd cc
+of_output (Err Write) m c new before after (ThirdTap tap) is comes = absurd cc
+of_output (Err Memory) m c new before after (ThirdTap tap) is comes = absurd cc
 of_output (Err Field) m c new before after (ThirdTap tap) is (out, stops, went) = stops
 of_output (Err (ThirdTap name)) m c new before after (ThirdTap tap) is (out, stops, went) = stops
 
@@ -85,6 +85,13 @@ left_of_output old new Write of = tt
 left_of_output old new Memory of = tt
 left_of_output old new Field of = λ c at. absurd (of c at)
 left_of_output old new (ThirdTap name) of = λ c at. absurd (of c at)
+
+pub third_left : (old new : Holding) (name : List ℕ) (what : FollowFault)
+    → ((c : Course) → IsFollower old c → (arrival_of c name ≡ arrivals.Third) × IsFollower new (with_tap name c)) → IsLeft old new what
+third_left old new name Write is = tt
+third_left old new name Memory is = tt
+third_left old new name Field is = λ c at. subst (IsFollower new) (third_stays c name (is c at).0) (is c at).1
+third_left old new name (ThirdTap tap) is = λ c at. subst (IsFollower new) (third_stays c name (is c at).0) (is c at).1
 
 -- octets that say no message
 pub no_message : (r : Result Message DecodeRefusal) → ((m : Message) → r ≡ Ok m → ⊥) → result_ok (reading_of r) ≡ None
@@ -130,10 +137,14 @@ module _ {T : Type 0} (c : Course) (new : Holding) (before : Option (List ℕ)) 
   ended_by (Err (ThirdTap name)) went same (failed, some) = absurd cc
 
 -- memory was refused
-pub no_memory : {T : Type 0} (o : Option Met) (m : Met) (c : Course) (new : Holding) (before : Option (List ℕ)) → o ≡ Some m
+pub no_memory : (T : Type 0) (o : Option Met) (m : Met) (c : Course) (new : Holding) (before : Option (List ℕ)) → o ≡ Some m
     → ChangesAs {T = T} (Err Memory) o c new before before
-no_memory o m c new before is = (
+no_memory T o m c new before is = (
   [],
   (refl, after m c, new_text m c, subst (λ (x : Option Met). Changes x c (after m c) (new_text m c)) (sym is) (refl, refl)),
   Appends-nil before,
 )
+
+-- what is appended to nothing
+pub cleared : (before told text : List ℕ) → before ≡ [] → told ≡ before ++ text → told ≡ text
+cleared before told text none is = is ∙ ap (λ (t : List ℕ). t ++ text) none

@@ -4,7 +4,7 @@ ghost use Rattle.std.specs.List.{position};
 ghost use Rattle.text_lines.specs.Lines.{line_limit};
 ghost use Rattle.tap_follow.specs.Datagram.{IsDatagramLine};
 ghost use Rattle.tap_follow.specs.Rules.{LinesRead, nothing_read, line_rules};
-ghost use Rattle.tap_follow.specs.Inner.LineReading.{NoDatagram, IsLine, IsUnread};
+ghost use Rattle.tap_follow.specs.Inner.LineReading.{NoOctets, HasOctets, NoDatagram, IsLine, IsUnread};
 ghost use Rattle.tap_follow.specs.Inner.Outcomes.{AreLines};
 ghost use Rattle.tap_follow.specs.Inner.Taking.{datagram_of, IsLeft, IsEnded};
 
@@ -41,6 +41,21 @@ fn blank_in(line: &[u8]) -> Option<usize>
     line.iter().position(|octet| *octet == b' ')
 }
 
+/// What stands behind the tap: a time, a blank, and octets in hexadecimal, which come to stand at the front of the room.
+fn read_octets<'line>(rest: &'line [u8], room: &mut [u8; DATAGRAM_LIMIT]) -> Option<Timed<'line>>
+    requires { length rest.now ≤ line_limit }
+    ensures { MatchOption result (NoOctets rest.now) (λ timed. HasOctets rest.now room.new timed) }
+{
+    let Some(timed) = read_timed(rest) else {
+        return None;
+    };
+    let octets = &mut room[..timed.digits.len() / 2];
+    match hex::decode_to_slice(timed.digits, octets) {
+        Ok(()) => Some(timed),
+        Err(_) => None,
+    }
+}
+
 /// The parts of a line: the name of a tap, a blank, a time, a blank, and octets in hexadecimal, which come to stand at the front
 /// of the room.
 fn read_parts<'line>(line: &'line [u8], room: &mut [u8; DATAGRAM_LIMIT]) -> Option<Line<'line>>
@@ -53,13 +68,9 @@ fn read_parts<'line>(line: &'line [u8], room: &mut [u8; DATAGRAM_LIMIT]) -> Opti
     let Some(tap) = TapName::new(&line[..blank]) else {
         return None;
     };
-    let Some(timed) = read_timed(&line[blank + 1..]) else {
-        return None;
-    };
-    let octets = &mut room[..timed.digits.len() / 2];
-    match hex::decode_to_slice(timed.digits, octets) {
-        Ok(()) => Some(Line { tap, timed }),
-        Err(_) => None,
+    match read_octets(&line[blank + 1..], room) {
+        Some(timed) => Some(Line { tap, timed }),
+        None => None,
     }
 }
 
@@ -74,15 +85,15 @@ fn read_line<'room>(
         (λ datagram. IsDatagramLine (earlier + 1) line.now (datagram_of datagram))
         (λ fault. IsUnread fault (earlier + 1) line.now) }
 {
-    let Some(Line { tap, timed }) = read_parts(line, room) else {
+    let Some(read) = read_parts(line, room) else {
         return Err(FollowFault::Field);
     };
-    let said = message_in(&room[..timed.digits.len() / 2]);
+    let said = message_in(&room[..read.timed.digits.len() / 2]);
     match earlier.checked_add(1) {
         Some(number) => Ok(Datagram {
-            tap,
+            tap: read.tap,
             line: number,
-            time: timed.time,
+            time: read.timed.time,
             said,
         }),
         None => Err(FollowFault::Memory),

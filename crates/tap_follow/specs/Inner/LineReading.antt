@@ -1,7 +1,7 @@
 -- What is read of a line.
 use Rattle.std.specs.Prelude.{◌≡◌, ℕ, ◌≤◌, ◌/◌, ◌^◌, List, length, take, Some, Ok}
 use Rattle.hex.specs.Hex.{decode_of}
-use Rattle.capture_lines.specs.Timed.{parted, parts_of, timed_in}
+use Rattle.capture_lines.specs.Timed.{LineParts, parted, parts_of, timed_in}
 use Rattle.capture_lines.specs.declared.timed.Timed.{Timed}
 use Rattle.tap_choice.specs.TapName.{IsTapName}
 use Rattle.tap_follow.specs.declared.fault.FollowFault.{FollowFault}
@@ -13,14 +13,22 @@ use Rattle.tap_follow.specs.Datagram.{Datagram, IsDatagramLine}
 abbrev pub NoDatagram : List ℕ → Type 0
 NoDatagram line = (number : ℕ) (d : Datagram) → IsDatagramLine number line d → ⊥
 
+-- what stands behind a tap is no time with octets
+abbrev pub NoOctets : List ℕ → Type 0
+NoOctets rest = (parts : LineParts) (octets : List ℕ) → timed_in rest ≡ Some parts → decode_of parts.digits ≡ Ok octets → ⊥
+
+-- or it has these parts, and the octets of the datagram stand at the front of this room
+pub record HasOctets (rest room : List ℕ) (timed : Timed) : Type 0 where
+  pub there : timed_in rest ≡ Some (parts_of timed)
+  pub within : length timed.digits.now / 2 ≤ length room
+  pub decoded : decode_of timed.digits.now ≡ Ok (take (length timed.digits.now / 2) room)
+
 -- a line has these parts, and the octets of its datagram stand at the front of this room
 pub record IsLine (line room : List ℕ) (read : Line) : Type 0 where
   pub rest : List ℕ
   pub split : parted 32 line ≡ Some (read.tap, rest)
   pub named : IsTapName read.tap
-  pub there : timed_in rest ≡ Some (parts_of read.timed)
-  pub within : length read.timed.digits.now / 2 ≤ length room
-  pub decoded : decode_of read.timed.digits.now ≡ Ok (take (length read.timed.digits.now / 2) room)
+  pub has : HasOctets rest room read.timed
 
 -- why a line of this number isn't read
 abbrev pub IsUnread : FollowFault → (number : ℕ) → List ℕ → Type 0

@@ -5,5 +5,6 @@ use Rattle.tap_follow.proofs.input.follow_lines.Goals as goal
 
 pub returns-clause-summary : goal.returns-clause-summary
 returns-clause-summary g c = λ octets known.
-    lines_left c.args.form c.args.wanted.now (c.args.start.now ++ octets) _ _ c.new-summary.ensures _
+    lines_left c.args.form c.args.wanted.now (c.args.start.now ++ octets) c.answer_lines_behind-answer.new.task
+    c.new-summary.result c.new-summary.ensures _
     (c.answer_lines_behind-answer.ensures.left (nothing_read c.args.form c.args.wanted.now) c.new-lines.ensures octets known)

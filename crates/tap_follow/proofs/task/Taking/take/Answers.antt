@@ -6,7 +6,7 @@ use Rattle.tap_following.specs.Course.{Course, with_tap}
 use Rattle.tap_following.specs.Held.{IsFollower}
 use Rattle.tap_follow.specs.Rules.{TakesAt}
 use Rattle.tap_follow.specs.Inner.Taking.{datagram_of}
-use Rattle.tap_follow.proofs.Takings.{taken_at, third_stays, of_output, left_of_output}
+use Rattle.tap_follow.proofs.Takings.{taken_at, third_left, of_output, left_of_output}
 use Rattle.tap_follow.proofs.task.Taking.take.Goals as goal
 
 pub returns-in-At-clause-taken : goal.returns-in-At-clause-taken
@@ -36,3 +36,8 @@ pub returns-in-Third-clause-taken : goal.returns-in-Third-clause-taken
 returns-in-Third-clause-taken g c = λ course at.
     let (arrives, later) = c.arrive.ensures course at in
     ([], (refl, refl, sym arrives ∙ c.in-Third.is), Appends-nil _)
+
+pub returns-in-Third-clause-left : goal.returns-in-Third-clause-left
+returns-in-Third-clause-left g c = λ what is. third_left _ _ c.args.datagram.now.tap what (λ course at.
+    let (arrives, later) = c.arrive.ensures course at in
+    (sym arrives ∙ c.in-Third.is, later))
