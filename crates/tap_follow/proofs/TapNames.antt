@@ -1,5 +1,5 @@
 -- What the tap of an interface is called.
-use Rattle.std.proofs.Common.{◌≡◌, ◌∙◌, ℕ, ◌+◌, ◌≤◌, ◌^◌, ◌<◌, List, ◌∷◌, ◌++◌, length, take, true, Bor, Option, Some, None, refl, sym, ap, subst, lit<, arith}
+use Rattle.std.proofs.Common.{◌≡◌, ◌∙◌, ℕ, ◌+◌, ◌≤◌, ◌^◌, ◌<◌, List, ◌∷◌, ◌++◌, length, take, get_or, true, Bor, Option, Some, None, refl, sym, ap, subst, lit<, arith}
 use Rattle.std.specs.Prelude.{◌↔◌, IsSome, IfSome, option_map, codes}
 use Rattle.std.specs.Char.{is_ascii_digit}
 use Rattle.std.specs.Fmt.{decimal}
@@ -48,8 +48,8 @@ IsTapName-place place within =
     let long : length (decimal place) ≤ 10 = length-decimal-le 10 place (lit< tt) (omega (arith, within)) (omega (arith, within)) in
     let digits : AllPass is_ascii_digit (decimal place) =
     AllPass-from_list_all is_ascii_digit (decimal place) (digits_decimal own place (omega (arith, within))) in
-    let octets : AllPass is_tap_octet (decimal place) = λ k d less. digit_octet _ (digits k d less) in record {
-      some = lit< tt;
+    let octets : AllPass is_tap_octet (decimal place) = λ k d less. digit_octet (get_or (decimal place) k d) (digits k d less) in record {
+      some = omega arith;
       fits = omega (arith, long);
       octets = AllPass-from_list_all is_tap_octet (105 ∷ 102 ∷ decimal place) (list_all-from_AllPass is_tap_octet (decimal place) octets);
     }
